@@ -98,6 +98,14 @@ says "a build" "the program is crates/desk/out/desk"
 same "what is kept" "desk" "$(find crates -path '*/out/*' -type f -printf '%f\n')"
 same "the program" "proved run x.db" "$(./desk run x.db 2>"$work/err")"
 same "the program: standard error" "" "$(cat "$work/err")"
+
+# ./desk finds its own folder from wherever it is called, also through a link to a link
+mkdir "$work/away"
+ln -s ../repo/desk "$work/away/booking"
+ln -s away/booking "$work/desk"
+same "from another folder" "proved run x.db" "$(cd "$work/away" && ../repo/desk run x.db 2>&1)"
+same "through a link" "proved run x.db" "$(cd "$work/away" && ./booking run x.db 2>&1)"
+same "through a link to a link, on the PATH" "proved run x.db" "$(cd / && PATH=$work:$PATH && desk run x.db 2>&1)"
 builds 0
 same "nothing is built twice" "" "$(order)"
 

@@ -33,7 +33,7 @@ def wrongly_laid_out(tables, crates, copy, lanes):
 
     def lay_out(name):
         ran = subprocess.run(["rt", "fmt"], cwd=copy / "crates" / name, capture_output=True, text=True, check=False)
-        files = [it for it in (copy / "crates" / name).rglob("*.rt")]
+        files = [it for it in (copy / "crates" / name).rglob("*") if it.suffix in (".rt", ".antt")]
         odd = [it.relative_to(copy).as_posix() for it in files if it.read_bytes() != (tables.top / it.relative_to(copy)).read_bytes()]
         return odd or ([f"crates/{name} ({ran.stdout}{ran.stderr})"] if ran.returncode else [])
 

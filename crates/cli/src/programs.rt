@@ -13,13 +13,15 @@ ghost use Rattle.cli.specs.Ends.{HasBadId, ReadsFor, TellsOf, TellsRecovered};
 use crate::listening::{Served, serve_file};
 use crate::loads::load_file;
 use crate::migrations::migrate_file;
-use crate::telling::{Report, Shown, history_file, report_file};
+use crate::telling::{history_file, report_file};
 use command_line::{Job, version_line};
 use commands::Refusal;
 use desk_files::{close_after, connect};
 use desk_jobs::{recover_over, run_over};
+use month_reports::MonthReport;
 use program_ends::{End, Ended, ProgramFault};
-use reports::{Format, JourneyReport};
+use report_jobs::Report;
+use reports::JourneyReport;
 use std::alloc::Global;
 use std::io::{Read, Write, sink};
 use streams::send;
@@ -126,48 +128,59 @@ fn carry_out<R: Read, O: Write, N: Write>(
             filter,
             format,
         } => {
-            let shown = Shown::Stock(filter);
-            report_file(rt, alloc, file.as_str(), Report { shown, format }, out)
+            let report = Report::Stock { filter, format };
+            report_file(rt, alloc, file.as_str(), &report, out)
         }
         Job::Summary {
             file,
             filter,
             format,
         } => {
-            let shown = Shown::Summary(filter);
-            report_file(rt, alloc, file.as_str(), Report { shown, format }, out)
+            let months = MonthReport::Summary(format);
+            let report = Report::Months { months, filter };
+            report_file(rt, alloc, file.as_str(), &report, out)
         }
         Job::Calendar { file, filter } => {
-            let shown = Shown::Calendar(filter);
-            let format = Format::Text;
-            report_file(rt, alloc, file.as_str(), Report { shown, format }, out)
+            let months = MonthReport::Calendar;
+            let report = Report::Months { months, filter };
+            report_file(rt, alloc, file.as_str(), &report, out)
         }
         Job::Holders { file, cell, format } => {
-            let shown = Shown::Holders(cell);
-            report_file(rt, alloc, file.as_str(), Report { shown, format }, out)
+            let report = Report::Holders { cell, format };
+            report_file(rt, alloc, file.as_str(), &report, out)
         }
         Job::Unfinished {
             file,
             filter,
             format,
         } => {
-            let shown = Shown::Journeys(JourneyReport::Unfinished, filter);
-            report_file(rt, alloc, file.as_str(), Report { shown, format }, out)
+            let name = JourneyReport::Unfinished;
+            let report = Report::Journeys {
+                name,
+                filter,
+                format,
+            };
+            report_file(rt, alloc, file.as_str(), &report, out)
         }
         Job::Journeys {
             file,
             filter,
             format,
         } => {
-            let shown = Shown::Journeys(JourneyReport::Journeys, filter);
-            report_file(rt, alloc, file.as_str(), Report { shown, format }, out)
+            let name = JourneyReport::Journeys;
+            let report = Report::Journeys {
+                name,
+                filter,
+                format,
+            };
+            report_file(rt, alloc, file.as_str(), &report, out)
         }
         Job::History { file, id, format } => {
             history_file(rt, alloc, file.as_str(), id.as_str(), format, out)
         }
         Job::Why { file, id, format } => {
-            let shown = Shown::Why(id);
-            report_file(rt, alloc, file.as_str(), Report { shown, format }, out)
+            let report = Report::Why { id, format };
+            report_file(rt, alloc, file.as_str(), &report, out)
         }
         Job::Migrate { file } => migrate_file(rt, alloc, file.as_str(), out),
         Job::Version => Ended::from(tell_version(out)),

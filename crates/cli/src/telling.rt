@@ -4,44 +4,15 @@ ghost use Rattle.std.specs.Io.KnownBytes.{Keeps};
 ghost use Rattle.desk_lines.specs.Lines.{journey_in as journey_of};
 ghost use Rattle.program_ends.specs.Ends.{EndsJob};
 
-use allotment::Cell;
 use commands::Refusal;
 use desk_files::{FileConnection, NewLog, close_after, connect_there};
 use desk_lines::journey_in;
-use filters::{CellFilter, JourneyFilter};
-use month_reports::MonthReport;
 use program_ends::{End, Ended, ProgramFault};
-use report_jobs::{history_over, holders_over, journeys_over, months_over, stock_over, why_over};
-use reports::{Format, JourneyReport};
+use report_jobs::{Report, report_over};
+use reports::Format;
 use sqlite::{Alter, Connection};
 use std::alloc::Global;
 use std::io::{BufWriter, Write};
-
-/// What a report of a desk that is not recovered shows. The calendar is a text, whatever the format.
-#[derive(Clone, Copy)]
-pub(crate) enum Shown {
-    /// The places of each cell that is asked for.
-    Stock(CellFilter),
-    /// The months of the cells that are asked for.
-    Summary(CellFilter),
-    /// The calendar of the cells that are asked for.
-    Calendar(CellFilter),
-    /// The journeys that hold places of this cell.
-    Holders(Cell),
-    /// The journeys that are asked for, under a name.
-    Journeys(JourneyReport, JourneyFilter),
-    /// The history of the journey of this number.
-    History(u64),
-    /// Why the journey of this number stands where it does.
-    Why(u64),
-}
-
-/// A report of a desk that is not recovered.
-#[derive(Clone, Copy)]
-pub(crate) struct Report {
-    pub(crate) shown: Shown,
-    pub(crate) format: Format,
-}
 
 /// Prints the history of the journey that a word names. A word that names none is refused before the file is opened.
 pub(crate) fn history_file<O: Write>(
@@ -60,8 +31,7 @@ pub(crate) fn history_file<O: Write>(
     let Some(id) = journey_in(id) else {
         return Ended::from(End::Refused(Refusal::BadBody));
     };
-    let shown = Shown::History(id);
-    report_file(rt, alloc, file, Report { shown, format }, out)
+    report_file(rt, alloc, file, &Report::History { id, format }, out)
 }
 
 /// Prints a report of the desk over a file.
@@ -69,7 +39,7 @@ pub(crate) fn report_file<O: Write>(
     rt: &HostRuntime,
     alloc: Global,
     file: &str,
-    report: Report,
+    report: &Report,
     out: &mut O,
 ) -> Ended
     ensures job { EndsJob result.end }
@@ -78,7 +48,7 @@ pub(crate) fn report_file<O: Write>(
         Ok(opened) => opened,
         Err(ended) => return ended,
     };
-    let (conn, end) = report_over(alloc, report, conn, out);
+    let (conn, end) = print_report(alloc, report, conn, out);
     close_shown(rt, conn, log, end)
 }
 
@@ -95,9 +65,9 @@ fn close_shown(rt: &HostRuntime, conn: FileConnection, log: NewLog, end: End) ->
 }
 
 /// Prints a report of the desk of a connection, through a buffer, since a report is many short lines.
-fn report_over<S: Alter + Drop, O: Write>(
+fn print_report<S: Alter + Drop, O: Write>(
     alloc: Global,
-    report: Report,
+    report: &Report,
     conn: Connection<S>,
     out: &mut O,
 ) -> (Connection<S>, End)
@@ -110,21 +80,5 @@ fn report_over<S: Alter + Drop, O: Write>(
         Ok(buffered) => buffered,
         Err(_) => return (conn, End::Fault(ProgramFault::Memory)),
     };
-    let Report { shown, format } = report;
-    match shown {
-        Shown::Stock(filter) => stock_over(alloc, conn, &filter, format, &mut buffered),
-        Shown::Summary(filter) => {
-            let report = MonthReport::Summary(format);
-            months_over(alloc, conn, report, &filter, &mut buffered)
-        }
-        Shown::Calendar(filter) => {
-            months_over(alloc, conn, MonthReport::Calendar, &filter, &mut buffered)
-        }
-        Shown::Holders(cell) => holders_over(alloc, conn, &cell, format, &mut buffered),
-        Shown::Journeys(name, filter) => {
-            journeys_over(alloc, conn, name, &filter, format, &mut buffered)
-        }
-        Shown::History(id) => history_over(alloc, conn, format, id, &mut buffered),
-        Shown::Why(id) => why_over(alloc, conn, id, format, &mut buffered),
-    }
+    report_over(alloc, conn, report, &mut buffered)
 }

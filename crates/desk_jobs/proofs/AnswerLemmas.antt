@@ -2,7 +2,7 @@
 use Rattle.std.proofs.Common.{◌≡◌, ◌∙◌, ap, sym, subst, refl, min, ◌+◌, List, [], ◌∷◌, ◌++◌, ℕ, length, take, append_assoc, arith, Option}
 use Rattle.std.proofs.lemmas.List.{take_min}
 use Rattle.std.proofs.Math.Seq.{take-append-add, take-append-le}
-use Rattle.std.specs.Prelude.{IfSome, None, Some}
+use Rattle.std.specs.Prelude.{⊤, IfSome, None, Some}
 use Rattle.std.specs.Io.KnownBytes.{Appends}
 use Rattle.ledger.specs.Answer.{State}
 use Rattle.streams.specs.Written.{WroteFront}
@@ -12,7 +12,11 @@ use Rattle.protocols.specs.declared.faults.ServeFault.TheVariants.{Memory, Read,
 use Rattle.desk_lines.specs.Lines.{answer_line, answer_lines, state_after_lines, written}
 use Rattle.desk_lines.specs.Serving.{AnswersAll, AnswersSome, ForNext, IsCut, WroteAll}
 use Rattle.reports.proofs.FrontLemmas.{front_before, front_whole}
+use Rattle.program_ends.specs.Ends.{EndsBadly, IfDone}
+use Rattle.program_ends.specs.declared.ends.End.{End}
+use Rattle.program_ends.specs.declared.ends.End.TheVariants as finish
 use Rattle.desk_jobs.specs.Running.{Answers, AnswersFront, answers_to}
+use Rattle.desk_jobs.proofs.EndLemmas.{not_done}
 
 -- the answers to lines, and to the lines after them
 answer_lines-append : (s : State) (first later : List (List ℕ))
@@ -79,12 +83,27 @@ pub front_of_all : (x : Scene) (s : State) (input : List ℕ) (count : ℕ) → 
 front_of_all x s input count all = front_whole x.held x.holds _ all.sent
 
 -- and the state after them is represented
-pub answers_of_all : (x : Scene) {represents : State → Type 0} (s : State) (input : List ℕ) (count : ℕ)
+answers_of_all : (x : Scene) {represents : State → Type 0} (s : State) (input : List ℕ) (count : ℕ)
     → ((t : State) → x.stands t → represents t)
     → AnswersAll x s input count → Answers x.held x.holds represents s input
 answers_of_all x s input count on all = record { sent = all.sent; left = on _ all.left }
 
 -- the same of an input that may be known
+pub all_for_all : (x : Scene) {represents : State → Type 0} (s : State) (known : Option (List ℕ)) (count : ℕ)
+    → ((t : State) → x.stands t → represents t) → IfSome known (λ input. AnswersAll x s input count)
+    → IfSome known (λ input. IfDone finish.Done (Answers x.held x.holds represents s input))
+all_for_all x s None count on all = tt
+all_for_all x s (Some input) count on all = answers_of_all x s input count on all
+
+-- a run in which not all was done owes no more
+pub none_owed : {X : Type 0} (known : Option X) → IfSome known (λ _. ⊤)
+none_owed None = tt
+none_owed (Some x) = tt
+
+pub undone_for : (e : End) → EndsBadly e → (P : List ℕ → Type 0) (known : Option (List ℕ)) → IfSome known (λ input. IfDone e (P input))
+undone_for e bad P None = tt
+undone_for e bad P (Some input) = not_done (P input) e bad
+
 pub front_for_all : (x : Scene) (s : State) (known : Option (List ℕ)) (count : ℕ)
     → IfSome known (λ input. AnswersAll x s input count)
     → IfSome known (AnswersFront x.held x.holds s)

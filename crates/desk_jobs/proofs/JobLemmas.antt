@@ -1,16 +1,18 @@
 -- What a book over tables stands for, its connection represents. For the jobs over a recovered desk.
-use Rattle.std.proofs.Common.{ℕ, Option, Some, None}
-use Rattle.std.specs.Prelude.{IfSome}
+use Rattle.std.proofs.Common.{◌≡◌, ℕ, subst}
 use Rattle.sqlite.specs.Store.{Ghosts}
 use Rattle.sqlite.specs.Held.{Held, state}
+use Rattle.sqlite.specs.State.{HasCleanDisk}
 use Rattle.desk_sql.specs.declared.versions.Version.TheVariants.{Two}
 use Rattle.ledger.specs.Answer.{State}
 use Rattle.recovery.specs.Growing.{with_events}
 use Rattle.recovery.specs.Recovers.{Recovers}
 use Rattle.tables.specs.BookTerms.{StandsBook}
 use Rattle.tables.specs.Keeping.{StoodFor}
+use Rattle.tables.specs.Making.{LetsGo}
 use Rattle.tables.specs.declared.books.TableBook.{TableBook}
 use Rattle.openings.specs.Connections.{Represents}
+use Rattle.desk_jobs.specs.Jobs.{LeavesDesk}
 
 -- what recovery made of some states it made of fewer, and so of what follows from the new ones
 pub recovers_as : {stood before stands after : State → Type 0} (made : ℕ)
@@ -33,8 +35,9 @@ pub represented : {S : Type 0} (g : Ghosts S) (b : TableBook S g) (h : Held S)
     → (s : State) → StandsBook g b s → Represents g h s
 represented g b h found s stands = record { desk = stands.desk; stood = found s stands }
 
--- what follows for each value that may be known
-pub for_some : {X : Type 0} (known : Option X) {So Then : X → Type 0}
-    → ((x : X) → So x → Then x) → IfSome known So → IfSome known Then
-for_some None follows so = tt
-for_some (Some x) follows so = follows x so
+-- a desk whose book is let go leaves its connection so
+pub desk_left : {S : Type 0} (g : Ghosts S) (desk b : TableBook S g) (h : Held S) → b ≡ desk → LetsGo g b h → LeavesDesk g desk h
+desk_left {S} g desk b h same left = record {
+  idle = left.idle;
+  sound = λ clean. subst (λ (x : TableBook S g). HasCleanDisk (state g x.conn)) same (left.sound clean);
+}

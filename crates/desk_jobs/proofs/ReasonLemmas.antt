@@ -26,6 +26,7 @@ use Rattle.protocols.specs.declared.faults.ServeFault.{ServeFault}
 use Rattle.protocols.specs.declared.faults.ServeFault.TheVariants as serve
 use Rattle.tables.specs.declared.faults.OpenFault.{OpenFault}
 use Rattle.tables.specs.declared.faults.OpenFault.TheVariants as opening
+use Rattle.openings.specs.Connections.{Represents}
 use Rattle.openings.specs.Ends.{end_of_open}
 use Rattle.recovery.specs.Growing.{Grew, room_of, with_events}
 use Rattle.recovery.specs.Reasons.{AreMoves, IsStepOrStop, MayActThen, MayRecover, NoState}
@@ -33,11 +34,16 @@ use Rattle.recovery.specs.Recovers.{AreRecovery, RecoversSome}
 use Rattle.saga_core.specs.Reasons as reasons
 use Rattle.saga_core.specs.Runs.{Asks, state_after}
 use Rattle.sql_commands.specs.Failing.{RanOutOf, asked_rowids}
+use Rattle.sql_model.specs.Keeping.{WasClean}
 use Rattle.sql_model.specs.Staying.{SeesAsBefore, StaysUp}
 use Rattle.tables.specs.Acting.{AreShort, HasReasonSince, MayAct, MayActSince, NewDeskMayAct, rowids_for}
 use Rattle.tables.specs.BookTerms.{StandsBook}
+use Rattle.tables.specs.Making.{MakesBook}
+use Rattle.tables.specs.Opening.{Opens}
 use Rattle.tables.specs.declared.books.TableBook.{TableBook}
+use Rattle.tables.specs.declared.opening.Opened.{Opened}
 use Rattle.tables.proofs.OpenKept.{not_bare}
+use Rattle.desk_jobs.specs.Jobs.{OpensBook}
 use Rattle.desk_jobs.specs.Reasons.{FailsAmongFrom, FailsToLoad, FailsToLoadFor, FailsToRecover, FailsToRun, HasReasonFrom, MayActFrom, MayStart, ask_of_batch, rowids_of_job}
 use Rattle.desk_jobs.proofs.RecoveredLemmas.{recovery_of}
 
@@ -96,7 +102,7 @@ short_moves ((asked, Some ask) ∷ moves) later are short = absurd (let none = a
 -- Before recovery.
 
 -- the opening of a connection from which a job may start leaves its rowids, or its tables are new and have them all
-pub may_act_opened : {S : Type 0} (g : Ghosts S) (old : Held S) (b : TableBook S g) → HasCleanDisk (state g old) → HasCleanDisk (state g b.conn)
+may_act_opened : {S : Type 0} (g : Ghosts S) (old : Held S) (b : TableBook S g) → HasCleanDisk (state g old) → HasCleanDisk (state g b.conn)
     → StaysUp g old b.conn → (old.schema ≢ no_schema → SeesAsBefore g old b.conn) → NewDeskMayAct g b
     → (later : Asks) (s : State) → MayStart g old later s → StandsBook g b s
     → MayAct g b s (rowids_of_job s later) ⊎ HasFaulted (state g old) (state g b.conn)
@@ -115,6 +121,21 @@ may_act_opened g old b was clean stays sees law later s may stands =
         | inr fresh ↦ subst (λ t. MayAct g b t m) (sym fresh.new) (law clean (subst (StandsBook g b) fresh.new stands) up m may.few)
       ])
     ]
+
+-- so a book over what was opened represents what the connection did, and may act for a job that may start
+pub opens_book : {S : Type 0} (g : Ghosts S) (old : Held S) (o : Opened S) (b : TableBook S g) → Opens g old o.conn o.version
+    → MakesBook g o b → NewDeskMayAct g b → OpensBook g old b
+opens_book g old o b opens made law =
+    let sound : WasClean g old b.conn = λ clean. opens.sound (subst (λ h. HasCleanDisk (state g h)) made.book clean) in
+    let up = subst (StaysUp g old) (sym made.book) opens.up in
+    let stands : (s : State) → Represents g old s → StandsBook g b s = λ s was. made.stands s was.desk (λ at. opens.finds at Two s was.stood) in
+    record {
+      stands = stands;
+      sound = sound;
+      up = up;
+      may_act = λ clean later s may. may_act_opened g old b (sound clean) clean up
+          (λ filled. subst (SeesAsBefore g old) (sym made.book) (opens.sees filled)) law later s may (stands s may.represents);
+    }
 
 module _ {S : Type 0} (g : Ghosts S) (first b : TableBook S g) (stays : StaysUp g first.conn b.conn) (later : Asks) (s : State)
     (may : MayStart g first.conn later s)

@@ -1,5 +1,5 @@
 -- The notes of a job: that its opening recovered events, and which field of an allotment file is wrong.
-use Rattle.std.specs.Prelude.{◌⊎◌, ℕ, List, [], ◌∷◌, ◌++◌, ◌&&◌, Bool, true, false, codes, decimal, map, take, nat_le, if◌then◌else◌, Option, Some, None, option_map, option_and_then}
+use Rattle.std.specs.Prelude.{◌≡◌, ◌≢◌, ◌⊎◌, ℕ, List, [], ◌∷◌, ◌++◌, ◌&&◌, Bool, true, false, codes, decimal, map, take, nat_le, if◌then◌else◌, Option, Some, None, option_map, option_and_then}
 use Rattle.std.specs.Io.KnownBytes.{Keeps}
 use Rattle.commands.specs.Texts.{sentence}
 use Rattle.commands.specs.declared.replies.CsvCause.{CsvCause}
@@ -23,6 +23,13 @@ NotesOrKeeps made held holds = Keeps held holds ⊎ WroteFront held holds (recov
 -- nothing was written, or a prefix of the note of some events
 abbrev pub MayNote : Option (List ℕ) → Option (List ℕ) → Type 0
 MayNote held holds = Keeps held holds ⊎ ((made : ℕ) × WroteFront held holds (recovered_note made))
+
+-- What was noted of a recovery with so many events: nothing if there are none, else a prefix of the note.
+pub record NotesEvents (made : ℕ) (held holds : Option (List ℕ)) : Type 0 where
+  pub none : made ≡ 0 → Keeps held holds
+  pub note : made ≢ 0 → WroteFront held holds (recovered_note made)
+  pub either : NotesOrKeeps made held holds
+  pub some : MayNote held holds
 
 -- a byte as it is shown: printable ASCII as itself, all others as `?`
 abbrev pub shown_byte : ℕ → ℕ

@@ -1,5 +1,5 @@
 //! The note of the field because of which a load was refused.
-ghost use Rattle.std.specs.Prelude.{◌≡◌, IsTrue, IfOk, map, take};
+ghost use Rattle.std.specs.Prelude.{◌≡◌, IfOk, map, take};
 ghost use Rattle.allotment_csv.specs.WrongFields.{field_text};
 ghost use Rattle.streams.specs.Written.{WroteFront};
 ghost use Rattle.desk_jobs.specs.Notes.{field_note, is_of_field, refused_field, refused_row, shown_byte, shown_text, NotesField};

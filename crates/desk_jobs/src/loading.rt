@@ -1,19 +1,16 @@
 //! Loads of allotment files into a recovered desk.
-ghost use Rattle.std.specs.Prelude.{◌≡◌, ◌≢◌, false, None, IfErr, IsErrOf, OnOk};
+ghost use Rattle.std.specs.Prelude.{◌≡◌, ◌≢◌, None, IfErr, IsErrOf, OnOk};
 ghost use Rattle.std.specs.Io.KnownBytes.{Appends};
-ghost use Rattle.sqlite.specs.Held.{state};
-ghost use Rattle.sqlite.specs.State.{HasCleanDisk};
 ghost use Rattle.commands.specs.Texts.{reply_line};
 ghost use Rattle.allotment_csv.specs.Files.{batch_of};
 ghost use Rattle.ledger.specs.Answer.{State};
 ghost use Rattle.streams.specs.Written.{WroteFront};
 ghost use Rattle.protocols.specs.Scenes.{ended};
-ghost use Rattle.tables.specs.BookTerms.{StandsBook};
-ghost use Rattle.program_ends.specs.Ends.{EndsJob, IfDone, IfFault};
-ghost use Rattle.openings.specs.Connections.{Represents, MayBeLeft};
+ghost use Rattle.program_ends.specs.Ends.{IfDone};
 ghost use Rattle.desk_jobs.specs.Ends.{IsFaultOfLoad, IsOfBook, IsOfWriting, TellsAccepted};
+ghost use Rattle.desk_jobs.specs.Jobs.{EndsOpened, LeavesDesk, LoadsDesk};
 ghost use Rattle.desk_jobs.specs.Loading.{EndsLoad, LoadsFile, TellsLoaded};
-ghost use Rattle.desk_jobs.specs.Reasons.{FailsToLoad, FailsToLoadFor};
+ghost use Rattle.desk_jobs.specs.Reasons.{FailsToLoad};
 
 use allotment_csv::{CsvFault, read_batch};
 use commands::{Command, Refusal, Reply};
@@ -36,22 +33,12 @@ pub fn load_over<S: Alter + Drop, O: Write>(
     bytes: &[u8],
     out: &mut O,
 ) -> (Connection<S>, End)
-    ensures loaded { HasCleanDisk (state S.Store result.0) → (s : State) →
-        StandsBook S.Store desk s →
-        EndsLoad (O.contents out.old) (O.contents out.new) (Represents S.Store result.0)
-        (MayBeLeft S.Store result.0) s (batch_of name.now bytes.now) result.1 }
+    ensures loads { LoadsDesk S.Store desk result.0 (batch_of name.now bytes.now)
+        (O.contents out.old) (O.contents out.new) result.1 }
     ensures told { IfDone result.1 (TellsAccepted (O.contents out.old) (O.contents out.new)) }
-    ensures end { EndsJob result.1 }
 
-    ensures reason { HasCleanDisk (state S.Store result.0) →
-        result.1 ≡ End.Fault ProgramFault.Store →
-        FailsToLoadFor S.Store desk result.0 (batch_of name.now bytes.now) }
-    ensures opened { result.1 ≢ End.Fault ProgramFault.OpeningStore }
-    ensures fault { IfFault result.1 IsFaultOfLoad }
-
-    ensures outside { result.0.in_transaction ≡ false }
-    ensures unlimited { result.0.step_limit ≡ None }
-    ensures sound { HasCleanDisk (state S.Store result.0) → ⟦<TableBook<S> as Book>⟧.is_sound desk }
+    ensures ends { EndsOpened IsFaultOfLoad result.1 }
+    ensures leaves { LeavesDesk S.Store desk result.0 }
 {
     let mut desk = desk;
     let end = load_into(alloc, name, bytes, &mut desk, out);
@@ -70,13 +57,11 @@ fn load_into<B: Book, O: Write>(
         EndsLoad (O.contents out.old) (O.contents out.new) (B.stands book.new)
         (B.leaves book.new) s (batch_of name.now bytes.now) result }
     ensures told { IfDone result (TellsAccepted (O.contents out.old) (O.contents out.new)) }
-    ensures end { EndsJob result }
 
     ensures reason { B.is_sound book.new → (first : B) → result ≡ End.Fault ProgramFault.Store →
         FailsToLoad (B.may_act first book.old) (B.has_reason first book.new)
         (batch_of name.now bytes.now) }
-    ensures opened { result ≢ End.Fault ProgramFault.OpeningStore }
-    ensures fault { IfFault result IsFaultOfLoad }
+    ensures ends { EndsOpened IsFaultOfLoad result }
 
     ensures sound { B.is_sound book.new → B.is_sound book.old }
 {
@@ -114,10 +99,8 @@ fn load<B: Book>(alloc: Global, name: &str, bytes: &[u8], book: &mut B) -> Resul
 /// The end after a reply: its refusal, or its line was written.
 fn tell_loaded<O: Write>(alloc: Global, reply: Reply, out: &mut O) -> End
     ensures told { TellsLoaded (O.contents out.old) (O.contents out.new) reply result }
-    ensures end { EndsJob result }
+    ensures ends { EndsOpened IsFaultOfLoad result }
     ensures no_store { result ≢ End.Fault ProgramFault.Store }
-    ensures opened { result ≢ End.Fault ProgramFault.OpeningStore }
-    ensures fault { IfFault result IsFaultOfLoad }
 {
     match reply {
         Reply::Refused(refusal) => End::Refused(refusal),

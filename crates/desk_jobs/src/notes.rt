@@ -1,9 +1,8 @@
 //! The note that an opening recovered events.
-ghost use Rattle.std.specs.Prelude.{◌≡◌, ◌≢◌, IfOk};
+ghost use Rattle.std.specs.Prelude.{◌≡◌, IfOk};
 ghost use Rattle.std.specs.String.{string_bytes};
-ghost use Rattle.std.specs.Io.KnownBytes.{Keeps};
 ghost use Rattle.streams.specs.Written.{WroteFront};
-ghost use Rattle.desk_jobs.specs.Notes.{recovered_note, MayNote, NotesOrKeeps};
+ghost use Rattle.desk_jobs.specs.Notes.{recovered_note, NotesEvents};
 
 use std::alloc::{AllocError, Global};
 use std::io::Write;
@@ -12,11 +11,7 @@ use streams::send;
 /// Writes a line that says how many events an opening recovered, if there were any. A failure of that is ignored: a note
 /// changes no end.
 pub fn note_recovered<N: Write>(alloc: Global, made: u64, notes: &mut N)
-    ensures none { made ≡ 0 → Keeps (N.contents notes.old) (N.contents notes.new) }
-    ensures note { made ≢ 0 → WroteFront (N.contents notes.old) (N.contents notes.new)
-        (recovered_note made) }
-    ensures either { NotesOrKeeps made (N.contents notes.old) (N.contents notes.new) }
-    ensures some { MayNote (N.contents notes.old) (N.contents notes.new) }
+    ensures { NotesEvents made (N.contents notes.old) (N.contents notes.new) }
 {
     if made != 0 {
         write_note(alloc, made, notes);

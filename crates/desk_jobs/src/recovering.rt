@@ -1,26 +1,24 @@
 //! Recovery as a job, and the line that reports it.
-ghost use Rattle.std.specs.Prelude.{◌≡◌, false, None, IfErr, IfOk, OnOk};
+ghost use Rattle.std.specs.Prelude.{IfErr, IfOk, OnOk};
 ghost use Rattle.std.specs.Io.KnownBytes.{Appends};
 ghost use Rattle.sqlite.specs.Held.{state};
 ghost use Rattle.sqlite.specs.State.{HasCleanDisk};
 ghost use Rattle.streams.specs.Written.{WroteFront};
 ghost use Rattle.recovery.specs.Recovers.{Recovers};
-ghost use Rattle.sql_model.specs.Keeping.{WasClean};
-ghost use Rattle.program_ends.specs.Ends.{EndsBadly, EndsJob, IfDone, IfFault, IfRefused};
-ghost use Rattle.openings.specs.Connections.{RefusesOtherTables, Represents};
-ghost use Rattle.desk_jobs.specs.Ends.{EndsWriting, IsFaultOfRecovery, IsOfWriting, recovered_line};
-ghost use Rattle.desk_jobs.specs.Reasons.{FailsToRecover};
-ghost use Rattle.tables.specs.Opening.{FailsToFound, FailsToOpen};
+ghost use Rattle.program_ends.specs.Ends.{EndsJob, IfDone};
+ghost use Rattle.openings.specs.Connections.{Represents};
+ghost use Rattle.tables.specs.Opening.{Idle};
+ghost use Rattle.desk_jobs.specs.Ends.{EndsWriting, IsOfWriting, recovered_line};
+ghost use Rattle.desk_jobs.specs.Jobs.{Leaves, NotReady};
 
 use crate::opening::ready_over;
-use program_ends::{End, ProgramFault};
+use program_ends::End;
 use protocols::ServeFault;
 use sqlite::{Alter, Connection};
 use std::alloc::Global;
 use std::io::Write;
 use std::marker::Model;
 use streams::send;
-use tables::OpenFault;
 
 /// How many events a recovery made. Only `recover_over` makes one. In a contract it is that number.
 #[derive(Clone, Copy, Debug)]
@@ -59,26 +57,12 @@ pub fn recover_over<S: Alter + Drop>(
     alloc: Global,
     conn: Connection<S>,
 ) -> (Connection<S>, Result<Recovered, End>)
-    requires outside { conn.in_transaction ≡ false }
-    requires unlimited { conn.step_limit ≡ None }
+    requires idle { Idle conn }
 
     ensures recovered { HasCleanDisk (state S.Store result.0) → IfOk result.1 (λ made.
         Recovers (Represents S.Store conn) (Represents S.Store result.0) made) }
-    ensures refused { IfErr result.1 (λ end.
-        IfRefused end (RefusesOtherTables S.Store conn result.0)) }
-    ensures fault { IfErr result.1 (λ end. IfFault end IsFaultOfRecovery) }
-    ensures end { IfErr result.1 EndsBadly }
-
-    ensures reason { HasCleanDisk (state S.Store result.0) → IfErr result.1 (λ end.
-        end ≡ End.Fault ProgramFault.Store → FailsToRecover S.Store conn result.0) }
-    ensures opening { IfErr result.1 (λ end. end ≡ End.Fault ProgramFault.OpeningStore →
-        FailsToOpen S.Store conn result.0 OpenFault.Store) }
-    ensures founding { IfErr result.1 (λ end. end ≡ End.Fault ProgramFault.OpeningStore →
-        FailsToFound S.Store conn result.0 OpenFault.Store) }
-
-    ensures outside { result.0.in_transaction ≡ false }
-    ensures unlimited { result.0.step_limit ≡ None }
-    ensures sound { WasClean S.Store conn result.0 }
+    ensures failed { IfErr result.1 (NotReady S.Store conn result.0) }
+    ensures leaves { Leaves S.Store conn result.0 }
 {
     match ready_over(alloc, conn) {
         Ok((desk, made)) => (desk.into_inner().into_store(), Ok(Recovered { made })),

@@ -1,6 +1,6 @@
 -- Why a text that creates a table fails: out of memory, or the disk failed. No rule refuses a text whose names are new and which the
 -- list of objects can hold. For `founding`, and for the migration of older tables.
-use Rattle.std.proofs.Common.{◌≡◌, ◌<◌, ◌≤◌, ◌+◌, ◌-◌, ◌*◌, ◌^◌, ◌∙◌, ℕ, zero, suc, min, inl, inr, List, [], ◌∷◌, length, codes, Option, None, Some, Ok, Err, Bool, true, false, nat_lt, IsUtf8, IsAscii, refl, sym, ap, subst, arith}
+use Rattle.std.proofs.Common.{◌≡◌, ◌<◌, ◌≤◌, ◌+◌, ◌*◌, ◌^◌, ◌∙◌, ℕ, zero, suc, inl, inr, List, [], ◌∷◌, length, codes, Option, None, Some, Ok, Err, Bool, true, false, nat_lt, IsTrue, IsUtf8, IsAscii, refl, sym, ap, subst, arith}
 use Rattle.std.specs.List.{AllByRecursion, list_all}
 use Rattle.std.proofs.lemmas.Bool.{and_parts}
 use Rattle.std.proofs.lemmas.Bool.Decides.{nat_tests}
@@ -26,15 +26,17 @@ use Rattle.sqlite.specs.Rows.{Then}
 use Rattle.sqlite.specs.Does.{Does, Defines, MakesTable, MakesSequence, lacks_sequence}
 use Rattle.sqlite.specs.declared.error.Error.{Error}
 use Rattle.sqlite.specs.Listing.{understood}
-use Rattle.sqlite.specs.State.{State, mode_of, ExecutesInside, Survives}
+use Rattle.sqlite.specs.State.{State, mode_of, HasCleanDisk, ExecutesInside, Survives}
 use Rattle.sqlite.proofs.Callers.{IsPlain, command_of, statement_of}
 use Rattle.sqlite_tied.specs.Compute.{everything}
 use Rattle.desk_sql.specs.Schema.{meta_at, stock_at, batch_at, journey_at, step_at, entry_at, answer_at, entry2_at, mark_at, no_schema, first_schema, seven_schema}
 use Rattle.desk_sql.specs.Texts.{meta_text, stock_text, batch_text, step_text, journey_text, entry_text, answer_text, entry2_text, mark_text}
-use Rattle.desk_sql.specs.Calls.{Builds}
+use Rattle.desk_sql.specs.Calls.{MayBuild, Builds}
 use Rattle.desk_sql.specs.Causes.{IsUp, HasReason}
 use Rattle.desk_sql.proofs.Causing.{takes}
-use Rattle.desk_sql.proofs.Making.{schema_1, schema_2, schema_3, schema_5, schema_6, schema_8}
+use Rattle.desk_sql.proofs.Creating.{creates}
+use Rattle.desk_sql.proofs.Making.{schema_1, schema_2, schema_3, schema_5, schema_6, schema_8, builds_then, then_build}
+use Rattle.desk_sql.proofs.Quieting.{faulted_later, survives_twice}
 use Rattle.desk_sql.proofs.Refusing.{gives_on, seen_with, statement_reason}
 use Rattle.desk_sql.proofs.Writing.{same_value}
 
@@ -142,214 +144,126 @@ module _ (schema : Schema) (sql : List ℕ) (table : Table) (it : IsNewTable sch
 
 -- One text after another.
 
--- a store that was up is so once a table was created
-pub up_built : (a b : State) (s : Schema) → Survives a b (λ _. ⊥) → Builds a b s → IsUp a → IsUp b
-up_built a b s survives built up = record { is_open = built.is_open; unlimited = survives.limit ∙ up.unlimited }
+-- Tables were created: from these tables without rows to those, and a crash leaves no more than before.
+pub record Stage (a b : State) (before after : Schema) : Type 0 where
+  pub survives : Survives a b (λ _. ⊥)
+  pub made : HasCleanDisk b → MayBuild before a → Builds a b after
 
-later : (a b c : ℕ) → a ≤ b → min (b + 1) (2 ^ 64 - 1) ≤ c → min (a + 1) (2 ^ 64 - 1) ≤ c
-later a b c low more = omega (arith, low, more)
+pub stage_then : {a b c : State} {s t u : Schema} → Stage a b s t → Stage b c t u → Stage a c s u
+stage_then {a = a} {b = b} {c = c} {t = t} {u = u} p q = record {
+  survives = survives_twice a b c p.survives q.survives;
+  made = λ clean start. (
+      let mid : HasCleanDisk b = omega (arith, q.survives.clean, clean) in
+      builds_then a b c t u (p.made mid start) (q.made clean (then_build a b t (p.made mid start))));
+}
+
+-- a text that was run has created its table
+pub created_by : {a b : State} {schema after : Schema} {sql : List ℕ} {table : Table} → IsNewTable schema sql table
+    → created schema table ≡ after → (count : ℕ) → Survives a b (λ _. ⊥) → (HasCleanDisk b → IsTrue a.in_transaction → ExecutesInside 0 sql [] a b (Ok count))
+    → Stage a b schema after
+created_by {a = a} {b = b} {schema = schema} {sql = sql} {table = table} it is count survives runs = record {
+  survives = survives;
+  made = λ clean start. subst (Builds a b) is
+      (creates sql a b schema table (Ok count) it.meant it.plain it.alone it.defined it.uncounted start (runs clean start.inside));
+}
+
+-- a store that was up is so once tables were created
+up_built : (a b : State) (s : Schema) → Survives a b (λ _. ⊥) → Builds a b s → IsUp a → IsUp b
+up_built a b s survives built up = record { is_open = built.is_open; unlimited = survives.limit ∙ up.unlimited }
 
 -- a reason of a later statement is one of all
 pub reason_since : (a b c : State) (e : Error) → a.faults ≤ b.faults → HasReason b c e → HasReason a c e
 reason_since a b c e low (inl memory) = inl memory
-reason_since a b c e low (inr faulted) = inr (later a.faults b.faults c.faults low faulted)
+reason_since a b c e low (inr faulted) = inr (faulted_later a b c low faulted)
+
+-- what comes after them fails for a reason of its own
+pub fails_after : {a b c : State} {before at : Schema} (e : Error) → Stage a b before at → Survives b c (λ _. ⊥)
+    → (HasCleanDisk c → Builds a b at → IsUp b → HasReason b c e) → HasCleanDisk c → MayBuild before a → IsUp a → HasReason a c e
+fails_after {a = a} {b = b} {c = c} {at = at} e stage survives fails clean start up =
+    let mid : HasCleanDisk b = omega (arith, survives.clean, clean) in
+    let built = stage.made mid start in
+    reason_since a b c e stage.survives.counts (fails clean built (up_built a b at stage.survives built up))
+
+pub text_fails : {a b c : State} {before at : Schema} {sql : List ℕ} {table : Table} (e : Error) → Stage a b before at → IsNewTable at sql table
+    → Survives b c (λ _. ⊥) → (HasCleanDisk c → IsTrue b.in_transaction → ExecutesInside 0 sql [] b c (Err e))
+    → HasCleanDisk c → MayBuild before a → IsUp a → HasReason a c e
+text_fails {b = b} {c = c} {at = at} {sql = sql} {table = table} e stage it survives runs =
+    fails_after e stage survives (λ clean built up. create_reason at sql table it b c e up built.made.is (runs clean built.inside))
 
 -- The texts, each beside the tables that those before it created.
 
+-- each of these facts is found by computing
+computed : {schema : Schema} {sql : List ℕ} {table : Table}
+    → command_of (understood schema sql) ≡ CreateTable
+    → IsPlain (understood schema sql)
+    → statement_of sql (understood schema sql) ≡ sql
+    → takes (length sql) 0 (understood schema sql) ≡ true
+    → table_defined_by sql ≡ Ok table
+    → is_ascii sql ≡ true
+    → is_ascii table.name ≡ true
+    → is_used schema table.name ≡ false
+    → AllByRecursion (λ (i : Index). is_used schema i.name ≡ false) (automatics table 0 0 table.uniques)
+    → is_reserved table.name ≡ false
+    → nat_lt (next_tree schema + length table.uniques) 65536 ≡ true
+    → table_reals table ≡ 0
+    → AllByRecursion (λ (key : List ℕ). index_reals (table_reals table) key ≡ 0) table.uniques
+    → nat_lt (2 * length table.name + length sql + 200) 65536 ≡ true
+    → is_formed table ≡ true
+    → is_fit (Text (codes "table")) (Text table.name) (Text table.name) (Text sql) ≡ true
+    → lacks_sequence (created schema table) ≡ false
+    → IsNewTable schema sql table
+computed meant plain alone whole defined letters name_letters unused unused_indexes unreserved few reals key_reals short formed listed uncounted = record {
+  meant = meant;
+  plain = plain;
+  alone = alone;
+  whole = whole;
+  defined = defined;
+  letters = letters;
+  name_letters = name_letters;
+  unused = unused;
+  unused_indexes = unused_indexes;
+  unreserved = unreserved;
+  few = few;
+  reals = reals;
+  key_reals = key_reals;
+  short = short;
+  formed = formed;
+  listed = listed;
+  uncounted = uncounted;
+}
+
 pub meta_is_new : IsNewTable no_schema meta_text (meta_at 0)
 unfolding understood everything value_cmp fits_kind is_free_name same_name begins lib.Ieee.is_nan lib.Ieee.lt
-meta_is_new = record {
-  meant = refl;
-  plain = (refl, refl);
-  alone = refl;
-  whole = refl;
-  defined = refl;
-  letters = refl;
-  name_letters = refl;
-  unused = refl;
-  unused_indexes = tt;
-  unreserved = refl;
-  few = refl;
-  reals = refl;
-  key_reals = tt;
-  short = refl;
-  formed = refl;
-  listed = refl;
-  uncounted = refl;
-}
+meta_is_new = computed refl (refl, refl) refl refl refl refl refl refl tt refl refl refl tt refl refl refl refl
 
 pub stock_is_new : IsNewTable schema_1 stock_text (stock_at 0)
 unfolding understood everything value_cmp fits_kind is_free_name same_name begins lib.Ieee.is_nan lib.Ieee.lt
-stock_is_new = record {
-  meant = refl;
-  plain = (refl, refl);
-  alone = refl;
-  whole = refl;
-  defined = refl;
-  letters = refl;
-  name_letters = refl;
-  unused = refl;
-  unused_indexes = (refl, tt);
-  unreserved = refl;
-  few = refl;
-  reals = refl;
-  key_reals = (refl, tt);
-  short = refl;
-  formed = refl;
-  listed = refl;
-  uncounted = refl;
-}
+stock_is_new = computed refl (refl, refl) refl refl refl refl refl refl (refl, tt) refl refl refl (refl, tt) refl refl refl refl
 
 pub batch_is_new : IsNewTable schema_2 batch_text (batch_at 0)
 unfolding understood everything value_cmp fits_kind is_free_name same_name begins lib.Ieee.is_nan lib.Ieee.lt
-batch_is_new = record {
-  meant = refl;
-  plain = (refl, refl);
-  alone = refl;
-  whole = refl;
-  defined = refl;
-  letters = refl;
-  name_letters = refl;
-  unused = refl;
-  unused_indexes = (refl, (refl, tt));
-  unreserved = refl;
-  few = refl;
-  reals = refl;
-  key_reals = (refl, (refl, tt));
-  short = refl;
-  formed = refl;
-  listed = refl;
-  uncounted = refl;
-}
+batch_is_new = computed refl (refl, refl) refl refl refl refl refl refl (refl, (refl, tt)) refl refl refl (refl, (refl, tt)) refl refl refl refl
 
 pub journey_is_new : IsNewTable schema_3 journey_text (journey_at 0)
 unfolding understood everything value_cmp fits_kind is_free_name same_name begins lib.Ieee.is_nan lib.Ieee.lt
-journey_is_new = record {
-  meant = refl;
-  plain = (refl, refl);
-  alone = refl;
-  whole = refl;
-  defined = refl;
-  letters = refl;
-  name_letters = refl;
-  unused = refl;
-  unused_indexes = (refl, tt);
-  unreserved = refl;
-  few = refl;
-  reals = refl;
-  key_reals = (refl, tt);
-  short = refl;
-  formed = refl;
-  listed = refl;
-  uncounted = refl;
-}
+journey_is_new = computed refl (refl, refl) refl refl refl refl refl refl (refl, tt) refl refl refl (refl, tt) refl refl refl refl
 
 pub step_is_new : IsNewTable first_schema step_text (step_at 0)
 unfolding understood everything value_cmp fits_kind is_free_name same_name begins lib.Ieee.is_nan lib.Ieee.lt
-step_is_new = record {
-  meant = refl;
-  plain = (refl, refl);
-  alone = refl;
-  whole = refl;
-  defined = refl;
-  letters = refl;
-  name_letters = refl;
-  unused = refl;
-  unused_indexes = (refl, tt);
-  unreserved = refl;
-  few = refl;
-  reals = refl;
-  key_reals = (refl, tt);
-  short = refl;
-  formed = refl;
-  listed = refl;
-  uncounted = refl;
-}
+step_is_new = computed refl (refl, refl) refl refl refl refl refl refl (refl, tt) refl refl refl (refl, tt) refl refl refl refl
 
 pub entry_is_new : IsNewTable schema_5 entry_text (entry_at 0)
 unfolding understood everything value_cmp fits_kind is_free_name same_name begins lib.Ieee.is_nan lib.Ieee.lt
-entry_is_new = record {
-  meant = refl;
-  plain = (refl, refl);
-  alone = refl;
-  whole = refl;
-  defined = refl;
-  letters = refl;
-  name_letters = refl;
-  unused = refl;
-  unused_indexes = tt;
-  unreserved = refl;
-  few = refl;
-  reals = refl;
-  key_reals = tt;
-  short = refl;
-  formed = refl;
-  listed = refl;
-  uncounted = refl;
-}
+entry_is_new = computed refl (refl, refl) refl refl refl refl refl refl tt refl refl refl tt refl refl refl refl
 
 pub answer_is_new : IsNewTable schema_6 answer_text (answer_at 0)
 unfolding understood everything value_cmp fits_kind is_free_name same_name begins lib.Ieee.is_nan lib.Ieee.lt
-answer_is_new = record {
-  meant = refl;
-  plain = (refl, refl);
-  alone = refl;
-  whole = refl;
-  defined = refl;
-  letters = refl;
-  name_letters = refl;
-  unused = refl;
-  unused_indexes = (refl, tt);
-  unreserved = refl;
-  few = refl;
-  reals = refl;
-  key_reals = (refl, tt);
-  short = refl;
-  formed = refl;
-  listed = refl;
-  uncounted = refl;
-}
+answer_is_new = computed refl (refl, refl) refl refl refl refl refl refl (refl, tt) refl refl refl (refl, tt) refl refl refl refl
 
 pub entry2_is_new : IsNewTable seven_schema entry2_text (entry2_at 0)
 unfolding understood everything value_cmp fits_kind is_free_name same_name begins lib.Ieee.is_nan lib.Ieee.lt
-entry2_is_new = record {
-  meant = refl;
-  plain = (refl, refl);
-  alone = refl;
-  whole = refl;
-  defined = refl;
-  letters = refl;
-  name_letters = refl;
-  unused = refl;
-  unused_indexes = tt;
-  unreserved = refl;
-  few = refl;
-  reals = refl;
-  key_reals = tt;
-  short = refl;
-  formed = refl;
-  listed = refl;
-  uncounted = refl;
-}
+entry2_is_new = computed refl (refl, refl) refl refl refl refl refl refl tt refl refl refl tt refl refl refl refl
 
 pub mark_is_new : IsNewTable schema_8 mark_text (mark_at 0)
 unfolding understood everything value_cmp fits_kind is_free_name same_name begins lib.Ieee.is_nan lib.Ieee.lt
-mark_is_new = record {
-  meant = refl;
-  plain = (refl, refl);
-  alone = refl;
-  whole = refl;
-  defined = refl;
-  letters = refl;
-  name_letters = refl;
-  unused = refl;
-  unused_indexes = (refl, tt);
-  unreserved = refl;
-  few = refl;
-  reals = refl;
-  key_reals = (refl, tt);
-  short = refl;
-  formed = refl;
-  listed = refl;
-  uncounted = refl;
-}
+mark_is_new = computed refl (refl, refl) refl refl refl refl refl refl (refl, tt) refl refl refl (refl, tt) refl refl refl refl

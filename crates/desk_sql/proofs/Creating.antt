@@ -1,4 +1,4 @@
--- The effect of CREATE TABLE, if no table has a row. For Making.
+-- The effect of CREATE TABLE, if no table has a row. For CreateReasons.
 use Rattle.std.proofs.Common.{◌≡◌, ℕ, List, [], ◌∷◌, ◌++◌, true, false, if◌then◌else◌, None, Ok, Err, Result, OnOk, sym, ap, subst, ◌∙◌}
 use Rattle.std.specs.List.{AllByRecursion}
 use Rattle.sqlite.specs.Table.{Table}

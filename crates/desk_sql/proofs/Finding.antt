@@ -1,5 +1,5 @@
 -- The rows that a query on one table of the desk finds. For the lemmas of each query.
-use Rattle.std.proofs.Common.{◌≡◌, ◌≢◌, inl, inr, ℕ, List, [], ◌∷◌, Option, Ok, Err, IsTrue, sym, ap, subst, ◌∙◌}
+use Rattle.std.proofs.Common.{◌≡◌, inl, inr, ℕ, List, [], ◌∷◌, Option, Ok, Err, IsTrue, sym, ap, subst, ◌∙◌}
 use Rattle.sqlite.specs.declared.types.Value.TheVariants.{Null}
 use Rattle.sqlite.specs.declared.error.Error.{Error}
 use Rattle.sqlite.specs.declared.error.Error.TheVariants.{QueryReturnedNoRows}
@@ -8,25 +8,15 @@ use Rattle.sqlite.specs.Query.{Query, IsAnswer}
 use Rattle.sqlite.specs.Program.{overlay}
 use Rattle.sqlite_schema.specs.declared.program.Program.{Program}
 use Rattle.sqlite.specs.Command.TheVariants.{Select}
-use Rattle.sqlite_trees.specs.declared.error.StoreError.{StoreError}
-use Rattle.sqlite_trees.specs.declared.error.StoreError.TheVariants.{OutOfMemory, Io, Corrupt, Full, Broken, Unstorable}
 use Rattle.sqlite.specs.Effect.{Database, RefusesToRead}
 use Rattle.sqlite.specs.Listing.{understood}
-use Rattle.sqlite.specs.State.{State, QueriesRow, FailsToQuery, FailsToShow, IsNotRun, Shown, IsUnchanged, store_error}
+use Rattle.sqlite.specs.State.{State, QueriesRow, FailsToQuery, FailsToShow, IsNotRun, Shown, IsUnchanged}
 use Rattle.sqlite.specs.Clock.{timed}
 use Rattle.sqlite.proofs.Callers.{command_of, first_as, reads_as}
 use Rattle.desk_sql.specs.declared.versions.Version.{Version}
 use Rattle.desk_sql.specs.Schema.{schema_of}
 use Rattle.desk_sql.proofs.Meaning.{MeansIn}
-use Rattle.desk_sql.proofs.Selecting.{understood_bare, shown_same, row_same}
-
-not_store : (cause : StoreError) → store_error cause ≢ QueryReturnedNoRows
-not_store OutOfMemory e = cc
-not_store Io e = cc
-not_store Corrupt e = cc
-not_store Full e = cc
-not_store Broken e = cc
-not_store Unstorable e = cc
+use Rattle.desk_sql.proofs.Selecting.{not_store, understood_bare, shown_same, row_same}
 
 -- a statement that was not run fails with another error than that of a missing row
 not_run : (old new : State) (text : List ℕ) (params : Row) (e : Error) → e ≡ QueryReturnedNoRows → ¬ IsNotRun old new text params e

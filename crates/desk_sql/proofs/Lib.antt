@@ -1,13 +1,14 @@
 pub mod Answering
+pub mod Asking
 pub mod Ascending
 pub mod Beginning
 pub mod Changing
 pub mod ChangedRows
 pub mod Causing
 pub mod Creating
+pub mod Effects
 pub mod CreateReasons
 pub mod Finding
-pub mod FirstRow
 pub mod Framing
 pub mod InsertReasons
 pub mod Inserting
@@ -24,6 +25,7 @@ pub mod OneList
 pub mod OneMore
 pub mod Ordered
 pub mod Permuting
+pub mod Places
 pub mod PutReasons
 pub mod Putting
 pub mod Quieting
@@ -31,13 +33,11 @@ pub mod Reading
 pub mod RemovedRows
 pub mod Refusing
 pub mod Rowids
-pub mod RowidsTaken
 pub mod Replacing
 pub mod Selecting
 pub mod StockQueries
 pub mod Storing
 pub mod Tables
-pub mod Taking
 pub mod Testing
 pub mod UpdateReasons
 pub mod Updating

@@ -1,31 +1,30 @@
 -- The batch with a name. For `find_batch`.
-use Rattle.std.proofs.Common.{◌≡◌, ℕ, ℤ, List, [], ◌∷◌, filter, true, Some, None, IsTrue, refl, sym, ap, subst, ◌∙◌}
+use Rattle.std.proofs.Common.{◌≡◌, ℕ, ℤ, List, [], ◌∷◌, true, refl, ◌∙◌}
 use Rattle.std.specs.Prelude.{⊤}
 use Rattle.std.proofs.lemmas.Slice.Eq.{bytes_eq-Decides}
 use Rattle.sqlite.specs.declared.types.Value.TheVariants.{Text, Blob}
-use Rattle.sqlite.specs.Order.{Row}
-use Rattle.sqlite.specs.Query.{Output, IsAnswer}
-use Rattle.sqlite.specs.Program.{overlay}
-use Rattle.sqlite.specs.State.{State, IsUnchanged}
-use Rattle.sqlite_rules.specs.Lists.{Has}
+use Rattle.sqlite.specs.Query.{Output}
+use Rattle.sqlite.specs.Listing.{understood}
 use Rattle.sqlite_rules.proofs.ListLemmas.{has_filtered}
+use Rattle.sqlite_tied.specs.Compute.{everything}
 use Rattle.desk_sql.specs.Lists.{numbered_row}
-use Rattle.desk_sql.specs.Rows.{whole, Tables, BatchRow, batch_columns}
-use Rattle.desk_sql.specs.Calls.{MaySee}
-use Rattle.desk_sql.specs.Queries.{GivesRow}
+use Rattle.desk_sql.specs.Rows.{whole, BatchRow, batch_columns}
 use Rattle.desk_sql.specs.FoundRows.{is_named, batch_of, FindsBatch, shows_batch, two_of}
-use Rattle.desk_sql.specs.Readable.{ShowsOne, batch_shown}
+use Rattle.desk_sql.specs.Readable.{Any, ShowsOne, batch_shown}
 use Rattle.desk_sql.specs.Texts.{find_batch_text}
 use Rattle.desk_sql.specs.Meanings.{find_batch_query, find_batch_names}
 use Rattle.desk_sql.specs.declared.batches.BatchFound.{BatchFound}
-use Rattle.desk_sql.proofs.Meaning.{find_batch_means}
-use Rattle.desk_sql.proofs.Testing.{eq_text, and_true}
+use Rattle.desk_sql.specs.declared.versions.Version.TheVariants.{Two}
+use Rattle.desk_sql.proofs.Asking.{SaysQuery, FindsOne, asks_chosen, one_of}
 use Rattle.desk_sql.proofs.Reading.{passes}
-use Rattle.desk_sql.proofs.Finding.{first_row, no_row}
-use Rattle.desk_sql.proofs.Answering.{Answers, table_answers, all_shown, first_of, none_of}
+use Rattle.desk_sql.proofs.Testing.{eq_text, and_true}
 
 abbrev out : BatchRow → Output
 out b = ([], whole b.num ∷ Blob b.content ∷ [])
+
+says : (name : List ℕ) → SaysQuery Two find_batch_text find_batch_query find_batch_names (Text name ∷ [])
+unfolding understood everything
+says name = record { means = record { is = refl; plain = (refl, refl); unlisted = refl; selects = refl }; takes = record { whole = refl; typed = refl } }
 
 name_test : (name : List ℕ) (p : ℤ × BatchRow) → passes find_batch_query.filter (Text name ∷ []) (numbered_row batch_columns p) ≡ is_named name p.1
 name_test name p = and_true _ ∙ eq_text p.1.name name
@@ -38,33 +37,10 @@ same_batch name f b is e =
     let content : f.content.items ≡ b.content = cc in
     rw (← name_is, num, content) refl
 
-module _ (old new : State) (t : Tables) (sees : MaySee old t) (name : List ℕ) where
-  batches_found : (rows : List Row) → IsTrue old.is_open → IsAnswer find_batch_query (overlay old.now.trees []) (Text name ∷ []) rows
-      → Answers find_batch_query out (filter (is_named name) t.batch) rows
-  batches_found rows here a =
-      table_answers 3 find_batch_query.filter find_batch_query.project [] old.now.trees (Text name ∷ []) rows a refl
-      batch_columns t.batch (sees here).rows.batch out (λ _. refl) (is_named name) (name_test name)
-
-  pub finds_batch : (row : Row) (f : BatchFound) → shows_batch f ≡ two_of row
-      → GivesRow find_batch_text (Text name ∷ []) old new (Some row) → IsUnchanged old new × FindsBatch name t (Some f)
-  finds_batch row f read given =
-      let some = filter (is_named name) t.batch in
-      let got = first_row find_batch_text find_batch_query find_batch_names find_batch_means (Text name ∷ []) old new
-      (λ h. (sees h).schema) row given.1 in
-      let it = first_of find_batch_query out some row got.1.0 (batches_found (row ∷ got.1.0) given.0.0.was_open got.1.1) in
-      let passed = (has_filtered (is_named name) t.batch it.0 it.1).1 in
-      (given.0, subst (Has some) (sym (same_batch name f it.0 passed (read ∙ ap two_of it.2))) it.1)
-
-  -- the row that is given is that of a batch
-  pub batch_given : (row : Row) → GivesRow find_batch_text (Text name ∷ []) old new (Some row) → ShowsOne batch_shown (λ _. ⊤) row
-  batch_given row given =
-      let got = first_row find_batch_text find_batch_query find_batch_names find_batch_means (Text name ∷ []) old new
-      (λ h. (sees h).schema) row given.1 in
-      (all_shown find_batch_query out (filter (is_named name) t.batch) (row ∷ got.1.0)
-      (batches_found (row ∷ got.1.0) given.0.0.was_open got.1.1) (ShowsOne batch_shown (λ _. ⊤)) (λ b h. (b, refl, tt))).0
-
-  pub finds_no_batch : GivesRow find_batch_text (Text name ∷ []) old new None → IsUnchanged old new × FindsBatch name t None
-  finds_no_batch given =
-      let got = no_row find_batch_text find_batch_query find_batch_names find_batch_means (Text name ∷ []) old new
-      (λ h. (sees h).schema) _ refl given.1 in
-      (given.0, none_of find_batch_query out (filter (is_named name) t.batch) (batches_found [] given.0.0.was_open got.1))
+pub finds_batch : (name : List ℕ)
+    → FindsOne Two find_batch_text (Text name ∷ []) shows_batch two_of (FindsBatch name) Any (ShowsOne batch_shown (λ _. ⊤))
+finds_batch name =
+    one_of (asks_chosen 3 find_batch_query.filter find_batch_query.project [] (says name) (λ _. refl) batch_columns (λ t. t.batch)
+    (λ _ _ s. s.batch) out (λ _. refl) (is_named name) (name_test name)) (batch_of name) shows_batch two_of
+    (λ t f b there shown. same_batch name f b (has_filtered (is_named name) t.batch b there).1 shown)
+    Any (ShowsOne batch_shown (λ _. ⊤)) (λ t any b there. (b, refl, tt))

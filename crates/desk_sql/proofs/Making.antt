@@ -1,19 +1,16 @@
--- The meaning of each text that creates a table, in order. For `make_tables` and its parts.
-use Rattle.std.proofs.Common.{◌≡◌, ℕ, List, [], refl, Result, OnOk, ◌∙◌}
+-- The schemas that the texts of the tables lead to, one after another. For `make_tables` and its parts.
+use Rattle.std.proofs.Common.{◌≡◌, ℕ, List, [], refl, ◌∙◌}
 use Rattle.sqlite_schema.specs.declared.schema.Schema.{Schema}
 use Rattle.sqlite.specs.Change.{created}
-use Rattle.sqlite.specs.declared.error.Error.{Error}
-use Rattle.sqlite.specs.Listing.{understood}
 use Rattle.sqlite.specs.Effect.{IsDatabase}
-use Rattle.sqlite.specs.State.{State, ExecutesInside}
+use Rattle.sqlite.specs.State.{State}
 use Rattle.sqlite_tied.specs.Compute.{everything}
-use Rattle.desk_sql.specs.Texts.{meta_text, stock_text, batch_text, step_text, journey_text, entry_text, answer_text, entry2_text, mark_text}
 use Rattle.desk_sql.specs.Schema.{meta_at, stock_at, batch_at, journey_at, step_at, entry_at, answer_at, entry2_at, mark_at, no_schema, first_schema, seven_schema, desk_schema}
 use Rattle.sqlite.specs.Order.{Row}
 use Rattle.desk_sql.specs.Lists.{IsTableOf, IsNumbered}
 use Rattle.desk_sql.specs.Rows.{JourneyRow, EntryRow, meta_row, stock_columns, batch_columns, journey_row, step_columns, answer_columns, entry_row, mark_columns, no_rows}
 use Rattle.desk_sql.specs.Calls.{IsEmptyWith, MayBuild, Builds, Sees}
-use Rattle.desk_sql.proofs.Creating.{creates}
+use Rattle.desk_sql.proofs.Framing.{shows}
 
 abbrev pub schema_1 : Schema
 schema_1 = created no_schema (meta_at 0)
@@ -30,56 +27,20 @@ schema_5 = created first_schema (step_at 0)
 abbrev pub schema_6 : Schema
 schema_6 = created schema_5 (entry_at 0)
 
-first_is : created schema_3 (journey_at 0) ≡ first_schema
+pub first_is : created schema_3 (journey_at 0) ≡ first_schema
 unfolding everything
 first_is = refl
 
 abbrev pub schema_8 : Schema
 schema_8 = created seven_schema (entry2_at 0)
 
-seven_is : created schema_6 (answer_at 0) ≡ seven_schema
+pub seven_is : created schema_6 (answer_at 0) ≡ seven_schema
 unfolding everything
 seven_is = refl
 
-desk_is : created schema_8 (mark_at 0) ≡ desk_schema
+pub desk_is : created schema_8 (mark_at 0) ≡ desk_schema
 unfolding everything
 desk_is = refl
-
-pub makes_meta : (old new : State) (r : Result ℕ Error) → MayBuild no_schema old → ExecutesInside 0 meta_text [] old new r → OnOk r (Builds old new schema_1)
-unfolding understood everything
-makes_meta old new r = creates meta_text old new no_schema (meta_at 0) r refl (refl, refl) refl refl refl
-
-pub makes_stock : (old new : State) (r : Result ℕ Error) → MayBuild schema_1 old → ExecutesInside 0 stock_text [] old new r → OnOk r (Builds old new schema_2)
-unfolding understood everything
-makes_stock old new r = creates stock_text old new schema_1 (stock_at 0) r refl (refl, refl) refl refl refl
-
-pub makes_batch : (old new : State) (r : Result ℕ Error) → MayBuild schema_2 old → ExecutesInside 0 batch_text [] old new r → OnOk r (Builds old new schema_3)
-unfolding understood everything
-makes_batch old new r = creates batch_text old new schema_2 (batch_at 0) r refl (refl, refl) refl refl refl
-
-pub makes_journey : (old new : State) (r : Result ℕ Error) → MayBuild schema_3 old → ExecutesInside 0 journey_text [] old new r → OnOk r (Builds old new first_schema)
-unfolding understood everything
-makes_journey old new r = creates journey_text old new schema_3 (journey_at 0) r refl (refl, refl) refl refl refl
-
-pub makes_step : (old new : State) (r : Result ℕ Error) → MayBuild first_schema old → ExecutesInside 0 step_text [] old new r → OnOk r (Builds old new schema_5)
-unfolding understood everything
-makes_step old new r = creates step_text old new first_schema (step_at 0) r refl (refl, refl) refl refl refl
-
-pub makes_entry : (old new : State) (r : Result ℕ Error) → MayBuild schema_5 old → ExecutesInside 0 entry_text [] old new r → OnOk r (Builds old new schema_6)
-unfolding understood everything
-makes_entry old new r = creates entry_text old new schema_5 (entry_at 0) r refl (refl, refl) refl refl refl
-
-pub makes_answer : (old new : State) (r : Result ℕ Error) → MayBuild schema_6 old → ExecutesInside 0 answer_text [] old new r → OnOk r (Builds old new seven_schema)
-unfolding understood everything
-makes_answer old new r = creates answer_text old new schema_6 (answer_at 0) r refl (refl, refl) refl refl refl
-
-pub makes_entry2 : (old new : State) (r : Result ℕ Error) → MayBuild seven_schema old → ExecutesInside 0 entry2_text [] old new r → OnOk r (Builds old new schema_8)
-unfolding understood everything
-makes_entry2 old new r = creates entry2_text old new seven_schema (entry2_at 0) r refl (refl, refl) refl refl refl
-
-pub makes_mark : (old new : State) (r : Result ℕ Error) → MayBuild schema_8 old → ExecutesInside 0 mark_text [] old new r → OnOk r (Builds old new desk_schema)
-unfolding understood everything
-makes_mark old new r = creates mark_text old new schema_8 (mark_at 0) r refl (refl, refl) refl refl refl
 
 -- a text may build on what the text before it created
 pub then_build : (a b : State) (s : Schema) → Builds a b s → MayBuild s b
@@ -108,15 +69,10 @@ sees_none s it sound =
     let e = it.empty in
     record {
       schema = it.is;
-      rows = record {
-        meta = no_values_of (λ _. 1) meta_row (s.now.trees 0) e.0;
-        stock = no_rows_of stock_columns (s.now.trees 1) e.1.0;
-        batch = no_rows_of batch_columns (s.now.trees 3) e.1.1.0;
-        journey = no_values_of (λ (j : JourneyRow). j.id) journey_row (s.now.trees 6) e.1.1.1.0;
-        step = no_rows_of step_columns (s.now.trees 8) e.1.1.1.1.0;
-        answer = no_rows_of answer_columns (s.now.trees 11) e.1.1.1.1.1.1.0;
-        entries = no_values_of (λ (n : EntryRow). n.num) entry_row (s.now.trees 13) e.1.1.1.1.1.1.1.0;
-        mark = no_rows_of mark_columns (s.now.trees 14) e.1.1.1.1.1.1.1.1.0;
-      };
+      rows = shows s.now.trees no_rows (no_values_of (λ _. 1) meta_row (s.now.trees 0) e.0) (no_rows_of stock_columns (s.now.trees 1) e.1.0)
+          (no_rows_of batch_columns (s.now.trees 3) e.1.1.0) (no_values_of (λ (j : JourneyRow). j.id) journey_row (s.now.trees 6) e.1.1.1.0)
+          (no_rows_of step_columns (s.now.trees 8) e.1.1.1.1.0) (no_rows_of answer_columns (s.now.trees 11) e.1.1.1.1.1.1.0)
+          (no_values_of (λ (n : EntryRow). n.num) entry_row (s.now.trees 13) e.1.1.1.1.1.1.1.0)
+          (no_rows_of mark_columns (s.now.trees 14) e.1.1.1.1.1.1.1.1.0);
       sound = sound;
     }

@@ -1,7 +1,6 @@
--- Why the upsert of a cell fails. For `put_cell`.
-use Rattle.std.proofs.Common.{◌≡◌, ◌+◌, ℤ, List, [], ◌∷◌, ◌++◌, length, inl, inr, Option, None, Some, Err, Ok, true, false, refl, sym, ap, subst, ◌∙◌, arith}
-use Rattle.std.specs.Prelude.{IsSome, not}
-use Rattle.std.proofs.lemmas.Int.{ints}
+-- The upsert of a cell: why it fails, and what it leaves. For `put_cell`.
+use Rattle.std.proofs.Common.{◌≡◌, ◌+◌, ℕ, ℤ, suc, List, [], ◌∷◌, ◌++◌, length, inl, inr, Option, None, Some, Err, Ok, true, false, refl, sym, ap, subst, ◌∙◌, arith}
+use Rattle.std.specs.Prelude.{IsSome, not, ⊤}
 use Rattle.std.specs.Ordering.{int_cmp, is_eq}
 use Rattle.std.proofs.lemmas.Bool.{false_from_ne_true}
 use Rattle.sqlite.specs.declared.types.Value.TheVariants.{Null, Int}
@@ -11,7 +10,7 @@ use Rattle.sqlite.specs.Tree.{Trees, rowid}
 use Rattle.sqlite.specs.Query.{IsAnswer}
 use Rattle.sqlite.specs.Program.{overlay}
 use Rattle.sqlite.specs.Source.TheVariants.{Values}
-use Rattle.sqlite.specs.Edit.{edit_of, next_rowid}
+use Rattle.sqlite.specs.Edit.{Edit, edit_of, edited, next_rowid}
 use Rattle.sqlite.specs.Rowids.TheVariants.{Given}
 use Rattle.sqlite.specs.Rows.{Written, Sourced, Tries, TriesEach, Upserts, Judged, Puts, Updates, InsertsOr, nothing, shown, count_of}
 use Rattle.sqlite.specs.Listing.{understood}
@@ -35,34 +34,30 @@ use Rattle.desk_sql.specs.Schema.{desk_schema, stock_at}
 use Rattle.desk_sql.specs.Lists.{numbered_row, IsTableOf}
 use Rattle.desk_sql.specs.Rows.{Tables, StockRow, stock_columns}
 use Rattle.desk_sql.specs.Calls.{MayRun}
-use Rattle.desk_sql.specs.Causes.{IsUp, HasReason}
-use Rattle.desk_sql.specs.Stock.{is_cell, with_places}
-use Rattle.desk_sql.specs.Writable.{AreLow, HasRowids, MayPut, IsShort}
+use Rattle.desk_sql.specs.Stock.{is_cell, with_places, put, puts_cell, AreApart}
+use Rattle.desk_sql.specs.Writable.{HasRowids, MayPut, IsShort}
 use Rattle.desk_sql.specs.Texts.{put_cell_text}
 use Rattle.desk_sql.specs.Meanings.{put_cell, put_cell_terms, put_cell_query}
-use Rattle.desk_sql.proofs.Meaning.{put_cell_means}
-use Rattle.desk_sql.proofs.Causing.{takes}
-use Rattle.desk_sql.proofs.Writing.{went, same_value, task_for}
+use Rattle.desk_sql.proofs.Effects.{Says, Effect}
+use Rattle.desk_sql.proofs.Framing.{ready_of, makes_at, with_stock}
+use Rattle.desk_sql.proofs.Rowids.{low_fewer, rowids_fewer, rowids_kept}
+use Rattle.desk_sql.proofs.Writing.{went, same_value, task_for, Edits}
 use Rattle.desk_sql.proofs.Inserting.{cast_int}
 use Rattle.desk_sql.proofs.InsertReasons.{obeys_desk}
 use Rattle.desk_sql.proofs.UpdateReasons.{stock_fit, kept_kind, stock_serves, twin_four, value_there, low_fits}
 use Rattle.desk_sql.proofs.Tables.{id_of}
 use Rattle.sqlite_value.proofs.KeyLemmas.{first_key-plain}
 use Rattle.desk_sql.proofs.Testing.{eq_whole, eq_text, and_true}
-use Rattle.desk_sql.proofs.Upserting.{target, Ends, clause, tries_one}
-use Rattle.desk_sql.proofs.Putting.{put_params, conflict_is, equal_id, source_is}
+use Rattle.desk_sql.proofs.Upserting.{target, Ends, clause, tries_one, IsPut, upserts, put_tree}
+use Rattle.desk_sql.proofs.Putting.{put_params, conflict_is, equal_id, source_is, puts_table, puts_low}
 use Rattle.desk_sql.proofs.Refusing.{write_reason, IsSafe, edit_goes, made_refers, rows_go, gives_on, answered, desk_at}
 use Rattle.desk_sql.proofs.NewRow.{IsFit, put_edit, put_safe}
 use Rattle.desk_sql.proofs.ChangedRows.{update_safe}
 use Rattle.desk_sql.proofs.Storing.{range_holds, next_fits, chosen_free, table_of}
 
-put_takes : (s : StockRow) → takes (length put_cell_text) (length (put_params s)) (understood desk_schema put_cell_text) ≡ true
+put_says : (s : StockRow) → Says put_cell_text put_cell (put_params s) (accepts_terms put_cell_terms (put_params s))
 unfolding understood everything
-put_takes s = refl
-
-put_typed : (s : StockRow) → accepts_terms put_cell_terms (put_params s) ≡ true
-unfolding everything
-put_typed s = refl
+put_says s = record { means = record { is = refl; plain = (refl, refl) }; whole = refl; types = refl }
 
 change_typed : (s : StockRow) (id there : ℤ)
     → accepts_program desk_schema [] put_cell_query (put_params s ++ Int there ∷ shown (stock_at 1) (numbered_row stock_columns (id, s))) ≡ true
@@ -73,10 +68,6 @@ change_typed s id there = refl
 agree_cell : (id : ℤ) (s : StockRow) (p : ℤ × StockRow)
     → agree (record { digits = 0 }) target (numbered_row stock_columns p) target (numbered_row stock_columns (id, s)) ≡ is_cell s p.1
 agree_cell id s p = rw first_key-plain (simp (eq_whole, eq_text) (simp and_true))
-
-lower : (rows : List Row) → AreLow 1 rows → AreLow 0 rows
-lower [] low = tt
-lower (r ∷ rows) low = ((low.0.0, omega (arith, ints, low.0.1)), lower rows low.1)
 
 module _ (old : State) (t : Tables) (s : StockRow) (rowids : HasRowids 1 old.now.trees) (it : IsTableOf stock_columns (old.now.trees 1) t.stock)
     (obeys : Obeys desk_schema old.now.trees) (fits : MayPut s t) (unlimited : old.step_limit ≡ None) where
@@ -118,7 +109,7 @@ module _ (old : State) (t : Tables) (s : StockRow) (rowids : HasRowids 1 old.now
       (λ p _ _. simp cast_int) (inr (inl refl)) obeys
       (λ p known same.
       let at = value_there stock_columns (db 1) t.stock it p known in
-      stock_fit db p.0 (with_places s p.1) (low_fits (db 1) (numbered_row stock_columns p) p.0 (lower (db 1) rowids.stock) at.1 refl) (kept_kind db p.0 p.1 obeys at.1) fits.free
+      stock_fit db p.0 (with_places s p.1) (low_fits (db 1) (numbered_row stock_columns p) p.0 (low_fewer 0 1 (db 1) (omega arith) rowids.stock) at.1 refl) (kept_kind db p.0 p.1 obeys at.1) fits.free
       (all_has (λ (x : StockRow). IsShort (length x.supplier + length x.product)) t.stock p.1 fits.others at.0))
       (λ p. twin_four (stock_at 1) (numbered_row stock_columns p) (numbered_row stock_columns (p.0, with_places s p.1)) refl refl refl refl refl tt)
       refl stock_serves asked
@@ -180,7 +171,7 @@ module _ (old : State) (t : Tables) (s : StockRow) (rowids : HasRowids 1 old.now
 
   sourced_on : (stop : Option Error) → ¬ Sourced old.step_limit (desk_at old) (put_params s) (Values put_cell_terms 7) (Err stop)
   sourced_on None none = none
-  sourced_on (Some e) (inl (is, wrong)) = let bad : true ≡ false = sym (put_typed s) ∙ wrong in cc
+  sourced_on (Some e) (inl (is, wrong)) = let bad : true ≡ false = sym (put_says s).types ∙ wrong in cc
   sourced_on (Some e) (inr (is, limit)) = let none : false ≡ true = subst (λ l. IsSome l) unlimited limit in cc
 
   each_on : (stop : Option Error) → ¬ TriesEach (task_for old (stock_at 1) (put_params s)) Abort (clause old (put_params s) program ∷ []) ((Null ∷ put_params s) ∷ []) (count_of None) (nothing db) (Err stop)
@@ -216,12 +207,31 @@ module _ (old : State) (t : Tables) (s : StockRow) (rowids : HasRowids 1 old.now
           (made_refers db written.0 (edit_of db (stock_at 1) (ids_of found.0) Given 1 found.0)
           (update_at (there ∷ more) there conflict (inl refl) found.0 (found.1.answer Null)) written.1)
 
-pub put_cell_reason : (old new : State) (t : Tables) (s : StockRow) (e : Error) → HasRowids 1 old.now.trees → MayRun old t → MayPut s t → IsUp old
-    → ExecutesInside 0 put_cell_text (put_params s) old new (Err e) → HasReason old new e
-put_cell_reason old new t s e rowids may fits up =
-    let sees = may.sees up.is_open in
-    let shown_rows = sees.rows.stock in
-    let obeys = obeys_desk old t sees in
-    write_reason put_cell_text put_cell (put_params s) put_cell_means (put_takes s) refl refl old new up sees.schema
-    (λ text stop h. rows_go old (put_params s) (stock_at 1) put_cell stop (goes old t s rowids shown_rows obeys fits up.unlimited)
-    (refers old t s rowids shown_rows obeys fits up.unlimited) h) e
+-- the row is put by one edit
+put_by : (old new : State) (t : Tables) (s : StockRow) (count : ℕ) → MayRun old t → ExecutesInside 0 put_cell_text (put_params s) old new (Ok count)
+    → (edit : Edit) × IsPut old.now.trees (put_params s) put_cell_query (numbered_row stock_columns (next_rowid (old.now.trees 1), s)) edit × Edits old new edit
+put_by old new t s count may ran =
+    let says = put_says s in
+    let it = upserts put_cell_text (put_params s) old new put_cell_terms 7 put_cell_query (Null ∷ put_params s) count says.means.is says.means.plain
+    refl refl (ready_of old t may ran.1.was_open) ran.0 in
+    (it.0, subst (λ n. IsPut old.now.trees (put_params s) put_cell_query n it.0) (source_is (old.now.trees 1) s) it.1, it.2)
+
+pub sets_cell : (s : StockRow) → Effect put_cell_text (put_params s) AreApart (puts_cell s) (HasRowids 1) (MayPut s) (λ _. ⊤) suc
+sets_cell s = record {
+  made = λ old new t count may apart ran. (
+      let db = old.now.trees in
+      let shown_rows = (may.sees ran.1.was_open).rows in
+      let it = put_by old new t s count may ran in
+      makes_at old new it.0 it.2 1 (edited db it.0) (puts_cell s t) (put_tree db (put_params s) put_cell_query _ it.0 it.1) refl
+      (with_stock db t shown_rows (edited db it.0) (put s t.stock) (puts_table db t.stock s it.0 shown_rows.stock apart it.1 it.2.applies.fresh)));
+  reason = λ old new t e rowids may fits up ran. (
+      let sees = may.sees up.is_open in
+      let obeys = obeys_desk old t sees in
+      write_reason put_cell_text put_cell (put_params s) (put_says s).means (put_says s).whole refl refl old new up sees.schema
+      (λ text stop h. rows_go old (put_params s) (stock_at 1) put_cell stop (goes old t s rowids sees.rows.stock obeys fits up.unlimited)
+      (refers old t s rowids sees.rows.stock obeys fits up.unlimited) h) e ran);
+  rowids = λ old new t count may any ran n has. (
+      let it = put_by old new t s count may ran in
+      rowids_kept old new it.0 it.2 n (rowids_fewer n (suc n) old.now.trees (omega arith) has)
+      (puts_low old.now.trees t.stock s it.0 n (may.sees ran.1.was_open).rows.stock it.1 it.2.applies.fresh has.few has.stock));
+}

@@ -1,5 +1,5 @@
 -- The upsert of a cell. For `put_cell`.
-use Rattle.std.proofs.Common.{◌≡◌, inl, inr, ℕ, ℤ, eq-eqb, eqb-true, List, [], ◌∷◌, ◌++◌, map, Bool, true, false, if◌then◌else◌, Some, Ok, Err, Result, OnOk, is_eq, refl, sym, ap, ap₂, subst, ◌∙◌, arith}
+use Rattle.std.proofs.Common.{◌≡◌, ◌<◌, ◌^◌, inl, inr, ℕ, ℤ, suc, eq-eqb, eqb-true, List, [], ◌∷◌, ◌++◌, map, Bool, true, false, if◌then◌else◌, Some, is_eq, refl, sym, ap, ap₂, subst, ◌∙◌, arith}
 use Rattle.std.specs.Prelude.{bytes_eq}
 use Rattle.std.specs.List.{list_any}
 use Rattle.std.specs.Ordering.{int_cmp}
@@ -7,7 +7,6 @@ use Rattle.std.proofs.lemmas.Int.{ints}
 use Rattle.std.proofs.lemmas.Bool.{cases_Bool, and_parts, and_from, false_from_ne_true}
 use Rattle.std.proofs.lemmas.Slice.Eq.{bytes_eq-Decides}
 use Rattle.sqlite.specs.declared.types.Value.TheVariants.{Null, Int, Text}
-use Rattle.sqlite.specs.declared.error.Error.{Error}
 use Rattle.sqlite.specs.Ops.{binary, is_true}
 use Rattle.sqlite_sql.specs.declared.ops.BinaryOp.TheVariants.{Compare}
 use Rattle.sqlite_sql.specs.declared.ops.CompareOp.TheVariants.{Eq}
@@ -22,7 +21,6 @@ use Rattle.sqlite.specs.Cast.{cast_row}
 use Rattle.sqlite.specs.Edit.{Edit, edit_of, edited, next_rowid, with_rowid}
 use Rattle.sqlite.specs.Rowids.TheVariants.{Chosen, Given}
 use Rattle.sqlite.specs.Rows.{shown}
-use Rattle.sqlite.specs.State.{State, ExecutesInside}
 use Rattle.sqlite_rules.specs.Lists.{Has}
 use Rattle.sqlite_rules.specs.Keys.{conflicts}
 use Rattle.sqlite_rules.specs.Edit.{are_fresh, left_by}
@@ -33,19 +31,17 @@ use Rattle.sqlite_trees.specs.Tree.{IsAscending, rowid}
 use Rattle.sqlite_trees.proofs.ListLemmas.{ascending_from_map}
 use Rattle.desk_sql.specs.Schema.{desk_schema, stock_at}
 use Rattle.desk_sql.specs.Lists.{numbered_row, IsTableOf, changed}
-use Rattle.desk_sql.specs.Rows.{whole, Tables, StockRow, stock_columns}
-use Rattle.desk_sql.specs.Calls.{MayRun, Makes}
-use Rattle.desk_sql.specs.Stock.{is_cell, with_places, put, puts_cell, AreApart}
-use Rattle.desk_sql.specs.Texts.{put_cell_text}
-use Rattle.desk_sql.specs.Meanings.{put_cell_query, put_cell_terms}
-use Rattle.desk_sql.proofs.Meaning.{put_cell_means}
+use Rattle.desk_sql.specs.Rows.{whole, StockRow, stock_columns}
+use Rattle.desk_sql.specs.Stock.{is_cell, with_places, put}
+use Rattle.desk_sql.specs.Writable.{AreLow}
+use Rattle.desk_sql.specs.Meanings.{put_cell_query}
 use Rattle.desk_sql.proofs.Writing.{cast_null}
 use Rattle.desk_sql.proofs.Inserting.{cast_int}
 use Rattle.desk_sql.proofs.Testing.{truth_is, eq_whole, eq_text, and_true, or_false}
-use Rattle.desk_sql.proofs.Framing.{ready_of, makes_at, with_stock}
+use Rattle.desk_sql.proofs.Rowids.{low_fewer, low_put, low_changed}
 use Rattle.desk_sql.proofs.Tables.{id_of, value_of, appended, replaced_values}
 use Rattle.desk_sql.proofs.Updating.{updated}
-use Rattle.desk_sql.proofs.Upserting.{target, IsPut, upserts, put_tree}
+use Rattle.desk_sql.proofs.Upserting.{target, IsPut}
 
 -- Keys of cells.
 
@@ -175,7 +171,7 @@ module _ (db : Trees) (cells : List StockRow) (it : IsTableOf stock_columns (db 
         (all ∙ ap (map (numbered_row stock_columns)) (same_changed test (λ p. is_cell s p.1) change it.numbered one_row))
 
 -- the cells after the upsert
-puts_table : (db : Trees) (cells : List StockRow) (s : StockRow) (edit : Edit) → IsTableOf stock_columns (db 1) cells
+pub puts_table : (db : Trees) (cells : List StockRow) (s : StockRow) (edit : Edit) → IsTableOf stock_columns (db 1) cells
     → IsAscending (λ (a b : StockRow). is_cell a b ≡ false) cells
     → IsPut db (put_params s) put_cell_query (numbered_row stock_columns (next_rowid (db 1), s)) edit
     → are_fresh (left_by db edit) edit.news ≡ true → IsTableOf stock_columns (edited db edit) (put s cells)
@@ -200,16 +196,26 @@ puts_table db cells s edit it apart (found, they, inr (first, more, several, row
     rw some (subst (λ (e : Edit). IsTableOf stock_columns (edited db e) (changed (is_cell s) (with_places s) cells)) (sym is)
     (put_there db cells it s apart q.0 q.1 here rows asked fresh_at))
 
-pub puts : (old new : State) (t : Tables) (s : StockRow) (r : Result ℕ Error) → AreApart t → MayRun old t
-    → ExecutesInside 0 put_cell_text (put_params s) old new r → OnOk r (Makes old new (puts_cell s t))
-puts old new t s (Err e) apart may ran = tt
-puts old new t s (Ok count) apart may ran =
-    let here = ran.1.was_open in
-    let db = old.now.trees in
-    let shown_rows = (may.sees here).rows in
-    let it = upserts put_cell_text (put_params s) old new put_cell_terms 7 put_cell_query (Null ∷ put_params s) count put_cell_means.is
-    put_cell_means.plain refl refl (ready_of old t may here) ran.0 in
-    let is_put = subst (λ n. IsPut db (put_params s) put_cell_query n it.0) (source_is (db 1) s) it.1 in
-    makes_at old new it.0 it.2 1 (edited db it.0) (puts_cell s t) (put_tree db (put_params s) put_cell_query _ it.0 it.1) refl
-    (with_stock db t shown_rows (edited db it.0) (put s t.stock)
-    (puts_table db t.stock s it.0 shown_rows.stock apart is_put it.2.applies.fresh))
+-- the cells after the upsert have at most one rowid more
+pub puts_low : (db : Trees) (cells : List StockRow) (s : StockRow) (edit : Edit) (n : ℕ) → IsTableOf stock_columns (db 1) cells
+    → IsPut db (put_params s) put_cell_query (numbered_row stock_columns (next_rowid (db 1), s)) edit
+    → are_fresh (left_by db edit) edit.news ≡ true → suc n < 2 ^ 63 → AreLow (suc n) (db 1) → AreLow n (edited db edit)
+puts_low db cells s edit n it (found, they, inl (none, is)) fresh few low =
+    let new = numbered_row stock_columns (next_rowid (db 1), s) in
+    subst (λ e. AreLow n (edited db e)) (sym is) (subst (AreLow n) (sym (put_new db cells it s)) (low_put n (db 1) new refl few low))
+puts_low db cells s edit n it (found, they, inr (first, more, several, rows, answer, is)) fresh few low =
+    let new = numbered_row stock_columns (next_rowid (db 1), s) in
+    let row = they.sound first (subst (λ rs. Has rs first) (sym several) (inl refl)) in
+    let q = has_mapped (numbered_row stock_columns) it.numbered row.0 (subst (λ rs. Has rs row.0) it.rows_are row.1) in
+    let at : rowid first ≡ Int q.0.0 = ap rowid row.3 ∙ ap rowid q.2 in
+    let params = put_params s ++ Int q.0.0 ∷ shown (stock_at 1) new in
+    let asked = subst (λ v. IsAnswer put_cell_query (overlay db []) (put_params s ++ v ∷ shown (stock_at 1) new) rows) at answer in
+    let fresh_at = subst (λ (e : Edit). are_fresh (left_by db e) e.news ≡ true) is fresh in
+    let test : ℤ × StockRow → Bool = λ p. is_eq (int_cmp p.0 q.0.0) in
+    let change : ℤ × StockRow → ℤ × StockRow = λ p. (p.0, with_places s p.1) in
+    let all = updated (numbered_row stock_columns) id_of (λ _. refl) db (stock_at 1) it.numbered it.rise it.rows_are refl
+    put_cell_query.filter put_cell_query.project params rows test change (λ p. and_true _ ∙ equal_id p.0 q.0.0) (λ _. refl) (λ _. refl)
+    (λ p _ _. simp cast_int) asked fresh_at in
+    subst (λ e. AreLow n (edited db e)) (sym is) (subst (AreLow n) (sym all)
+    (low_changed (numbered_row stock_columns) n test change (λ _. refl) it.numbered
+    (subst (AreLow n) it.rows_are (low_fewer n (suc n) (db 1) (omega arith) low))))

@@ -68,24 +68,38 @@ nothing_alone s = elim (cases_Bool s.is_open) [
   | inr is ↦ inr (inr (record { was_shut = is; is_shut = is; mode = refl; marks = refl; counts = record { changes = refl; last_rowid = refl } }))
 ]
 
+-- what is open was open, with the same commit, and the counts are kept
+kept_open : (a b : State) → ChangesNothing a b → IsTrue b.is_open → IsTrue a.is_open × (b.committed ≡ a.committed)
+kept_open a b (inl one) live = (one.0.was_open, one.0.committed_is)
+kept_open a b (inr (inl one)) live = (one.was_open live, (one.undone live).1)
+kept_open a b (inr (inr one)) live = absurd (shut b one.is_shut live)
+
+kept_counts : (a b : State) → ChangesNothing a b → KeepsCounts a b
+kept_counts a b (inl one) = one.1
+kept_counts a b (inr (inl one)) = one.counts
+kept_counts a b (inr (inr one)) = one.counts
+
 nothing_twice : (a b c : State) → ChangesNothing a b → ChangesNothing b c → ChangesNothing a c
-nothing_twice a b c (inl one) (inl two) =
-    inl (record {
-      was_open = one.0.was_open;
-      is_open = two.0.is_open;
-      now_is = two.0.now_is ∙ one.0.now_is;
-      committed_is = two.0.committed_is ∙ one.0.committed_is;
-      mode = two.0.mode ∙ one.0.mode;
-    }, counts_twice a b c one.1 two.1, two.2 ∙ one.2)
-nothing_twice a b c (inl one) (inr (inl two)) =
+nothing_twice a b c one (inr (inl two)) =
     inr (inl (record {
-      was_open = λ _. one.0.was_open;
-      undone = λ live. (let it = two.undone live in (it.0 ∙ one.0.committed_is, it.1 ∙ one.0.committed_is));
+      was_open = λ live. (kept_open a b one (two.was_open live)).0;
+      undone = λ live. (let was = kept_open a b one (two.was_open live) in let it = two.undone live in (it.0 ∙ was.1, it.1 ∙ was.1));
       autocommit = two.autocommit;
       unmarked = two.unmarked;
-      counts = counts_twice a b c one.1 two.counts;
+      counts = counts_twice a b c (kept_counts a b one) two.counts;
     }))
-nothing_twice a b c (inl one) (inr (inr two)) = absurd (shut b two.was_shut one.0.is_open)
+nothing_twice a b c (inl one) (inl two) =
+    inl (
+      record {
+        was_open = one.0.was_open;
+        is_open = two.0.is_open;
+        now_is = two.0.now_is ∙ one.0.now_is;
+        committed_is = two.0.committed_is ∙ one.0.committed_is;
+        mode = two.0.mode ∙ one.0.mode;
+      },
+      counts_twice a b c one.1 two.1,
+      two.2 ∙ one.2,
+    )
 nothing_twice a b c (inr (inl one)) (inl two) =
     inr (inl (record {
       was_open = λ _. one.was_open two.0.was_open;
@@ -94,29 +108,14 @@ nothing_twice a b c (inr (inl one)) (inl two) =
       unmarked = two.2 ∙ one.unmarked;
       counts = counts_twice a b c one.counts two.1;
     }))
-nothing_twice a b c (inr (inl one)) (inr (inl two)) =
-    inr (inl (record {
-      was_open = λ live. one.was_open (two.was_open live);
-      undone = λ live. (let was = one.undone (two.was_open live) in let it = two.undone live in (it.0 ∙ was.1, it.1 ∙ was.1));
-      autocommit = two.autocommit;
-      unmarked = two.unmarked;
-      counts = counts_twice a b c one.counts two.counts;
-    }))
+nothing_twice a b c (inr (inr one)) (inl two) = absurd (shut b one.is_shut two.0.was_open)
+nothing_twice a b c (inl one) (inr (inr two)) = absurd (shut b two.was_shut one.0.is_open)
 nothing_twice a b c (inr (inl one)) (inr (inr two)) =
     inr (inl (record {
       was_open = λ live. absurd (shut c two.is_shut live);
       undone = λ live. absurd (shut c two.is_shut live);
       autocommit = two.mode ∙ one.autocommit;
       unmarked = two.marks ∙ one.unmarked;
-      counts = counts_twice a b c one.counts two.counts;
-    }))
-nothing_twice a b c (inr (inr one)) (inl two) = absurd (shut b one.is_shut two.0.was_open)
-nothing_twice a b c (inr (inr one)) (inr (inl two)) =
-    inr (inl (record {
-      was_open = λ live. absurd (shut b one.is_shut (two.was_open live));
-      undone = λ live. absurd (shut b one.is_shut (two.was_open live));
-      autocommit = two.autocommit;
-      unmarked = two.unmarked;
       counts = counts_twice a b c one.counts two.counts;
     }))
 nothing_twice a b c (inr (inr one)) (inr (inr two)) =

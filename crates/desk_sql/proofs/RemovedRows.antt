@@ -1,15 +1,13 @@
--- Why the DELETE of a save-point fails: no rule refuses the removal of a row that no other row refers to.
-use Rattle.std.proofs.Common.{◌≡◌, ◌≢◌, ℕ, List, [], ◌∷◌, length, inl, inr, Err, true, false, not, ◌||◌, refl, sym, ap, ◌∙◌, arith}
-use Rattle.std.specs.Prelude.{nat_lt}
+-- The DELETE of a save-point: no rule refuses the removal of a row that no other row refers to. For `delete_mark`.
+use Rattle.std.proofs.Common.{◌≡◌, ◌≢◌, ℕ, ℤ, List, [], ◌∷◌, filter, length, inl, inr, true, false, not, ◌||◌, refl, sym, ap, ◌∙◌, arith}
+use Rattle.std.specs.Prelude.{nat_lt, ⊤}
 use Rattle.std.specs.List.{AllByRecursion, list_all, list_any}
 use Rattle.std.proofs.lemmas.Bool.{or_right}
-use Rattle.sqlite.specs.declared.error.Error.{Error}
 use Rattle.sqlite.specs.Order.{Row}
 use Rattle.sqlite.specs.Table.{Table}
 use Rattle.sqlite.specs.Edit.{Edit, edit_of, edited, Applies}
 use Rattle.sqlite.specs.Rowids.TheVariants.{Given}
 use Rattle.sqlite.specs.Listing.{understood}
-use Rattle.sqlite.specs.State.{State, ExecutesInside}
 use Rattle.sqlite_trees.specs.Tree.{Trees, with_tree, IsTable}
 use Rattle.sqlite_schema.specs.declared.schema.Among.TheVariants.{All}
 use Rattle.sqlite_schema.specs.declared.schema.Constraint.TheVariants.{Datatype, NotNull, Check, PrimaryKey, Unique, ForeignKey}
@@ -27,18 +25,23 @@ use Rattle.sqlite_rules.proofs.EditLemmas.{turns}
 use Rattle.sqlite_typing.specs.Types.{accepts_program}
 use Rattle.sqlite_tied.specs.Compute.{everything}
 use Rattle.desk_sql.specs.Schema.{desk_schema, to_journey, mark_at}
-use Rattle.desk_sql.specs.Rows.{Tables, mark_columns}
-use Rattle.desk_sql.specs.Calls.{MayRun}
-use Rattle.desk_sql.specs.Causes.{IsUp, HasReason}
+use Rattle.desk_sql.specs.Lists.{numbered_row}
+use Rattle.desk_sql.specs.Rows.{whole, MarkRow, mark_columns}
+use Rattle.desk_sql.specs.Changes.{drops_mark, is_mark_at}
 use Rattle.desk_sql.specs.Texts.{delete_mark_text}
 use Rattle.desk_sql.specs.Meanings.{delete, delete_mark_query}
-use Rattle.desk_sql.proofs.Meaning.{delete_mark_means}
-use Rattle.desk_sql.proofs.Causing.{takes}
-use Rattle.desk_sql.proofs.Changing.{place_params}
+use Rattle.desk_sql.proofs.Effects.{Says, Effect}
+use Rattle.desk_sql.proofs.Framing.{ready_of, makes_at, with_mark}
 use Rattle.desk_sql.proofs.InsertReasons.{obeys_desk}
 use Rattle.desk_sql.proofs.NewRow.{desk_apart}
+use Rattle.desk_sql.proofs.Places
+use Rattle.desk_sql.proofs.Reading.{passes}
 use Rattle.desk_sql.proofs.Refusing.{write_reason, delete_goes, IsSafe}
+use Rattle.desk_sql.proofs.Rowids.{rowids_kept, low_without}
 use Rattle.desk_sql.proofs.Storing.{table_of}
+use Rattle.desk_sql.proofs.Testing.{eq_whole, and_true}
+use Rattle.desk_sql.proofs.Updating.{table_deleted}
+use Rattle.desk_sql.proofs.Writing.{deletes}
 
 -- only journeys are parents
 parent_same : (one two : Trees) (row : Row) (at : ℕ) → one 6 ≡ two 6
@@ -53,46 +56,43 @@ parents_same one two row same =
     let second = parent_same one two row 2 same in
     (tt, (tt, (tt, (tt, ((first, tt), ((second, tt), (tt, ((second, tt), ((first, tt), tt)))))))))
 
-mark_serves : list_all (λ (t : Table). list_all (is_key_if_to desk_schema (mark_at 14)) t.references) desk_schema.tables ≡ true
-unfolding everything first_key joined
-mark_serves = refl
+-- these save-points are deleted
+abbrev edit : Trees → List Row → Edit
+edit db rows = edit_of db (mark_at 14) (ids_of rows) Given 0 []
 
 module _ (db : Trees) (rows : List Row) (ordered : IsTable (db 14)) (obeys : Obeys desk_schema db) where
-  abbrev edit : Edit
-  edit = edit_of db (mark_at 14) (ids_of rows) Given 0 []
-
-  turned : (next : Trees) → next 14 ≡ edited db edit → AllByRecursion (λ (t : Table). t.tree ≢ 14 → next t.tree ≡ db t.tree) desk_schema.tables
-      → Turns desk_schema db next (mark_at 14) (left_by db edit) (taken_by db edit) []
-  turned next is tables = turns desk_schema db next edit desk_apart (inr (inr (inr (inr (inr (inr (inr (inr (inl refl))))))))) ordered refl is tables
+  turned : (next : Trees) → next 14 ≡ edited db (edit db rows) → AllByRecursion (λ (t : Table). t.tree ≢ 14 → next t.tree ≡ db t.tree) desk_schema.tables
+      → Turns desk_schema db next (mark_at 14) (left_by db (edit db rows)) (taken_by db (edit db rows)) []
+  turned next is tables = turns desk_schema db next (edit db rows) desk_apart (inr (inr (inr (inr (inr (inr (inr (inr (inl refl))))))))) ordered refl is tables
 
   abbrev after : Trees
-  after = with_tree db 14 (edited db edit)
+  after = with_tree db 14 (edited db (edit db rows))
 
   after_others : AllByRecursion (λ (t : Table). t.tree ≢ 14 → after t.tree ≡ db t.tree) desk_schema.tables
   after_others = (λ _. refl, (λ _. refl, (λ _. refl, (λ _. refl, (λ _. refl, (λ _. refl, (λ _. refl, (λ _. refl, (λ apart. absurd (apart refl), tt)))))))))
 
-  permitted : (why : Refusal) → ¬ IsRefused desk_schema Enforced db edit why
+  permitted : (why : Refusal) → ¬ IsRefused desk_schema Enforced db (edit db rows) why
   permitted (Violates Datatype) h = let bad : true ≡ false = h in cc
   permitted (Violates NotNull) h = let bad : true ≡ false = h in cc
   permitted (Violates Check) h = let bad : true ≡ false = h in cc
   permitted (Violates PrimaryKey) h = let bad : true ≡ false = h in cc
   permitted (Violates Unique) h =
-      h (unique_kept desk_schema db after (mark_at 14) (left_by db edit) (taken_by db edit) [] (turned after refl after_others) refl (obeys.rules Unique))
+      h (unique_kept desk_schema db after (mark_at 14) (left_by db (edit db rows)) (taken_by db (edit db rows)) [] (turned after refl after_others) refl (obeys.rules Unique))
   permitted (Violates ForeignKey) h = h
   permitted Mismatch h = let bad : true ≡ false = h in cc
   permitted NoRowid h = let bad : true ≡ false = h in cc
   permitted BadReference h =
       let fine : (not (nat_lt 0 (length (ids_of rows))) || list_all (λ (t : Table). list_all (is_key_if_to desk_schema (mark_at 14)) t.references) desk_schema.tables) ≡ true
-      = or_right (not (nat_lt 0 (length (ids_of rows)))) _ mark_serves in
+      = or_right (not (nat_lt 0 (length (ids_of rows)))) _ Places.marks.serves in
       let bad : true ≡ false = sym fine ∙ h in cc
   permitted TooDeep h = h
 
-  refers : (next : Trees) → Applies desk_schema Enforced db edit next → Refers All desk_schema next
+  refers : (next : Trees) → Applies desk_schema Enforced db (edit db rows) next → Refers All desk_schema next
   refers next made =
       let turn = turned next made.rows made.tables in
       let journeys : next 6 ≡ db 6 = made.tables.1.1.1.0 (λ same. (let bad : 6 ≡ 14 = same in omega (arith, bad))) in
       refers_from All desk_schema next (λ t ref row known of is there.
-      elim (origin desk_schema db next (mark_at 14) (left_by db edit) (taken_by db edit) [] turn t row known there) [
+      elim (origin desk_schema db next (mark_at 14) (left_by db (edit db rows)) (taken_by db (edit db rows)) [] turn t row known there) [
         | inl (same, none) ↦ absurd none
         | inr old ↦ all_has (λ (r : Reference). has_parent desk_schema.tables next row r ≡ has_parent desk_schema.tables db row r) t.references ref
             (all_has (λ (u : Table). AllByRecursion (λ (r : Reference). has_parent desk_schema.tables next row r ≡ has_parent desk_schema.tables db row r) u.references)
@@ -100,22 +100,43 @@ module _ (db : Trees) (rows : List Row) (ordered : IsTable (db 14)) (obeys : Obe
             ∙ refers_at All desk_schema db t row ref (obeys.rules ForeignKey) known old of refl
       ])
 
-  pub delete_safe : IsSafe db edit
+  pub delete_safe : IsSafe db (edit db rows)
   delete_safe = record { permitted = permitted; storable = λ row none large. none; refers = refers }
 
-place_takes : (journey at : ℕ) → takes (length delete_mark_text) (length (place_params journey at)) (understood desk_schema delete_mark_text) ≡ true
+abbrev place_params : ℕ → ℕ → Row
+place_params journey at = whole journey ∷ whole at ∷ []
+
+place_test : (journey at : ℕ) (p : ℤ × MarkRow)
+    → passes delete_mark_query.filter (place_params journey at) (numbered_row mark_columns p) ≡ is_mark_at journey at p.1
+place_test journey at p = simp eq_whole (simp and_true)
+
+place_says : (journey at : ℕ)
+    → Says delete_mark_text (delete 8 delete_mark_query) (place_params journey at) (accepts_program desk_schema [] delete_mark_query (place_params journey at))
 unfolding understood everything
-place_takes journey at = refl
+place_says journey at = record { means = record { is = refl; plain = (refl, refl) }; whole = refl; types = refl }
 
-place_typed : (journey at : ℕ) → accepts_program desk_schema [] delete_mark_query (place_params journey at) ≡ true
-unfolding everything
-place_typed journey at = refl
-
-pub drop_reason : (old new : State) (t : Tables) (journey at : ℕ) (e : Error) → MayRun old t → IsUp old
-    → ExecutesInside 0 delete_mark_text (place_params journey at) old new (Err e) → HasReason old new e
-drop_reason old new t journey at e may up =
-    let sees = may.sees up.is_open in
+pub drops : (journey at : ℕ) → Effect delete_mark_text (place_params journey at) (λ _. ⊤) (drops_mark journey at) (λ _. ⊤) (λ _. ⊤) (λ _. ⊤) (λ n. n)
+drops journey at =
     let params = place_params journey at in
-    write_reason delete_mark_text (delete 8 delete_mark_query) params delete_mark_means (place_takes journey at) refl refl old new up sees.schema
-    (delete_goes old params (mark_at 14) 14 delete_mark_query.filter delete_mark_query.project up.unlimited (place_typed journey at) 8 refl
-    (λ rows asked. delete_safe old.now.trees rows (table_of mark_columns (old.now.trees 14) t.mark sees.rows.mark) (obeys_desk old t sees))) e
+    let says = place_says journey at in
+    record {
+      made = λ old new t count may any ran. (
+          let db = old.now.trees in
+          let shown = (may.sees ran.1.was_open).rows in
+          let it = deletes delete_mark_text params old new 8 (mark_at 14) delete_mark_query count says.means.is says.means.plain refl
+          (ready_of old t may ran.1.was_open) ran.0 in
+          makes_at old new (edit db it.0) it.2 14 (edited db (edit db it.0)) (drops_mark journey at t) refl refl
+          (with_mark db t shown (edited db (edit db it.0)) (filter (λ m. not (is_mark_at journey at m)) t.mark)
+          (table_deleted mark_columns db (mark_at 14) t.mark shown.mark refl delete_mark_query.filter delete_mark_query.project params it.0
+          (is_mark_at journey at) (place_test journey at) (λ _. refl) it.1)));
+      reason = λ old new t e room may any up ran. (
+          let sees = may.sees up.is_open in
+          write_reason delete_mark_text (delete 8 delete_mark_query) params says.means says.whole refl refl old new up sees.schema
+          (delete_goes old params (mark_at 14) 14 delete_mark_query.filter delete_mark_query.project up.unlimited says.types 8 refl
+          (λ rows asked. delete_safe old.now.trees rows (table_of mark_columns (old.now.trees 14) t.mark sees.rows.mark) (obeys_desk old t sees))) e ran);
+      rowids = λ old new t count may any ran n has. (
+          let db = old.now.trees in
+          let it = deletes delete_mark_text params old new 8 (mark_at 14) delete_mark_query count says.means.is says.means.plain refl
+          (ready_of old t may ran.1.was_open) ran.0 in
+          rowids_kept old new (edit db it.0) it.2 n has (low_without n (db 14) (ids_of it.0) has.mark));
+    }

@@ -113,7 +113,7 @@ unfolding QueriesRow
 row_fails text params old new e other (inl h) = h
 row_fails text params old new e other (inr h) = absurd (other h.0)
 
-not_store : (cause : StoreError) → store_error cause ≢ QueryReturnedNoRows
+pub not_store : (cause : StoreError) → store_error cause ≢ QueryReturnedNoRows
 not_store OutOfMemory e = cc
 not_store Io e = cc
 not_store Corrupt e = cc

@@ -1,37 +1,38 @@
 -- The query on the nights of a range. For `find_nights`.
-use Rattle.std.proofs.Common.{◌≡◌, ℤ, eqb-true, List, [], ◌∷◌, map, filter, true, refl}
+use Rattle.std.proofs.Common.{◌≡◌, ℤ, eqb-true, [], ◌∷◌, true, refl}
 use Rattle.std.specs.Prelude.{⊤}
-use Rattle.std.specs.List.{AllByRecursion}
 use Rattle.std.proofs.lemmas.Bool.{and_parts}
 use Rattle.std.proofs.lemmas.Slice.Eq.{bytes_eq-Decides}
 use Rattle.sqlite.specs.declared.types.Value.TheVariants.{Text}
 use Rattle.sqlite.specs.Order.{Row}
 use Rattle.sqlite.specs.Query.{Output}
-use Rattle.sqlite.specs.State.{State, IsUnchanged}
+use Rattle.sqlite.specs.Listing.{understood}
 use Rattle.sqlite_rules.proofs.ListLemmas.{has_filtered}
+use Rattle.sqlite_tied.specs.Compute.{everything}
 use Rattle.desk_sql.specs.Lists.{numbered_row}
-use Rattle.desk_sql.specs.Rows.{whole, Tables, StockRow, stock_columns}
-use Rattle.desk_sql.specs.Calls.{MaySee}
-use Rattle.desk_sql.specs.Queries.{GivesRows}
+use Rattle.desk_sql.specs.Rows.{whole, StockRow, stock_columns}
 use Rattle.desk_sql.specs.FoundRows.{three_of}
 use Rattle.desk_sql.specs.Stock.{is_within, night_of, IsByNight, FindsNights, shows_night}
-use Rattle.desk_sql.specs.Readable.{ShowsOne, night_shown}
+use Rattle.desk_sql.specs.Readable.{Any, ShowsOne, night_shown}
 use Rattle.desk_sql.specs.Texts.{find_nights_text}
 use Rattle.desk_sql.specs.Meanings.{find_nights_query, find_nights_names}
 use Rattle.desk_sql.specs.declared.stock.NightRange.{NightRange}
 use Rattle.desk_sql.specs.declared.stock.NightFound.{NightFound}
-use Rattle.desk_sql.proofs.Meaning.{find_nights_means}
-use Rattle.desk_sql.proofs.Testing.{eq_whole, eq_text, ge_whole, le_whole, and_true}
+use Rattle.desk_sql.specs.declared.versions.Version.TheVariants.{Two}
+use Rattle.desk_sql.proofs.Asking.{SaysQuery, FindsList, asks_chosen, lists}
 use Rattle.desk_sql.proofs.Ordered.{whole_last}
 use Rattle.desk_sql.proofs.Reading.{passes}
-use Rattle.desk_sql.proofs.Finding.{whole_answer}
-use Rattle.desk_sql.proofs.Answering.{Answers, table_answers, all_shown, listed}
+use Rattle.desk_sql.proofs.Testing.{eq_whole, eq_text, ge_whole, le_whole, and_true}
 
-abbrev pub range_params : NightRange → Row
+abbrev range_params : NightRange → Row
 range_params r = whole r.kind ∷ Text r.supplier.now ∷ Text r.product.now ∷ whole r.first ∷ whole r.last ∷ []
 
 abbrev night_out : StockRow → Output
 night_out s = (whole s.night ∷ [], whole s.night ∷ whole s.allot ∷ whole s.free ∷ [])
+
+says : (r : NightRange) → SaysQuery Two find_nights_text find_nights_query find_nights_names (range_params r)
+unfolding understood everything
+says r = record { means = record { is = refl; plain = (refl, refl); unlisted = refl; selects = refl }; takes = record { whole = refl; typed = refl } }
 
 range_test : (r : NightRange) (p : ℤ × StockRow)
     → passes find_nights_query.filter (range_params r) (numbered_row stock_columns p) ≡ is_within r p.1
@@ -51,29 +52,10 @@ same_night r n s is e =
     let free : n.free ≡ s.free = cc in
     rw (← kind, ← supplier, ← product, night, allot, free) refl
 
-module _ (old new : State) (t : Tables) (sees : MaySee old t) (rows : List Row) where
-  nights_answered : (r : NightRange) → GivesRows find_nights_text (range_params r) old new rows
-      → Answers find_nights_query night_out (filter (is_within r) t.stock) rows
-  nights_answered r given =
-      let got = whole_answer find_nights_text find_nights_query find_nights_names find_nights_means (range_params r) old new
-      (λ h. (sees h).schema) rows given.1 in
-      table_answers 1 find_nights_query.filter find_nights_query.project find_nights_query.order old.now.trees
-      (range_params r) rows got.1 refl stock_columns t.stock (sees given.0.0.was_open).rows.stock night_out (λ _. refl)
-      (is_within r) (range_test r)
-
-  pub nights_given : (r : NightRange) → GivesRows find_nights_text (range_params r) old new rows
-      → AllByRecursion (ShowsOne night_shown (λ _. ⊤)) rows
-  nights_given r given =
-      all_shown find_nights_query night_out (filter (is_within r) t.stock) rows (nights_answered r given)
-      (ShowsOne night_shown (λ _. ⊤)) (λ s h. (s, refl, tt))
-
-  pub finds_nights : (r : NightRange) (found : List NightFound) → map shows_night found ≡ map three_of rows
-      → GivesRows find_nights_text (range_params r) old new rows → IsUnchanged old new × FindsNights r t found
-  finds_nights r found was given =
-      let some = filter (is_within r) t.stock in
-      let it = nights_answered r given in (
-        given.0,
-        listed find_nights_query night_out some rows it (night_of r) shows_night three_of found was
-            (λ n s h e. same_night r n s (has_filtered (is_within r) t.stock s h).1 e)
-            IsByNight (λ a b up. whole_last a.night b.night up),
-      )
+pub finds_nights : (r : NightRange)
+    → FindsList Two find_nights_text (range_params r) shows_night three_of (FindsNights r) Any (ShowsOne night_shown (λ _. ⊤))
+finds_nights r =
+    lists (asks_chosen 1 find_nights_query.filter find_nights_query.project find_nights_query.order (says r) (λ _. refl) stock_columns (λ t. t.stock)
+    (λ _ _ s. s.stock) night_out (λ _. refl) (is_within r) (range_test r)) (night_of r) shows_night three_of
+    (λ t n s there shown. same_night r n s (has_filtered (is_within r) t.stock s there).1 shown)
+    Any (ShowsOne night_shown (λ _. ⊤)) (λ t any s there. (s, refl, tt)) IsByNight (λ a b up. whole_last a.night b.night up)

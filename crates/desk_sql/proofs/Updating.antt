@@ -1,5 +1,5 @@
--- A table of values after an UPDATE or a DELETE. For Changing, Putting and Metas.
-use Rattle.std.proofs.Common.{◌≡◌, ◌<ℤ◌, ℕ, ℤ, pos, List, [], map, filter, drop, Bool, true, not, refl, sym, ap, subst, ◌∙◌}
+-- A table of values after an UPDATE or a DELETE. For UpdateReasons, Putting and RemovedRows.
+use Rattle.std.proofs.Common.{◌≡◌, ◌<ℤ◌, ℤ, List, [], map, filter, drop, Bool, true, not, refl, sym, ap, subst, ◌∙◌}
 use Rattle.std.specs.List.Sorted.{IsPermutation}
 use Rattle.sqlite_value.specs.declared.value.Value.TheVariants.{Int}
 use Rattle.sqlite.specs.Order.{Row}
@@ -16,12 +16,11 @@ use Rattle.sqlite_rules.specs.Edit.{without_all, are_fresh, left_by}
 use Rattle.sqlite_rules.specs.Calls.{ids_of}
 use Rattle.sqlite_rules.proofs.PlaceLemmas.{given}
 use Rattle.sqlite_rules.proofs.ProbeLemmas.{has_mapped, mapped_has}
-use Rattle.desk_sql.specs.Rows.{whole}
-use Rattle.desk_sql.specs.Lists.{numbered_row, IsTableOf, IsNumbered, changed}
+use Rattle.desk_sql.specs.Lists.{numbered_row, IsTableOf, changed}
 use Rattle.desk_sql.specs.Meanings.{every_row}
 use Rattle.desk_sql.proofs.Reading.{passes, shown_of, lists, lists_any}
 use Rattle.desk_sql.proofs.Keyed.{is_table, changed_rows, filter_rows}
-use Rattle.desk_sql.proofs.Tables.{id_of, value_of, replaced_values, kept_values, own_rise, numbered_changed}
+use Rattle.desk_sql.proofs.Tables.{id_of, value_of, replaced_values, kept_values}
 use Rattle.desk_sql.proofs.Replacing.{removed, replaced}
 
 module _ {X : Type 0} (f : X → Row) (id : X → ℤ) (keyed : (x : X) → rowid (f x) ≡ Int (id x)) (db : Trees) (table : Table)
@@ -85,23 +84,6 @@ module _ {X : Type 0} (columns : X → Row) (db : Trees) (table : Table) (xs : L
       replaced_values columns (db table.tree) _ xs test change it
       (updated (numbered_row columns) id_of (λ _. refl) db table it.numbered it.rise it.rows_are seen tests project params answer
       (λ p. test p.1) (λ p. (p.0, change p.1)) test_is id_shown (λ _. refl) (λ p h passed. change_is p (value_has p h) passed) a fresh)
-
--- A table whose rowids are its values' own numbers, after an UPDATE.
-module _ {X : Type 0} (number : X → ℕ) (row_of : X → Row) (keyed : (x : X) → rowid (row_of x) ≡ whole (number x)) (db : Trees)
-    (table : Table) (xs : List X) (it : IsNumbered number row_of (db table.tree) xs)
-    (seen : overlay db [] table.tree ≡ db table.tree) (tests project : List Term) (params : Row) (answer : List Row)
-    (test : X → Bool) (change : X → X) (same_number : (x : X) → number (change x) ≡ number x)
-    (test_is : (x : X) → passes tests params (row_of x) ≡ test x)
-    (id_shown : (x : X) → rowid (shown_of project params (row_of x)) ≡ whole (number x))
-    (change_is : (x : X) → Has xs x → test x ≡ true
-    → cast_row table (drop 1 (shown_of project params (row_of x))) ≡ row_of (change x)) where
-  pub numbered_updated : IsAnswer (every_row table.tree tests project) (overlay db []) params answer
-      → are_fresh (left_by db (edit_of db table (ids_of answer) Given 1 answer)) (edit_of db table (ids_of answer) Given 1 answer).news ≡ true
-      → IsNumbered number row_of (edited db (edit_of db table (ids_of answer) Given 1 answer)) (changed test change xs)
-  numbered_updated a fresh =
-      numbered_changed number row_of keyed (db table.tree) _ xs test change same_number it
-      (updated row_of (λ x. pos (number x)) keyed db table xs (own_rise number row_of keyed xs it.rise) it.rows_are seen tests project
-      params answer test change test_is id_shown (λ x. ap pos (same_number x)) change_is a fresh)
 
 -- A table whose rowids are free, after a DELETE.
 module _ {X : Type 0} (columns : X → Row) (db : Trees) (table : Table) (xs : List X) (it : IsTableOf columns (db table.tree) xs)

@@ -1,5 +1,5 @@
 -- The effect of an upsert on stock, for any query of its DO UPDATE. For Putting.
-use Rattle.std.proofs.Common.{◌≡◌, ℤ, if◌then◌else◌, ◌⊎◌, inl, inr, ℕ, ◌/◌, List, [], ◌∷◌, ◌++◌, length, Some, None, Option, Ok, Err, Result, refl, sym, ap, subst, ◌∙◌}
+use Rattle.std.proofs.Common.{◌≡◌, ℤ, ◌⊎◌, inl, inr, ℕ, ◌/◌, List, [], ◌∷◌, ◌++◌, length, Some, None, Option, Ok, Err, Result, refl, sym, ap, subst, ◌∙◌}
 use Rattle.sqlite.specs.declared.types.Value.TheVariants.{Null}
 use Rattle.sqlite.specs.Order.{Row}
 use Rattle.sqlite.specs.Term.{Term}
@@ -9,7 +9,7 @@ use Rattle.sqlite.specs.Command.TheVariants.{InsertOr}
 use Rattle.sqlite_schema.specs.declared.command.Conflict.TheVariants.{Abort}
 use Rattle.sqlite_schema.specs.declared.command.Upsert.{Upsert}
 use Rattle.sqlite_schema.specs.declared.program.Program.{Program}
-use Rattle.sqlite.specs.Edit.{Edit, edit_of, taken_by, Applies, with_rowid}
+use Rattle.sqlite.specs.Edit.{Edit, edit_of, with_rowid}
 use Rattle.sqlite.specs.Cast.{cast_row}
 use Rattle.sqlite_rules.specs.Keys.{AreConflicts}
 use Rattle.sqlite.specs.Rowids.TheVariants.{Chosen, Given}
@@ -18,16 +18,15 @@ use Rattle.sqlite.specs.Program.{overlay}
 use Rattle.sqlite_rules.specs.Calls.{ids_of}
 use Rattle.sqlite_schema.specs.declared.schema.Keys.TheVariants.{Enforced}
 use Rattle.sqlite_rules.specs.declared.error.Refusal.{Refusal}
-use Rattle.sqlite.specs.Does.{Does}
-use Rattle.sqlite.specs.Rows.{Written, Task, Puts, Clears, Upserts, Meets, Judged, Tries, TriesEach, InsertsOr, Part, stamped, shown, nothing, count_of}
+use Rattle.sqlite.specs.Rows.{Written, Task, Edited, Puts, Clears, Upserts, Meets, Judged, Tries, TriesEach, InsertsOr, Part, stamped, shown, nothing, count_of}
 use Rattle.sqlite.specs.declared.error.Error.{Error}
-use Rattle.sqlite.specs.Effect.{Database, value_rows, edit_error}
+use Rattle.sqlite.specs.Effect.{value_rows, edit_error}
 use Rattle.sqlite.specs.Listing.{understood}
-use Rattle.sqlite.specs.State.{State, mode_of, Executes, Shows}
-use Rattle.sqlite.proofs.Callers.{IsPlain, command_of, statement_of, runs_as, one_step}
+use Rattle.sqlite.specs.State.{State, Executes}
+use Rattle.sqlite.proofs.Callers.{IsPlain, command_of, statement_of, runs_as}
 use Rattle.desk_sql.specs.Schema.{desk_schema, stock_at}
 use Rattle.desk_sql.specs.Calls.{IsReady}
-use Rattle.desk_sql.proofs.Writing.{went, same_value, on_rows, task_for, idle, Edits}
+use Rattle.desk_sql.proofs.Writing.{went, same_value, on_rows, task_for, does_so, edits_so, Edits}
 
 -- the columns of the key
 abbrev pub target : List ℕ
@@ -92,20 +91,21 @@ tries_one old params q terms width db source w unstamped rows h =
     (tries.0, tried old params q new db tries.0 tries.1, trees)
 
 ends_in : (old : State) (params : Row) (q : Query) (new : Row) (w : Written) → Ends old params (record { lets = []; body = q }) new old.now.trees (Ok w)
-    → (edit : Edit) × IsPut old.now.trees params q new edit × Applies desk_schema Enforced old.now.trees edit w.trees
+    → (edit : Edit) × IsPut old.now.trees params q new edit × Edited desk_schema Enforced old.now.trees edit (Ok w.trees)
 ends_in old params q new w ([], conflicts, h) =
     let edit = edit_of old.now.trees (stock_at 1) [] Given 0 (new ∷ []) in
-    let all = went h in
-    let step : Applies desk_schema Enforced old.now.trees edit all.0 = one_step desk_schema Enforced old.now.trees all.0 edit (idle 0 1 (taken_by old.now.trees edit) edit.news) all.1 in
-    (edit, ([], conflicts, inl (refl, refl)), subst (λ (t : Trees). Applies desk_schema Enforced old.now.trees edit t) (sym (ap (λ (it : Written). it.trees) (same_value all.2))) step)
+    let all = went h in (
+      edit,
+      ([], conflicts, inl (refl, refl)),
+      subst (λ (t : Trees). Edited desk_schema Enforced old.now.trees edit (Ok t)) (sym (ap (λ (it : Written). it.trees) (same_value all.2))) all.1,
+    )
 ends_in old params q new w (there ∷ more, conflicts, h) =
     let found = went h in
     let written = went found.2 in
-    let edit = edit_of old.now.trees (stock_at 1) (ids_of found.0) Given 1 found.0 in
-    let step : Applies desk_schema Enforced old.now.trees edit written.0 = one_step desk_schema Enforced old.now.trees written.0 edit (idle 0 1 (taken_by old.now.trees edit) edit.news) written.1 in (
+    let edit = edit_of old.now.trees (stock_at 1) (ids_of found.0) Given 1 found.0 in (
       edit,
       (there ∷ more, conflicts, inr (there, more, refl, found.0, found.1.answer Null, refl)),
-      subst (λ (t : Trees). Applies desk_schema Enforced old.now.trees edit t) (sym (ap (λ (it : Written). it.trees) (same_value written.2))) step,
+      subst (λ (t : Trees). Edited desk_schema Enforced old.now.trees edit (Ok t)) (sym (ap (λ (it : Written). it.trees) (same_value written.2))) written.1,
     )
 
 pub upserts : (sql : List ℕ) (params : Row) (old new : State) (terms : List Term) (width : ℕ) (q : Query) (source : Row) (count : ℕ)
@@ -115,22 +115,12 @@ pub upserts : (sql : List ℕ) (params : Row) (old new : State) (terms : List Te
     → (edit : Edit) × IsPut old.now.trees params q (with_rowid Chosen (old.now.trees 1) (cast_row (stock_at 1) source)) edit × Edits old new edit
 upserts sql params old new terms width q source count is plain unstamped rows ready h =
     let command = InsertOr 1 Abort (Values terms width) (clause old params (record { lets = []; body = q }) ∷ []) in
-    let w = runs_as sql params old new desk_schema ready.schema command is plain count h in
     let text = statement_of sql (understood desk_schema sql) in
-    let all : Does old.step_limit (mode_of old) params (record { schema = desk_schema; trees = old.now.trees }) text None command (Ok (w.tally, new.now))
-    = subst (λ s. Does old.step_limit (mode_of old) params (record old.now { schema = s }) text None command (Ok (w.tally, new.now))) ready.schema w.changed in
-    let done = on_rows old params text (stock_at 1) w.tally new.now command all in
+    let ran = runs_as sql params old new desk_schema ready.schema command is plain count h in
+    let done = on_rows old params text (stock_at 1) ran.tally new.now command (does_so text params old new command count ready ran) in
     let one = tries_one old params (record { lets = []; body = q }) terms width old.now.trees source done.0 unstamped rows done.1 in
-    let put = ends_in old params q (with_rowid Chosen (old.now.trees 1) (cast_row (stock_at 1) source)) one.0 one.1 in (
-      put.0,
-      put.1,
-      record {
-        schema = ap (λ (d : Database). d.schema) done.2;
-        applies = subst (λ (t : Trees). Applies desk_schema Enforced old.now.trees put.0 t) (sym (ap (λ (d : Database). d.trees) done.2 ∙ one.2)) put.2;
-        shown = subst (λ b. Shows old new new.now (if b then old.committed else new.now) b) ready.inside w.shown;
-        sound = w.sound;
-      },
-    )
+    let put = ends_in old params q (with_rowid Chosen (old.now.trees 1) (cast_row (stock_at 1) source)) one.0 one.1 in
+    (put.0, put.1, edits_so text params old new command count ready ran put.0 done.0 done.2 one.0.trees one.2 put.2)
 
 pub put_tree : (db : Trees) (params : Row) (q : Query) (new : Row) (edit : Edit) → IsPut db params q new edit → edit.table.tree ≡ 1
 put_tree db params q new edit (found, conflicts, inl h) = ap (λ (e : Edit). e.table.tree) h.1

@@ -27,7 +27,7 @@ use Rattle.sqlite.specs.declared.run.Mode.{Mode}
 use Rattle.sqlite.specs.Rows.{Written, Task, Inserts, Edited, CountsIn, Gives, stamped, sequence, count_of, higher, rowids_for}
 use Rattle.sqlite.specs.Effect.{Database, IsDatabase, value_rows}
 use Rattle.sqlite.specs.Listing.{understood}
-use Rattle.sqlite.specs.State.{State, mode_of, Executes, Shows}
+use Rattle.sqlite.specs.State.{State, mode_of, Executes, Shows, Writes}
 use Rattle.sqlite.proofs.Callers.{IsPlain, command_of, statement_of, runs_as, one_step}
 use Rattle.desk_sql.specs.Schema.{desk_schema}
 use Rattle.desk_sql.specs.Calls.{IsReady}
@@ -90,28 +90,6 @@ insert_edits task terms width db w uncounted unstamped h =
     = ap (λ b. edit_of db task.table [] (if b then Above (count_of counted.0) else Chosen) 0 given.0) uncounted ∙ ap (λ rows. edit_of db task.table [] Chosen 0 rows) first in
     subst₂ (λ e t. Edited task.schema task.keys db e (Ok t)) edit (sym trees) written.1
 
-pub inserts : (sql : List ℕ) (params : Row) (old new : State) (at : ℕ) (table : Table) (terms : List Term) (width count : ℕ)
-    → command_of (understood desk_schema sql) ≡ Insert at (Values terms width) → IsPlain (understood desk_schema sql)
-    → slice_get desk_schema.tables at ≡ Some table → table.is_counted ≡ false → stamped table params ≡ params
-    → works desk_schema Enforced 0 table.tree [] (source_edit table terms width params old.now.trees).news ≡ []
-    → IsReady old → Executes sql params old new (Ok count) → Edits old new (source_edit table terms width params old.now.trees)
-inserts sql params old new at table terms width count is plain there uncounted unstamped idle ready h =
-    let w = runs_as sql params old new desk_schema ready.schema (Insert at (Values terms width)) is plain count h in
-    let text = statement_of sql (understood desk_schema sql) in
-    let all : Does old.step_limit (mode_of old) params (record { schema = desk_schema; trees = old.now.trees }) text None (Insert at (Values terms width)) (Ok (w.tally, new.now))
-    = subst (λ s. Does old.step_limit (mode_of old) params (record old.now { schema = s }) text None (Insert at (Values terms width)) (Ok (w.tally, new.now))) ready.schema w.changed in
-    let done = on_rows old params text table w.tally new.now (Insert at (Values terms width)) (rw there at all) in
-    let edited : Edited desk_schema Enforced old.now.trees (source_edit table terms width params old.now.trees) (Ok done.0.trees)
-    = insert_edits (task_for old table params) terms width old.now.trees done.0 uncounted unstamped done.1 in
-    let step : Applies desk_schema Enforced old.now.trees (source_edit table terms width params old.now.trees) done.0.trees
-    = one_step desk_schema Enforced old.now.trees done.0.trees (source_edit table terms width params old.now.trees) idle edited in
-    record {
-      schema = ap (λ (d : Database). d.schema) done.2;
-      applies = subst (λ (t : Trees). Applies desk_schema Enforced old.now.trees (source_edit table terms width params old.now.trees) t) (sym (ap (λ (d : Database). d.trees) done.2)) step;
-      shown = subst (λ b. Shows old new new.now (if b then old.committed else new.now) b) ready.inside w.shown;
-      sound = w.sound;
-    }
-
 no_action : (b : Bool) → (if b then NoAction else NoAction) ≡ NoAction
 no_action true = refl
 no_action false = refl
@@ -119,6 +97,39 @@ no_action false = refl
 -- no foreign key of the desk has an action
 pub idle : (depth tree : ℕ) (olds news : List Row) → works desk_schema Enforced depth tree olds news ≡ []
 idle depth tree olds news = simp no_action
+
+-- A statement that was run in a transaction that is ready.
+module _ (text : List ℕ) (params : Row) (old new : State) (command : Command) (count : ℕ) (ready : IsReady old)
+    (ran : Writes old new None command text params count) where
+  -- it did what its command says
+  pub does_so : Does old.step_limit (mode_of old) params (record { schema = desk_schema; trees = old.now.trees }) text None command (Ok (ran.tally, new.now))
+  does_so = subst (λ s. Does old.step_limit (mode_of old) params (record old.now { schema = s }) text None command (Ok (ran.tally, new.now))) ready.schema ran.changed
+
+  -- and left what the one edit of its rows leaves
+  pub edits_so : (edit : Edit) (w : Written) → new.now ≡ record { schema = desk_schema; trees = w.trees } → (mid : Trees) → w.trees ≡ mid
+      → Edited desk_schema Enforced old.now.trees edit (Ok mid) → Edits old new edit
+  edits_so edit w now mid trees edited =
+      let step : Applies desk_schema Enforced old.now.trees edit mid
+      = one_step desk_schema Enforced old.now.trees mid edit (idle 0 edit.table.tree (taken_by old.now.trees edit) edit.news) edited in
+      record {
+        schema = ap (λ (d : Database). d.schema) now;
+        applies = subst (λ (t : Trees). Applies desk_schema Enforced old.now.trees edit t) (sym (ap (λ (d : Database). d.trees) now ∙ trees)) step;
+        shown = subst (λ b. Shows old new new.now (if b then old.committed else new.now) b) ready.inside ran.shown;
+        sound = ran.sound;
+      }
+
+pub inserts : (sql : List ℕ) (params : Row) (old new : State) (at : ℕ) (table : Table) (terms : List Term) (width count : ℕ)
+    → command_of (understood desk_schema sql) ≡ Insert at (Values terms width) → IsPlain (understood desk_schema sql)
+    → slice_get desk_schema.tables at ≡ Some table → table.is_counted ≡ false → stamped table params ≡ params
+    → works desk_schema Enforced 0 table.tree [] (source_edit table terms width params old.now.trees).news ≡ []
+    → IsReady old → Executes sql params old new (Ok count) → Edits old new (source_edit table terms width params old.now.trees)
+inserts sql params old new at table terms width count is plain there uncounted unstamped none ready h =
+    let command = Insert at (Values terms width) in
+    let text = statement_of sql (understood desk_schema sql) in
+    let ran = runs_as sql params old new desk_schema ready.schema command is plain count h in
+    let done = on_rows old params text table ran.tally new.now command (rw there at (does_so text params old new command count ready ran)) in
+    edits_so text params old new command count ready ran (source_edit table terms width params old.now.trees) done.0 done.2 done.0.trees refl
+    (insert_edits (task_for old table params) terms width old.now.trees done.0 uncounted unstamped done.1)
 
 -- an UPDATE deletes the rows that its query names, and inserts those that it shows
 pub updates : (sql : List ℕ) (params : Row) (old new : State) (at : ℕ) (table : Table) (q : Query) (count : ℕ)
@@ -128,25 +139,15 @@ pub updates : (sql : List ℕ) (params : Row) (old new : State) (at : ℕ) (tabl
     → (rows : List Row) × IsAnswer q (overlay old.now.trees []) params rows × Edits old new (edit_of old.now.trees table (ids_of rows) Given 1 rows)
 updates sql params old new at table q count is plain there ready h =
     let command = Update at (record { lets = []; body = q }) in
-    let w = runs_as sql params old new desk_schema ready.schema command is plain count h in
     let text = statement_of sql (understood desk_schema sql) in
-    let all : Does old.step_limit (mode_of old) params (record { schema = desk_schema; trees = old.now.trees }) text None command (Ok (w.tally, new.now))
-    = subst (λ s. Does old.step_limit (mode_of old) params (record old.now { schema = s }) text None command (Ok (w.tally, new.now))) ready.schema w.changed in
-    let done = on_rows old params text table w.tally new.now command (rw there at all) in
+    let ran = runs_as sql params old new desk_schema ready.schema command is plain count h in
+    let done = on_rows old params text table ran.tally new.now command (rw there at (does_so text params old new command count ready ran)) in
     let found = went done.1 in
-    let written = went found.2 in
-    let edit = edit_of old.now.trees table (ids_of found.0) Given 1 found.0 in
-    let trees : done.0.trees ≡ written.0 = ap (λ (it : Written). it.trees) (same_value written.2) in
-    let step : Applies desk_schema Enforced old.now.trees edit written.0
-    = one_step desk_schema Enforced old.now.trees written.0 edit (idle 0 table.tree (taken_by old.now.trees edit) edit.news) written.1 in (
+    let written = went found.2 in (
       found.0,
       found.1.answer Null,
-      record {
-        schema = ap (λ (d : Database). d.schema) done.2;
-        applies = subst (λ (t : Trees). Applies desk_schema Enforced old.now.trees edit t) (sym (ap (λ (d : Database). d.trees) done.2 ∙ trees)) step;
-        shown = subst (λ b. Shows old new new.now (if b then old.committed else new.now) b) ready.inside w.shown;
-        sound = w.sound;
-      },
+      edits_so text params old new command count ready ran (edit_of old.now.trees table (ids_of found.0) Given 1 found.0) done.0 done.2 written.0
+          (ap (λ (it : Written). it.trees) (same_value written.2)) written.1,
     )
 
 -- a DELETE deletes the rows that its query names
@@ -157,23 +158,13 @@ pub deletes : (sql : List ℕ) (params : Row) (old new : State) (at : ℕ) (tabl
     → (rows : List Row) × IsAnswer q (overlay old.now.trees []) params rows × Edits old new (edit_of old.now.trees table (ids_of rows) Given 0 [])
 deletes sql params old new at table q count is plain there ready h =
     let command = Delete at (record { lets = []; body = q }) in
-    let w = runs_as sql params old new desk_schema ready.schema command is plain count h in
     let text = statement_of sql (understood desk_schema sql) in
-    let all : Does old.step_limit (mode_of old) params (record { schema = desk_schema; trees = old.now.trees }) text None command (Ok (w.tally, new.now))
-    = subst (λ s. Does old.step_limit (mode_of old) params (record old.now { schema = s }) text None command (Ok (w.tally, new.now))) ready.schema w.changed in
-    let done = on_rows old params text table w.tally new.now command (rw there at all) in
+    let ran = runs_as sql params old new desk_schema ready.schema command is plain count h in
+    let done = on_rows old params text table ran.tally new.now command (rw there at (does_so text params old new command count ready ran)) in
     let found = went done.1 in
-    let written = went found.2 in
-    let edit = edit_of old.now.trees table (ids_of found.0) Given 0 [] in
-    let trees : done.0.trees ≡ written.0 = ap (λ (it : Written). it.trees) (same_value written.2) in
-    let step : Applies desk_schema Enforced old.now.trees edit written.0
-    = one_step desk_schema Enforced old.now.trees written.0 edit (idle 0 table.tree (taken_by old.now.trees edit) edit.news) written.1 in (
+    let written = went found.2 in (
       found.0,
       found.1.answer Null,
-      record {
-        schema = ap (λ (d : Database). d.schema) done.2;
-        applies = subst (λ (t : Trees). Applies desk_schema Enforced old.now.trees edit t) (sym (ap (λ (d : Database). d.trees) done.2 ∙ trees)) step;
-        shown = subst (λ b. Shows old new new.now (if b then old.committed else new.now) b) ready.inside w.shown;
-        sound = w.sound;
-      },
+      edits_so text params old new command count ready ran (edit_of old.now.trees table (ids_of found.0) Given 0 []) done.0 done.2 written.0
+          (ap (λ (it : Written). it.trees) (same_value written.2)) written.1,
     )

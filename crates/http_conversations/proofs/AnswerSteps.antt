@@ -1,72 +1,124 @@
--- Where the answer to one message leads the book. For Talk::answer.
-use Rattle.std.proofs.Common.{◌≡◌, ℕ, Bool, true, false, List, [], ◌∷◌, take, Option, Some, None, Err, refl, sym, ap, ◌∙◌, append-nil, ◌⊎◌, inl, inr}
+-- What the answer to one message is, and where it leads the book. For answer_first and Conversation::answer.
+use Rattle.std.proofs.Common.{◌≡◌, ◌∙◌, ℕ, Bool, true, false, List, [], ◌∷◌, take, Option, Some, None, Result, Ok, Err, refl, sym, ap, ap₂, append-nil, inl, inr}
 use Rattle.ledger.specs.Answer.{State}
-use Rattle.desk_http.specs.Pages.{state_after}
-use Rattle.http_ways.specs.Pages.{AnswersAt, IsPageBy}
+use Rattle.commands.specs.declared.replies.Fault.{Fault}
+use Rattle.commands.specs.declared.replies.Fault.TheVariants as fault
+use Rattle.desk_http.specs.Pages.{closes, state_after, stops}
+use Rattle.desk_http.specs.declared.doors.Door.{Door}
+use Rattle.http_ways.specs.Pages.{AnswersAt, IsPageAt}
 use Rattle.http_ways.specs.Ways.{Said, Says}
 use Rattle.protocols.specs.declared.faults.ServeFault.{ServeFault}
 use Rattle.protocols.specs.declared.faults.ServeFault.TheVariants.{Memory, Read, Store, Write}
+use Rattle.http_conversations.specs.Answering.{AnswersFirst, LeadsAs, LeavesAt}
 use Rattle.http_conversations.specs.Exchanges.{Exchange}
-use Rattle.http_conversations.specs.History.{History, after_answer, after_loss, exchange}
-use Rattle.http_conversations.specs.Leading.{GoesOn, fault_by, has_broken}
+use Rattle.http_conversations.specs.History.{History, TakesFirst, after_answer, after_loss, exchange, stops_by}
+use Rattle.http_conversations.specs.Leading.{GoesOn, GoesOnByOne, fault_by, has_broken}
+use Rattle.http_conversations.specs.declared.conversation.Stage.TheVariants.{Open}
+use Rattle.http_conversations.proofs.Steps.{takes_at_most_one, takes_stopping}
 
-module _ (sound : Type 0) (stood stands : State → Type 0) (leaves : State → State → Type 0) where
-  -- nothing was taken, and the book stands for what it stood for
-  pub none : (xs ys : List Exchange) → ys ≡ xs → ((s : State) → stood s → stands s) → GoesOn sound stood stands leaves false xs ys
+-- what a fault of the answer leaves
+left_by : (stands : State → Type 0) (leaves : State → State → Type 0) (s : State) (door : Door) (second : Option ℕ) (m : Said)
+    (fault : ServeFault) → AnswersAt stands leaves s door second m (Err fault)
+    → LeavesAt stands leaves (fault_by fault) s (state_after door s m.meant)
+left_by stands leaves s door second m Memory came = came
+left_by stands leaves s door second m Store came = came
+left_by stands leaves s door second m Read none = absurd none
+left_by stands leaves s door second m Write none = absurd none
+
+module _ {sound : Type 0} {stood stands : State → Type 0} {leaves : State → State → Type 0} where
+  -- nothing was taken, and the book stands as it stood
+  none : (xs ys : List Exchange) → ys ≡ xs → ((s : State) → stood s → stands s) → GoesOn sound stood stands leaves false xs ys
   none xs ys same kept =
       record { exchanges = []; more = same ∙ sym (append-nil xs); ends = λ is_sound s was. (s, refl, kept s was) }
 
-  module _ (h k : History) (count : ℕ) (m : Said) (is : Says h.way (take count h.waiting) m) where
-    -- it got its page
-    pub got : (page : List ℕ) (c stop : Bool) → k ≡ after_answer h count page c stop
-        → (sound → (s : State) → stood s → IsPageBy h.door s m page × stands (state_after h.door s m.meant))
-        → GoesOn sound stood stands leaves false h.exchanges k.exchanges
-    got page c stop same came = record {
-      exchanges = exchange h count (Some page) ∷ [];
-      more = ap (λ (j : History). j.exchanges) same;
-      ends = λ is_sound s was.
-          let here = came is_sound s was in
-          (state_after h.door s m.meant, (state_after h.door s m.meant, record { message = m; is_message = is; comes = (here.0, refl) }, refl), here.1);
-    }
+  -- where a fault leads the book
+  goes_on_at : (second : Option ℕ) (f : Fault) (h k : History) (t : TakesFirst (Err f) h k) → LeadsAs sound stood stands leaves second (Err f) h k t
+      → GoesOn sound stood stands leaves (has_broken {T = Bool} (Err f)) h.exchanges k.exchanges
+  goes_on_at second fault.Memory h k (inl t) leads = record {
+    exchanges = exchange h t.count None ∷ [];
+    more = ap (λ (j : History). j.exchanges) t.is;
+    ends = λ is_sound s was. elim (leads is_sound s was) [
+      | inl here ↦ (s, (s, record { message = t.message; is_message = t.is_message; comes = inl refl }, refl), here)
+      | inr there ↦ (
+        state_after h.door s t.message.meant,
+        (state_after h.door s t.message.meant, record { message = t.message; is_message = t.is_message; comes = inr refl }, refl),
+        there,
+      )
+    ];
+  }
+  goes_on_at second fault.Memory h k (inr t) leads = none h.exchanges k.exchanges (ap (λ (j : History). j.exchanges) t.1) leads.1
+  goes_on_at second fault.Store h k (inl t) leads = record {
+    exchanges = exchange h t.count None ∷ [];
+    more = ap (λ (j : History). j.exchanges) t.is;
+    ends = λ is_sound s was. record {
+      before = [];
+      last = exchange h t.count None;
+      at_last = refl;
+      message = t.message;
+      is_message = t.is_message;
+      is_lost = refl;
+      at = s;
+      leads = refl;
+      left = leads is_sound s was;
+    };
+  }
+  goes_on_at second fault.Store h k (inr t) leads = let e : fault.Store ≡ fault.Memory = leads.0 in absurd (cc)
 
-    -- it lost its page, and was carried out or not
-    pub lost : k ≡ after_loss h count
-        → (sound → (s : State) → stood s → stands s ⊎ stands (state_after h.door s m.meant))
-        → GoesOn sound stood stands leaves false h.exchanges k.exchanges
-    lost same came = record {
-      exchanges = exchange h count None ∷ [];
-      more = ap (λ (j : History). j.exchanges) same;
-      ends = λ is_sound s was. elim (came is_sound s was) [
-        | inl here ↦ (s, (s, record { message = m; is_message = is; comes = inl refl }, refl), here)
-        | inr there ↦ (state_after h.door s m.meant, (state_after h.door s m.meant, record { message = m; is_message = is; comes = inr refl }, refl), there)
-      ];
-    }
-
-    -- the store failed at it
-    pub broke : k ≡ after_loss h count
-        → (sound → (s : State) → stood s → leaves s (state_after h.door s m.meant))
-        → GoesOn sound stood stands leaves true h.exchanges k.exchanges
-    broke same came = record {
-      exchanges = exchange h count None ∷ [];
-      more = ap (λ (j : History). j.exchanges) same;
-      ends = λ is_sound s was. record {
-        before = [];
-        last = exchange h count None;
-        at_last = refl;
+module _ {sound : Type 0} {stood stands : State → Type 0} {leaves : State → State → Type 0} {second : Option ℕ} where
+  module _ (h k : History) (count : ℕ) (m : Said) (is_open : h.stage ≡ Open) (says : Says h.way (take count h.waiting) m) where
+    -- the message got its page
+    pub gets : (page : List ℕ) (c stop : Bool) → h.pending ≡ [] → k ≡ after_answer h count page c stop
+        → c ≡ closes h.door m.meant → stop ≡ stops h.door m.meant
+        → (sound → (s : State) → stood s → IsPageAt h.door second s m page × stands (state_after h.door s m.meant))
+        → AnswersFirst sound stood stands leaves second (Ok true) h k
+    gets page c stop free is closing stopping came = record {
+      takes = record {
+        is_open = is_open;
+        free = free;
+        count = count;
         message = m;
-        is_message = is;
-        is_lost = refl;
-        at = s;
-        leads = refl;
-        left = came is_sound s was;
+        is_message = says;
+        page = page;
+        is = is ∙ ap₂ (λ x y. after_answer h count page x y) closing stopping;
       };
+      leads = came;
     }
 
-    -- a fault came
-    pub failed : (second : Option ℕ) (fault : ServeFault) → k ≡ after_loss h count
+    -- or lost it
+    pub loses : (fault : ServeFault) → k ≡ after_loss h count
         → (sound → (s : State) → stood s → AnswersAt stands leaves s h.door second m (Err fault))
-        → GoesOn sound stood stands leaves (has_broken {T = Bool} (Err (fault_by fault))) h.exchanges k.exchanges
-    failed second Memory same came = lost same came
-    failed second Store same came = broke same came
-    failed second Read same came = lost same (λ is_sound s was. absurd (came is_sound s was))
-    failed second Write same came = lost same (λ is_sound s was. absurd (came is_sound s was))
+        → AnswersFirst sound stood stands leaves second (Err (fault_by fault)) h k
+    loses fault is came = record {
+      takes = inl (record { is_open = is_open; count = count; message = m; is_message = says; is = is });
+      leads = λ is_sound s was. left_by stands leaves s h.door second m fault (came is_sound s was);
+    }
+
+  -- where an answer leads the book
+  goes_on : (r : Result Bool Fault) (h k : History) → AnswersFirst sound stood stands leaves second r h k
+      → GoesOn sound stood stands leaves (has_broken r) h.exchanges k.exchanges
+  goes_on (Ok true) h k a =
+      let t = a.takes in record {
+        exchanges = exchange h t.count (Some t.page) ∷ [];
+        more = ap (λ (j : History). j.exchanges) t.is;
+        ends = λ is_sound s was.
+            let here = a.leads is_sound s was in (
+              state_after h.door s t.message.meant,
+              (
+                state_after h.door s t.message.meant,
+                record { message = t.message; is_message = t.is_message; comes = ((second, here.0), refl) },
+                refl,
+              ),
+              here.1,
+            );
+      }
+  goes_on (Ok false) h k a = none h.exchanges k.exchanges (ap (λ (j : History). j.exchanges) a.takes) a.leads
+  goes_on (Err f) h k a = goes_on_at second f h k a.takes a.leads
+
+  -- by one message at most, which stops the desk, or does not
+  pub turn : (r : Result Bool Fault) (h k : History) → AnswersFirst sound stood stands leaves second r h k
+      → GoesOnByOne sound stood stands leaves (has_broken r) (stops_by r k) h.exchanges k.exchanges
+  turn r h k a = record {
+    goes_on = goes_on r h k a;
+    at_most_one = takes_at_most_one r h k a.takes;
+    stopping = takes_stopping r h k a.takes;
+  }

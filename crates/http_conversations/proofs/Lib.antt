@@ -1,4 +1,5 @@
 pub mod Steps
+pub mod CallLemmas
 pub mod AnswerSteps
 mod ServeLemmas
 mod NextLemmas

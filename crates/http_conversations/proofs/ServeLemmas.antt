@@ -1,6 +1,6 @@
 -- Serving answers one message after another, until a closing page, the end of the input or a fault. For serve.
-use Rattle.std.proofs.Common.{◌≡◌, ◌≢◌, ◌∙◌, ap, sym, subst, refl, inl, inr, ◌+◌, List, [], ◌∷◌, ◌++◌, ℕ, Bool, true, false, if◌then◌else◌, length, take, drop, append-nil, length-append, Option}
-use Rattle.std.specs.Prelude.{Some, IfSome, IsTrue, option_map}
+use Rattle.std.proofs.Common.{◌≡◌, ◌∙◌, ap, sym, subst, refl, inl, inr, ◌+◌, List, [], ◌∷◌, ◌++◌, ℕ, Bool, true, false, if◌then◌else◌, length, take, drop, append-nil, length-append, Option}
+use Rattle.std.specs.Prelude.{Some, IfSome, option_map}
 use Rattle.std.specs.List.{concat}
 use Rattle.std.specs.Io.KnownBytes.{Appends, Keeps}
 use Rattle.std.proofs.Math.Seq.{take-add}
@@ -17,7 +17,7 @@ use Rattle.desk_http.specs.Serving.{Answered, Leaves, ServesAll, ServesSome}
 use Rattle.desk_http.specs.declared.doors.Door.TheVariants.{Port}
 use Rattle.desk_http.proofs.ServeLemmas.{after_more, begins_more, concat_more, open_more, pages_more}
 use Rattle.http_conversations.specs.History.{History, after_sent}
-use Rattle.http_conversations.specs.Serving.{FailsAt, FindsNone, GetsNext, HandsOut, HandsOutAll, to_come}
+use Rattle.http_conversations.specs.Serving.{FailsAt, FindsNone, GetsNext, HandsOut, HandsOutAll, IsAsBefore, to_come}
 use Rattle.http_conversations.specs.declared.conversation.Stage.{Stage}
 use Rattle.http_conversations.specs.declared.conversation.Stage.TheVariants.{Open, Closing}
 
@@ -50,35 +50,30 @@ starts held stands leaves s input h known nothing is stood = record {
 }
 
 -- a fault came between two messages
-pub stops : (x : Scene) (s : State) (input : List ℕ) (left : Option (List ℕ)) (count : ℕ) (fault : ServeFault)
-    → SoFar x s input left count → IsOfReading fault → ServesSome x s input fault
-stops x s input left count Read so_far reads = record {
+pub stops : {x : Scene} {s : State} {input : List ℕ} {left : Option (List ℕ)} {count : ℕ} (fault : ServeFault)
+    (so_far : SoFar x s input left count) → IsOfReading fault → ServesSome x s input fault
+stops {x = x} {s = s} fault so_far reads = record {
   messages = so_far.messages;
   rest = so_far.rest;
   pages = so_far.pages;
   answered = so_far.answered;
   stays = so_far.stays;
-  leaves = (so_far.sent, so_far.stands);
+  leaves = between fault reads;
 }
-stops x s input left count Memory so_far reads = record {
-  messages = so_far.messages;
-  rest = so_far.rest;
-  pages = so_far.pages;
-  answered = so_far.answered;
-  stays = so_far.stays;
-  leaves = (so_far.sent, inl so_far.stands);
-}
-stops x s input left count Store so_far none = absurd none
-stops x s input left count Write so_far none = absurd none
+  where
+    between : (fault : ServeFault) → IsOfReading fault → Leaves fault x (state_after_all s so_far.messages) so_far.pages so_far.rest
+    between Read reads = (so_far.sent, so_far.stands)
+    between Memory reads = (so_far.sent, inl so_far.stands)
+    between Store none = absurd none
+    between Write none = absurd none
 
 -- what is said of the stream is true of the rest of the input
-pub rest_is : (held holds : Option (List ℕ)) (stands : State → Type 0) (leaves : State → State → Type 0) (s : State) (input : List ℕ)
-    (left : Option (List ℕ)) (count : ℕ) (so_far : SoFar (scene held holds stands leaves) s input left count)
+pub rest_is : {x : Scene} {s : State} {input : List ℕ} {left : Option (List ℕ)} {count : ℕ} (so_far : SoFar x s input left count)
     (So : List ℕ → Type 0) → IfSome left So → So so_far.rest
-rest_is held holds stands leaves s input left count so_far So said = subst (λ known. IfSome known So) so_far.left_is said
+rest_is so_far So said = subst (λ known. IfSome known So) so_far.left_is said
 
-module _ (held holds : Option (List ℕ)) (stands0 stands1 : State → Type 0) (leaves0 leaves1 : State → State → Type 0)
-    (sound : Type 0) (s : State) (input : List ℕ) (left : Option (List ℕ)) (count : ℕ)
+module _ {held holds : Option (List ℕ)} {stands0 stands1 : State → Type 0} {leaves0 leaves1 : State → State → Type 0}
+    {sound : Type 0} {s : State} {input : List ℕ} {left : Option (List ℕ)} {count : ℕ}
     (so_far : SoFar (scene held holds stands0 leaves0) s input left count) (is_sound : sound) where
   -- where there is no further message, all messages were answered
   pub all_answered : FindsNone sound stands0 stands1 leaves1 so_far.rest
@@ -114,16 +109,16 @@ module _ (held holds : Option (List ℕ)) (stands0 stands1 : State → Type 0) (
       go Store here = (so_far.sent, here)
       go Write none = absurd none
 
-  module _ (remaining : Option (List ℕ)) (h : History) (next : GetsNext sound stands0 stands1 leaves1 so_far.rest remaining h) where
+  module _ {remaining : Option (List ℕ)} {h : History} (next : GetsNext sound stands0 stands1 leaves1 so_far.rest remaining h) where
     -- the page of the next message, and the state after it
     next_page : IsPage Port (state_after_all s so_far.messages) next.message h.pending
         × stands1 (state_after Port (state_after_all s so_far.messages) next.message)
     next_page = next.page is_sound (state_after_all s so_far.messages) so_far.stands
 
     -- the page was written in part
-    pub write_fails : (now : Option (List ℕ)) (k : History) → HandsOut holds now h k
+    pub write_fails : {now : Option (List ℕ)} {k : History} → HandsOut holds now h k
         → ServesSome (scene held now stands1 leaves1) s input Write
-    write_fails now k cut = record {
+    write_fails {now = now} cut = record {
       messages = so_far.messages;
       rest = so_far.rest;
       pages = so_far.pages;
@@ -150,7 +145,7 @@ module _ (held holds : Option (List ℕ)) (stands0 stands1 : State → Type 0) (
       are = pages_more s so_far.messages next.message so_far.pages h.pending so_far.answered.are next_page.0;
     }
 
-    module _ (now : Option (List ℕ)) (k : History) (all : HandsOutAll holds now h k) where
+    module _ {now : Option (List ℕ)} {k : History} (all : HandsOutAll holds now h k) where
       -- and its page was written
       more_sent : Appends held now (concat (so_far.pages ++ h.pending ∷ []))
       more_sent = subst (Appends held now) (sym (concat_more so_far.pages h.pending))
@@ -182,7 +177,7 @@ module _ (held holds : Option (List ℕ)) (stands0 stands1 : State → Type 0) (
         messages = so_far.messages ++ next.message ∷ [];
         rest = next.rest;
         pages = so_far.pages ++ h.pending ∷ [];
-        left_is = subst (λ waiting. option_map (λ bytes. waiting ++ bytes) remaining ≡ Some next.rest) (sym all.waiting) (next.left is_open);
+        left_is = subst (λ waiting. option_map (λ bytes. waiting ++ bytes) remaining ≡ Some next.rest) (sym all.same.waiting) (next.left is_open);
         answered = more_answered;
         stays = open_more so_far.messages next.message so_far.stays other;
         sent = more_sent;
@@ -202,59 +197,44 @@ open_of false stage is same = refl
 
 -- Writing a page.
 
-pub hands_none : (held : Option (List ℕ)) (h : History) → HandsOut held held h h
-hands_none held h = record {
+pub hands_none : {held : Option (List ℕ)} {h : History} → HandsOut held held h h
+hands_none {held = held} = record {
   part = 0;
   wrote = appends_none held held (keeps_same held);
   pending = refl;
-  door = refl;
-  way = refl;
-  stage = refl;
-  waiting = refl;
+  same = record { door = refl; way = refl; stage = refl; waiting = refl };
 }
 
 -- once more
-pub hands_then : (a b c : Option (List ℕ)) (h k j : History) → HandsOut a b h k → HandsOut b c k j → HandsOut a c h j
-hands_then a b c h k j x y = record {
+pub hands_then : {a b c : Option (List ℕ)} {h k j : History} → HandsOut a b h k → HandsOut b c k j → HandsOut a c h j
+hands_then {a = a} {b = b} {c = c} {h = h} {k = k} x y = record {
   part = x.part + y.part;
   wrote = subst (Appends a c)
       (ap (λ rest. take x.part h.pending ++ take y.part rest) x.pending ∙ sym (take-add x.part y.part h.pending))
       (appends_more a b c (take x.part h.pending) (take y.part k.pending) x.wrote y.wrote);
   pending = y.pending ∙ ap (λ rest. drop y.part rest) x.pending ∙ drop-drop y.part x.part h.pending;
-  door = y.door ∙ x.door;
-  way = y.way ∙ x.way;
-  stage = y.stage ∙ x.stage;
-  waiting = y.waiting ∙ x.waiting;
+  same = record {
+    door = y.same.door ∙ x.same.door;
+    way = y.same.way ∙ x.same.way;
+    stage = y.same.stage ∙ x.same.stage;
+    waiting = y.same.waiting ∙ x.same.waiting;
+  };
 }
 
 -- by one call
-pub hands_more : (a b c : Option (List ℕ)) (h k j : History) (count : ℕ) → HandsOut a b h k
+pub hands_more : {a b c : Option (List ℕ)} {h k j : History} (count : ℕ) → HandsOut a b h k
     → (j ≡ after_sent k count) × Appends b c (take count k.pending) → HandsOut a c h j
-hands_more a b c h k j count x sent = hands_then a b c h k j x (record {
+hands_more {k = k} count x sent = hands_then x (record {
   part = count;
   wrote = sent.1;
   pending = ap (λ (i : History). i.pending) sent.0;
-  door = ap (λ (i : History). i.door) sent.0;
-  way = ap (λ (i : History). i.way) sent.0;
-  stage = ap (λ (i : History). i.stage) sent.0;
-  waiting = ap (λ (i : History). i.waiting) sent.0;
+  same = subst (IsAsBefore k) (sym sent.0) (record { door = refl; way = refl; stage = refl; waiting = refl });
 })
 
--- no byte waits, where none is to be written
-pub nothing_pending : (bytes : List ℕ) (wants : Bool) → (bytes ≢ [] → IsTrue wants) → wants ≡ false → bytes ≡ []
-nothing_pending [] wants some is = refl
-nothing_pending (byte ∷ bytes) wants some is = let is_true = some (λ e. cc) in cc
-
-pub hands_all : (a b c : Option (List ℕ)) (h k : History) → HandsOut a b h k → k.pending ≡ [] → Keeps b c → HandsOutAll a c h k
-hands_all a b c h k x none kept =
+pub hands_all : {a b c : Option (List ℕ)} {h k : History} → HandsOut a b h k → k.pending ≡ [] → Keeps b c → HandsOutAll a c h k
+hands_all {a = a} {b = b} {c = c} {h = h} x none kept =
     let rest : drop x.part h.pending ≡ [] = sym x.pending ∙ none in
     let whole : take x.part h.pending ≡ h.pending =
     sym (append-nil (take x.part h.pending)) ∙ ap (λ t. take x.part h.pending ++ t) (sym rest)
-    ∙ take-append-drop x.part h.pending in record {
-      wrote = appends_before a b c h.pending (subst (Appends a b) whole x.wrote) kept;
-      pending = none;
-      door = x.door;
-      way = x.way;
-      stage = x.stage;
-      waiting = x.waiting;
-    }
+    ∙ take-append-drop x.part h.pending in
+    record { wrote = appends_before a b c h.pending (subst (Appends a b) whole x.wrote) kept; pending = none; same = x.same }

@@ -1,6 +1,5 @@
 -- What each step of a conversation keeps true.
-use Rattle.std.proofs.Common.{◌≡◌, ℕ, zero, suc, ◌+◌, ◌<◌, ◌≤◌, Bool, true, false, if◌then◌else◌, List, [], ◌∷◌, ◌++◌, length, length-append, length-drop, take, drop, All, Option, Some, None, Result, Ok, Err, IfOk, OnErr, IsSome, refl, sym, ap, ◌∙◌, subst, append_assoc, append-nil, arith, inl, inr}
-use Rattle.std.specs.Io.KnownBytes.{Appends, Consumes, Keeps}
+use Rattle.std.proofs.Common.{◌≡◌, ℕ, zero, suc, ◌+◌, ◌<◌, ◌≤◌, Bool, true, false, if◌then◌else◌, List, [], ◌∷◌, ◌++◌, length, length-append, length-drop, take, drop, All, Some, None, Result, Ok, Err, OnErr, IsSome, refl, sym, ap, ◌∙◌, subst, append_assoc, append-nil, arith, inl, inr}
 use Rattle.std.proofs.lemmas.List.{take-append-drop}
 use Rattle.std.proofs.Math.Seq.{drop-append_seam, drop-length}
 use Rattle.std.proofs.lemmas.List.Elements.{All-append, All-nil}
@@ -16,7 +15,8 @@ use Rattle.http_ways.specs.declared.ways.Way.TheVariants.{Profile, Wide}
 use Rattle.http_conversations.specs.declared.conversation.Stage.{Stage}
 use Rattle.http_conversations.specs.declared.conversation.Stage.TheVariants.{Open, Closing, Failed}
 use Rattle.http_conversations.specs.Exchanges.{Exchange, AreAnswered, EndWithStop, IsAnswered, IsAt, IsBy, IsNoStop, StopAtLast, answer_of, bytes_of, go_on_if, pages_of, since}
-use Rattle.http_conversations.specs.History.{AnswersOne, GivesGoOn, HasNoGoOn, History, IsServed, Passes, TakesFirst, after_answer, after_failure, after_go_on, after_loss, after_received, after_sent, exchange, kept, new_history, stops_by}
+use Rattle.http_conversations.specs.Answering.{LeavesTaken}
+use Rattle.http_conversations.specs.History.{AnswersOne, History, IsServed, Passes, TakesFirst, after_answer, after_failure, after_go_on, after_loss, after_received, after_sent, exchange, kept, new_history, stops_by}
 
 -- Nothing was done yet.
 pub begins : (door : Door) (way : Way) → IsServed (new_history door way)
@@ -127,26 +127,24 @@ module _ (h : History) (is_open : h.stage ≡ Open) (x : IsServed h) where
     asked = asked;
   }
 
-  gets : (count : ℕ) (m : Said) (page : List ℕ) (c : Bool) → Says h.way (take count h.waiting) m → closes h.door m.meant ≡ c
-      → h.pending ≡ [] → IsServed (after_answer h count page c (stops h.door m.meant))
-  gets count m page false is closing free =
-      let e = exchange h count (Some page) in record {
+  -- the page closes, or does not
+  answered : (c : Bool) (e : Exchange) → IsAnswered c e → AreAnswered (if c then Closing else Open) (h.exchanges ++ e ∷ [])
+  answered false e is = All-append (IsAnswered false) h.exchanges (e ∷ []) all_open (one (IsAnswered false) e is)
+  answered true e is = (h.exchanges, e, refl, all_open, is)
+
+  waits_then : (c : Bool) (bytes : List ℕ) → (if c then [] else bytes) ≡ kept (if c then Closing else Open) bytes
+  waits_then false bytes = refl
+  waits_then true bytes = refl
+
+  gets : (count : ℕ) (m : Said) (page : List ℕ) → Says h.way (take count h.waiting) m → h.pending ≡ []
+      → IsServed (after_answer h count page (closes h.door m.meant) (stops h.door m.meant))
+  gets count m page is free =
+      let e = exchange h count (Some page) in
+      let c = closes h.door m.meant in record {
         rest = drop count h.waiting;
         received = taken count e refl;
-        waits = refl;
-        answered = All-append (IsAnswered false) h.exchanges (e ∷ []) all_open
-            (one (IsAnswered false) e (record { message = m; is_message = is; closing_as = closing; has_page = refl }));
-        at_door = all_at_door e refl;
-        by_way = all_by_way e refl;
-        stopping = asked_last count m page is;
-        sent = paged count page free;
-      }
-  gets count m page true is closing free =
-      let e = exchange h count (Some page) in record {
-        rest = drop count h.waiting;
-        received = taken count e refl;
-        waits = refl;
-        answered = (h.exchanges, e, refl, all_open, record { message = m; is_message = is; closing_as = closing; has_page = refl });
+        waits = waits_then c (drop count h.waiting);
+        answered = answered c e (record { message = m; is_message = is; closing_as = refl; has_page = refl });
         at_door = all_at_door e refl;
         by_way = all_by_way e refl;
         stopping = asked_last count m page is;
@@ -181,7 +179,7 @@ module _ (h : History) (is_open : h.stage ≡ Open) (x : IsServed h) where
 -- The first message was taken, or not.
 pub takes : (r : Result Bool Fault) (h k : History) → TakesFirst r h k → IsServed h → IsServed k
 takes (Ok true) h k t x =
-    subst IsServed (sym t.is) (gets h t.is_open x t.count t.message t.page (closes h.door t.message.meant) t.is_message refl t.free)
+    subst IsServed (sym t.is) (gets h t.is_open x t.count t.message t.page t.is_message t.free)
 takes (Ok false) h k t x = subst IsServed (sym t) x
 takes (Err fault) h k t x = elim t [
   | inl lost ↦ subst IsServed (sym lost.is) (loses h lost.is_open x lost.count lost.message lost.is_message)
@@ -203,35 +201,17 @@ takes_within (Err fault) h k most t within = elim t [
   | inr failed ↦ omega (arith, within, ap (λ (j : History). length j.waiting) failed.1)
 ]
 
--- nothing was read, and nothing was handed out
-pub takes_passes : (r : Result Bool Fault) (h k : History) → TakesFirst r h k → Passes h k
-takes_passes (Ok true) h k t = (ap (λ (j : History). j.received) t.is, ap (λ (j : History). j.sent) t.is)
-takes_passes (Ok false) h k t = (ap (λ (j : History). j.received) t, ap (λ (j : History). j.sent) t)
+-- nothing was read or handed out, at the same door and by the same way
+takes_passes : (r : Result Bool Fault) (h k : History) → TakesFirst r h k → Passes h k
+takes_passes (Ok true) h k t = subst (Passes h) (sym t.is) (record { received = refl; sent = refl; door = refl; way = refl })
+takes_passes (Ok false) h k t = subst (Passes h) (sym t) (record { received = refl; sent = refl; door = refl; way = refl })
 takes_passes (Err fault) h k t = elim t [
-  | inl lost ↦ (ap (λ (j : History). j.received) lost.is, ap (λ (j : History). j.sent) lost.is)
-  | inr failed ↦ (ap (λ (j : History). j.received) failed.1, ap (λ (j : History). j.sent) failed.1)
-]
-
--- the way stays
-pub takes_way : (r : Result Bool Fault) (h k : History) → TakesFirst r h k → k.way ≡ h.way
-takes_way (Ok true) h k t = ap (λ (j : History). j.way) t.is
-takes_way (Ok false) h k t = ap (λ (j : History). j.way) t
-takes_way (Err fault) h k t = elim t [
-  | inl lost ↦ ap (λ (j : History). j.way) lost.is
-  | inr failed ↦ ap (λ (j : History). j.way) failed.1
-]
-
--- the door stays
-pub takes_door : (r : Result Bool Fault) (h k : History) → TakesFirst r h k → k.door ≡ h.door
-takes_door (Ok true) h k t = ap (λ (j : History). j.door) t.is
-takes_door (Ok false) h k t = ap (λ (j : History). j.door) t
-takes_door (Err fault) h k t = elim t [
-  | inl lost ↦ ap (λ (j : History). j.door) lost.is
-  | inr failed ↦ ap (λ (j : History). j.door) failed.1
+  | inl lost ↦ subst (Passes h) (sym lost.is) (record { received = refl; sent = refl; door = refl; way = refl })
+  | inr failed ↦ subst (Passes h) (sym failed.1) (record { received = refl; sent = refl; door = refl; way = refl })
 ]
 
 -- one message got its page
-pub takes_one : (r : Result Bool Fault) (h k : History) → TakesFirst r h k → r ≡ Ok true → AnswersOne h k
+takes_one : (r : Result Bool Fault) (h k : History) → TakesFirst r h k → r ≡ Ok true → AnswersOne h k
 takes_one (Ok true) h k t is = record {
   bytes = take t.count h.waiting;
   one = ap (λ (j : History). j.exchanges) t.is
@@ -254,12 +234,15 @@ takes_at_most_one (Err fault) h k t = elim t [
 ]
 
 -- at a fault the conversation has failed
-pub takes_fault : (r : Result Bool Fault) (h k : History) → TakesFirst r h k → OnErr r (k.stage ≡ Failed)
+takes_fault : (r : Result Bool Fault) (h k : History) → TakesFirst r h k → OnErr r (k.stage ≡ Failed)
 takes_fault (Ok b) h k t = tt
 takes_fault (Err fault) h k t = elim t [
   | inl lost ↦ ap (λ (j : History). j.stage) lost.is
   | inr failed ↦ ap (λ (j : History). j.stage) failed.1
 ]
+
+pub takes_leaves : (r : Result Bool Fault) (h k : History) → TakesFirst r h k → LeavesTaken r h k
+takes_leaves r h k t = record { passes = takes_passes r h k t; one = takes_one r h k t; fault = takes_fault r h k t }
 
 -- 100 Continue was given, or not.
 
@@ -268,7 +251,7 @@ not_given : (way : Way) (bytes : List ℕ) (given : Bool) → IsDueBy way bytes 
 not_given Profile bytes given due = absurd due
 not_given Wide bytes given due = due.1
 
-gives : (h : History) → h.pending ≡ [] → IsDueBy h.way h.waiting h.went_on → IsServed h → IsServed (after_go_on h)
+pub gives : (h : History) → h.pending ≡ [] → IsDueBy h.way h.waiting h.went_on → IsServed h → IsServed (after_go_on h)
 gives h free due x = record {
   rest = x.rest;
   received = x.received;
@@ -283,86 +266,6 @@ gives h free due x = record {
       ∙ ap (λ given. pages_of h.exchanges ++ go_on_if given) (not_given h.way h.waiting h.went_on due) in
       ap (λ t. t ++ go_on) (out ∙ append-nil (pages_of h.exchanges));
 }
-
--- what a call found of it
-abbrev pub GoesOnBy : {E : Type 0} → Result Bool E → History → History → Type 0
-GoesOnBy (Ok true) h k = GivesGoOn h k
-GoesOnBy (Ok false) h k = k ≡ h
-GoesOnBy (Err e) h k = k ≡ h
-
-pub goes_on_by : {E : Type 0} (r : Result Bool E) (h k : History) → (r ≡ Ok true → GivesGoOn h k)
-    → (r ≡ Ok false → HasNoGoOn h × (k ≡ h)) → OnErr r (k ≡ h) → GoesOnBy r h k
-goes_on_by (Ok true) h k given none failed = given refl
-goes_on_by (Ok false) h k given none failed = (none refl).1
-goes_on_by (Err e) h k given none failed = failed
-
-pub goes_on : {E : Type 0} (r : Result Bool E) (h k : History) → GoesOnBy r h k → IsServed h → IsServed k
-goes_on (Ok true) h k is x = subst IsServed (sym is.is) (gives h is.free is.due x)
-goes_on (Ok false) h k is x = subst IsServed (sym is) x
-goes_on (Err e) h k is x = subst IsServed (sym is) x
-
--- as much waits as before
-pub goes_on_within : {E : Type 0} (r : Result Bool E) (h k : History) (most : ℕ) → GoesOnBy r h k → length h.waiting < most
-    → length k.waiting < most
-goes_on_within (Ok true) h k most is within = omega (arith, within, ap (λ (j : History). length j.waiting) is.is)
-goes_on_within (Ok false) h k most is within = omega (arith, within, ap (λ (j : History). length j.waiting) is)
-goes_on_within (Err e) h k most is within = omega (arith, within, ap (λ (j : History). length j.waiting) is)
-
--- nothing was read, handed out or answered
-pub goes_on_passes : {E : Type 0} (r : Result Bool E) (h k : History) → GoesOnBy r h k → Passes h k
-goes_on_passes (Ok true) h k is = (ap (λ (j : History). j.received) is.is, ap (λ (j : History). j.sent) is.is)
-goes_on_passes (Ok false) h k is = (ap (λ (j : History). j.received) is, ap (λ (j : History). j.sent) is)
-goes_on_passes (Err e) h k is = (ap (λ (j : History). j.received) is, ap (λ (j : History). j.sent) is)
-
-pub goes_on_keeps : {E : Type 0} (r : Result Bool E) (h k : History) → GoesOnBy r h k → k.exchanges ≡ h.exchanges
-goes_on_keeps (Ok true) h k is = ap (λ (j : History). j.exchanges) is.is
-goes_on_keeps (Ok false) h k is = ap (λ (j : History). j.exchanges) is
-goes_on_keeps (Err e) h k is = ap (λ (j : History). j.exchanges) is
-
--- What one write did, or did not.
-
-pub sends_if : {E : Type 0} (h k : History) (a b : Option (List ℕ)) (result : Result ℕ E)
-    → IfOk result (λ count. (k ≡ after_sent h count) × Appends a b (take count h.pending)) → OnErr result ((k ≡ h) × Keeps a b)
-    → IsServed h → IsServed k
-sends_if h k a b (Ok count) ok err x = subst IsServed (sym ok.0) (sends h count x)
-sends_if h k a b (Err e) ok err x = subst IsServed (sym err.0) x
-
-pub sends_within : {E : Type 0} (h k : History) (a b : Option (List ℕ)) (result : Result ℕ E) (most : ℕ)
-    → IfOk result (λ count. (k ≡ after_sent h count) × Appends a b (take count h.pending)) → OnErr result ((k ≡ h) × Keeps a b)
-    → length h.waiting < most → length k.waiting < most
-sends_within h k a b (Ok count) most ok err within = omega (arith, within, ap (λ (j : History). length j.waiting) ok.0)
-sends_within h k a b (Err e) most ok err within = omega (arith, within, ap (λ (j : History). length j.waiting) err.0)
-
--- What one read did, or did not.
-
--- these bytes were read, as many as there is room for
-abbrev pub Reads : History → History → Option (List ℕ) → Option (List ℕ) → ℕ → ℕ → Type 0
-Reads h k a b room count =
-    (more : List ℕ) × (length more ≡ count) × (count ≤ room) × Consumes a b more × (k ≡ after_received h more)
-
-pub receives_if : {E : Type 0} (h k : History) (a b : Option (List ℕ)) (room : ℕ) (result : Result ℕ E)
-    → IfOk result (Reads h k a b room) → OnErr result ((k ≡ h) × Keeps a b) → IsServed h → IsServed k
-receives_if h k a b room (Ok count) ok err x = subst IsServed (sym ok.4) (receives h ok.0 x)
-receives_if h k a b room (Err e) ok err x = subst IsServed (sym err.0) x
-
-kept_within : (stage : Stage) (bytes : List ℕ) → length (kept stage bytes) ≤ length bytes
-kept_within Open bytes = omega arith
-kept_within Closing bytes = omega arith
-kept_within Failed bytes = omega arith
-
-pub receives_within : {E : Type 0} (h k : History) (a b : Option (List ℕ)) (room most before : ℕ) (result : Result ℕ E)
-    → IfOk result (Reads h k a b room) → OnErr result ((k ≡ h) × Keeps a b) → room ≤ most → length h.waiting < before
-    → length h.waiting < before + most → length k.waiting < before + most
-receives_within h k a b room most before (Ok count) ok err small wants within =
-    omega (arith, small, wants, ok.1, ok.2, ap (λ (j : History). length j.waiting) ok.4, kept_within h.stage (h.waiting ++ ok.0), length-append h.waiting ok.0)
-receives_within h k a b room most before (Err e) ok err small wants within = omega (arith, within, ap (λ (j : History). length j.waiting) err.0)
-
--- the same, without how many bytes there was room for
-pub receives_some : {E : Type 0} (h k : History) (a b : Option (List ℕ)) (room : ℕ) (result : Result ℕ E)
-    → IfOk result (Reads h k a b room)
-    → IfOk result (λ count. (more : List ℕ) × (length more ≡ count) × Consumes a b more × (k ≡ after_received h more))
-receives_some h k a b room (Ok count) ok = (ok.0, ok.1, ok.3, ok.4)
-receives_some h k a b room (Err e) ok = tt
 
 -- What stops the desk.
 

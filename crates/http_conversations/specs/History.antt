@@ -145,9 +145,22 @@ HasNoGoOn h = (h.pending ≢ []) ⊎ (h.stage ≢ Open) ⊎ (¬ (IsDueBy h.way h
 
 -- What may come next.
 
--- nothing was read, and nothing was handed out
-abbrev pub Passes : History → History → Type 0
-Passes old new = (new.received ≡ old.received) × (new.sent ≡ old.sent)
+-- nothing was read, nothing was handed out, and its messages come in at the same door and are read by the same way
+pub record Passes (old new : History) : Type 0 where
+  pub received : new.received ≡ old.received
+  pub sent : new.sent ≡ old.sent
+  pub door : new.door ≡ old.door
+  pub way : new.way ≡ old.way
+
+-- and no message was answered
+pub record IsQuiet (old new : History) : Type 0 where
+  pub passes : Passes old new
+  pub exchanges : new.exchanges ≡ old.exchanges
+
+-- messages are answered, and no page waits
+pub record IsReady (h : History) : Type 0 where
+  pub is_open : h.stage ≡ Open
+  pub free : h.pending ≡ []
 
 -- one more message got its page, which waits; whether it asked the desk to stop is known
 pub record AnswersOne (old new : History) : Type 0 where

@@ -1,5 +1,5 @@
 -- Where exchanges lead the desk, from one state to another.
-use Rattle.std.specs.Prelude.{◌≡◌, ◌⊎◌, ℕ, Bool, true, false, List, [], ◌∷◌, ◌++◌, Option, Some, None, Result, Ok, Err}
+use Rattle.std.specs.Prelude.{◌≡◌, ◌⊎◌, ◌+◌, ◌≤◌, ℕ, Bool, true, false, List, [], ◌∷◌, ◌++◌, length, Option, Some, None, Result, Ok, Err}
 use Rattle.ledger.specs.Answer.{State}
 use Rattle.commands.specs.declared.replies.Fault.{Fault}
 use Rattle.commands.specs.declared.replies.Fault.TheVariants.{Memory, Store}
@@ -9,7 +9,7 @@ use Rattle.desk_http.specs.Pages.{state_after}
 use Rattle.desk_http.specs.declared.doors.Door.{Door}
 use Rattle.http_ways.specs.Pages.{IsPageBy}
 use Rattle.http_ways.specs.Ways.{Said, Says}
-use Rattle.http_conversations.specs.Exchanges.{Exchange}
+use Rattle.http_conversations.specs.Exchanges.{Exchange, StopAtLast, since}
 
 -- the message, which came in at a door, gets its page, and is carried out; where the page was lost, it is carried out or not
 abbrev pub Comes : Door → State → Said → Option (List ℕ) → State → Type 0
@@ -54,6 +54,13 @@ pub record GoesOn (sound : Type 0) (stood stands : State → Type 0) (leaves : S
   pub exchanges : List Exchange
   pub more : after ≡ before ++ exchanges
   pub ends : sound → (s : State) → stood s → Ends store_failed stands leaves s exchanges
+
+-- the same by one exchange at most, which stops the desk, or does not
+pub record GoesOnByOne (sound : Type 0) (stood stands : State → Type 0) (leaves : State → State → Type 0)
+    (store_failed stopped : Bool) (before after : List Exchange) : Type 0 where
+  pub goes_on : GoesOn sound stood stands leaves store_failed before after
+  pub at_most_one : length after ≤ length before + 1
+  pub stopping : StopAtLast stopped (since before after)
 
 -- the store failed
 abbrev pub has_broken : {T : Type 0} → Result T Fault → Bool

@@ -4,5 +4,6 @@ pub mod Examples
 pub mod Talks
 pub mod Leading
 pub mod Conversations
-pub mod Dates
+pub mod Calls
+pub mod Answering
 pub mod Serving

@@ -8,12 +8,24 @@ use Rattle.protocols.specs.declared.faults.ServeFault.TheVariants.{Memory, Store
 use Rattle.desk_http.specs.Pages.{IsPage, closes, state_after}
 use Rattle.desk_http.specs.Serving.{ForNext}
 use Rattle.desk_http.specs.declared.doors.Door.TheVariants.{Port}
+use Rattle.http_ways.specs.declared.ways.Way.TheVariants.{Profile}
 use Rattle.http_conversations.specs.History.{History}
 use Rattle.http_conversations.specs.declared.conversation.Stage.TheVariants.{Open, Closing}
 
 -- the bytes that are still to come: those that wait, and those that the reader has left
 abbrev pub to_come : History → Option (List ℕ) → Option (List ℕ)
 to_come h remaining = option_map (λ bytes. h.waiting ++ bytes) remaining
+
+-- its messages come in at the port, and are read by the profile
+pub record IsAtPort (h : History) : Type 0 where
+  pub door : h.door ≡ Port
+  pub way : h.way ≡ Profile
+
+-- the next of them may be answered
+pub record AwaitsNext (h : History) : Type 0 where
+  pub is_open : h.stage ≡ Open
+  pub free : h.pending ≡ []
+  pub at_port : IsAtPort h
 
 module _ (sound : Type 0) (stood stands : State → Type 0) (leaves : State → State → Type 0) where
   -- The next message of the stream was carried out, and its page waits. If it closes, the conversation does; if not, the
@@ -44,21 +56,22 @@ module _ (sound : Type 0) (stood stands : State → Type 0) (leaves : State → 
   FindsNext stream remaining h (Ok false) = FindsNone stream
   FindsNext stream remaining h (Err fault) = sound → (s : State) → stood s → FailsAt stream s fault
 
--- a prefix of the page that waited was written, and the others of its bytes wait
-pub record HandsOut (held holds : Option (List ℕ)) (old new : History) : Type 0 where
-  pub part : ℕ
-  pub wrote : Appends held holds (take part old.pending)
-  pub pending : new.pending ≡ drop part old.pending
+-- the door, the way, the stage and what waits to be answered are the same
+pub record IsAsBefore (old new : History) : Type 0 where
   pub door : new.door ≡ old.door
   pub way : new.way ≡ old.way
   pub stage : new.stage ≡ old.stage
   pub waiting : new.waiting ≡ old.waiting
 
+-- a prefix of the page that waited was written, and the others of its bytes wait
+pub record HandsOut (held holds : Option (List ℕ)) (old new : History) : Type 0 where
+  pub part : ℕ
+  pub wrote : Appends held holds (take part old.pending)
+  pub pending : new.pending ≡ drop part old.pending
+  pub same : IsAsBefore old new
+
 -- all of it was written
 pub record HandsOutAll (held holds : Option (List ℕ)) (old new : History) : Type 0 where
   pub wrote : Appends held holds old.pending
   pub pending : new.pending ≡ []
-  pub door : new.door ≡ old.door
-  pub way : new.way ≡ old.way
-  pub stage : new.stage ≡ old.stage
-  pub waiting : new.waiting ≡ old.waiting
+  pub same : IsAsBefore old new

@@ -1,13 +1,12 @@
 //! A conversation, with no socket of its own.
-ghost use Rattle.http_conversations.specs.Dates.{IsDated};
-ghost use Rattle.http_conversations.specs.Exchanges.{StopAtLast, since};
-ghost use Rattle.http_conversations.specs.History.{AnswersOne, GivesGoOn, HasNoGoOn, HasNoTurn, IsServed, Passes, TakesFirst, WantsRead, after_received, after_sent, new_history, stops_by};
-ghost use Rattle.http_conversations.specs.Leading.{GoesOn, has_broken};
+ghost use Rattle.http_conversations.specs.Answering.{AnswersFirst, LeavesTaken};
+ghost use Rattle.http_conversations.specs.Calls.{GivesIfDue, Receives, Sends};
+ghost use Rattle.http_conversations.specs.History.{HasNoTurn, IsQuiet, IsServed, WantsRead, new_history, stops_by};
+ghost use Rattle.http_conversations.specs.Leading.{GoesOnByOne, has_broken};
 ghost use Rattle.http_conversations.specs.Talks.{history_of};
 ghost use Rattle.http_conversations.specs.declared.conversation.TheConstants.{MOST_READ, MOST_WAITING};
 ghost use Rattle.saga_core.specs.Calls.{Serves};
-ghost use Rattle.std.specs.Io.KnownBytes.{Appends, Consumes, IsAtEnd, Keeps};
-ghost use Rattle.std.specs.Prelude.{◌≡◌, ◌≢◌, ◌+◌, ◌<◌, ◌≤◌, ◌↔◌, ℕ, [], List, length, take, None, Ok, true, false, IfOk, OnErr, IsTrue};
+ghost use Rattle.std.specs.Prelude.{◌≡◌, ◌≢◌, ◌+◌, ◌<◌, ◌≤◌, ◌↔◌, [], length, Ok, false, IsTrue};
 
 use crate::talk::Talk;
 use commands::{Fault, MOST_BYTES};
@@ -51,12 +50,11 @@ pub struct Conversation {
 }
 
 impl Conversation {
-    ghost use Rattle.http_conversations.specs.Conversations.{history, second_of};
+    ghost use Rattle.http_conversations.specs.Conversations.{history};
 
     /// Nothing was received at this door, where messages are read by this way. It allocates nothing.
     pub fn new(alloc: Global, door: Door, way: Way) -> Conversation
         ensures none { history result ≡ new_history door way }
-        ensures second { second_of result ≡ None }
     {
         Conversation {
             talk: Talk::new(alloc, door, way),
@@ -69,88 +67,52 @@ impl Conversation {
         requires wants { WantsRead (history self.old) }
         requires small { length buffer.old ≤ MOST_READ }
 
-        ensures ok { IfOk result (λ count. (more : List ℕ) × (length more ≡ count)
-            × Consumes (R.remaining reader.old) (R.remaining reader.new) more
-            × (history self.new ≡ after_received (history self.old) more)) }
-        ensures few { IfOk result (λ count. count ≤ length buffer.old) }
-        ensures end { result ≡ Ok 0 → 0 < length buffer.old → IsAtEnd (R.remaining reader.new) }
-
-        ensures err { OnErr result ((history self.new ≡ history self.old)
-            × Keeps (R.remaining reader.old) (R.remaining reader.new)) }
-
-        ensures second { second_of self.new ≡ second_of self.old }
+        ensures receives { Receives (R.remaining reader.old) (R.remaining reader.new)
+            (length buffer.old) result (history self.old) (history self.new) }
     {
         self.talk.receive(buffer, reader)
     }
 
     /// Answers the first message that waits, unless a page waits or the conversation is over, and reports whether it did. By
-    /// the wide way the page has the date of the second that was set last, if one was.
+    /// the wide way the page has the date of this second since 1970, if the clock was read.
     ///
     /// Out of memory, the message was carried out or not, and its page is lost. Then, and where the store failed, the
     /// conversation has failed.
-    pub fn answer<B: Book>(&mut self, paths: &Paths, book: &mut B) -> Result<bool, Fault>
-        ensures goes_on { GoesOn (B.is_sound book.new) (B.stands book.old) (B.stands book.new)
-            (B.leaves book.new)
-            (has_broken result) (history self.old).exchanges (history self.new).exchanges }
-        ensures takes { TakesFirst result (history self.old) (history self.new) }
-        ensures passes { Passes (history self.old) (history self.new) }
-        ensures door { (history self.new).door ≡ (history self.old).door }
-        ensures way { (history self.new).way ≡ (history self.old).way }
-        ensures at_most_one { length (history self.new).exchanges
-            ≤ length (history self.old).exchanges + 1 }
-        ensures one { result ≡ Ok true → AnswersOne (history self.old) (history self.new) }
-        ensures dated { result ≡ Ok true → IsDated (B.is_sound book.new) (B.stands book.old)
-            (second_of self.old) (history self.old) (history self.new) }
-        ensures stopping { StopAtLast (stops_by result (history self.new))
-            (since (history self.old).exchanges (history self.new).exchanges) }
+    pub fn answer<B: Book>(
+        &mut self,
+        paths: &Paths,
+        second: Option<u64>,
+        book: &mut B,
+    ) -> Result<bool, Fault>
+        ensures answers { AnswersFirst (B.is_sound book.new) (B.stands book.old)
+            (B.stands book.new) (B.leaves book.new) second result
+            (history self.old) (history self.new) }
+        ensures turn { GoesOnByOne (B.is_sound book.new) (B.stands book.old) (B.stands book.new)
+            (B.leaves book.new) (has_broken result) (stops_by result (history self.new))
+            (history self.old).exchanges (history self.new).exchanges }
+        ensures leaves { LeavesTaken result (history self.old) (history self.new) }
         ensures none { result ≡ Ok false → HasNoTurn (history self.old)
             × (history self.new ≡ history self.old) × (book.new ≡ book.old) }
-
-        ensures fault { OnErr result ((history self.new).stage ≡ Stage.Failed) }
         ensures serves { Serves B.is_sound B.leaves B.has_failed book.old book.new
             Fault.Store result }
-
-        ensures second { second_of self.new ≡ second_of self.old }
     {
-        self.talk.answer(paths, book)
-    }
-
-    /// The clock shows this second since 1970, or was not read: pages by the wide way have its date from now on, or none.
-    pub fn set_second(&mut self, second: Option<u64>)
-        ensures second { second_of self.new ≡ second }
-        ensures same { history self.new ≡ history self.old }
-    {
-        self.talk.second = second;
+        self.talk.answer(paths, second, book)
     }
 
     /// Gives `100 Continue` where it is due, and reports whether it was: no page waits, the head of the next message asks for
     /// it, nothing of its body came, and it was not given for this message before. By the profile it never is. The only fault
     /// is out of memory.
     pub fn go_on(&mut self) -> Result<bool, AllocError>
-        ensures given { result ≡ Ok true → GivesGoOn (history self.old) (history self.new) }
-        ensures none { result ≡ Ok false → HasNoGoOn (history self.old)
-            × (history self.new ≡ history self.old) }
-        ensures passes { Passes (history self.old) (history self.new) }
-        ensures kept { (history self.new).exchanges ≡ (history self.old).exchanges }
-
-        ensures memory { OnErr result (history self.new ≡ history self.old) }
-
-        ensures second { second_of self.new ≡ second_of self.old }
+        ensures gives { GivesIfDue result (history self.old) (history self.new) }
+        ensures quiet { IsQuiet (history self.old) (history self.new) }
     {
         self.talk.go_on()
     }
 
     /// Writes once what is pending, and returns how many of its bytes were written.
     pub fn send<W: Write>(&mut self, writer: &mut W) -> io::Result<usize>
-        ensures ok { IfOk result (λ count. (history self.new ≡ after_sent (history self.old) count)
-            × Appends (W.contents writer.old) (W.contents writer.new)
-            (take count (history self.old).pending)) }
-        ensures few { IfOk result (λ count. count ≤ length (history self.old).pending) }
-
-        ensures err { OnErr result ((history self.new ≡ history self.old)
-            × Keeps (W.contents writer.old) (W.contents writer.new)) }
-
-        ensures second { second_of self.new ≡ second_of self.old }
+        ensures sends { Sends (W.contents writer.old) (W.contents writer.new) result
+            (history self.old) (history self.new) }
     {
         self.talk.send(writer)
     }

@@ -1,5 +1,5 @@
 //! A conversation at the port with one reader and one writer, by the profile, until it is over.
-ghost use Rattle.std.specs.Prelude.{◌≡◌, ◌<◌, ◌≤◌, ◌↔◌, [], ℕ, List, length, true, Ok, IfOk, IfErr, IfSome, OnOk};
+ghost use Rattle.std.specs.Prelude.{◌≡◌, ◌<◌, ◌≤◌, ◌↔◌, ℕ, List, length, true, Ok, IfOk, IfErr, IfSome, OnOk};
 ghost use Rattle.std.specs.Io.KnownBytes.{Consumes, IsAtEnd};
 ghost use Rattle.ledger.specs.Answer.{State};
 ghost use Rattle.saga_core.specs.Calls.{Serves};
@@ -9,7 +9,7 @@ ghost use Rattle.desk_http.specs.Serving.{ServesAll, ServesSome};
 ghost use Rattle.desk_http.specs.Worlds.{GoesOnWithMessages, GoesOnAmongMessages};
 ghost use Rattle.http_conversations.specs.Conversations.{history};
 ghost use Rattle.http_conversations.specs.History.{after_received};
-ghost use Rattle.http_conversations.specs.Serving.{FindsNext, HandsOut, HandsOutAll, to_come};
+ghost use Rattle.http_conversations.specs.Serving.{AwaitsNext, FindsNext, HandsOut, HandsOutAll, IsAtPort, to_come};
 
 use crate::conversation::{Conversation, MOST_READ, Stage};
 use desk_http::Door;
@@ -142,22 +142,17 @@ fn answer_next<R: Read, B: Book>(
 ) -> Result<bool, ServeFault>
     requires small { length buffer.old ≤ MOST_READ }
     requires some { 0 < length buffer.old }
-    requires is_open { (history conversation.old).stage ≡ Stage.Open }
-    requires free { (history conversation.old).pending ≡ [] }
-    requires door { (history conversation.old).door ≡ Door.Port }
-    requires way { (history conversation.old).way ≡ Way.Profile }
+    requires awaits { AwaitsNext (history conversation.old) }
 
     ensures next { IfSome (to_come (history conversation.old) (R.remaining reader.old)) (λ stream.
         FindsNext (B.is_sound book.new) (B.stands book.old) (B.stands book.new) (B.leaves book.new)
         stream (R.remaining reader.new) (history conversation.new) result) }
-    ensures door { (history conversation.new).door ≡ Door.Port }
-    ensures way { (history conversation.new).way ≡ Way.Profile }
-
+    ensures at_port { IsAtPort (history conversation.new) }
     ensures serves { Serves B.is_sound B.leaves B.has_failed book.old book.new
         ServeFault.Store result }
 {
     for _ in 0..u64::MAX {
-        match conversation.answer(paths, book) {
+        match conversation.answer(paths, None, book) {
             Ok(true) => return Ok(true),
             Ok(false) => {
                 let count = read_more(conversation, buffer, reader)?;

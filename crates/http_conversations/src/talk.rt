@@ -1,11 +1,11 @@
 //! What a conversation holds, and each step of it.
-ghost use Rattle.std.specs.Prelude.{◌≡◌, ◌≢◌, ◌+◌, ◌<◌, ◌≤◌, ℕ, [], List, length, take, drop, vec_capacity, None, Ok, true, false, IfOk, OnErr};
-ghost use Rattle.std.specs.Io.KnownBytes.{Appends, Consumes, IsAtEnd, Keeps};
+ghost use Rattle.std.specs.Prelude.{◌≡◌, ◌≢◌, ◌≤◌, [], length, drop, vec_capacity, Ok, false};
 ghost use Rattle.saga_core.specs.Calls.{Serves};
 ghost use Rattle.http_ways.specs.Reading.{IsFirstOfBy};
-ghost use Rattle.http_conversations.specs.Dates.{IsDated};
-ghost use Rattle.http_conversations.specs.Leading.{GoesOn, fault_by, has_broken};
-ghost use Rattle.http_conversations.specs.History.{GivesGoOn, HasNoGoOn, HasNoTurn, TakesFirst, after_answer, after_failure, after_loss, after_received, after_sent, kept, moved_on, new_history};
+ghost use Rattle.http_conversations.specs.Answering.{AnswersFirst};
+ghost use Rattle.http_conversations.specs.Calls.{GivesIfDue, Receives, Sends};
+ghost use Rattle.http_conversations.specs.Leading.{fault_by};
+ghost use Rattle.http_conversations.specs.History.{HasNoTurn, IsReady, after_answer, after_failure, after_loss, kept, moved_on, new_history};
 ghost use Rattle.http_conversations.specs.Talks.{history_of};
 
 use crate::conversation::Stage;
@@ -37,8 +37,6 @@ pub struct Talk {
     pub(crate) alloc: Global,
     pub(crate) door: Door,
     pub(crate) way: Way,
-    /// What the clock showed last, in seconds since 1970, if it was read.
-    pub(crate) second: Option<u64>,
     pub(crate) stage: Stage,
     /// The message that was answered last asked the desk to stop.
     pub(crate) stops: bool,
@@ -58,13 +56,11 @@ impl Talk {
     /// Nothing was received at this door, where messages are read by this way. It allocates nothing.
     pub(crate) fn new(alloc: Global, door: Door, way: Way) -> Talk
         ensures none { history_of result ≡ new_history door way }
-        ensures second { result.second ≡ None }
     {
         Talk {
             alloc,
             door,
             way,
-            second: None,
             stage: Stage::Open,
             stops: false,
             went_on: false,
@@ -82,17 +78,8 @@ impl Talk {
         buffer: &mut [u8],
         reader: &mut R,
     ) -> io::Result<usize>
-        ensures ok { IfOk result
-            (λ count. (more : List ℕ) × (length more ≡ count) × (count ≤ length buffer.old)
-            × Consumes (R.remaining reader.old) (R.remaining reader.new) more
-            × (history_of self.new ≡ after_received (history_of self.old) more)) }
-        ensures few { IfOk result (λ count. count ≤ length buffer.old) }
-        ensures end { result ≡ Ok 0 → 0 < length buffer.old → IsAtEnd (R.remaining reader.new) }
-
-        ensures err { OnErr result ((history_of self.new ≡ history_of self.old)
-            × Keeps (R.remaining reader.old) (R.remaining reader.new)) }
-
-        ensures second { self.new.second ≡ self.old.second }
+        ensures receives { Receives (R.remaining reader.old) (R.remaining reader.new)
+            (length buffer.old) result (history_of self.old) (history_of self.new) }
     {
         self.waiting.reserve(buffer.len())?;
         let count = reader.read(buffer)?;
@@ -107,34 +94,32 @@ impl Talk {
     fn settle(&mut self)
         ensures settled { history_of self.new ≡ record (history_of self.old)
             { waiting = kept self.old.stage self.old.waiting.items } }
-        ensures second { self.new.second ≡ self.old.second }
     {
         if !matches!(self.stage, Stage::Open) {
             self.waiting = Vec::new(self.alloc);
         }
     }
 
-    /// Answers the first message that waits, if it is its turn.
-    pub(crate) fn answer<B: Book>(&mut self, paths: &Paths, book: &mut B) -> Result<bool, Fault>
-        ensures goes_on { GoesOn (B.is_sound book.new) (B.stands book.old) (B.stands book.new)
-            (B.leaves book.new)
-            (has_broken result) (history_of self.old).exchanges (history_of self.new).exchanges }
-        ensures takes { TakesFirst result (history_of self.old) (history_of self.new) }
-        ensures dated { result ≡ Ok true → IsDated (B.is_sound book.new) (B.stands book.old)
-            self.old.second (history_of self.old) (history_of self.new) }
+    /// Answers the first message that waits, if it is its turn, where the clock shows this second.
+    pub(crate) fn answer<B: Book>(
+        &mut self,
+        paths: &Paths,
+        second: Option<u64>,
+        book: &mut B,
+    ) -> Result<bool, Fault>
+        ensures answers { AnswersFirst (B.is_sound book.new) (B.stands book.old)
+            (B.stands book.new) (B.leaves book.new) second result
+            (history_of self.old) (history_of self.new) }
         ensures none { result ≡ Ok false → HasNoTurn (history_of self.old)
             × (history_of self.new ≡ history_of self.old) × (book.new ≡ book.old) }
-
         ensures serves { Serves B.is_sound B.leaves B.has_failed book.old book.new
             Fault.Store result }
-
-        ensures second { self.new.second ≡ self.old.second }
     {
         if !matches!(self.stage, Stage::Open) || !self.pending.is_empty() {
             return Ok(false);
         }
         match first_by(self.alloc, self.way, &self.waiting) {
-            Ok(Some((arrived, count))) => self.answer_first(paths, &arrived, count, book),
+            Ok(Some((arrived, count))) => self.answer_first(paths, second, &arrived, count, book),
             Ok(None) => Ok(false),
             Err(_) => {
                 self.fail();
@@ -147,28 +132,22 @@ impl Talk {
     fn answer_first<B: Book>(
         &mut self,
         paths: &Paths,
+        second: Option<u64>,
         arrived: &Arrived,
         count: usize,
         book: &mut B,
     ) -> Result<bool, Fault>
         requires first { IsFirstOfBy self.old.way self.old.waiting.items arrived.now count }
-        requires is_open { self.old.stage ≡ Stage.Open }
-        requires free { self.old.pending.items ≡ [] }
+        requires ready { IsReady (history_of self.old) }
 
-        ensures goes_on { GoesOn (B.is_sound book.new) (B.stands book.old) (B.stands book.new)
-            (B.leaves book.new)
-            (has_broken result) (history_of self.old).exchanges (history_of self.new).exchanges }
-        ensures takes { TakesFirst result (history_of self.old) (history_of self.new) }
-        ensures dated { result ≡ Ok true → IsDated (B.is_sound book.new) (B.stands book.old)
-            self.old.second (history_of self.old) (history_of self.new) }
+        ensures answers { AnswersFirst (B.is_sound book.new) (B.stands book.old)
+            (B.stands book.new) (B.leaves book.new) second result
+            (history_of self.old) (history_of self.new) }
         ensures some { result ≢ Ok false }
-
         ensures serves { Serves B.is_sound B.leaves B.has_failed book.old book.new
             Fault.Store result }
-
-        ensures second { self.new.second ≡ self.old.second }
     {
-        match answer_by(self.alloc, paths, self.door, self.second, arrived, book) {
+        match answer_by(self.alloc, paths, self.door, second, arrived, book) {
             Ok(answer) => {
                 self.keep(count, answer);
                 Ok(true)
@@ -187,7 +166,6 @@ impl Talk {
         ensures answered { history_of self.new
             ≡ after_answer
             (history_of self.old) count answer.bytes.items answer.closes answer.stops }
-        ensures second { self.new.second ≡ self.old.second }
     {
         let closes = answer.closes;
         self.stops = answer.stops;
@@ -207,9 +185,7 @@ impl Talk {
     fn move_on(&mut self, count: usize, closes: bool)
         requires within { count ≤ length self.old.waiting.items }
         requires is_open { self.old.stage ≡ Stage.Open }
-
         ensures moved { history_of self.new ≡ moved_on (history_of self.old) count closes }
-        ensures second { self.new.second ≡ self.old.second }
     {
         if closes {
             self.stage = Stage::Closing;
@@ -222,7 +198,6 @@ impl Talk {
     /// The first bytes were a message, whose page was lost.
     pub(crate) fn lose(&mut self, count: usize)
         ensures lost { history_of self.new ≡ after_loss (history_of self.old) count }
-        ensures second { self.new.second ≡ self.old.second }
     {
         let taken = Taken {
             count,
@@ -238,7 +213,6 @@ impl Talk {
     /// Memory ran out before a message was taken.
     pub(crate) fn fail(&mut self)
         ensures failed { history_of self.new ≡ after_failure (history_of self.old) }
-        ensures second { self.new.second ≡ self.old.second }
     {
         self.stage = Stage::Failed;
         self.stops = false;
@@ -248,13 +222,7 @@ impl Talk {
     /// Gives `100 Continue` where it is due: no page waits, the head of the next message asks for it, and nothing of its
     /// body came. The only fault is out of memory.
     pub(crate) fn go_on(&mut self) -> Result<bool, AllocError>
-        ensures given { result ≡ Ok true → GivesGoOn (history_of self.old) (history_of self.new) }
-        ensures none { result ≡ Ok false → HasNoGoOn (history_of self.old)
-            × (history_of self.new ≡ history_of self.old) }
-
-        ensures memory { OnErr result (history_of self.new ≡ history_of self.old) }
-
-        ensures second { self.new.second ≡ self.old.second }
+        ensures gives { GivesIfDue result (history_of self.old) (history_of self.new) }
     {
         if !matches!(self.stage, Stage::Open) || !self.pending.is_empty() {
             return Ok(false);
@@ -269,16 +237,8 @@ impl Talk {
 
     /// Writes once what is pending.
     pub(crate) fn send<W: Write>(&mut self, writer: &mut W) -> io::Result<usize>
-        ensures ok { IfOk result
-            (λ count. (history_of self.new ≡ after_sent (history_of self.old) count)
-            × Appends (W.contents writer.old) (W.contents writer.new)
-            (take count (history_of self.old).pending)) }
-        ensures few { IfOk result (λ count. count ≤ length (history_of self.old).pending) }
-
-        ensures err { OnErr result ((history_of self.new ≡ history_of self.old)
-            × Keeps (W.contents writer.old) (W.contents writer.new)) }
-
-        ensures second { self.new.second ≡ self.old.second }
+        ensures sends { Sends (W.contents writer.old) (W.contents writer.new) result
+            (history_of self.old) (history_of self.new) }
     {
         let count = writer.write(&self.pending)?;
         self.writes = self.writes.and(&self.pending, &count);

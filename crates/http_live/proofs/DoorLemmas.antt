@@ -1,13 +1,14 @@
 -- Each connection is at its door and is read by its way, since it came so. For serve_many.
-use Rattle.std.proofs.Common.{◌≡◌, ℕ, ◌<◌, Bool, true, false, List, [], ◌∷◌, ◌++◌, All, length, map, refl, sym, ap, ap₂, subst, slice_index_or, slice_set}
+use Rattle.std.proofs.Common.{◌≡◌, ℕ, ◌<◌, List, [], ◌∷◌, ◌++◌, All, length, map, refl, sym, ap₂, subst, slice_index_or, slice_set}
 use Rattle.std.proofs.Math.Logic.{∥∥₁_map}
 use Rattle.std.proofs.lemmas.List.Elements.{All-append, All-cons, All-get_or, All-head, All-map, All-nil, All-set, All-tail, All-weaker}
 use Rattle.std.specs.declared.io.traits.Read as Read
 use Rattle.std.specs.declared.io.traits.Write as Write
 use Rattle.desk_http.specs.declared.doors.Door.{Door}
 use Rattle.http_ways.specs.declared.ways.Way.{Way}
-use Rattle.http_conversations.specs.History.{GivesGoOn, History}
-use Rattle.http_live.specs.Arrivals.{AreAtTheirDoors, AreReadByTheirWays, Arrival, IsAtItsDoor, IsReadByItsWay, arrival, arrival_of, arrivals_at}
+use Rattle.http_conversations.specs.History.{History, Passes}
+use Rattle.http_live.specs.Arrivals.{Arrival, IsAtItsDoor, IsReadByItsWay, arrival, arrival_of, arrivals_at}
+use Rattle.http_live.specs.Calls.{Admits}
 use Rattle.http_live.specs.Seats.{connections_at}
 use Rattle.http_live.specs.declared.connection.Connection.{Connection}
 use Rattle.http_live.specs.declared.seats.Seat.{Seat}
@@ -80,20 +81,6 @@ module _ {R W : Type 0} {r : Read.Ghosts R} {w : Write.Ghosts W} where
       messages = ∥∥₁_map c.conversation.served (λ served. served.at_door);
     }
 
-    -- nobody came to one seat
-    pub kept_at : (seats : List (Seat R W r w)) (i : ℕ) (d new : Seat R W r w) → i < length seats
-        → arrivals_at new ≡ arrivals_at (slice_index_or seats i d)
-        → AreAtTheirDoors is_at seats → AreAtTheirDoors is_at (slice_set seats i new)
-    kept_at seats i d new within same all = kept_as (AtDoor is_at) (IsAtItsDoor is_at) came_at is_there seats i d new within same all
-
-    -- somebody came to one seat
-    pub came_to : (seats : List (Seat R W r w)) (i : ℕ) (d new : Seat R W r w) (reader : R) (writer : W) (door : Door) (way : Way)
-        → i < length seats → arrivals_at new ≡ arrivals_at (slice_index_or seats i d) ++ arrival reader writer door way ∷ []
-        → is_at reader door → AreAtTheirDoors is_at seats → AreAtTheirDoors is_at (slice_set seats i new)
-    came_to seats i d new reader writer door way within more by all =
-        came_as (AtDoor is_at) (IsAtItsDoor is_at) came_at is_there seats i d new (arrival reader writer door way) within more
-        (record { reader = reader; writer = writer; came = refl; so = by }) all
-
   -- Ways.
 
   module _ (is_by : R → Way → Type 0) where
@@ -110,30 +97,30 @@ module _ {R W : Type 0} {r : Read.Ghosts R} {w : Write.Ghosts W} where
       messages = ∥∥₁_map c.conversation.served (λ served. served.by_way);
     }
 
+  module _ {is_at : R → Door → Type 0} {is_by : R → Way → Type 0} (seats : List (Seat R W r w)) (i : ℕ) (d new : Seat R W r w) (within : i < length seats) where
     -- nobody came to one seat
-    pub kept_by : (seats : List (Seat R W r w)) (i : ℕ) (d new : Seat R W r w) → i < length seats
-        → arrivals_at new ≡ arrivals_at (slice_index_or seats i d)
-        → AreReadByTheirWays is_by seats → AreReadByTheirWays is_by (slice_set seats i new)
-    kept_by seats i d new within same all = kept_as (ByWay is_by) (IsReadByItsWay is_by) came_by is_read seats i d new within same all
+    pub admits_none : arrivals_at new ≡ arrivals_at (slice_index_or seats i d) → Admits is_at is_by seats (slice_set seats i new)
+    admits_none same = record {
+      doors = kept_as (AtDoor is_at) (IsAtItsDoor is_at) (came_at is_at) (is_there is_at) seats i d new within same;
+      ways = kept_as (ByWay is_by) (IsReadByItsWay is_by) (came_by is_by) (is_read is_by) seats i d new within same;
+    }
 
-    -- somebody came to one seat
-    pub came_with : (seats : List (Seat R W r w)) (i : ℕ) (d new : Seat R W r w) (reader : R) (writer : W) (door : Door) (way : Way)
-        → i < length seats → arrivals_at new ≡ arrivals_at (slice_index_or seats i d) ++ arrival reader writer door way ∷ []
-        → is_by reader way → AreReadByTheirWays is_by seats → AreReadByTheirWays is_by (slice_set seats i new)
-    came_with seats i d new reader writer door way within more by all =
-        came_as (ByWay is_by) (IsReadByItsWay is_by) came_by is_read seats i d new (arrival reader writer door way) within more
-        (record { reader = reader; writer = writer; came = refl; so = by }) all
-
--- 100 Continue was given at the same door and by the same way, or was not
-pub goes_on_at : (given : Bool) (h k : History) → (given ≡ true → GivesGoOn h k) → (given ≡ false → k ≡ h)
-    → (k.door ≡ h.door) × (k.way ≡ h.way)
-goes_on_at true h k gives none = (ap (λ (j : History). j.door) (gives refl).is, ap (λ (j : History). j.way) (gives refl).is)
-goes_on_at false h k gives none = (ap (λ (j : History). j.door) (none refl), ap (λ (j : History). j.way) (none refl))
+    -- a peer came to one seat
+    pub admits_one : (reader : R) (writer : W) (door : Door) (way : Way)
+        → arrivals_at new ≡ arrivals_at (slice_index_or seats i d) ++ arrival reader writer door way ∷ []
+        → is_at reader door → is_by reader way → Admits is_at is_by seats (slice_set seats i new)
+    admits_one reader writer door way more at by =
+        let a = arrival reader writer door way in record {
+          doors = came_as (AtDoor is_at) (IsAtItsDoor is_at) (came_at is_at) (is_there is_at) seats i d new a within more
+              (record { reader = reader; writer = writer; came = refl; so = at });
+          ways = came_as (ByWay is_by) (IsReadByItsWay is_by) (came_by is_by) (is_read is_by) seats i d new a within more
+              (record { reader = reader; writer = writer; came = refl; so = by });
+        }
 
 abbrev with_ends : {R W : Type 0} → List (R × W) → Door → Way → Arrival R W
 with_ends ends door way = record { ends = ends; door = door; way = way }
 
 -- with the same ends, by the same door and way
-pub same_arrival : {R W : Type 0} (ends : List (R × W)) (h k : History) → (k.door ≡ h.door) × (k.way ≡ h.way)
+pub same_arrival : {R W : Type 0} (ends : List (R × W)) (h k : History) → Passes h k
     → with_ends ends k.door k.way ≡ with_ends ends h.door h.way
-same_arrival ends h k same = ap₂ (λ d w. with_ends ends d w) same.0 same.1
+same_arrival ends h k x = ap₂ (λ d w. with_ends ends d w) x.door x.way

@@ -4,3 +4,4 @@ pub mod WorldLemmas
 pub mod RestLemmas
 pub mod Ends
 mod DoorLemmas
+mod TurnLemmas

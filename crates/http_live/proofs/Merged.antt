@@ -5,9 +5,9 @@ use Rattle.std.proofs.lemmas.List.Elements.{All-append, All-map, All-nil}
 use Rattle.std.proofs.lemmas.Bool.{cases_eq}
 use Rattle.std.proofs.lemmas.Grind.{common_steps, get_or-set_at}
 use Rattle.ledger.specs.Answer.{State}
-use Rattle.http_conversations.specs.Exchanges.{Exchange, IsNoStop, StopAtLast, since}
+use Rattle.http_conversations.specs.Exchanges.{Exchange, IsNoStop, StopAtLast}
 use Rattle.http_conversations.proofs.Steps.{since_more}
-use Rattle.http_conversations.specs.Leading.{Ends, GoesOn}
+use Rattle.http_conversations.specs.Leading.{Ends, GoesOnByOne}
 use Rattle.http_live.specs.Merging.{IsMerged, Merges, Seated, exchange_of, of_seat}
 use Rattle.http_live.proofs.LeadLemmas.{ends_then}
 
@@ -123,22 +123,17 @@ merges_then failed stopped sound0 sound1 stood between stands leaves0 leaves1 xs
       (ends_then failed stands leaves1 (map exchange_of x.merged) (map exchange_of y.merged) s first.0 first.1 (y.ends is_sound first.0 first.2));
 }
 
-pub merges_as : (failed stopped other : Bool) (sound : Type 0) (stood stands : State → Type 0) (leaves : State → State → Type 0)
-    (xs ys : List (List Exchange)) → stopped ≡ other → Merges sound stood stands leaves failed stopped xs ys
-    → Merges sound stood stands leaves failed other xs ys
-merges_as failed stopped other sound stood stands leaves xs ys same m =
-    subst (λ t. Merges sound stood stands leaves failed t xs ys) same m
-
--- one seat went on
-pub merges_set : {X : Type 0} (f : X → List Exchange) (failed stopped : Bool) (sound : Type 0) (stood stands : State → Type 0)
-    (leaves : State → State → Type 0) (seats : List X) (i : ℕ) (d new : X) → i < length seats
-    → GoesOn sound stood stands leaves failed (f (slice_index_or seats i d)) (f new)
-    → StopAtLast stopped (since (f (slice_index_or seats i d)) (f new))
-    → Merges sound stood stands leaves failed stopped (map f seats) (map f (slice_set seats i new))
-merges_set f failed stopped sound stood stands leaves seats i d new within x stop = record {
-  merged = seated_at i x.exchanges;
-  is_merged = merged_set f seats i d new x.exchanges within x.more;
-  stopping = subst (StopAtLast stopped)
-      (since_more (f (slice_index_or seats i d)) (f new) x.exchanges x.more ∙ sym (exchanges-seated_at i x.exchanges)) stop;
-  ends = λ is_sound s was. subst (Ends failed stands leaves s) (sym (exchanges-seated_at i x.exchanges)) (x.ends is_sound s was);
-}
+module _ {X : Type 0} (f : X → List Exchange) {failed stopped : Bool} {sound : Type 0} {stood stands : State → Type 0}
+    {leaves : State → State → Type 0} where
+  -- one seat went on
+  pub merges_set : (seats : List X) (i : ℕ) (d new : X) → i < length seats
+      → GoesOnByOne sound stood stands leaves failed stopped (f (slice_index_or seats i d)) (f new)
+      → Merges sound stood stands leaves failed stopped (map f seats) (map f (slice_set seats i new))
+  merges_set seats i d new within x =
+      let more = x.goes_on.exchanges in record {
+        merged = seated_at i more;
+        is_merged = merged_set f seats i d new more within x.goes_on.more;
+        stopping = subst (StopAtLast stopped)
+            (since_more (f (slice_index_or seats i d)) (f new) more x.goes_on.more ∙ sym (exchanges-seated_at i more)) x.stopping;
+        ends = λ is_sound s was. subst (Ends failed stands leaves s) (sym (exchanges-seated_at i more)) (x.goes_on.ends is_sound s was);
+      }

@@ -7,3 +7,4 @@ pub mod Worlds
 pub mod Seats
 pub mod Doors
 pub mod Arrivals
+pub mod Calls

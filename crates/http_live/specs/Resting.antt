@@ -11,6 +11,10 @@ pub record IsUsedUp (h : History) : Type 0 where
   pub sent : h.pending ≡ []
   pub answered : (h.stage ≢ Open) ⊎ SaysNothing h.way h.waiting
 
+-- a page waits for its peer
+abbrev pub IsUnsent : History → Type 0
+IsUnsent h = h.pending ≢ []
+
 -- no page waits, and what waits is not a whole message
 pub record WaitsForMore (h : History) : Type 0 where
   pub is_open : h.stage ≡ Open

@@ -1,10 +1,9 @@
 //! A conversation over a reader and a writer of its own.
-ghost use Rattle.std.specs.Prelude.{◌≡◌, ◌≢◌, ◌+◌, ◌≤◌, [], length, IfErr, IfOk, IfSome, OnErr, Ok, true, false};
+ghost use Rattle.std.specs.Prelude.{◌≡◌, ◌≤◌, [], length, OnErr, Ok, false};
 ghost use Rattle.saga_core.specs.Calls.{Serves};
 ghost use Rattle.http_conversations.specs.Conversations.{history};
 ghost use Rattle.http_conversations.specs.History.{HasNoTurn, IsServed, WantsRead, stops_by};
-ghost use Rattle.http_conversations.specs.Leading.{GoesOn, has_broken};
-ghost use Rattle.http_conversations.specs.Exchanges.{StopAtLast, since};
+ghost use Rattle.http_conversations.specs.Leading.{GoesOnByOne, has_broken};
 ghost use Rattle.http_live.specs.Endings.{is_stop, turn_stops};
 ghost use Rattle.http_live.specs.Faithful.{Faithful};
 
@@ -33,8 +32,9 @@ pub struct Connection<R: Read + Drop, W: Write + Drop> {
 
 impl<R: Read + Drop, W: Write + Drop> Connection<R, W> {
     ghost use Rattle.http_live.specs.Arrivals.{arrival, arrival_of};
-    ghost use Rattle.http_live.specs.Seats.{exchanges_with, received_with};
-    ghost use Rattle.http_live.specs.Resting.{IsUsedUp, Rests};
+    ghost use Rattle.http_live.specs.Calls.{EndsTurn, IsUnanswered, IsUnread, StepsOn};
+    ghost use Rattle.http_live.specs.Seats.{exchanges_with};
+    ghost use Rattle.http_live.specs.Resting.{IsUnsent, IsUsedUp, Rests};
 
     /// Nothing was read or written. Its messages come in at this door, and are read by this way.
     pub(crate) fn new(alloc: Global, door: Door, way: Way, reader: R, writer: W) -> Connection<R, W>
@@ -98,17 +98,10 @@ impl<R: Read + Drop, W: Write + Drop> Connection<R, W> {
     ) -> Result<Standing, Fault>
         requires small { length buffer.old ≤ MOST_READ }
 
-        ensures goes_on { GoesOn (B.is_sound book.new) (B.stands book.old) (B.stands book.new)
-            (B.leaves book.new)
-            (has_broken result) (exchanges_with self.old) (exchanges_with self.new) }
-        ensures at_most_one { length (exchanges_with self.new)
-            ≤ length (exchanges_with self.old) + 1 }
-        ensures rests { IfOk result (λ standing. Rests standing (history self.new.conversation)) }
-        ensures arrival { arrival_of self.new ≡ arrival_of self.old }
-        ensures stopping { StopAtLast (turn_stops result)
-            (since (exchanges_with self.old) (exchanges_with self.new)) }
-
-        ensures broken { IfErr result (λ fault. fault ≡ Fault.Store) }
+        ensures turn { GoesOnByOne (B.is_sound book.new) (B.stands book.old) (B.stands book.new)
+            (B.leaves book.new) (has_broken result) (turn_stops result)
+            (exchanges_with self.old) (exchanges_with self.new) }
+        ensures ends { EndsTurn result self.old self.new }
         ensures serves { Serves B.is_sound B.leaves B.has_failed book.old book.new
             Fault.Store result }
     {
@@ -127,11 +120,7 @@ impl<R: Read + Drop, W: Write + Drop> Connection<R, W> {
     fn go_on(&mut self, buffer: &mut [u8]) -> Standing
         requires small { length buffer.old ≤ MOST_READ }
 
-        ensures kept { exchanges_with self.new ≡ exchanges_with self.old }
-        ensures arrival { arrival_of self.new ≡ arrival_of self.old }
-        ensures rests { IsUsedUp (history self.old.conversation) →
-            Rests result (history self.new.conversation) }
-        ensures unstopped { is_stop result ≡ false }
+        ensures steps { StepsOn IsUsedUp result self.old self.new }
     {
         if self.gives_go_on() {
             Standing::Busy
@@ -142,8 +131,7 @@ impl<R: Read + Drop, W: Write + Drop> Connection<R, W> {
 
     /// Gives `100 Continue` where it is due, and reports whether it was.
     fn gives_go_on(&mut self) -> bool
-        ensures kept { exchanges_with self.new ≡ exchanges_with self.old }
-        ensures arrival { arrival_of self.new ≡ arrival_of self.old }
+        ensures left { IsUnread self.old self.new }
         ensures none { result ≡ false →
             history self.new.conversation ≡ history self.old.conversation }
     {
@@ -172,22 +160,16 @@ impl<R: Read + Drop, W: Write + Drop> Connection<R, W> {
         second: Option<u64>,
         book: &mut B,
     ) -> Result<bool, Fault>
-        ensures goes_on { GoesOn (B.is_sound book.new) (B.stands book.old) (B.stands book.new)
-            (B.leaves book.new)
-            (has_broken result) (exchanges_with self.old) (exchanges_with self.new) }
-        ensures at_most_one { length (exchanges_with self.new)
-            ≤ length (exchanges_with self.old) + 1 }
-        ensures stopping { StopAtLast (stops_by result (history self.new.conversation))
-            (since (exchanges_with self.old) (exchanges_with self.new)) }
+        ensures turn { GoesOnByOne (B.is_sound book.new) (B.stands book.old) (B.stands book.new)
+            (B.leaves book.new) (has_broken result) (stops_by result (history self.new.conversation))
+            (exchanges_with self.old) (exchanges_with self.new) }
         ensures none { result ≡ Ok false → HasNoTurn (history self.old.conversation)
             × (history self.new.conversation ≡ history self.old.conversation) }
         ensures arrival { arrival_of self.new ≡ arrival_of self.old }
-
         ensures serves { Serves B.is_sound B.leaves B.has_failed book.old book.new
             Fault.Store result }
     {
-        self.conversation.set_second(second);
-        self.conversation.answer(paths, book)
+        self.conversation.answer(paths, second, book)
     }
 
     /// Reads once.
@@ -195,8 +177,7 @@ impl<R: Read + Drop, W: Write + Drop> Connection<R, W> {
         requires wants { WantsRead (history self.old.conversation) }
         requires small { length buffer.old ≤ MOST_READ }
 
-        ensures kept { exchanges_with self.new ≡ exchanges_with self.old }
-        ensures arrival { arrival_of self.new ≡ arrival_of self.old }
+        ensures left { IsUnanswered self.old self.new }
         ensures unsent { (history self.new.conversation).pending
             ≡ (history self.old.conversation).pending }
         ensures err { OnErr result (history self.new.conversation ≡ history self.old.conversation) }
@@ -206,9 +187,7 @@ impl<R: Read + Drop, W: Write + Drop> Connection<R, W> {
 
     /// Writes once.
     fn write(&mut self) -> io::Result<usize>
-        ensures kept { exchanges_with self.new ≡ exchanges_with self.old }
-        ensures arrival { arrival_of self.new ≡ arrival_of self.old }
-        ensures unread { received_with self.new ≡ received_with self.old }
+        ensures left { IsUnread self.old self.new }
         ensures err { OnErr result (history self.new.conversation ≡ history self.old.conversation) }
     {
         self.conversation.send(&mut self.writer)
@@ -218,11 +197,7 @@ impl<R: Read + Drop, W: Write + Drop> Connection<R, W> {
     fn push(&mut self, buffer: &mut [u8]) -> Standing
         requires small { length buffer.old ≤ MOST_READ }
 
-        ensures kept { exchanges_with self.new ≡ exchanges_with self.old }
-        ensures arrival { arrival_of self.new ≡ arrival_of self.old }
-        ensures rests { (history self.old.conversation).pending ≢ [] →
-            Rests result (history self.new.conversation) }
-        ensures unstopped { is_stop result ≡ false }
+        ensures steps { StepsOn IsUnsent result self.old self.new }
     {
         match self.write() {
             Ok(0) => Standing::Over,
@@ -237,9 +212,7 @@ impl<R: Read + Drop, W: Write + Drop> Connection<R, W> {
 
     /// Hands out what waits, and does nothing else. It is over where nothing waits.
     pub(crate) fn hand_out(&mut self) -> Standing
-        ensures kept { exchanges_with self.new ≡ exchanges_with self.old }
-        ensures arrival { arrival_of self.new ≡ arrival_of self.old }
-        ensures unread { received_with self.new ≡ received_with self.old }
+        ensures left { IsUnread self.old self.new }
     {
         if !self.conversation.wants_write() {
             return Standing::Over;
@@ -259,11 +232,7 @@ impl<R: Read + Drop, W: Write + Drop> Connection<R, W> {
     fn read_on(&mut self, buffer: &mut [u8]) -> Standing
         requires small { length buffer.old ≤ MOST_READ }
 
-        ensures kept { exchanges_with self.new ≡ exchanges_with self.old }
-        ensures arrival { arrival_of self.new ≡ arrival_of self.old }
-        ensures rests { (history self.old.conversation).pending ≢ [] →
-            Rests result (history self.new.conversation) }
-        ensures unstopped { is_stop result ≡ false }
+        ensures steps { StepsOn IsUnsent result self.old self.new }
     {
         if !self.conversation.wants_read() {
             return Standing::Unsent;
@@ -283,11 +252,7 @@ impl<R: Read + Drop, W: Write + Drop> Connection<R, W> {
     fn pull(&mut self, buffer: &mut [u8]) -> Standing
         requires small { length buffer.old ≤ MOST_READ }
 
-        ensures kept { exchanges_with self.new ≡ exchanges_with self.old }
-        ensures arrival { arrival_of self.new ≡ arrival_of self.old }
-        ensures rests { IsUsedUp (history self.old.conversation) →
-            Rests result (history self.new.conversation) }
-        ensures unstopped { is_stop result ≡ false }
+        ensures steps { StepsOn IsUsedUp result self.old self.new }
     {
         if !self.conversation.wants_read() {
             return Standing::Over;

@@ -1,13 +1,11 @@
 //! Places for one connection after another, and what each waits for.
-ghost use Rattle.http_conversations.specs.Conversations.{history};
-ghost use Rattle.http_conversations.specs.Exchanges.{StopAtLast, since};
-ghost use Rattle.http_conversations.specs.Leading.{GoesOn, has_broken};
+ghost use Rattle.http_conversations.specs.Leading.{GoesOnByOne, has_broken};
 ghost use Rattle.http_live.specs.Arrivals.{arrival, arrivals_at};
+ghost use Rattle.http_live.specs.Calls.{EndsTurnAt, IsEmpty, IsLeft};
 ghost use Rattle.http_live.specs.Endings.{turn_stops};
-ghost use Rattle.http_live.specs.Resting.{Rests};
-ghost use Rattle.http_live.specs.Seats.{HasDoor, HasStopAt, connections_at, exchanges_at, received_at};
+ghost use Rattle.http_live.specs.Seats.{HasDoor, exchanges_at};
 ghost use Rattle.saga_core.specs.Calls.{Serves};
-ghost use Rattle.std.specs.Prelude.{◌≡◌, ◌∷◌, ◌++◌, ◌+◌, ◌≤◌, [], All, length, map, Ok, IfErr, IfOk, IfSome};
+ghost use Rattle.std.specs.Prelude.{◌≡◌, ◌∷◌, ◌++◌, ◌≤◌, [], All, length, IfOk};
 
 use crate::connection::Connection;
 use commands::Fault;
@@ -34,8 +32,7 @@ pub struct Seat<R: Read + Drop, W: Write + Drop> {
 impl<R: Read + Drop, W: Write + Drop> Seat<R, W> {
     /// No connection was here.
     pub fn new() -> Seat<R, W>
-        ensures none { exchanges_at result ≡ [] }
-        ensures empty { connections_at result ≡ [] }
+        ensures empty { IsEmpty result }
     {
         Seat {
             connection: None,
@@ -56,10 +53,8 @@ impl<R: Read + Drop, W: Write + Drop> Seat<R, W> {
 
     /// The connection ends, if there is one.
     pub(crate) fn clear(&mut self)
-        ensures kept { exchanges_at self.new ≡ exchanges_at self.old }
+        ensures left { IsLeft self.old self.new }
         ensures none { self.new.connection ≡ None }
-        ensures arrivals { arrivals_at self.new ≡ arrivals_at self.old }
-        ensures unread { received_at self.new ≡ received_at self.old }
     {
         if let Some(connection) = self.connection.take() {
             self.left = self.left.and(&connection, &());
@@ -92,9 +87,7 @@ impl<R: Read + Drop, W: Write + Drop> Seat<R, W> {
 
     /// Hands out what waits for the connection, if there is one. One that is over ends.
     pub(crate) fn hand_out(&mut self) -> Standing
-        ensures kept { exchanges_at self.new ≡ exchanges_at self.old }
-        ensures arrivals { arrivals_at self.new ≡ arrivals_at self.old }
-        ensures unread { received_at self.new ≡ received_at self.old }
+        ensures left { IsLeft self.old self.new }
     {
         let Some(connection) = &mut self.connection else {
             return Standing::Over;
@@ -116,18 +109,10 @@ impl<R: Read + Drop, W: Write + Drop> Seat<R, W> {
     ) -> Result<Standing, Fault>
         requires small { length buffer.old ≤ MOST_READ }
 
-        ensures goes_on { GoesOn (B.is_sound book.new) (B.stands book.old) (B.stands book.new)
-            (B.leaves book.new)
-            (has_broken result) (exchanges_at self.old) (exchanges_at self.new) }
-        ensures at_most_one { length (exchanges_at self.new) ≤ length (exchanges_at self.old) + 1 }
-        ensures rests { IfOk result (λ standing. IfSome self.new.connection
-            (λ connection. Rests standing (history connection.conversation))) }
-        ensures arrivals { arrivals_at self.new ≡ arrivals_at self.old }
-        ensures stopped { result ≡ Ok Standing.Stopped → HasStopAt self.new }
-        ensures stopping { StopAtLast (turn_stops result)
-            (since (exchanges_at self.old) (exchanges_at self.new)) }
-
-        ensures broken { IfErr result (λ fault. fault ≡ Fault.Store) }
+        ensures turn { GoesOnByOne (B.is_sound book.new) (B.stands book.old) (B.stands book.new)
+            (B.leaves book.new) (has_broken result) (turn_stops result)
+            (exchanges_at self.old) (exchanges_at self.new) }
+        ensures ends { EndsTurnAt result self.old self.new }
         ensures serves { Serves B.is_sound B.leaves B.has_failed book.old book.new
             Fault.Store result }
     {
@@ -147,8 +132,7 @@ pub fn empty_seats<R: Read + Drop, W: Write + Drop>(
     alloc: Global,
 ) -> Result<Vec<Seat<R, W>>, AllocError>
     ensures seats { IfOk result (λ seats. length seats.items ≡ SEATS) }
-    ensures none { IfOk result (λ seats. All (λ seat. exchanges_at seat ≡ []) seats.items) }
-    ensures empty { IfOk result (λ seats. All (λ seat. connections_at seat ≡ []) seats.items) }
+    ensures empty { IfOk result (λ seats. All IsEmpty seats.items) }
 {
     let mut seats = Vec::with_capacity(alloc, SEATS)?;
     for _ in 0..SEATS {

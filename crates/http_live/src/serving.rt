@@ -1,13 +1,12 @@
 //! Where turns come from; serving the connections of all seats, and ending those that are left.
 
 ghost use Rattle.http_conversations.specs.Leading.{has_broken};
-ghost use Rattle.http_live.specs.Arrivals.{AreAtTheirDoors, AreReadByTheirWays, arrivals_at};
+ghost use Rattle.http_live.specs.Calls.{Admits, AreLeft, TakesTurns};
 ghost use Rattle.http_live.specs.Endings.{ends_stopped, has_stopped, ending_after};
-ghost use Rattle.http_live.specs.Merging.{Merges};
-ghost use Rattle.http_live.specs.Seats.{HasStopAmong, IsTaken, exchanges_at, received_at};
+ghost use Rattle.http_live.specs.Seats.{IsTaken, exchanges_at};
 ghost use Rattle.http_live.specs.Worlds.{WorldsGoOn};
 ghost use Rattle.saga_core.specs.Calls.{Serves};
-ghost use Rattle.std.specs.Prelude.{◌≡◌, ◌<◌, ◌≤◌, [], length, map, false, Ok, Err, Some, IfErr};
+ghost use Rattle.std.specs.Prelude.{◌≡◌, ◌<◌, ◌≤◌, length, map, Err, IfErr};
 ghost use Rattle.desk_http.specs.declared.doors.Door.{Door};
 ghost use Rattle.http_live.specs.Doors.{ComesByItsDoor, ComesByItsWay};
 ghost use Rattle.http_ways.specs.declared.ways.Way.{Way};
@@ -33,15 +32,12 @@ pub fn serve_many<T: Turns, B: Book>(
     turns: &mut T,
     book: &mut Ready<B>,
 ) -> Result<Ending, Fault>
-    ensures served { Merges (B.is_sound book.new) (B.stands book.old) (B.stands book.new)
-        (B.leaves book.new) (has_broken result) (has_stopped result) (map exchanges_at seats.old)
-        (map exchanges_at seats.new) }
+    ensures turns { TakesTurns T.is_at T.is_by (B.is_sound book.new) (B.stands book.old)
+        (B.stands book.new) (B.leaves book.new) (has_broken result) (has_stopped result)
+        seats.old seats.new }
     ensures worlds { WorldsGoOn (B.is_sound book.new) (B.stands book.old) (B.stands book.new)
         (B.leaves book.new) (has_broken result) (has_stopped result) (map exchanges_at seats.old)
         (map exchanges_at seats.new) }
-    ensures stopped { result ≡ Ok Ending.Stopped → HasStopAmong seats.new }
-    ensures doors { AreAtTheirDoors T.is_at seats.old → AreAtTheirDoors T.is_at seats.new }
-    ensures ways { AreReadByTheirWays T.is_by seats.old → AreReadByTheirWays T.is_by seats.new }
 
     ensures memory { result ≡ Err Fault.Memory →
         (seats.new ≡ seats.old) × (turns.new ≡ turns.old) × (book.new ≡ book.old) }
@@ -67,12 +63,9 @@ fn serve_turns<T: Turns, B: Book>(
 ) -> Result<Ending, Fault>
     requires small { length buffer.old ≤ MOST_READ }
 
-    ensures served { Merges (B.is_sound book.new) (B.stands book.old) (B.stands book.new)
-        (B.leaves book.new) (has_broken result) (has_stopped result) (map exchanges_at seats.old)
-        (map exchanges_at seats.new) }
-    ensures stopped { result ≡ Ok Ending.Stopped → HasStopAmong seats.new }
-    ensures doors { AreAtTheirDoors T.is_at seats.old → AreAtTheirDoors T.is_at seats.new }
-    ensures ways { AreReadByTheirWays T.is_by seats.old → AreReadByTheirWays T.is_by seats.new }
+    ensures turns { TakesTurns T.is_at T.is_by (B.is_sound book.new) (B.stands book.old)
+        (B.stands book.new) (B.leaves book.new) (has_broken result) (has_stopped result)
+        seats.old seats.new }
 
     ensures broken { IfErr result (λ fault. fault ≡ Fault.Store) }
     ensures serves { Serves B.is_sound B.leaves B.has_failed book.old book.new Fault.Store result }
@@ -98,12 +91,9 @@ fn take_turn<T: Turns, B: Book>(
 ) -> Result<Option<Ending>, Fault>
     requires small { length buffer.old ≤ MOST_READ }
 
-    ensures served { Merges (B.is_sound book.new) (B.stands book.old) (B.stands book.new)
-        (B.leaves book.new) (has_broken result) (ends_stopped result) (map exchanges_at seats.old)
-        (map exchanges_at seats.new) }
-    ensures stopped { result ≡ Ok (Some Ending.Stopped) → HasStopAmong seats.new }
-    ensures doors { AreAtTheirDoors T.is_at seats.old → AreAtTheirDoors T.is_at seats.new }
-    ensures ways { AreReadByTheirWays T.is_by seats.old → AreReadByTheirWays T.is_by seats.new }
+    ensures turns { TakesTurns T.is_at T.is_by (B.is_sound book.new) (B.stands book.old)
+        (B.stands book.new) (B.leaves book.new) (has_broken result) (ends_stopped result)
+        seats.old seats.new }
 
     ensures broken { IfErr result (λ fault. fault ≡ Fault.Store) }
     ensures serves { Serves B.is_sound B.leaves B.has_failed book.old book.new Fault.Store result }
@@ -167,8 +157,7 @@ fn welcome<T: Turns>(
 
     ensures kept { map exchanges_at seats.new ≡ map exchanges_at seats.old }
     ensures taken { at < length seats.old → IsTaken at door way seats.old seats.new }
-    ensures doors { AreAtTheirDoors T.is_at seats.old → AreAtTheirDoors T.is_at seats.new }
-    ensures ways { AreReadByTheirWays T.is_by seats.old → AreReadByTheirWays T.is_by seats.new }
+    ensures admits { Admits T.is_at T.is_by seats.old seats.new }
 {
     if at >= seats.len() {
         return;
@@ -179,9 +168,7 @@ fn welcome<T: Turns>(
 /// Hands out the pages that wait, turn by turn, until no turn comes. Nothing is read, and no message is answered; a
 /// connection for which nothing waits is over, and a peer that comes is let go.
 pub fn finish_many<T: Turns>(seats: &mut [Seat<T::Reader, T::Writer>], turns: &mut T)
-    ensures kept { map exchanges_at seats.new ≡ map exchanges_at seats.old }
-    ensures arrivals { map arrivals_at seats.new ≡ map arrivals_at seats.old }
-    ensures unread { map received_at seats.new ≡ map received_at seats.old }
+    ensures left { AreLeft seats.old seats.new }
 {
     for _ in 0..u64::MAX {
         if !finish_turn(seats, turns) {
@@ -192,9 +179,7 @@ pub fn finish_many<T: Turns>(seats: &mut [Seat<T::Reader, T::Writer>], turns: &m
 
 /// Takes the next turn, and reports whether there was one.
 fn finish_turn<T: Turns>(seats: &mut [Seat<T::Reader, T::Writer>], turns: &mut T) -> bool
-    ensures kept { map exchanges_at seats.new ≡ map exchanges_at seats.old }
-    ensures arrivals { map arrivals_at seats.new ≡ map arrivals_at seats.old }
-    ensures unread { map received_at seats.new ≡ map received_at seats.old }
+    ensures left { AreLeft seats.old seats.new }
 {
     match turns.next_turn() {
         Turn::Comes(_, _, _, _, _) => true,
@@ -212,9 +197,7 @@ fn finish_turn<T: Turns>(seats: &mut [Seat<T::Reader, T::Writer>], turns: &mut T
 
 /// Hands out what waits at a seat.
 fn hand_out_at<T: Turns>(seats: &mut [Seat<T::Reader, T::Writer>], turns: &mut T, at: usize)
-    ensures kept { map exchanges_at seats.new ≡ map exchanges_at seats.old }
-    ensures arrivals { map arrivals_at seats.new ≡ map arrivals_at seats.old }
-    ensures unread { map received_at seats.new ≡ map received_at seats.old }
+    ensures left { AreLeft seats.old seats.new }
 {
     if at >= seats.len() {
         return;
@@ -225,9 +208,7 @@ fn hand_out_at<T: Turns>(seats: &mut [Seat<T::Reader, T::Writer>], turns: &mut T
 
 /// The connection of a seat ends.
 fn clear_at<R: Read + Drop, W: Write + Drop>(seats: &mut [Seat<R, W>], at: usize)
-    ensures kept { map exchanges_at seats.new ≡ map exchanges_at seats.old }
-    ensures arrivals { map arrivals_at seats.new ≡ map arrivals_at seats.old }
-    ensures unread { map received_at seats.new ≡ map received_at seats.old }
+    ensures left { AreLeft seats.old seats.new }
 {
     if at >= seats.len() {
         return;

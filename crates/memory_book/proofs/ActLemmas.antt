@@ -1,11 +1,11 @@
 -- The outcome of a request with or without a known key. For `act` of a book in memory.
-use Rattle.std.proofs.Common.{◌≡◌, refl, ap, sym, ◌∙◌, subst}
+use Rattle.std.proofs.Common.{◌≡◌, refl, ap, sym, ◌∙◌}
 use Rattle.std.specs.Prelude.{Option, Some, None, option_map}
 use Rattle.commands.specs.Asks.{Asked}
 use Rattle.commands.specs.Request.{Request}
 use Rattle.commands.specs.declared.replies.Reply.{Reply}
 use Rattle.ledger.specs.Answer.{State, KeptReply, Outcome, outcome, outcome_for, kept_for, answered_again, text_of, carried_out, answer, asker}
-use Rattle.memory_book.specs.Memory.{StandsFor, IsCarriedOut}
+use Rattle.memory_book.specs.Memory.{StandsFor}
 use Rattle.memory_book.specs.MemoryAnswers.{kept_in, found_for}
 use Rattle.memory_book.specs.declared.mem_book.MemBook.{MemBook}
 

@@ -1,20 +1,17 @@
 -- How a begin changes a book in memory. For `MemBook::begin`.
-use Rattle.std.proofs.Common.{◌≡◌, ℕ, suc, ◌+◌, ◌<◌, ◌≤◌, ◌⊎◌, inl, inr, true, List, [], ◌∷◌, ◌++◌, length, map, refl, ap, sym, ◌∙◌, subst, arith}
+use Rattle.std.proofs.Common.{◌≡◌, ℕ, suc, ◌+◌, ◌<◌, ◌≤◌, ◌⊎◌, inl, inr, List, [], ◌∷◌, ◌++◌, length, map, refl, ap, sym, ◌∙◌, subst, arith}
 use Rattle.std.specs.Prelude.{slice_get, Option, Some, unwrap_or, IsTrue}
 use Rattle.std.proofs.lemmas.List.{length-map, map-append}
-use Rattle.allotment.specs.declared.cells.Cell.{Cell}
 use Rattle.plan.specs.PlanModel.{Planned, is_plan}
 use Rattle.commands.specs.Asks.{Asked}
 use Rattle.commands.specs.Names.{house}
 use Rattle.commands.specs.Request as request
-use Rattle.commands.specs.declared.items.Item.{Item}
 use Rattle.commands.specs.declared.replies.Refusal.TheVariants.{Limit}
 use Rattle.commands.specs.declared.replies.Reply.{Reply}
 use Rattle.commands.specs.declared.replies.Reply.TheVariants as reply
 use Rattle.ledger.specs.Answer.{State, Answer, answer, asker, kept_after, most_events, state_with}
 use Rattle.ledger.specs.Replies.{answer_begin}
-use Rattle.ledger.specs.Ledger as l
-use Rattle.ledger.specs.Ledger.{Event, Began, journeys, history}
+use Rattle.ledger.specs.Ledger.{Began, journeys, history}
 use Rattle.ledger.proofs.Growing.{IsLegal-append}
 use Rattle.ledger_transitions.proofs.Events.{length-more, journeys-began, history-began}
 use Rattle.memory_book.specs.MemoryAnswers.{kept_in, AreKeptAlike}

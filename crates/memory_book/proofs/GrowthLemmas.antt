@@ -1,5 +1,5 @@
 -- How one more event changes the parts that a book in memory keeps. For each command.
-use Rattle.std.proofs.Common.{◌≡◌, ℕ, zero, suc, ◌+◌, ◌-◌, ◌<◌, ◌≤◌, Bool, true, false, cond, List, [], ◌∷◌, ◌++◌, length, map, refl, ap, sym, ◌∙◌, subst, inl, inr, arith}
+use Rattle.std.proofs.Common.{◌≡◌, ℕ, ◌-◌, ◌<◌, ◌≤◌, Bool, true, false, List, [], ◌∷◌, ◌++◌, length, map, refl, ap, sym, ◌∙◌, subst, inl, inr}
 use Rattle.std.specs.Prelude.{◌&&◌, ◌↔◌, bytes_eq, nat_le, if◌then◌else◌, slice_get, Option, Some, None, is_some, option_map, Result, Ok, Err, IsTrue}
 use Rattle.std.specs.declared.alloc.AllocError.{AllocError}
 use Rattle.std.specs.List.{cons_option}
@@ -8,13 +8,12 @@ use Rattle.allotment.specs.declared.cells.Cell.{Cell}
 use Rattle.allotment.specs.declared.cells.Row.{Row}
 use Rattle.plan.specs.PlanModel.{Planned}
 use Rattle.commands.specs.Asks.{Asked}
-use Rattle.commands.specs.BatchData.{Batched}
 use Rattle.commands.specs.declared.replies.Refusal.{Refusal}
 use Rattle.commands.specs.declared.replies.Refusal.TheVariants.{Limit}
 use Rattle.commands.specs.declared.replies.Reply.{Reply}
-use Rattle.ledger.specs.Answer.{State, Kept, KeptReply, Answer, keep, kept_after, limited, most_events, carried_out}
+use Rattle.ledger.specs.Answer.{State, Kept, Answer, kept_after, limited, most_events}
 use Rattle.ledger.specs.Replies.{refused}
-use Rattle.ledger.specs.Ledger.{Event, Loaded, Began, Did, allotment, held, IsLegal}
+use Rattle.ledger.specs.Ledger.{Event, Loaded, Began, allotment, held, IsLegal}
 use Rattle.ledger_transitions.proofs.Allotments.{allotment-began}
 use Rattle.ledger_transitions.proofs.Places.{held-began}
 use Rattle.saga_core.specs.Views.{Places, places_of}

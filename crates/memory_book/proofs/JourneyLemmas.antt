@@ -1,5 +1,5 @@
 -- What is kept of a journey beside its items. For the journeys of a book in memory.
-use Rattle.std.proofs.Common.{◌≡◌, ℕ, suc, ◌+◌, ◌-◌, ◌<◌, ◌≤◌, Bool, true, false, List, [], ◌∷◌, refl, ap, sym, ◌∙◌, arith}
+use Rattle.std.proofs.Common.{◌≡◌, ℕ, ◌<◌, true, false, List, [], refl, ap, arith}
 use Rattle.std.specs.Prelude.{◌==◌, if◌then◌else◌, IsTrue}
 use Rattle.std.proofs.lemmas.Grind.{common_steps}
 use Rattle.plan.specs.PlanModel.{Planned, is_plan, step_count}

@@ -1,11 +1,9 @@
 -- Kept replies by agent and key. For the kept replies of a book in memory.
-use Rattle.std.proofs.Common.{◌≡◌, ℕ, Bool, true, false, cond, List, refl, ap, sym, ◌∙◌}
-use Rattle.std.specs.Prelude.{◌&&◌, bytes_eq, if◌then◌else◌, Option, Some, option_map}
-use Rattle.std.specs.Ordering.{is_eq, nat_cmp, ordering_then}
+use Rattle.std.proofs.Common.{◌≡◌, ℕ, Bool, true, false, cond, List, refl, ap, ◌∙◌}
+use Rattle.std.specs.Prelude.{◌&&◌, bytes_eq, if◌then◌else◌, Some, option_map}
+use Rattle.std.specs.Ordering.{is_eq, nat_cmp}
 use Rattle.std.specs.Cmp.Lexicographic.{slice_cmp, nat_list_eq_equiv}
 use Rattle.std.specs.BTreeMap as tree
-use Rattle.commands.specs.declared.replies.Reply.{Reply}
-use Rattle.ledger.specs.Answer.{KeptReply}
 use Rattle.memory_book.specs.MemoryAnswers.{ask_key_cmp, kept_said, kept_in}
 use Rattle.memory_book.specs.declared.keys.AskKey.{AskKey}
 use Rattle.memory_book.specs.declared.answers.KeptAnswer.{KeptAnswer}

@@ -16,7 +16,7 @@ use Rattle.commands.specs.declared.replies.Reply.TheVariants as reply
 use Rattle.ledger.specs.Answer.{State, answer, asker, kept_after, limited, most_events, state_with}
 use Rattle.ledger.specs.Replies.{Answer, answer_known, answer_load, answer_new, are_same_rows, loaded, refused}
 use Rattle.ledger.proofs.Answers.{IsAllowedEvent, answer-allowed}
-use Rattle.ledger.specs.Ledger.{Event, Loaded, Began, Did, batches_named, rows_if_named, allotment, held, is_not_below_held, is_allowed, is_batch, history, IsLegal}
+use Rattle.ledger.specs.Ledger.{Event, Loaded, Began, Did, batches_named, rows_if_named, allotment, held, is_not_below_held, is_allowed, is_batch, IsLegal}
 use Rattle.ledger.proofs.Growing.{IsLegal-append}
 use Rattle.ledger_transitions.specs.JourneyChanges.{newer}
 use Rattle.ledger_transitions.proofs.Allotments.{allotment-loaded_last}
@@ -27,7 +27,6 @@ use Rattle.memory_book.specs.MemoryAnswers.{kept_in, AreKeptAlike}
 use Rattle.memory_book.specs.MemoryStock.{stock_at, is_below_in, with_allotment, set_to, last_row, LoadsRows}
 use Rattle.memory_book.specs.Memory.{begun_as, Tells, batch_of, loads, StandsFor, IsCarriedOut, IsDue}
 use Rattle.memory_book.specs.declared.stock.Stock.{Stock}
-use Rattle.memory_book.specs.declared.journeys.Journey.{Journey}
 use Rattle.memory_book.specs.declared.mem_book.MemBook.{MemBook}
 use Rattle.memory_book.proofs.GrowthLemmas.{places_left, kept_after-alike, loads-loaded, limited-room, limited-full, carried_out-refused}
 

@@ -1,9 +1,9 @@
 -- How one more item changes a book in memory. For `MemBook::make` and `carry_out`.
-use Rattle.std.proofs.Common.{◌≡◌, ℕ, suc, ◌+◌, ◌-◌, ◌<◌, ◌≤◌, ◌⊎◌, inl, inr, Bool, true, false, List, [], ◌∷◌, ◌++◌, length, map, refl, ap, sym, ◌∙◌, subst, arith}
+use Rattle.std.proofs.Common.{◌≡◌, ℕ, suc, ◌+◌, ◌-◌, ◌≤◌, ◌⊎◌, inl, inr, true, List, [], ◌∷◌, ◌++◌, map, refl, ap, sym, ◌∙◌, subst, arith}
 use Rattle.std.specs.Prelude.{slice_get, slice_set, nat_le, if◌then◌else◌, Option, Some, None, option_map, IsTrue}
 use Rattle.std.proofs.lemmas.Bool.{le-leb}
 use Rattle.allotment.specs.declared.cells.Cell.{Cell}
-use Rattle.plan.specs.PlanModel.{Planned, want_at}
+use Rattle.plan.specs.PlanModel.{want_at}
 use Rattle.commands.specs.Asks.{Asked}
 use Rattle.commands.specs.declared.items.Item.{Item}
 use Rattle.commands.specs.declared.items.Item.TheVariants.{Transaction, Compensation, Turn, Save}
@@ -21,7 +21,7 @@ use Rattle.ledger_transitions.proofs.Allotments.{allotment-did}
 use Rattle.ledger_transitions.proofs.Events.{length-more, journeys-did, history-did_same, history-did_other}
 use Rattle.ledger_transitions.proofs.Histories.{follows, may_come-allowed}
 use Rattle.ledger_transitions.proofs.Places.{held-transaction, held-compensation, held-turn, held-save, held_within}
-use Rattle.saga_core.specs.Views.{Places, places_of}
+use Rattle.saga_core.specs.Views.{places_of}
 use Rattle.memory_book.specs.MemoryAnswers.{kept_in, AreKeptAlike}
 use Rattle.memory_book.specs.MemoryStock.{with_less, with_back, stock_at, ChangesFor}
 use Rattle.memory_book.specs.Memory.{begun_as, Tells, StandsFor, IsCarriedOut}

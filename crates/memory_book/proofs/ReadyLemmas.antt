@@ -1,6 +1,6 @@
 -- Which items a journey in a book in memory may make, and the journey after one. For the moves of the book.
 use Rattle.std.proofs.Common.{◌≡◌, ℕ, zero, suc, ◌+◌, ◌-◌, ◌<◌, ◌≤◌, ◌⊎◌, inl, inr, Bool, true, false, List, [], ◌∷◌, ◌++◌, length, get_or, map, refl, ap, sym, ◌∙◌, subst, arith, ltb-true}
-use Rattle.std.specs.Prelude.{◌&&◌, not, nat_lt, slice_get, slice_set, if◌then◌else◌, Option, Some, None, Result, Ok, Err, IfOk, IsTrue}
+use Rattle.std.specs.Prelude.{◌&&◌, not, nat_lt, slice_get, slice_set, if◌then◌else◌, Some, Result, Ok, Err, IfOk, IsTrue}
 use Rattle.std.proofs.lemmas.Option.{slice_get-get_or}
 use Rattle.std.specs.FinSet as set
 use Rattle.std.specs.Ordering.{nat_cmp}
@@ -25,7 +25,7 @@ use Rattle.ledger.specs.Answer.{State}
 use Rattle.ledger_transitions.specs.JourneyChanges.{cursor_after, target_of}
 use Rattle.ledger_transitions.specs.Cursors.{cursor_of}
 use Rattle.memory_book.specs.MemoryAnswers.{kept_in, AreKeptAlike}
-use Rattle.memory_book.specs.MemoryJourneys.{IsPlaced, IsNext, IsOptionAt, taken_after, stands_after}
+use Rattle.memory_book.specs.MemoryJourneys.{IsPlaced, IsNext, taken_after, stands_after}
 use Rattle.memory_book.specs.MemoryNext.{turn_said, save_said, step_said}
 use Rattle.memory_book.specs.MemoryStock.{stock_at, IsInPlan, fits_some, fits_where_taken}
 use Rattle.memory_book.specs.Memory.{begun_as, Tells, StandsFor, IsReady, IsSameJourney}

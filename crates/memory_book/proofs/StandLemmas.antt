@@ -1,17 +1,16 @@
 -- What a book in memory shows, by the state that it represents. For the reads of the book.
-use Rattle.std.proofs.Common.{◌≡◌, ℕ, zero, suc, ◌<◌, ◌≤◌, ◌⊎◌, inl, inr, List, [], length, map, refl, ap, sym, ◌∙◌, arith}
-use Rattle.std.specs.Prelude.{slice_get, option_map, Option, Some, None}
+use Rattle.std.proofs.Common.{◌≡◌, ℕ, zero, suc, ◌<◌, ◌⊎◌, inl, inr, List, [], length, refl, ap, sym, ◌∙◌, arith}
+use Rattle.std.specs.Prelude.{slice_get, option_map, Some, None}
 use Rattle.std.specs.FinSet as set
 use Rattle.std.specs.Ordering.{nat_cmp}
 use Rattle.std.proofs.lemmas.Option.{slice_get-map, slice_get_past}
 use Rattle.plan.specs.PlanModel.{Planned}
 use Rattle.commands.specs.declared.items.Cursor.{Cursor}
 use Rattle.ledger.specs.Answer.{State}
-use Rattle.ledger.specs.Ledger as l
 use Rattle.ledger.specs.Ledger.{journey_at, history}
 use Rattle.ledger_transitions.proofs.Events.{history-none}
 use Rattle.saga_core.specs.Views.{cursor_of, record_of, record_of_journey}
-use Rattle.memory_book.specs.Memory.{begun_as, Tells, StandsFor}
+use Rattle.memory_book.specs.Memory.{begun_as, StandsFor}
 use Rattle.saga_core.specs.declared.records.Record.{Record}
 use Rattle.memory_book.specs.declared.journeys.Journey.{Journey}
 use Rattle.memory_book.specs.declared.mem_book.MemBook.{MemBook}

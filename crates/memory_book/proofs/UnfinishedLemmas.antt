@@ -2,14 +2,14 @@
 -- For `first_unfinished`, `first_owned` and `counts` of `MemBook`.
 use Rattle.std.proofs.Common.{◌≡◌, ℕ, suc, ◌+◌, ◌<◌, Bool, true, false, cond, ◌⊎◌, List, [], ◌∷◌, length, get_or, drop, ◌++◌, append_assoc, refl, ap, sym, ◌∙◌, arith}
 use Rattle.std.proofs.lemmas.List.{at_drop_more}
-use Rattle.std.specs.Prelude.{not, slice_get, filter, filter_map, find, Option, Some, None, option_map}
+use Rattle.std.specs.Prelude.{not, slice_get, filter, filter_map, find, Some, None, option_map}
 use Rattle.std.specs.List.{cons_option}
 use Rattle.allotment.specs.Cells.{numbers_from}
 use Rattle.ledger.specs.Answer.{State}
 use Rattle.ledger.specs.History.{is_finished}
-use Rattle.ledger.specs.Ledger.{Event, history, journey_at, journeys, numbers}
+use Rattle.ledger.specs.Ledger.{Event, history, journeys, numbers}
 use Rattle.saga_core.specs.Views.{brief_of, brief_of_journey, counts_of, first_owned, first_unfinished, is_owned_above, is_unfinished_above, unfinished_of}
-use Rattle.memory_book.specs.Memory.{begun_as, is_unfinished, StandsFor}
+use Rattle.memory_book.specs.Memory.{is_unfinished, StandsFor}
 use Rattle.saga_core.specs.declared.records.Brief.{Brief}
 use Rattle.saga_core.specs.declared.records.Counts.{Counts}
 use Rattle.memory_book.specs.declared.journeys.Journey.{Journey}

@@ -1,14 +1,12 @@
 -- What a book in memory keeps of a journey, and how one more item changes it.
-use Rattle.std.specs.Prelude.{◌≡◌, ℕ, ◌+◌, ◌-◌, ◌<◌, ◌≤◌, ◌==◌, ◌&&◌, ◌||◌, Bool, List, [], ◌∷◌, ◌++◌, length, map, take, nat_le, slice_index, IsTrue}
+use Rattle.std.specs.Prelude.{◌≡◌, ℕ, ◌+◌, ◌-◌, ◌<◌, ◌≤◌, ◌==◌, ◌&&◌, ◌||◌, Bool, List, [], ◌∷◌, ◌++◌, length, take, nat_le, slice_index, IsTrue}
 use Rattle.plan.specs.PlanModel.{Planned, step_count, option_count}
 use Rattle.commands.specs.declared.items.Item.{Item}
 use Rattle.commands.specs.declared.items.Item.TheVariants.{Transaction, Compensation, Turn, Save}
 use Rattle.commands.specs.declared.items.Cursor.{Cursor}
-use Rattle.commands.specs.declared.items.Phase.{Phase}
 use Rattle.commands.specs.declared.items.Phase.TheVariants.{Run, Back}
-use Rattle.ledger.specs.History.{net, is_going_back, is_open}
+use Rattle.ledger.specs.History.{is_going_back, is_open}
 use Rattle.savepoints.specs.Marks.{last_mark}
-use Rattle.saga_core.specs.Views.{cursor_of, marks_of}
 
 -- the option belongs to the step at this place, counted from 0
 abbrev pub IsOptionAt : Planned → ℕ → ℕ → Type 0

@@ -2,3 +2,4 @@ pub mod Statements
 pub mod Copying
 pub mod Migrating
 pub mod Reasons
+pub mod Outcomes

@@ -1,5 +1,5 @@
 -- The state of a connection after a migration, and what a crash may leave of it.
-use Rattle.std.specs.Prelude.{◌≡◌, ◌≢◌, ◌⊎◌, ◌+◌, ◌≤◌, ◌^◌, ℕ, ⊤, length, Result, OnOk, IsTrue}
+use Rattle.std.specs.Prelude.{◌≡◌, ◌≢◌, ◌⊎◌, ◌+◌, ◌≤◌, ◌<◌, ◌^◌, ℕ, ⊤, length, Result, OnOk, IsTrue}
 use Rattle.sqlite.specs.Store.{Ghosts}
 use Rattle.sqlite.specs.Tree.{Trees}
 use Rattle.sqlite.specs.Held.{Held, state}
@@ -44,6 +44,11 @@ IsFault why = (why ≡ Store) ⊎ (why ≡ Memory)
 -- more events, or more journeys, than a file may have
 abbrev pub too_many : ℕ
 too_many = 2 ^ 62
+
+-- there are no more of them than a file may have
+pub record HasFew (m : Meta) : Type 0 where
+  pub events : m.events < too_many
+  pub journeys : m.journeys < too_many
 
 -- a version that is not migrated is refused by its number, and Store reports numbers that no file has
 abbrev pub RefusesNumbers : Meta → MigrateFault → Type 0
@@ -115,10 +120,10 @@ module _ {S : Type 0} (g : Ghosts S) (old new : Held S) where
       HasCleanDisk (state g new) → (t : Tables) → MayAdd (state g old) t
       → OnOk result (Sees (state g new) (migrated m t))
 
-  -- on tables of version 1 with these numbers a success keeps the same state in tables of version 2
-  abbrev pub BringsAll : {V E : Type 0} → Result V E → Meta → Type 0
-  BringsAll result m =
-      (s : State) → AreNumbersOf m s → KeepsIn One (state g old) s → OnOk result (KeepsIn Two (state g new) s)
+  -- tables of version 1 with these numbers are kept, with the same state, in tables of version 2
+  abbrev pub BringsAll : Meta → Type 0
+  BringsAll m =
+      (s : State) → AreNumbersOf m s → KeepsIn One (state g old) s → KeepsIn Two (state g new) s
 
   -- whatever a crash leaves, from tables of version 1 with these numbers, is the new tables
   abbrev pub LeavesNewOf : Meta → Type 0

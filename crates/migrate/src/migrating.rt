@@ -3,15 +3,12 @@
 //! Every refusal comes before the transaction begins. Until the commit, which is the last call of the store, the disk
 //! has only the old tables.
 
-ghost use Rattle.std.specs.Prelude.{◌≡◌, ◌<◌, ◌^◌, ℕ, false, None, Err, IfOk, IfErr, OnOk, OnErr};
-ghost use Rattle.sqlite.specs.Held.{state};
+ghost use Rattle.std.specs.Prelude.{◌≡◌, false, None, Err, IfOk, IfErr, OnOk};
 ghost use Rattle.desk_sql.specs.Schema.{no_schema};
 ghost use Rattle.desk_sql.specs.Calls.{GoesOn, Quiet};
-ghost use Rattle.desk_sql.specs.Versions.{SawVersion};
-ghost use Rattle.sql_model.specs.Keeping.{WasClean};
-ghost use Rattle.sql_model.specs.Staying.{StaysUp};
-ghost use Rattle.migrate.specs.Migrating.{BringsOver, CountsEvents, IsAsBefore, LeavesNew, LeavesEither, ShowsAsBefore, WasNotOld, SawUnknown, Tells, WritesNew, BringsAll, LeavesNewOf, LeavesOneOf, ShowsOld, NumbersOld, RefusesNumbers, IsFault, IsRefusal};
-ghost use Rattle.migrate.specs.Reasons.{FailsForReason, FailsOnOld, FailsToBringOver, FailsToRead};
+ghost use Rattle.migrate.specs.Migrating.{HasFew, RefusesNumbers, Tells, WritesNew};
+ghost use Rattle.migrate.specs.Outcomes.{Brings, FailsToBring, FailsToMigrate, Migrates, ReadsOld, StaysIdle};
+ghost use Rattle.migrate.specs.Reasons.{FailsOnOld, FailsToRead};
 
 use crate::faults::{MigrateFault, fault_of};
 use crate::statements::{add_tables, copy_all};
@@ -33,10 +30,7 @@ pub struct Migrated {
 fn read_old<S: Alter>(conn: &mut Connection<S>) -> Result<Meta, MigrateFault>
     requires outside { conn.old.in_transaction ≡ false }
 
-    ensures numbers { IfOk result (NumbersOld S.Store conn.old conn.new) }
-    ensures version { OnOk result (SawVersion S.Store conn.old conn.new 1) }
-    ensures events { IfOk result (λ m. m.events < 2 ^ 62) }
-    ensures journeys { IfOk result (λ m. m.journeys < 2 ^ 62) }
+    ensures reads { IfOk result (ReadsOld S.Store conn.old conn.new) }
 
     ensures told { IfErr result (Tells S.Store conn.old conn.new) }
     ensures bare { conn.old.schema ≡ no_schema → result ≡ Err (MigrateFault.UnknownSchema 0) }
@@ -55,8 +49,7 @@ fn read_old<S: Alter>(conn: &mut Connection<S>) -> Result<Meta, MigrateFault>
 
 /// The numbers that were read, if they are of version 1 and below the limit.
 fn old_only(meta: Meta) -> Result<Meta, MigrateFault>
-    ensures ok { IfOk result (λ m. (m ≡ meta) × (m.version ≡ 1)
-        × (m.events < 2 ^ 62) × (m.journeys < 2 ^ 62)) }
+    ensures ok { IfOk result (λ m. (m ≡ meta) × (m.version ≡ 1) × HasFew m) }
 
     ensures refused { IfErr result (RefusesNumbers meta) }
 {
@@ -70,8 +63,7 @@ fn old_only(meta: Meta) -> Result<Meta, MigrateFault>
 
 /// Writes the new tables beside the old ones, and the new version.
 fn write_new<S: Alter>(tx: &mut Transaction<'_, S>, meta: Meta) -> Result<(), Error>
-    requires events { meta.events < 2 ^ 62 }
-    requires journeys { meta.journeys < 2 ^ 62 }
+    requires few { HasFew meta }
 
     ensures goes { GoesOn S.Store tx.old.conn tx.new.conn result }
     ensures made { WritesNew S.Store tx.old.conn.now tx.new.conn.now result meta }
@@ -86,22 +78,12 @@ fn write_new<S: Alter>(tx: &mut Transaction<'_, S>, meta: Meta) -> Result<(), Er
 /// Migrates the tables in one commit, which is the last call of the store.
 fn bring_over<S: Alter>(conn: &mut Connection<S>, meta: Meta) -> Result<(), MigrateFault>
     requires outside { conn.old.in_transaction ≡ false }
-    requires events { meta.events < 2 ^ 62 }
-    requires journeys { meta.journeys < 2 ^ 62 }
+    requires unlimited { conn.old.step_limit ≡ None }
+    requires few { HasFew meta }
 
-    ensures done { BringsAll S.Store conn.old conn.new result meta }
-
-    ensures fault { IfErr result IsFault }
-    ensures memory { result ≡ Err MigrateFault.Memory → IsAsBefore S.Store conn.old conn.new }
-    ensures store { IfErr result (FailsToBringOver S.Store conn.old conn.new meta) }
-    ensures up { OnErr result (StaysUp S.Store conn.old conn.new) }
-
-    ensures left { OnOk result (LeavesNewOf S.Store conn.old conn.new meta) }
-    ensures stop { OnErr result (LeavesOneOf S.Store conn.old conn.new meta) }
-    ensures shows { OnErr result (ShowsOld S.Store conn.old conn.new) }
-    ensures outside { conn.new.in_transaction ≡ false }
-    ensures limit { conn.new.step_limit ≡ conn.old.step_limit }
-    ensures sound { WasClean S.Store conn.old conn.new }
+    ensures brings { OnOk result (Brings S.Store conn.old conn.new meta) }
+    ensures fails { IfErr result (FailsToBring S.Store conn.old conn.new meta) }
+    ensures idle { StaysIdle S.Store conn.old conn.new }
 {
     let mut tx = conn.transaction();
     if let Err(error) = write_new(&mut tx, meta) {
@@ -125,27 +107,12 @@ pub fn migrate<S: Alter>(conn: &mut Connection<S>) -> Result<Migrated, MigrateFa
     requires outside { conn.old.in_transaction ≡ false }
     requires unlimited { conn.old.step_limit ≡ None }
 
-    ensures same_state { OnOk result (BringsOver S.Store conn.old conn.new) }
-    ensures events { IfOk result (λ m. CountsEvents S.Store conn.old conn.new m.events) }
-    ensures version { OnOk result (SawVersion S.Store conn.old conn.new 1) }
+    ensures migrates { IfOk result (λ m. Migrates S.Store conn.old conn.new m.events) }
 
     ensures bare { conn.old.schema ≡ no_schema → result ≡ Err (MigrateFault.UnknownSchema 0) }
-    ensures already_new { result ≡ Err MigrateFault.AlreadyNew
-        → SawVersion S.Store conn.old conn.new 2 }
-    ensures unknown_schema { (n : ℕ) → result ≡ Err (MigrateFault.UnknownSchema n)
-        → SawUnknown S.Store conn.old conn.new n }
-    ensures only_old { IfErr result (λ why. IsRefusal why → WasNotOld S.Store conn.old conn.new) }
-    ensures refused { IfErr result (λ why. IsRefusal why → IsAsBefore S.Store conn.old conn.new) }
+    ensures fails { IfErr result (FailsToMigrate S.Store conn.old conn.new) }
 
-    ensures memory { result ≡ Err MigrateFault.Memory → IsAsBefore S.Store conn.old conn.new }
-    ensures reason { IfErr result (FailsForReason S.Store conn.old conn.new) }
-
-    ensures left { OnOk result (LeavesNew S.Store conn.old conn.new) }
-    ensures stop { OnErr result (LeavesEither S.Store conn.old conn.new) }
-    ensures shows { OnErr result (ShowsAsBefore S.Store conn.old conn.new) }
-    ensures outside { conn.new.in_transaction ≡ false }
-    ensures unlimited { conn.new.step_limit ≡ None }
-    ensures sound { WasClean S.Store conn.old conn.new }
+    ensures idle { StaysIdle S.Store conn.old conn.new }
 {
     let meta = read_old(conn)?;
     bring_over(conn, meta)?;

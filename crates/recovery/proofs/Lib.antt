@@ -1,9 +1,9 @@
 pub mod AskLemmas
 pub mod TellLemmas
-pub mod ReasonLemmas
+pub mod PassLemmas
+pub mod FollowLemmas
 pub mod ReachLemmas
 pub mod TurnLemmas
-pub mod PassLemmas
 pub mod RecoverLemmas
 pub mod CarryLemmas
 pub mod TurnedLemmas

@@ -1,6 +1,6 @@
 -- The requests of recovery make its events. For the executions of `recover`.
 use Rattle.std.proofs.Common.{◌≡◌, ℕ, ◌+◌, ◌<◌, ◌≤◌, List, [], ◌∷◌, ◌++◌, length, refl, ap, sym, ◌∙◌, subst, arith, append_assoc, length-append, eqb-true}
-use Rattle.std.proofs.lemmas.Bool.{and_parts, and_from, false_from_ne_true, lt-leb}
+use Rattle.std.proofs.lemmas.Bool.{and_parts, and_from, false_from_ne_true}
 use Rattle.std.proofs.lemmas.List.{append_cancel_left}
 use Rattle.std.proofs.lemmas.List.Folds.{list_all-append}
 use Rattle.std.specs.Prelude.{Bool, true, false, filter, map, Option, Some, None, option_map, option_to_list, unwrap_or, IsTrue}
@@ -12,7 +12,7 @@ use Rattle.commands.specs.declared.items.Item.{Item}
 use Rattle.commands.specs.declared.items.Item.TheVariants.{Transaction, Compensation, Turn, Save}
 use Rattle.commands.specs.declared.items.Phase.{Phase}
 use Rattle.commands.specs.declared.items.Phase.TheVariants.{Run, Back, Ended, Undone}
-use Rattle.ledger.specs.Answer.{State, Outcome, outcome, moved, most_events, is_request}
+use Rattle.ledger.specs.Answer.{State, Outcome, outcome, most_events, is_request}
 use Rattle.ledger.specs.History.{is_running, is_open, is_finished, is_compensation, last_save}
 use Rattle.ledger.specs.Ledger.{Event, Loaded, Began, Did, Journey, journey_at, numbers, history, is_in, is_allowed, is_item_allowed, AreAllowedAfter, IsLegal}
 use Rattle.ledger.specs.Recovery.{stops, last_save_of, are_items, is_forward, IsRecovered}
@@ -26,7 +26,7 @@ use Rattle.saga_core.specs.Runs.{state_after}
 use Rattle.saga_core.specs.Worlds.{dones, KeepLimits}
 use Rattle.recovery.specs.Growing.{with_events, room_of}
 use Rattle.recovery.specs.Worlds.{request_making, orders_of}
-use Rattle.recovery.proofs.AskLemmas.{Moves, with_none, cut, outcome-moves}
+use Rattle.recovery.proofs.AskLemmas.{Moves, with_none, outcome-made}
 use Rattle.recovery.proofs.PassLemmas.{with_more}
 use Rattle.recovery.proofs.TellLemmas.{stop-moves, step-moves}
 
@@ -100,21 +100,17 @@ ours l events rest r =
 
 -- Each event is made by its request.
 
--- the request of the event makes it
-pub record IsMade (s : State) (e : Event) : Type 0 where
-  pub event : (outcome s None (request_making e)).event ≡ Some e
-  pub state : (outcome s None (request_making e)).state ≡ with_events s (e ∷ [])
+-- the request makes the event
+pub record Makes (asked : Request) (s : State) (e : Event) : Type 0 where
+  pub event : (outcome s None asked).event ≡ Some e
+  pub state : (outcome s None asked).state ≡ with_events s (e ∷ [])
 
 -- a request that moves a journey by this item makes it, where the ledger has room
-moves-make : (s : State) (asked : Request) (j : ℕ) (item : Item) → Moves s.ledger asked j item
-    → length s.ledger < most_events
-    → ((outcome s None asked).event ≡ Some (Did j item))
-    × ((outcome s None asked).state ≡ with_events s (Did j item ∷ []))
+moves-make : (s : State) (asked : Request) (j : ℕ) (item : Item) → Moves s.ledger asked j item → length s.ledger < most_events
+    → Makes asked s (Did j item)
 moves-make s asked j item m room =
-    let a = moved m.journey.plan (history s.ledger j) j item in
-    let is : outcome s None asked ≡ cut s a false =
-    outcome-moves s asked j item m ∙ ap (cut s a) (lt-leb _ _ room) in
-    (ap (λ (o : Outcome). o.event) is, ap (λ (o : Outcome). o.state) is)
+    let is = outcome-made s asked j item m room in
+    record { event = ap (λ (o : Outcome). o.event) is; state = ap (λ (o : Outcome). o.state) is }
 
 clash : {X : Type 0} → true ≡ false → X
 clash e = cc
@@ -166,23 +162,16 @@ step-made s j item legal forward may =
     subst (Moves s.ledger (request.Step j) j) (sym (one.alone item forward may))
     (step-moves s.ledger j unfinished one)
 
-made : (s : State) (e : Event) → IsLegal s.ledger → are_items is_of_recovery e ≡ true
-    → is_allowed s.ledger e ≡ true → length s.ledger < most_events → IsMade s e
+-- the request of an event of recovery makes it
+made : (s : State) (e : Event) → IsLegal s.ledger → are_items is_of_recovery e ≡ true → is_allowed s.ledger e ≡ true → length s.ledger < most_events
+    → Makes (request_making e) s e
 made s (Loaded name rows) legal kind may room = cc
 made s (Began agent plan) legal kind may room = cc
-made s (Did j (Turn p cause.Stop)) legal kind may room =
-    let m = moves-make s (request.Stop j) j (Turn p cause.Stop) (stop-made s j p may) room in
-    record { event = m.0; state = m.1 }
-made s (Did j (Turn p cause.Refused)) legal kind may room =
-    let m = moves-make s (request.Step j) j _ (step-made s j _ legal kind may) room in
-    record { event = m.0; state = m.1 }
+made s (Did j (Turn p cause.Stop)) legal kind may room = moves-make s (request.Stop j) j _ (stop-made s j p may) room
+made s (Did j (Turn p cause.Refused)) legal kind may room = moves-make s (request.Step j) j _ (step-made s j _ legal kind may) room
 made s (Did j (Turn p cause.Asked)) legal kind may room = cc
-made s (Did j (Transaction i c)) legal kind may room =
-    let m = moves-make s (request.Step j) j _ (step-made s j _ legal kind may) room in
-    record { event = m.0; state = m.1 }
-made s (Did j (Compensation i c)) legal kind may room =
-    let m = moves-make s (request.Step j) j _ (step-made s j _ legal kind may) room in
-    record { event = m.0; state = m.1 }
+made s (Did j (Transaction i c)) legal kind may room = moves-make s (request.Step j) j _ (step-made s j _ legal kind may) room
+made s (Did j (Compensation i c)) legal kind may room = moves-make s (request.Step j) j _ (step-made s j _ legal kind may) room
 made s (Did j (Save p)) legal kind may room = cc
 
 -- All events.

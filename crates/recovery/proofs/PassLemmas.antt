@@ -1,14 +1,11 @@
 -- How the state of a book is extended by a pass. For the passes.
-use Rattle.std.proofs.Common.{◌≡◌, ℕ, ◌+◌, ◌^◌, ◌<◌, ◌≤◌, List, [], ◌∷◌, suc, ◌++◌, length, ap, ◌∙◌, arith, append_assoc, append-nil, length-append, sym, subst}
-use Rattle.std.specs.Prelude.{Option, Some, None, Err}
+use Rattle.std.proofs.Common.{◌≡◌, ℕ, ◌+◌, ◌^◌, ◌<◌, ◌≤◌, List, [], ◌∷◌, suc, ◌++◌, length, refl, ap, ◌∙◌, arith, append_assoc, append-nil, length-append, sym, subst}
+use Rattle.std.specs.Prelude.{Option, Some, None}
 use Rattle.std.specs.List.{cons_option}
 use Rattle.commands.specs.declared.replies.Fault.{Fault}
-use Rattle.commands.specs.declared.replies.Fault.TheVariants.{Memory, Store}
-use Rattle.ledger.specs.Answer.{State}
+use Rattle.ledger.specs.Answer.{State, most_events}
 use Rattle.ledger.specs.Ledger.{Event, Journey, journeys, begun_by}
-use Rattle.saga_core.specs.Books.{Keeps, LeavesNoMore}
-use Rattle.saga_core.specs.declared.records.Brief.{Brief}
-use Rattle.recovery.specs.Growing.{with_events, room_of, Grew, GrewFull, LeavesAt, MayHaveGrown}
+use Rattle.recovery.specs.Growing.{with_events, room_of, Grew, GrewFull, MayHaveGrown}
 
 -- appending events, and then more events, appends both lists
 pub with_more : (s : State) (events more : List Event)
@@ -17,124 +14,147 @@ with_more s events more =
     ap (λ l. record { ledger = l; kept = s.kept }) (append_assoc s.ledger events more)
 
 -- a ledger with n events appended is longer by n
-length-with : (s : State) (events : List Event) (n : ℕ) → length events ≡ n
+pub length-with : (s : State) (events : List Event) (n : ℕ) → length events ≡ n
     → length (s.ledger ++ events) ≡ length s.ledger + n
 length-with s events n counted =
     length-append s.ledger events ∙ ap (λ m. length s.ledger + m) counted
 
--- an extension of an extension is an extension
-pub grew-join : (stands : State → Type 0) (s : State) (AreMore Are : List Event → Type 0)
-    (events : List Event) (n m total : ℕ) → length events ≡ n → n ≤ room_of s
-    → (g : Grew stands AreMore (with_events s events) m) → Are (events ++ g.events)
-    → total ≡ n + m → Grew stands Are s total
-grew-join stands s AreMore Are events n m total counted within g are sum =
-    let longer = length-with s events n counted in
-    let both : length (events ++ g.events) ≡ length events + length g.events =
-    length-append events g.events in
-    let more = g.counted in
-    let room = g.within in
-    record {
-      events = events ++ g.events;
-      are = are;
-      counted = omega arith;
-      within = omega arith;
-      stands_there = subst stands (with_more s events g.events) g.stands_there;
-    }
+-- Extensions.
 
--- such a sum fits in 64 bits
-pub sum-fits : (s : State) (events : List Event) (n m : ℕ) → length events ≡ n → n ≤ room_of s
-    → m ≤ room_of (with_events s events) → n + m < 2 ^ 64
-sum-fits s events n m counted low more =
-    let longer = length-with s events n counted in omega arith
+module _ {stood stands : State → Type 0} {Before Are : List Event → Type 0} {s : State} {n : ℕ} where
+  -- the same extension, of another book and in other words
+  abbrev pub grew-as : (t : Grew stood Before s n) → Are t.events → stands (with_events s t.events) → Grew stands Are s n
+  grew-as t are here = record { events = t.events; are = are; counted = t.counted; within = t.within; stands_there = here }
 
--- so does a sum of three
-pub sums-fit : (s : State) (events more : List Event) (n m k : ℕ) → length events ≡ n → n ≤ room_of s
-    → length more ≡ m → m ≤ room_of (with_events s events)
-    → k ≤ room_of (with_events (with_events s events) more) → n + (m + k) < 2 ^ 64
-sums-fit s events more n m k counted low counted_more low_more last =
-    let longer = length-with s events n counted in
-    let longest = length-with (with_events s events) more m counted_more in
-    omega arith
+  -- an extension that fills the ledger
+  pub grew-full : (t : Grew stood Before s n) → Are t.events → stands (with_events s t.events)
+      → most_events ≤ length (s.ledger ++ t.events) → GrewFull stands Are s n
+  grew-full t are here full =
+      let longer = length-with s t.events n t.counted in
+      record { grew = grew-as t are here; full = omega (arith, longer, full) }
 
--- what a crash may leave after a further extension
-pub may-join : (leaves : State → State → Type 0) (s : State) (AreMore Are : List Event → Type 0)
-    (events : List Event) (n : ℕ) (fault : Fault) → length events ≡ n → n ≤ room_of s
-    → MayHaveGrown leaves AreMore (with_events s events) fault
-    → ((more : List Event) → AreMore more → Are (events ++ more)) → MayHaveGrown leaves Are s fault
-may-join leaves s AreMore Are events n fault counted low g are =
-    let longer = length-with s events n counted in
-    let more = g.within in
-    let all : events ++ (g.events ++ g.next) ≡ (events ++ g.events) ++ g.next =
-    sym (append_assoc events g.events g.next) in
-    let sum : length (events ++ (g.events ++ g.next))
-    ≡ length events + length (g.events ++ g.next) =
-    length-append events (g.events ++ g.next) in
-    let fits : length (events ++ (g.events ++ g.next)) ≤ room_of s = omega arith in
-    record {
-      events = events ++ g.events;
-      next = g.next;
-      are = are g.events g.are;
-      are_with = subst Are all (are (g.events ++ g.next) g.are_with);
-      at_most = g.at_most;
-      within = subst (λ e. length e ≤ room_of s) all fits;
-      left =
-          subst (λ e. leaves (with_events s (events ++ g.events)) (with_events s e)) all
-          (subst (λ t. leaves t (with_events s (events ++ (g.events ++ g.next))))
-          (with_more s events g.events)
-          (subst (leaves (with_events (with_events s events) g.events))
-          (with_more s events (g.events ++ g.next)) g.left));
-    }
+  -- an extension by one event more
+  abbrev pub grew-one : (t : Grew stood Before s n) (e : Event) → length (s.ledger ++ t.events) < most_events → Are (t.events ++ e ∷ [])
+      → stands (with_events (with_events s t.events) (e ∷ [])) → Grew stands Are s (n + 1)
+  grew-one t e room are here = record {
+    events = t.events ++ e ∷ [];
+    are = are;
+    counted = length-append t.events (e ∷ []) ∙ ap (λ k. k + 1) t.counted;
+    within = let longer = length-with s t.events n t.counted in omega (arith, longer, room);
+    stands_there = subst stands (with_more s t.events (e ∷ [])) here;
+  }
 
--- what a crash may leave, as a weaker fact
-pub may-weaken : (leaves : State → State → Type 0) (s : State) (Are Weaker : List Event → Type 0)
-    (fault : Fault) → MayHaveGrown leaves Are s fault
-    → ((events : List Event) → Are events → Weaker events) → MayHaveGrown leaves Weaker s fault
-may-weaken leaves s Are Weaker fault g weaken = record {
-  events = g.events;
-  next = g.next;
-  are = weaken g.events g.are;
-  are_with = weaken (g.events ++ g.next) g.are_with;
-  at_most = g.at_most;
-  within = g.within;
-  left = g.left;
+-- an extension by no event
+abbrev pub grew-none : (stands : State → Type 0) (Are : List Event → Type 0) (s : State) → stands s → Are [] → Grew stands Are s 0
+grew-none stands Are s here are = record {
+  events = [];
+  are = are;
+  counted = refl;
+  within = omega arith;
+  stands_there = subst stands (ap (λ l. record { ledger = l; kept = s.kept }) (sym (append-nil s.ledger))) here;
 }
 
--- a crash that leaves just the extended state
-pub may-just : (leaves : State → State → Type 0) (s : State) (Are : List Event → Type 0)
-    (events : List Event) (n : ℕ) (fault : Fault) → length events ≡ n → n ≤ room_of s → Are events
-    → leaves (with_events s events) (with_events s events) → MayHaveGrown leaves Are s fault
-may-just leaves s Are events n fault counted low are left =
-    let none = sym (append-nil events) in
-    let fits : length events ≤ room_of s = omega arith in
-    record {
-      events = events;
-      next = [];
-      are = are;
-      are_with = subst Are none are;
-      at_most = omega arith;
-      within = subst (λ e. length e ≤ room_of s) none fits;
-      left = subst (λ e. leaves (with_events s events) (with_events s e)) none left;
-    }
+module _ {stood stands : State → Type 0} {Before AreMore Are : List Event → Type 0} {s : State} {n m total : ℕ} where
+  -- an extension of an extension is an extension
+  abbrev pub grew-join : (t : Grew stood Before s n) (g : Grew stands AreMore (with_events s t.events) m) → Are (t.events ++ g.events)
+      → total ≡ n + m → Grew stands Are s total
+  grew-join t g are sum = record {
+    events = t.events ++ g.events;
+    are = are;
+    counted = length-append t.events g.events ∙ ap (λ k. k + length g.events) t.counted ∙ ap (λ k. n + k) g.counted ∙ sym sum;
+    within =
+        let longer = length-with s t.events n t.counted in
+        let within = t.within in
+        let more = g.within in
+        omega (arith, longer, within, more, sum);
+    stands_there = subst stands (with_more s t.events g.events) g.stands_there;
+  }
 
--- a read that met a fault leaves the state as it was
-pub looked : (stood stands : State → Type 0) (left leaves : State → State → Type 0) (fault : Fault)
-    → Keeps {T = Option Brief} stood stands (Err fault) → LeavesNoMore left leaves → ((u : State) → stood u → left u u)
-    → (u : State) → stood u → LeavesAt fault stands leaves u u
-looked stood stands left leaves Memory keeps stop settled u here = (keeps u here, stop u u (settled u here))
-looked stood stands left leaves Store keeps stop settled u here = stop u u (settled u here)
+  -- and then another that fills the ledger
+  pub full-join : (t : Grew stood Before s n) (g : GrewFull stands AreMore (with_events s t.events) m) → Are (t.events ++ g.grew.events)
+      → total ≡ n + m → GrewFull stands Are s total
+  full-join t g are sum =
+      let longer = length-with s t.events n t.counted in
+      let full = g.full in
+      record { grew = grew-join t g.grew are sum; full = omega (arith, longer, full, sum) }
 
--- an extension, and then another that fills the ledger
-pub full-join : (stands : State → Type 0) (s : State) (AreMore Are : List Event → Type 0)
-    (events : List Event) (n m total : ℕ) → length events ≡ n → n ≤ room_of s
-    → (g : GrewFull stands AreMore (with_events s events) m) → Are (events ++ g.grew.events)
-    → total ≡ n + m → GrewFull stands Are s total
-full-join stands s AreMore Are events n m total counted within g are sum =
-    let longer = length-with s events n counted in
-    let full = g.full in
-    record {
-      grew = grew-join stands s AreMore Are events n m total counted within g.grew are sum;
-      full = omega arith;
-    }
+-- the sum of two such extensions fits in 64 bits
+pub sum-fits : {stood : State → Type 0} {Before : List Event → Type 0} {s : State} {n : ℕ} (m : ℕ) (t : Grew stood Before s n)
+    → m ≤ room_of (with_events s t.events) → n + m < 2 ^ 64
+sum-fits {s = s} {n = n} m t more =
+    let longer = length-with s t.events n t.counted in
+    let within = t.within in
+    omega (arith, longer, within, more)
+
+-- so does a sum of three
+pub sums-fit : {stood stands : State → Type 0} {Before AreMore : List Event → Type 0} {s : State} {n m : ℕ} (k : ℕ) (t : Grew stood Before s n)
+    (b : Grew stands AreMore (with_events s t.events) m) → k ≤ room_of (with_events (with_events s t.events) b.events) → n + (m + k) < 2 ^ 64
+sums-fit {s = s} {n = n} {m = m} k t b last =
+    let longer = length-with s t.events n t.counted in
+    let longest = length-with (with_events s t.events) b.events m b.counted in
+    let within = t.within in
+    let more = b.within in
+    omega (arith, longer, longest, within, more, last)
+
+-- Faults.
+
+module _ {left : State → State → Type 0} {s : State} {fault : Fault} where
+  -- what may be left after a further extension
+  pub may-join : {stood : State → Type 0} {Before AreMore Are : List Event → Type 0} {n : ℕ} (t : Grew stood Before s n)
+      → MayHaveGrown left AreMore (with_events s t.events) fault
+      → ((more : List Event) → AreMore more → Are (t.events ++ more)) → MayHaveGrown left Are s fault
+  may-join {Are = Are} {n = n} t g are =
+      let events = t.events in
+      let longer = length-with s events n t.counted in
+      let low = t.within in
+      let counted = t.counted in
+      let more = g.within in
+      let all : events ++ (g.events ++ g.next) ≡ (events ++ g.events) ++ g.next = sym (append_assoc events g.events g.next) in
+      let sum : length (events ++ (g.events ++ g.next)) ≡ length events + length (g.events ++ g.next) = length-append events (g.events ++ g.next) in
+      let fits : length (events ++ (g.events ++ g.next)) ≤ room_of s = omega (arith, longer, low, counted, more, sum) in
+      record {
+        events = events ++ g.events;
+        next = g.next;
+        are = are g.events g.are;
+        are_with = subst Are all (are (g.events ++ g.next) g.are_with);
+        at_most = g.at_most;
+        within = subst (λ e. length e ≤ room_of s) all fits;
+        left =
+            subst (λ e. left (with_events s (events ++ g.events)) (with_events s e)) all
+            (subst (λ t. left t (with_events s (events ++ (g.events ++ g.next)))) (with_more s events g.events)
+            (subst (left (with_events (with_events s events) g.events)) (with_more s events (g.events ++ g.next)) g.left));
+      }
+
+  -- the same in weaker words
+  pub may-weaken : {Are Weaker : List Event → Type 0} → MayHaveGrown left Are s fault
+      → ((events : List Event) → Are events → Weaker events) → MayHaveGrown left Weaker s fault
+  may-weaken g weaken = record {
+    events = g.events;
+    next = g.next;
+    are = weaken g.events g.are;
+    are_with = weaken (g.events ++ g.next) g.are_with;
+    at_most = g.at_most;
+    within = g.within;
+    left = g.left;
+  }
+
+  -- just the extended state is left
+  pub may-just : {stood : State → Type 0} {Before Are : List Event → Type 0} {n : ℕ} (t : Grew stood Before s n) → Are t.events
+      → left (with_events s t.events) (with_events s t.events) → MayHaveGrown left Are s fault
+  may-just {Are = Are} t are here =
+      let none = sym (append-nil t.events) in
+      let low = t.within in
+      let counted = t.counted in
+      let fits : length t.events ≤ room_of s = omega (arith, low, counted) in
+      record {
+        events = t.events;
+        next = [];
+        are = are;
+        are_with = subst Are none are;
+        at_most = omega arith;
+        within = subst (λ e. length e ≤ room_of s) none fits;
+        left = subst (λ e. left (with_events s t.events) (with_events s e)) none here;
+      }
 
 -- there are no more journeys than events
 pub journeys-fewer : (l : List Event) → length (journeys l) ≤ length l

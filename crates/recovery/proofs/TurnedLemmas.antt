@@ -12,49 +12,30 @@ use Rattle.ledger.proofs.Phases.{passing}
 use Rattle.saga_core.specs.Views.{first_unfinished}
 use Rattle.saga_core.specs.declared.records.Brief.{Brief}
 use Rattle.recovery.specs.Asking.{stop_of, Stops, StopsOrNot, IsAtMost, none, one}
-use Rattle.recovery.specs.Growing.{with_events, room_of, Grew, GrewFull, LeavesAt, MayHaveGrown}
+use Rattle.recovery.specs.Growing.{with_events, Grew, GrewFull, MayHaveGrown}
 use Rattle.recovery.specs.Passes.{AreStops, AreFirstStops}
 use Rattle.saga_core.proofs.FirstLemmas.{IsFirst, first-found, first-none}
-use Rattle.recovery.proofs.PassLemmas.{with_more, may-join, may-just, journeys-fewer}
+use Rattle.recovery.proofs.PassLemmas.{grew-as, grew-full, grew-none, grew-one, may-join, may-just, journeys-fewer}
 use Rattle.recovery.proofs.TellLemmas.{is_there}
 use Rattle.recovery.proofs.TurnLemmas.{Turning, turning-start, turning-more, turning-further, turns-none, turns_above, phase-same}
 
--- the book represents the state with the turns up to this number appended, and there are so many of them
+-- the book represents the state with the turns up to this number appended
 pub record TurnedSoFar (stands : State → Type 0) (s : State) (after made rounds : ℕ) : Type 0 where
-  pub events : List Event
-  pub turning : Turning s.ledger after events
-  pub counted : length events ≡ made
-  pub within : made ≤ room_of s
+  pub grew : Grew stands (Turning s.ledger after) s made
   pub treated : rounds ≤ after
   pub below : after ≤ length (journeys s.ledger)
-  pub stands_there : stands (with_events s events)
 
 -- at first the pass has made no turn
 pub turned-start : (stands : State → Type 0) (s : State) → stands s → TurnedSoFar stands s 0 0 0
-turned-start stands s st = record {
-  events = [];
-  turning = turning-start s.ledger;
-  counted = refl;
-  within = omega arith;
+turned-start stands s here = record {
+  grew = grew-none stands (Turning s.ledger 0) s here (turning-start s.ledger);
   treated = omega arith;
   below = omega arith;
-  stands_there = subst stands (ap (λ l. record { ledger = l; kept = s.kept })
-      (sym (append-nil s.ledger))) st;
 }
 
--- the same of a book that represents that state now
-abbrev pub turned-now : (stands then : State → Type 0) (s : State) (after made rounds : ℕ)
-    → (t : TurnedSoFar stands s after made rounds) → then (with_events s t.events)
-    → TurnedSoFar then s after made rounds
-turned-now stands then s after made rounds t here = record {
-  events = t.events;
-  turning = t.turning;
-  counted = t.counted;
-  within = t.within;
-  treated = t.treated;
-  below = t.below;
-  stands_there = here;
-}
+-- the turns so far are a prefix of all turns
+firsts : (l : List Event) (after : ℕ) (events : List Event) → Turning l after events → AreFirstStops l events
+firsts l after events t = record { rest = turns_above l after; all = t.all }
 
 -- a running journey is open
 run-open : (p : Phase) → is_running p ≡ true → is_open p ≡ true
@@ -88,173 +69,95 @@ between l events after b t f k above below =
     sym (phase-same is_running after k l (l ++ events) t.same above)
     ∙ not_running (l ++ events) k (f.between k above below)
 
--- the next open journey runs, and turned
-pub turned-more : (stands then : State → Type 0) (s : State) (after made rounds : ℕ) (b : Brief)
-    → (t : TurnedSoFar stands s after made rounds)
-    → Some b ≡ first_unfinished (s.ledger ++ t.events) after
-    → is_running b.cursor.phase ≡ true → Stops stands then b.id true
-    → TurnedSoFar then s b.id (made + 1) (rounds + 1)
-turned-more stands then s after made rounds b t is runs stopped =
-    let f = first-found (s.ledger ++ t.events) after b is in
-    let now = first-in is_running (s.ledger ++ t.events) after b f ∙ runs in
-    let went = stopped (with_events s t.events) t.stands_there now in
-    let event = stop_of (s.ledger ++ t.events) b.id in
-    let was = sym (phase-same is_running after b.id s.ledger (s.ledger ++ t.events) t.turning.same
-    f.above) ∙ now in
-    let within = f.within in
-    let higher = f.above in
-    let treated = t.treated in
-    let begun = ap length t.turning.same.begun in
-    let longer : length (t.events ++ event ∷ []) ≡ length t.events + 1 =
-    length-append t.events (event ∷ []) in
-    let counted = t.counted in
-    let so_far = t.within in
-    let all : length (s.ledger ++ t.events) ≡ length s.ledger + length t.events =
-    length-append s.ledger t.events in
-    let room = went.0 in
-    record {
-      events = t.events ++ event ∷ [];
-      turning = turning-more s.ledger after b.id t.events t.turning f.above (omega arith)
-          (between s.ledger t.events after b t.turning f) was;
-      counted = omega arith;
-      within = omega arith;
-      treated = omega arith;
-      below = omega arith;
-      stands_there = subst then (with_more s t.events (event ∷ [])) went.1;
-    }
+module _ {stood : State → Type 0} {s : State} {after made rounds : ℕ} (t : TurnedSoFar stood s after made rounds) where
+  -- the same of a book that represents that state now
+  abbrev pub turned-now : (stands : State → Type 0) → stands (with_events s t.grew.events) → TurnedSoFar stands s after made rounds
+  turned-now stands here = record { grew = grew-as t.grew t.grew.are here; treated = t.treated; below = t.below }
 
--- the next open journey does not run
-pub turned-further : (stands then : State → Type 0) (s : State) (after made rounds : ℕ) (b : Brief)
-    → (t : TurnedSoFar stands s after made rounds)
-    → Some b ≡ first_unfinished (s.ledger ++ t.events) after
-    → is_running b.cursor.phase ≡ false
-    → then (with_events s t.events) → TurnedSoFar then s b.id made (rounds + 1)
-turned-further stands then s after made rounds b t is rests st =
-    let f = first-found (s.ledger ++ t.events) after b is in
-    let was = sym (phase-same is_running after b.id s.ledger (s.ledger ++ t.events) t.turning.same
-    f.above) ∙ first-in is_running (s.ledger ++ t.events) after b f ∙ rests in
-    let within = f.within in
-    let higher = f.above in
-    let treated = t.treated in
-    let begun = ap length t.turning.same.begun in
-    record {
-      events = t.events;
-      turning = turning-further s.ledger after b.id t.events t.turning f.above (omega arith)
-          (between s.ledger t.events after b t.turning f) was;
-      counted = t.counted;
-      within = t.within;
-      treated = omega arith;
-      below = omega arith;
-      stands_there = st;
-    }
+  -- no journey is left: these are all turns
+  pub turned-all : {stands : State → Type 0} → None ≡ first_unfinished (s.ledger ++ t.grew.events) after → stands (with_events s t.grew.events)
+      → Grew stands (AreStops s.ledger) s made
+  turned-all is here =
+      let m = s.ledger ++ t.grew.events in
+      let left = turns-none s.ledger after (λ k above.
+      sym (phase-same is_running after k s.ledger m t.grew.are.same above) ∙ not_running m k (first-none m after is k above)) in
+      grew-as t.grew (sym (t.grew.are.all ∙ ap (λ r. t.grew.events ++ r) left ∙ append-nil t.grew.events)) here
 
--- no journey is left: these are all turns
-pub turned-all : (stands then : State → Type 0) (s : State) (after made rounds : ℕ)
-    → (t : TurnedSoFar stands s after made rounds)
-    → None ≡ first_unfinished (s.ledger ++ t.events) after → then (with_events s t.events)
-    → Grew then (AreStops s.ledger) s made
-turned-all stands then s after made rounds t is st =
-    let left = turns-none s.ledger after (λ k above.
-    sym (phase-same is_running after k s.ledger (s.ledger ++ t.events) t.turning.same above)
-    ∙ not_running (s.ledger ++ t.events) k (first-none (s.ledger ++ t.events) after is k above)) in
-    record {
-      events = t.events;
-      are = sym (t.turning.all ∙ ap (λ r. t.events ++ r) left ∙ append-nil t.events);
-      counted = t.counted;
-      within = t.within;
-      stands_there = st;
-    }
+  -- all rounds are over: then the ledger has more events than it may have
+  pub turned-over : {stands : State → Type 0} → most_events ≤ rounds → stands (with_events s t.grew.events) → GrewFull stands (AreFirstStops s.ledger) s made
+  turned-over over here =
+      let all : length (s.ledger ++ t.grew.events) ≡ length s.ledger + length t.grew.events = length-append s.ledger t.grew.events in
+      let begun = journeys-fewer s.ledger in
+      let below = t.below in
+      let treated = t.treated in
+      grew-full t.grew (firsts s.ledger after t.grew.events t.grew.are) here (omega (arith, all, begun, below, treated, over))
 
--- the turns so far are a prefix of all turns
-firsts : (s : State) (after : ℕ) (events : List Event) → Turning s.ledger after events
-    → AreFirstStops s.ledger events
-firsts s after events t = record { rest = turns_above s.ledger after; all = t.all }
+  -- a read of the book met a fault
+  pub turned-look : {left : State → State → Type 0} {fault : Fault} → left (with_events s t.grew.events) (with_events s t.grew.events)
+      → MayHaveGrown left (AreFirstStops s.ledger) s fault
+  turned-look here = may-just t.grew (firsts s.ledger after t.grew.events t.grew.are) here
 
--- the ledger is full
-pub turned-full : (stands then : State → Type 0) (s : State) (after made rounds : ℕ)
-    → (t : TurnedSoFar stands s after made rounds) → most_events ≤ length (s.ledger ++ t.events)
-    → then (with_events s t.events) → GrewFull then (AreFirstStops s.ledger) s made
-turned-full stands then s after made rounds t full st =
-    let all : length (s.ledger ++ t.events) ≡ length s.ledger + length t.events =
-    length-append s.ledger t.events in
-    let counted = t.counted in
-    record {
-      grew = record {
-        events = t.events;
-        are = firsts s after t.events t.turning;
-        counted = t.counted;
-        within = t.within;
-        stands_there = st;
-      };
-      full = omega arith;
-    }
-
--- all rounds are over: then the ledger has more events than it may have
-pub turned-over : (then : State → Type 0) (s : State) (after made rounds : ℕ)
-    → TurnedSoFar then s after made rounds → most_events ≤ rounds
-    → GrewFull then (AreFirstStops s.ledger) s made
-turned-over then s after made rounds t over =
-    let all : length (s.ledger ++ t.events) ≡ length s.ledger + length t.events =
-    length-append s.ledger t.events in
-    let begun = journeys-fewer s.ledger in
-    let below = t.below in
-    let treated = t.treated in
-    turned-full then then s after made rounds t (omega arith) t.stands_there
-
--- the stop found the ledger full
-pub turned-refused : (stands then : State → Type 0) (s : State) (after made rounds : ℕ) (b : Brief)
-    → (t : TurnedSoFar stands s after made rounds)
-    → Some b ≡ first_unfinished (s.ledger ++ t.events) after
-    → is_running b.cursor.phase ≡ true → Stops stands then b.id false
-    → GrewFull then (AreFirstStops s.ledger) s made
-turned-refused stands then s after made rounds b t is runs stopped =
-    let f = first-found (s.ledger ++ t.events) after b is in
-    let now = first-in is_running (s.ledger ++ t.events) after b f ∙ runs in
-    let stayed = stopped (with_events s t.events) t.stands_there now in
-    turned-full stands then s after made rounds t stayed.0 stayed.1
-
--- a read of the book met a fault
-pub turned-look : (stands : State → Type 0) (leaves : State → State → Type 0) (s : State)
-    (after made rounds : ℕ) (fault : Fault) → (t : TurnedSoFar stands s after made rounds)
-    → ((u : State) → stands u → leaves u u)
-    → MayHaveGrown leaves (AreFirstStops s.ledger) s fault
-turned-look stands leaves s after made rounds fault t settled =
-    may-just leaves s (AreFirstStops s.ledger) t.events made fault t.counted t.within
-    (firsts s after t.events t.turning)
-    (settled (with_events s t.events) t.stands_there)
-
--- the stop met a fault
-pub turned-fault : (stands then : State → Type 0) (leaves : State → State → Type 0) (s : State)
-    (after made rounds : ℕ) (b : Brief) (fault : Fault)
-    → (t : TurnedSoFar stands s after made rounds)
-    → Some b ≡ first_unfinished (s.ledger ++ t.events) after
-    → is_running b.cursor.phase ≡ true → StopsOrNot stands then leaves b.id fault
-    → MayHaveGrown (LeavesAt fault then leaves) (AreFirstStops s.ledger) s fault
-turned-fault stands then leaves s after made rounds b fault t is runs stopped =
-    may-join (LeavesAt fault then leaves) s (IsAtMost (stop_of (s.ledger ++ t.events) b.id)) (AreFirstStops s.ledger)
-    t.events made fault t.counted t.within (stopped (with_events s t.events) t.stands_there now)
-    (λ more at_most. go more at_most)
-  where
-    f : IsFirst (s.ledger ++ t.events) after b
-    f = first-found (s.ledger ++ t.events) after b is
-
-    now : is_in is_running (s.ledger ++ t.events) b.id ≡ true
-    now = first-in is_running (s.ledger ++ t.events) after b f ∙ runs
-
-    was : is_in is_running s.ledger b.id ≡ true
-    was =
-        sym (phase-same is_running after b.id s.ledger (s.ledger ++ t.events) t.turning.same
-        f.above) ∙ now
+  -- the next open journey
+  module _ (b : Brief) (is : Some b ≡ first_unfinished (s.ledger ++ t.grew.events) after) where
+    found : IsFirst (s.ledger ++ t.grew.events) after b
+    found = first-found (s.ledger ++ t.grew.events) after b is
 
     within : b.id ≤ length (journeys s.ledger)
-    within = let w = f.within in let e = ap length t.turning.same.begun in omega arith
+    within =
+        let inside = found.within in
+        let begun = ap length t.grew.are.same.begun in
+        omega (arith, inside, begun)
 
-    go : (more : List Event) → IsAtMost (stop_of (s.ledger ++ t.events) b.id) more
-        → AreFirstStops s.ledger (t.events ++ more)
-    go _ none =
-        subst (AreFirstStops s.ledger) (sym (append-nil t.events))
-        (firsts s after t.events t.turning)
-    go _ one =
-        firsts s b.id (t.events ++ stop_of (s.ledger ++ t.events) b.id ∷ [])
-        (turning-more s.ledger after b.id t.events t.turning f.above within
-        (between s.ledger t.events after b t.turning f) was)
+    here_now : (v : Bool) → is_running b.cursor.phase ≡ v → is_in is_running (s.ledger ++ t.grew.events) b.id ≡ v
+    here_now v e = first-in is_running (s.ledger ++ t.grew.events) after b found ∙ e
+
+    was : (v : Bool) → is_running b.cursor.phase ≡ v → is_in is_running s.ledger b.id ≡ v
+    was v e =
+        sym (phase-same is_running after b.id s.ledger (s.ledger ++ t.grew.events) t.grew.are.same found.above) ∙ here_now v e
+
+    turns : is_running b.cursor.phase ≡ true → Turning s.ledger b.id (t.grew.events ++ stop_of (s.ledger ++ t.grew.events) b.id ∷ [])
+    turns runs =
+        turning-more s.ledger after b.id t.grew.events t.grew.are found.above within
+        (between s.ledger t.grew.events after b t.grew.are found) (was true runs)
+
+    -- it runs, and turned
+    pub turned-more : {stands : State → Type 0} → is_running b.cursor.phase ≡ true → Stops stood stands b.id true
+        → TurnedSoFar stands s b.id (made + 1) (rounds + 1)
+    turned-more runs stopped =
+        let went = stopped (with_events s t.grew.events) t.grew.stands_there (here_now true runs) in
+        let higher = found.above in
+        let treated = t.treated in
+        record {
+          grew = grew-one t.grew (stop_of (s.ledger ++ t.grew.events) b.id) went.0 (turns runs) went.1;
+          treated = omega (arith, higher, treated);
+          below = within;
+        }
+
+    -- it does not run
+    pub turned-further : {stands : State → Type 0} → is_running b.cursor.phase ≡ false → stands (with_events s t.grew.events)
+        → TurnedSoFar stands s b.id made (rounds + 1)
+    turned-further rests here =
+        let higher = found.above in
+        let treated = t.treated in
+        record {
+          grew = grew-as t.grew (turning-further s.ledger after b.id t.grew.events t.grew.are found.above within
+              (between s.ledger t.grew.events after b t.grew.are found) (was false rests)) here;
+          treated = omega (arith, higher, treated);
+          below = within;
+        }
+
+    -- the stop found the ledger full
+    pub turned-refused : {stands : State → Type 0} → is_running b.cursor.phase ≡ true → Stops stood stands b.id false
+        → GrewFull stands (AreFirstStops s.ledger) s made
+    turned-refused runs stopped =
+        let stayed = stopped (with_events s t.grew.events) t.grew.stands_there (here_now true runs) in
+        grew-full t.grew (firsts s.ledger after t.grew.events t.grew.are) stayed.1 stayed.0
+
+    -- the stop met a fault
+    pub turned-fault : {left : State → State → Type 0} {fault : Fault} → is_running b.cursor.phase ≡ true → StopsOrNot stood left b.id fault
+        → MayHaveGrown left (AreFirstStops s.ledger) s fault
+    turned-fault runs stopped = may-join t.grew (stopped (with_events s t.grew.events) t.grew.stands_there (here_now true runs)) go
+      where
+        go : (more : List Event) → IsAtMost (stop_of (s.ledger ++ t.grew.events) b.id) more → AreFirstStops s.ledger (t.grew.events ++ more)
+        go _ none = subst (AreFirstStops s.ledger) (sym (append-nil t.grew.events)) (firsts s.ledger after t.grew.events t.grew.are)
+        go _ one = firsts s.ledger b.id (t.grew.events ++ stop_of (s.ledger ++ t.grew.events) b.id ∷ []) (turns runs)

@@ -11,7 +11,7 @@ use Rattle.ledger.specs.Answer.{State, most_events}
 use Rattle.ledger.specs.History.{is_running, is_open}
 use Rattle.ledger.specs.Ledger.{Event, Did, is_in, is_item_allowed, phase_of}
 use Rattle.ledger.specs.Recovery.{last_save_of, is_forward}
-use Rattle.recovery.specs.Growing.{with_events, LeavesAt, MayHaveGrown}
+use Rattle.recovery.specs.Growing.{with_events, MayHaveGrown}
 
 -- the phase that a reply reports, if a journey moved
 abbrev pub phase_told : Reply → Option Phase
@@ -38,9 +38,9 @@ pub data IsAtMost (event : Event) : List Event → Type 0 where
   one : IsAtMost event (event ∷ [])
 
 -- whatever a crash leaves, a running journey has turned to its last save-point, or nothing changed
-abbrev pub StopsOrNot : (State → Type 0) → (State → Type 0) → (State → State → Type 0) → ℕ → Fault → Type 0
-StopsOrNot stood stands leaves j fault = (s : State) → stood s → IsTrue (is_in is_running s.ledger j)
-    → MayHaveGrown (LeavesAt fault stands leaves) (IsAtMost (stop_of s.ledger j)) s fault
+abbrev pub StopsOrNot : (State → Type 0) → (State → State → Type 0) → ℕ → Fault → Type 0
+StopsOrNot stood left j fault = (s : State) → stood s → IsTrue (is_in is_running s.ledger j)
+    → MayHaveGrown left (IsAtMost (stop_of s.ledger j)) s fault
 
 -- journey j made one step, and is then in this phase
 pub record Stepped (stands : State → Type 0) (s : State) (j : ℕ) (phase : Phase) : Type 0 where
@@ -68,6 +68,6 @@ pub data IsStepOrNone (l : List Event) (j : ℕ) : List Event → Type 0 where
       → IsStepOrNone l j (Did j item ∷ [])
 
 -- whatever a crash leaves, an open journey has made one step, or nothing changed
-abbrev pub StepsOrNot : (State → Type 0) → (State → Type 0) → (State → State → Type 0) → ℕ → Fault → Type 0
-StepsOrNot stood stands leaves j fault = (s : State) → stood s → IsTrue (is_in is_open s.ledger j)
-    → MayHaveGrown (LeavesAt fault stands leaves) (IsStepOrNone s.ledger j) s fault
+abbrev pub StepsOrNot : (State → Type 0) → (State → State → Type 0) → ℕ → Fault → Type 0
+StepsOrNot stood left j fault = (s : State) → stood s → IsTrue (is_in is_open s.ledger j)
+    → MayHaveGrown left (IsStepOrNone s.ledger j) s fault

@@ -8,7 +8,7 @@ use Rattle.ledger.specs.Answer.{State}
 use Rattle.ledger.specs.History.{is_compensation, is_going_back, is_open}
 use Rattle.ledger.specs.Ledger.{Event, is_in, AreAllowedAfter}
 use Rattle.ledger.specs.Recovery.{stops, journey_of, are_items, has_none, is_forward, HasReached}
-use Rattle.recovery.specs.Growing.{Grew, GrewFull, LeavesAt, MayHaveGrown}
+use Rattle.recovery.specs.Growing.{Grew, GrewFull, MayHaveGrown}
 use Rattle.recovery.specs.declared.passes.Came.{Came}
 use Rattle.recovery.specs.declared.passes.Came.TheVariants.{Through, Full}
 use Rattle.recovery.specs.declared.passes.Pass.{Pass}
@@ -50,9 +50,8 @@ abbrev pub MadeStops : (State → Type 0) → (State → Type 0) → Came → Ty
 MadeStops stood stands came =
     (s : State) → stood s → Comes stands s (AreStops s.ledger) (AreFirstStops s.ledger) came
 
-abbrev pub MadeSomeStops : (State → Type 0) → (State → Type 0) → (State → State → Type 0) → Fault → Type 0
-MadeSomeStops stood stands leaves fault =
-    (s : State) → stood s → MayHaveGrown (LeavesAt fault stands leaves) (AreFirstStops s.ledger) s fault
+abbrev pub MadeSomeStops : (State → Type 0) → (State → State → Type 0) → Fault → Type 0
+MadeSomeStops stood left fault = (s : State) → stood s → MayHaveGrown left (AreFirstStops s.ledger) s fault
 
 -- Journeys that a pass steps.
 
@@ -73,11 +72,9 @@ CarriedOne stood stands pass j came =
     (s : State) → stood s → IsTrue (is_in (goes_on pass) s.ledger j)
     → Comes stands s (CarryOut pass j s.ledger) (Carry pass j s.ledger) came
 
-abbrev pub CarriedOneSome : (State → Type 0) → (State → Type 0) → (State → State → Type 0) → Pass → ℕ → Fault
-    → Type 0
-CarriedOneSome stood stands leaves pass j fault =
-    (s : State) → stood s → IsTrue (is_in (goes_on pass) s.ledger j)
-    → MayHaveGrown (LeavesAt fault stands leaves) (Carry pass j s.ledger) s fault
+abbrev pub CarriedOneSome : (State → Type 0) → (State → State → Type 0) → Pass → ℕ → Fault → Type 0
+CarriedOneSome stood left pass j fault =
+    (s : State) → stood s → IsTrue (is_in (goes_on pass) s.ledger j) → MayHaveGrown left (Carry pass j s.ledger) s fault
 
 -- Passes.
 
@@ -95,6 +92,5 @@ abbrev pub CarriedAll : (State → Type 0) → (State → Type 0) → Pass → C
 CarriedAll stood stands pass came =
     (s : State) → stood s → Comes stands s (IsThrough pass s.ledger) (IsUnderWay pass s.ledger) came
 
-abbrev pub CarriedSome : (State → Type 0) → (State → Type 0) → (State → State → Type 0) → Pass → Fault → Type 0
-CarriedSome stood stands leaves pass fault =
-    (s : State) → stood s → MayHaveGrown (LeavesAt fault stands leaves) (IsUnderWay pass s.ledger) s fault
+abbrev pub CarriedSome : (State → Type 0) → (State → State → Type 0) → Pass → Fault → Type 0
+CarriedSome stood left pass fault = (s : State) → stood s → MayHaveGrown left (IsUnderWay pass s.ledger) s fault

@@ -1,10 +1,8 @@
 -- What a book takes to recover, and when it may act after recovery. Recovery asks for moves of the house: steps, and stops.
-use Rattle.std.specs.Prelude.{◌≡◌, ◌≤◌, ⊤, ℕ, suc, Bool, true, false, [], ◌∷◌, ◌++◌, length, None}
+use Rattle.std.specs.Prelude.{◌≡◌, ◌≤◌, ⊤, ℕ, suc, [], ◌∷◌, ◌++◌, length, None}
 use Rattle.commands.specs.Request.{Request, Step, Stop}
 use Rattle.ledger.specs.Answer.{State}
 use Rattle.recovery.specs.Growing.{room_of}
-use Rattle.recovery.specs.declared.passes.Came.{Came}
-use Rattle.recovery.specs.declared.passes.Came.TheVariants.{Through, Full}
 use Rattle.saga_core.specs.Runs.{Asks}
 
 -- a step or a stop
@@ -32,16 +30,6 @@ pub record MayRecover (stands : State → Type 0) (can : State → Asks → Type
 pub record MayActThen (stands : State → Type 0) (can : State → Asks → Type 0) (later : Asks) (s : State) : Type 0 where
   pub stands_there : stands s
   pub may : can s later
-
--- after a move that was made, others may follow; after one that found the ledger full, only the later asks
-abbrev pub AfterMove : (State → Type 0) → (State → Asks → Type 0) → Asks → Bool → State → Type 0
-AfterMove stands can later true = MayRecover stands can later
-AfterMove stands can later false = MayActThen stands can later
-
--- the same of a pass
-abbrev pub AfterPass : (State → Type 0) → (State → Asks → Type 0) → Asks → Came → State → Type 0
-AfterPass stands can later (Through made) = MayRecover stands can later
-AfterPass stands can later (Full made) = MayActThen stands can later
 
 -- no state: of a fault, only the reason is said
 abbrev pub NoState : State → Type 0

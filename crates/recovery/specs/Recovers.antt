@@ -54,8 +54,10 @@ IsWithinBound stood made = (s : State) → stood s → made ≤ bound s.ledger
 abbrev pub AreBeginning : List Event → List Event → Type 0
 AreBeginning l events = BeginsRecovered l (l ++ events)
 
--- whatever a crash leaves is a prefix of the recovered ledger, with the same kept replies; out of memory the book
--- represents such a prefix
+-- what is left at a fault is a prefix of the recovered ledger, with the same kept replies
+abbrev pub RecoversPart : (State → Type 0) → (State → State → Type 0) → Fault → Type 0
+RecoversPart stood left fault = (s : State) → stood s → MayHaveGrown left (AreBeginning s.ledger) s fault
+
+-- whatever a crash leaves is such a prefix; out of memory the book represents one
 abbrev pub RecoversSome : (State → Type 0) → (State → Type 0) → (State → State → Type 0) → Fault → Type 0
-RecoversSome stood stands leaves fault =
-    (s : State) → stood s → MayHaveGrown (LeavesAt fault stands leaves) (AreBeginning s.ledger) s fault
+RecoversSome stood stands leaves fault = RecoversPart stood (LeavesAt fault stands leaves) fault

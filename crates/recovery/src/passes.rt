@@ -1,9 +1,9 @@
 //! The passes of recovery, each over the unfinished journeys by rising number.
-ghost use Rattle.std.specs.Prelude.{◌≡◌, ◌↔◌, IfOk, IfErr, IsTrue, IsErrOf};
+ghost use Rattle.std.specs.Prelude.{◌≡◌, IfOk, IfErr, Option};
 ghost use Rattle.ledger.specs.History.{is_running};
-ghost use Rattle.saga_core.specs.Calls.{Stays};
-ghost use Rattle.recovery.specs.Reasons.{AfterPass, MayRecover, NoState};
+ghost use Rattle.saga_core.specs.Calls.{Serves};
 ghost use Rattle.saga_core.specs.Runs.{Asks};
+ghost use Rattle.recovery.specs.Following.{AfterPass, LeftAt, MayGoOn};
 ghost use Rattle.recovery.specs.Passes.{made_by, goes_on, MadeStops, MadeSomeStops, CarriedAll, CarriedSome, CarriedOne, CarriedOneSome};
 
 use crate::asking::{step, stop};
@@ -63,20 +63,13 @@ fn is_running(phase: Phase) -> bool
 
 /// Turns each running journey back to its last save-point, once.
 pub fn turn_back<B: Book>(book: &mut B) -> Result<Came, Fault>
-    ensures ok { B.is_sound book.new →
-        IfOk result (λ came. MadeStops (B.stands book.old) (B.stands book.new) came) }
-    ensures fault { B.is_sound book.new →
-        IfErr result (MadeSomeStops (B.stands book.old) (B.stands book.new) (B.leaves book.new)) }
-    ensures failed { IfErr result (λ f. f ≡ Fault.Store → IsTrue (B.has_failed book.new)) }
-    ensures stays { Stays B.is_sound B.leaves B.has_failed book.old book.new }
-    ensures may_act { B.is_sound book.new → (first : B) (later : Asks) →
-        IfOk result (λ came. MadeStops
-        (MayRecover (B.stands book.old) (B.may_act first book.old) later)
-        (AfterPass (B.stands book.new) (B.may_act first book.new) later came) came) }
-    ensures reason { B.is_sound book.new → (first : B) (later : Asks) → IfErr result (λ f.
-        f ≡ Fault.Store →
-        MadeSomeStops (MayRecover (B.stands book.old) (B.may_act first book.old) later)
-        NoState (B.has_reason first book.new) Fault.Store) }
+    ensures came { B.is_sound book.new → (following : Option (B × Asks)) → IfOk result (λ came.
+        MadeStops (MayGoOn B.stands B.may_act following book.old)
+        (AfterPass B.stands B.may_act following book.new came) came) }
+    ensures fault { B.is_sound book.new → (following : Option (B × Asks)) → IfErr result (λ f.
+        MadeSomeStops (MayGoOn B.stands B.may_act following book.old)
+        (LeftAt B.stands B.leaves B.has_reason following book.new f) f) }
+    ensures serves { Serves B.is_sound B.leaves B.has_failed book.old book.new Fault.Store result }
 {
     let mut after = 0;
     let mut made = 0u64;
@@ -100,21 +93,13 @@ pub fn turn_back<B: Book>(book: &mut B) -> Result<Came, Fault>
 
 /// Steps a journey until the pass is done with it.
 fn carry_one<B: Book>(book: &mut B, pass: Pass, id: u64) -> Result<Came, Fault>
-    ensures ok { B.is_sound book.new →
-        IfOk result (λ came. CarriedOne (B.stands book.old) (B.stands book.new) pass id came) }
-    ensures fault { B.is_sound book.new →
-        IfErr result
-        (CarriedOneSome (B.stands book.old) (B.stands book.new) (B.leaves book.new) pass id) }
-    ensures failed { IfErr result (λ f. f ≡ Fault.Store → IsTrue (B.has_failed book.new)) }
-    ensures stays { Stays B.is_sound B.leaves B.has_failed book.old book.new }
-    ensures may_act { B.is_sound book.new → (first : B) (later : Asks) →
-        IfOk result (λ came. CarriedOne
-        (MayRecover (B.stands book.old) (B.may_act first book.old) later)
-        (AfterPass (B.stands book.new) (B.may_act first book.new) later came) pass id came) }
-    ensures reason { B.is_sound book.new → (first : B) (later : Asks) → IfErr result (λ f.
-        f ≡ Fault.Store →
-        CarriedOneSome (MayRecover (B.stands book.old) (B.may_act first book.old) later)
-        NoState (B.has_reason first book.new) pass id Fault.Store) }
+    ensures came { B.is_sound book.new → (following : Option (B × Asks)) → IfOk result (λ came.
+        CarriedOne (MayGoOn B.stands B.may_act following book.old)
+        (AfterPass B.stands B.may_act following book.new came) pass id came) }
+    ensures fault { B.is_sound book.new → (following : Option (B × Asks)) → IfErr result (λ f.
+        CarriedOneSome (MayGoOn B.stands B.may_act following book.old)
+        (LeftAt B.stands B.leaves B.has_reason following book.new f) pass id f) }
+    ensures serves { Serves B.is_sound B.leaves B.has_failed book.old book.new Fault.Store result }
 {
     for made in 0..u64::MAX {
         match step(book, id) {
@@ -132,21 +117,13 @@ fn carry_one<B: Book>(book: &mut B, pass: Pass, id: u64) -> Result<Came, Fault>
 
 /// Steps each journey with which the pass goes on, until the pass is done with it.
 pub fn carry<B: Book>(book: &mut B, pass: Pass) -> Result<Came, Fault>
-    ensures ok { B.is_sound book.new →
-        IfOk result (λ came. CarriedAll (B.stands book.old) (B.stands book.new) pass came) }
-    ensures fault { B.is_sound book.new →
-        IfErr result
-        (CarriedSome (B.stands book.old) (B.stands book.new) (B.leaves book.new) pass) }
-    ensures failed { IfErr result (λ f. f ≡ Fault.Store → IsTrue (B.has_failed book.new)) }
-    ensures stays { Stays B.is_sound B.leaves B.has_failed book.old book.new }
-    ensures may_act { B.is_sound book.new → (first : B) (later : Asks) →
-        IfOk result (λ came. CarriedAll
-        (MayRecover (B.stands book.old) (B.may_act first book.old) later)
-        (AfterPass (B.stands book.new) (B.may_act first book.new) later came) pass came) }
-    ensures reason { B.is_sound book.new → (first : B) (later : Asks) → IfErr result (λ f.
-        f ≡ Fault.Store →
-        CarriedSome (MayRecover (B.stands book.old) (B.may_act first book.old) later)
-        NoState (B.has_reason first book.new) pass Fault.Store) }
+    ensures came { B.is_sound book.new → (following : Option (B × Asks)) → IfOk result (λ came.
+        CarriedAll (MayGoOn B.stands B.may_act following book.old)
+        (AfterPass B.stands B.may_act following book.new came) pass came) }
+    ensures fault { B.is_sound book.new → (following : Option (B × Asks)) → IfErr result (λ f.
+        CarriedSome (MayGoOn B.stands B.may_act following book.old)
+        (LeftAt B.stands B.leaves B.has_reason following book.new f) pass f) }
+    ensures serves { Serves B.is_sound B.leaves B.has_failed book.old book.new Fault.Store result }
 {
     let mut after = 0;
     let mut made = 0u64;

@@ -1,9 +1,10 @@
 //! The whole of recovery.
-ghost use Rattle.std.specs.Prelude.{◌≡◌, IfOk, IfErr, IsTrue};
-ghost use Rattle.saga_core.specs.Calls.{Stays};
+ghost use Rattle.std.specs.Prelude.{◌≡◌, IfOk, IfErr, IsTrue, Option};
+ghost use Rattle.saga_core.specs.Calls.{Serves, Stays};
 ghost use Rattle.saga_core.specs.Runs.{Asks};
+ghost use Rattle.recovery.specs.Following.{HasCome, LeftAt, MayGoOn};
 ghost use Rattle.recovery.specs.Reasons.{MayActThen, MayRecover, NoState};
-ghost use Rattle.recovery.specs.Recovers.{Recovers, Finishes, RecoversSome, IsWithinBound};
+ghost use Rattle.recovery.specs.Recovers.{Recovers, Finishes, RecoversPart, RecoversSome, IsWithinBound};
 ghost use Rattle.recovery.specs.Worlds.{GoesOnRecovered, GoesOnRecovering};
 
 use crate::passes::{Came, Pass, carry, turn_back};
@@ -14,20 +15,13 @@ use saga_core::Book;
 /// Runs the three passes, one after another, until one of them finds the ledger full. Returns how many events they
 /// made.
 fn recover_all<B: Book>(book: &mut B) -> Result<u64, Fault>
-    ensures recovered { B.is_sound book.new →
-        IfOk result (λ made. Recovers (B.stands book.old) (B.stands book.new) made) }
-    ensures fault { B.is_sound book.new →
-        IfErr result (RecoversSome (B.stands book.old) (B.stands book.new) (B.leaves book.new)) }
-    ensures failed { IfErr result (λ f. f ≡ Fault.Store → IsTrue (B.has_failed book.new)) }
-    ensures stays { Stays B.is_sound B.leaves B.has_failed book.old book.new }
-    ensures may_act { B.is_sound book.new → (first : B) (later : Asks) →
-        IfOk result (λ made. Recovers
-        (MayRecover (B.stands book.old) (B.may_act first book.old) later)
-        (MayActThen (B.stands book.new) (B.may_act first book.new) later) made) }
-    ensures reason { B.is_sound book.new → (first : B) (later : Asks) → IfErr result (λ f.
-        f ≡ Fault.Store →
-        RecoversSome (MayRecover (B.stands book.old) (B.may_act first book.old) later)
-        NoState (B.has_reason first book.new) Fault.Store) }
+    ensures recovered { B.is_sound book.new → (following : Option (B × Asks)) → IfOk result (λ made.
+        Recovers (MayGoOn B.stands B.may_act following book.old)
+        (HasCome B.stands B.may_act following book.new) made) }
+    ensures fault { B.is_sound book.new → (following : Option (B × Asks)) → IfErr result (λ f.
+        RecoversPart (MayGoOn B.stands B.may_act following book.old)
+        (LeftAt B.stands B.leaves B.has_reason following book.new f) f) }
+    ensures serves { Serves B.is_sound B.leaves B.has_failed book.old book.new Fault.Store result }
 {
     let turned = match turn_back(book) {
         Ok(Came::Through(made)) => made,

@@ -1,17 +1,28 @@
--- Which refusals and faults a report ends with. For the reports.
-use Rattle.std.proofs.Common.{◌≡◌, sym, subst}
+-- How a report ends, and what was written where it could not be begun. For the job of a report.
+use Rattle.std.proofs.Common.{◌≡◌, inl, inr, sym, subst, ℕ, List, Option}
 use Rattle.sqlite.specs.Store.{Ghosts}
-use Rattle.sqlite.specs.Held.{Held}
+use Rattle.sqlite.specs.Held.{Held, state}
+use Rattle.sqlite.specs.State.{HasCleanDisk}
+use Rattle.commands.specs.declared.replies.Refusal.{Refusal}
+use Rattle.desk_sql.specs.declared.versions.Version.{Version}
+use Rattle.ledger.specs.Answer.{State}
+use Rattle.saga_core.specs.Views.{record_of}
 use Rattle.reports.specs.declared.faults.ReportFault.{ReportFault}
 use Rattle.reports.specs.declared.faults.ReportFault.TheVariants as report
+use Rattle.tables.specs.Keeping.{StoodFor}
 use Rattle.tables.specs.Opening.{Tells}
 use Rattle.tables.specs.declared.faults.OpenFault.{OpenFault}
 use Rattle.tables.specs.declared.faults.OpenFault.TheVariants as opening
-use Rattle.program_ends.specs.Ends.{IfFault, IfRefused, fault_of_report}
+use Rattle.program_ends.specs.Ends.{IfRefused, fault_of_report}
 use Rattle.program_ends.specs.declared.ends.End.{End}
 use Rattle.program_ends.specs.declared.ends.End.TheVariants as finish
+use Rattle.program_ends.specs.declared.faults.ProgramFault.{ProgramFault}
 use Rattle.openings.specs.Ends.{end_of_open}
-use Rattle.report_jobs.specs.Reporting.{IsFaultOfReport, IsNoJourney, RefusesToShow, RefusesVersion}
+use Rattle.report_jobs.specs.Jobs.{EndsReport, RefusesAbsent, RefusesToShow, Reports}
+use Rattle.report_jobs.specs.Reporting.{IsFaultOfReport}
+use Rattle.report_jobs.specs.declared.report_kinds.Report.{Report}
+use Rattle.report_jobs.specs.declared.report_kinds.Report.TheVariants as shown
+use Rattle.report_jobs.proofs.ReportLemmas.{reported_fault, reported_none}
 
 -- a fault of a report that was begun is one of a report
 pub begun_fault : (f : ReportFault) → IsFaultOfReport (fault_of_report f)
@@ -19,40 +30,54 @@ begun_fault report.Memory = tt
 begun_fault report.Store = tt
 begun_fault report.Write = tt
 
+-- what may be refused for a reason, may be for a weaker one
+refused_weaker : (So Also : Refusal → Type 0) → ((why : Refusal) → So why → Also why) → (e : End) → IfRefused e So → IfRefused e Also
+refused_weaker So Also weaker finish.Done refused = tt
+refused_weaker So Also weaker (finish.Refused why) refused = weaker why refused
+refused_weaker So Also weaker (finish.Fault f) refused = tt
+refused_weaker So Also weaker (finish.Usage text) refused = tt
+
+ends_weaker : (So Also : Refusal → Type 0) → ((why : Refusal) → So why → Also why) → (e : End) → EndsReport So e → EndsReport Also e
+ends_weaker So Also weaker e ends =
+    record { refused = refused_weaker So Also weaker e ends.refused; fault = ends.fault; job = ends.job }
+
+-- the end of what is never refused may be that of any report
+pub ends_any : (So : Refusal → Type 0) (e : End) → EndsReport (λ _. ⊥) e → EndsReport So e
+ends_any So e ends = ends_weaker (λ _. ⊥) So (λ why none. absurd none) e ends
+
 module _ {S : Type 0} (g : Ghosts S) (old new : Held S) where
-  -- an absent journey may be refused
-  pub absent : (e : End) → IfRefused e IsNoJourney → IfRefused e (RefusesToShow g old new)
-  absent finish.Done refused = tt
-  absent (finish.Refused why) refused = subst (RefusesToShow g old new) (sym refused) tt
-  absent (finish.Fault f) refused = tt
-  absent (finish.Usage text) refused = tt
+  -- a report of what was opened is refused no more than its job
+  pub ends_begun : (asked : Report) (e : End) → EndsReport (RefusesAbsent asked) e → EndsReport (RefusesToShow g old new asked) e
+  ends_begun asked e ends =
+      ends_weaker (RefusesAbsent asked) (RefusesToShow g old new asked) (λ why absent. inl absent) e ends
 
   -- an opening that failed is refused where the version is unknown
-  refused_opening : (fault : OpenFault) → Tells g old new fault → IfRefused (end_of_open fault) (RefusesVersion g old new)
-  refused_opening (opening.UnknownSchema n) tells = tells
-  refused_opening opening.Store tells = tt
-  refused_opening opening.Memory tells = tt
+  refused_opening : (asked : Report) (fault : OpenFault) → Tells g old new fault
+      → EndsReport (RefusesToShow g old new asked) (end_of_open fault)
+  refused_opening asked (opening.UnknownSchema n) tells = record { refused = inr tells; fault = tt; job = tt }
+  refused_opening asked opening.Store tells = record { refused = tt; fault = tt; job = tt }
+  refused_opening asked opening.Memory tells = record { refused = tt; fault = tt; job = tt }
 
-  pub unopened : (fault : OpenFault) (e : End) → e ≡ end_of_open fault → Tells g old new fault
-      → IfRefused e (RefusesVersion g old new)
-  unopened fault e is tells = subst (λ x. IfRefused x (RefusesVersion g old new)) (sym is) (refused_opening fault tells)
+  pub ends_unopened : (asked : Report) (fault : OpenFault) (e : End) → e ≡ end_of_open fault → Tells g old new fault
+      → EndsReport (RefusesToShow g old new asked) e
+  ends_unopened asked fault e is tells =
+      subst (EndsReport (RefusesToShow g old new asked)) (sym is) (refused_opening asked fault tells)
 
-  -- the same, of a journey
-  refused_journey : (fault : OpenFault) → Tells g old new fault → IfRefused (end_of_open fault) (RefusesToShow g old new)
-  refused_journey (opening.UnknownSchema n) tells = tells
-  refused_journey opening.Store tells = tt
-  refused_journey opening.Memory tells = tt
+-- a fault, where nothing was written
+failed_report : (held : Option (List ℕ)) (asked : Report) (f : ProgramFault) (s : State) → Reports held held asked (finish.Fault f) s
+failed_report held (shown.Stock filter format) f s = λ rows stock. reported_none held _ (finish.Fault f) tt
+failed_report held (shown.Journeys name filter format) f s = reported_none held _ (finish.Fault f) tt
+failed_report held (shown.Holders cell format) f s = reported_none held _ (finish.Fault f) tt
+failed_report held (shown.Months months filter) f s = λ rows stock. reported_none held _ (finish.Fault f) tt
+failed_report held (shown.History id format) f s = reported_fault held _ (record_of s.ledger id) f
+failed_report held (shown.Why id format) f s = λ rows stock. reported_fault held _ (record_of s.ledger id) f
 
-  pub unopened_journey : (fault : OpenFault) (e : End) → e ≡ end_of_open fault → Tells g old new fault
-      → IfRefused e (RefusesToShow g old new)
-  unopened_journey fault e is tells =
-      subst (λ x. IfRefused x (RefusesToShow g old new)) (sym is) (refused_journey fault tells)
-
--- the fault of an opening is one of a report
-opening_fault : (fault : OpenFault) → IfFault (end_of_open fault) IsFaultOfReport
-opening_fault (opening.UnknownSchema n) = tt
-opening_fault opening.Store = tt
-opening_fault opening.Memory = tt
-
-pub unopened_fault : (fault : OpenFault) (e : End) → e ≡ end_of_open fault → IfFault e IsFaultOfReport
-unopened_fault fault e is = subst (λ x. IfFault x IsFaultOfReport) (sym is) (opening_fault fault)
+-- the opening failed, of a connection that stood for a state
+pub unopened_report : {S : Type 0} (g : Ghosts S) (old new : Held S) (held : Option (List ℕ)) (asked : Report) (fault : OpenFault)
+    (v : Version) (s : State)
+    → Tells g old new fault
+    → HasCleanDisk (state g new) → StoodFor v (state g old) s
+    → Reports held held asked (end_of_open fault) s
+unopened_report g old new held asked (opening.UnknownSchema n) v s tells clean stood = absurd (tells.2 clean v s stood)
+unopened_report g old new held asked opening.Store v s tells clean stood = failed_report held asked _ s
+unopened_report g old new held asked opening.Memory v s tells clean stood = failed_report held asked _ s

@@ -1,32 +1,34 @@
--- What was written of a report, and how its job ends. For the reports.
-use Rattle.std.proofs.Common.{◌≡◌, sym, subst, ℕ, List, Option, Result}
-use Rattle.std.specs.Prelude.{None, Some, Ok, Err, OnOk}
+-- What was written of a report, and how its job ends. For the job of a report.
+use Rattle.std.proofs.Common.{◌≡◌, false, refl, sym, subst, true, ℕ, List, Option, Result}
+use Rattle.std.specs.Prelude.{None, Some, Ok, Err, IsErr, OnOk}
 use Rattle.std.specs.Io.KnownBytes.{Appends, Keeps}
 use Rattle.sqlite.specs.Store.{Ghosts}
-use Rattle.sqlite.specs.Held.{Held, state}
-use Rattle.sqlite.specs.State.{HasCleanDisk}
-use Rattle.commands.specs.declared.items.Item.{Item}
-use Rattle.desk_sql.specs.declared.versions.Version.{Version}
+use Rattle.sqlite.specs.Held.{state}
+use Rattle.commands.specs.declared.replies.Refusal.TheVariants as refusal
 use Rattle.ledger.specs.Answer.{State}
-use Rattle.ledger.specs.Ledger.{history}
-use Rattle.saga_core.specs.Views.{record_of}
 use Rattle.saga_core.specs.declared.records.Record.{Record}
 use Rattle.streams.specs.Written.{WroteFront}
 use Rattle.streams.proofs.ByteLemmas.{appends_before, keeps_same}
 use Rattle.reports.proofs.FrontLemmas.{front_none, front_whole}
-use Rattle.reports.specs.Formats.{history_in}
 use Rattle.reports.specs.declared.faults.ReportFault.{ReportFault}
-use Rattle.reports.specs.declared.formats.Format.{Format}
-use Rattle.tables.specs.Keeping.{StoodFor}
-use Rattle.tables.specs.Opening.{Tells}
-use Rattle.tables.specs.declared.faults.OpenFault.{OpenFault}
-use Rattle.tables.specs.declared.faults.OpenFault.TheVariants as opening
+use Rattle.sql_model.proofs.Quieting.{quiet_keeps}
+use Rattle.tables.specs.Keeping.{KeepsIn}
+use Rattle.tables.specs.Lending.{IsOnlyRead}
+use Rattle.tables.specs.declared.opening.Opened.{Opened}
 use Rattle.program_ends.specs.Ends.{EndsBadly, IfDone, IsNotRefused}
 use Rattle.program_ends.specs.declared.ends.End.{End}
 use Rattle.program_ends.specs.declared.ends.End.TheVariants as finish
 use Rattle.program_ends.specs.declared.faults.ProgramFault.{ProgramFault}
-use Rattle.openings.specs.Ends.{end_of_open}
-use Rattle.report_jobs.specs.Reporting.{ReportsHistory, ReportsJourney, ReportsText, WritesText, end_of_report}
+use Rattle.report_jobs.specs.Jobs.{EndsReport}
+use Rattle.report_jobs.specs.Reporting.{IsDeskIn, ReportsIfThere, ReportsText, WritesText, end_of_report}
+
+-- what was opened still keeps the state after it was only read
+pub still_in : {S : Type 0} (g : Ghosts S) (old new : Opened S) (s : State) → IsOnlyRead g old new → IsDeskIn g old s → IsDeskIn g new s
+still_in g old new s read is = record {
+  desk = is.desk;
+  keeps = subst (λ v. KeepsIn v (state g new.conn) s) (sym read.version)
+      (quiet_keeps g old.conn new.conn read.quiet old.version s is.keeps);
+}
 
 -- what holds, holds where there was no fault
 on_ok : {T E P : Type 0} (r : Result T E) → P → OnOk r P
@@ -48,25 +50,25 @@ module _ (held : Option (List ℕ)) (text : List ℕ) where
       let all = appends_before held mid holds text sent kept in
       record { whole = on_ok r all; front = front_whole held holds text all }
 
-  -- a prefix of the text was written, and a fault came
-  pub wrote_front : {T : Type 0} (holds : Option (List ℕ)) (f : ReportFault) → WroteFront held holds text
-      → WritesText held holds text {T = T} (Err f)
-  wrote_front holds f front = record { whole = tt; front = front }
+  -- nothing was written, and a fault came
+  pub wrote_none : {T : Type 0} (f : ReportFault) → WritesText held held text {T = T} (Err f)
+  wrote_none f = record { whole = tt; front = front_none held text }
+
+  -- a prefix of it was written, and a fault came
+  pub wrote_front : {T : Type 0} (holds : Option (List ℕ)) (r : Result T ReportFault) → IsErr r → WroteFront held holds text
+      → WritesText held holds text r
+  wrote_front holds (Ok x) failed front = let no : false ≡ true = failed in absurd (cc)
+  wrote_front holds (Err f) failed front = record { whole = tt; front = front }
 
   -- nothing was written, and the job ended badly
   pub reported_none : (e : End) → EndsBadly e → ReportsText held held text e
   reported_none e bad = record { whole = if_done _ e bad; front = front_none held text }
 
--- the end of a result
+-- what was written is reported by the end
 done_if_ok : {T : Type 0} (P : Type 0) (r : Result T ReportFault) → OnOk r P → IfDone (end_of_report r) P
 done_if_ok P (Ok done) holds = holds
 done_if_ok P (Err f) holds = tt
 
-pub not_refused : {T : Type 0} (r : Result T ReportFault) → IsNotRefused (end_of_report r)
-not_refused (Ok done) = tt
-not_refused (Err f) = tt
-
--- what was written is reported by the end
 pub reported : {T : Type 0} (held holds : Option (List ℕ)) (text : List ℕ) (r : Result T ReportFault) (e : End)
     → e ≡ end_of_report r
     → WritesText held holds text r → ReportsText held holds text e
@@ -74,39 +76,31 @@ reported held holds text r e is wrote =
     subst (ReportsText held holds text) (sym is)
     (record { whole = done_if_ok _ r wrote.whole; front = wrote.front })
 
--- The history of a journey.
+-- The report of a journey, if there is one of its number.
 
-module _ (held holds : Option (List ℕ)) (format : Format) (id : ℕ) where
-  -- the journey that is there, and its history
-  pub reported_journey : {T : Type 0} (s : State) (shown : Option Record) (journey : Record) (r : Result T ReportFault)
-      (e : End)
-      → shown ≡ record_of s.ledger id
-      → shown ≡ Some journey
-      → e ≡ end_of_report r
-      → WritesText held holds (history_in format id journey (history s.ledger id)) r
-      → ReportsHistory held holds format id e s
-  reported_journey s shown journey r e of is end wrote =
-      subst (λ found. ReportsJourney held holds format id (history s.ledger id) found e) of
-      (subst (λ found. ReportsJourney held holds format id (history s.ledger id) found e) (sym is)
-      (subst IsNotRefused (sym end) (not_refused r), reported held holds _ r e end wrote))
+never_refused : (e : End) → EndsReport (λ _. ⊥) e → IsNotRefused e
+never_refused finish.Done ends = tt
+never_refused (finish.Refused why) ends = ends.refused
+never_refused (finish.Fault f) ends = tt
+never_refused (finish.Usage text) ends = tt
 
--- a fault, where nothing was written
-failed_journey : (held : Option (List ℕ)) (format : Format) (id : ℕ) (items : List Item) (shown : Option Record) (f : ProgramFault)
-    → ReportsJourney held held format id items shown (finish.Fault f)
-failed_journey held format id items None f = keeps_same held
-failed_journey held format id items (Some journey) f = (tt, reported_none held _ (finish.Fault f) tt)
+-- there is one
+pub reported_there : (held holds : Option (List ℕ)) (text : Record → List ℕ) (found : Option Record) (journey : Record) (e : End)
+    → found ≡ Some journey → EndsReport (λ _. ⊥) e → ReportsText held holds (text journey) e
+    → ReportsIfThere held holds text found e
+reported_there held holds text found journey e is ends told =
+    subst (λ o. ReportsIfThere held holds text o e) (sym is) (never_refused e ends, told)
 
-pub failed_history : (held : Option (List ℕ)) (format : Format) (id : ℕ) (f : ProgramFault) (s : State)
-    → ReportsHistory held held format id (finish.Fault f) s
-failed_history held format id f s = failed_journey held format id (history s.ledger id) (record_of s.ledger id) f
+module _ (held : Option (List ℕ)) (text : Record → List ℕ) (found : Option Record) where
+  -- there is none
+  pub reported_absent : found ≡ None → ReportsIfThere held held text found (finish.Refused refusal.NoJourney)
+  reported_absent none =
+      subst (λ o. ReportsIfThere held held text o (finish.Refused refusal.NoJourney)) (sym none) (refl, keeps_same held)
 
--- the opening failed, of a connection that stood for a state
-pub unopened_history : {S : Type 0} (g : Ghosts S) (old new : Held S) (held : Option (List ℕ)) (format : Format)
-    (id : ℕ) (fault : OpenFault) (v : Version) (s : State)
-    → Tells g old new fault
-    → HasCleanDisk (state g new) → StoodFor v (state g old) s
-    → ReportsHistory held held format id (end_of_open fault) s
-unopened_history g old new held format id (opening.UnknownSchema n) v s tells clean stood =
-    absurd (tells.2 clean v s stood)
-unopened_history g old new held format id opening.Store v s tells clean stood = failed_history held format id _ s
-unopened_history g old new held format id opening.Memory v s tells clean stood = failed_history held format id _ s
+  -- a fault, where nothing was written
+  pub reported_fault : (f : ProgramFault) → ReportsIfThere held held text found (finish.Fault f)
+  reported_fault f = either found
+    where
+      either : (o : Option Record) → ReportsIfThere held held text o (finish.Fault f)
+      either None = keeps_same held
+      either (Some journey) = (tt, reported_none held (text journey) (finish.Fault f) tt)

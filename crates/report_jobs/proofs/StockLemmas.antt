@@ -1,7 +1,7 @@
--- The cells that are asked for, kind after kind, are those that are asked for; and the parts of their report are the report.
--- For `write_stock`.
+-- The cells that are asked for, kind after kind, are those that are asked for; and their report in its parts. For `write_stock`
+-- and `write_kinds`.
 use Rattle.std.proofs.Common.{◌≡◌, ℕ, suc, ◌+◌, ◌<◌, ◌≤◌, ◌==◌, ◌&&◌, List, [], ◌∷◌, ◌++◌, filter, cond, length, Bool, true, false, Option, Ordering, Less, Equal, Greater, is_lt, nat_cmp, refl, sym, ap, ap₂, subst, ◌∙◌, arith, append_assoc, eqb-true}
-use Rattle.std.specs.Prelude.{codes, nat_le}
+use Rattle.std.specs.Prelude.{codes, nat_le, IsErr, Result, Ok, Err}
 use Rattle.std.specs.List.{AllByRecursion, flat_map}
 use Rattle.std.specs.Ordering.{ordering_then}
 use Rattle.std.specs.Io.KnownBytes.{Appends}
@@ -18,35 +18,17 @@ use Rattle.filters.specs.CellFilters.{is_cell_asked, is_cell_of, is_kind_asked, 
 use Rattle.filters.specs.declared.cells.CellFilter.{CellFilter}
 use Rattle.reports.specs.Formats.{last_line, stock_head, stock_in, stock_row}
 use Rattle.reports.specs.declared.formats.Format.{Format}
-use Rattle.reports.proofs.FrontLemmas.{front_after, front_before}
+use Rattle.reports.proofs.FrontLemmas.{front_after, front_before, front_whole}
 use Rattle.saga_core.specs.Views.{are_in_order, cell_cmp}
 use Rattle.streams.specs.Written.{WroteFront}
 use Rattle.streams.proofs.ByteLemmas.{appends_more}
-use Rattle.report_jobs.specs.Reporting.{asked_cells, cells_of_kind}
-
--- Parts of a text.
-
--- the text up to this rest was written
-pub record WroteUpTo (held now : Option (List ℕ)) (rest text : List ℕ) : Type 0 where
-  pub done : List ℕ
-  pub sent : Appends held now done
-  pub whole : text ≡ done ++ rest
-
-module _ (held : Option (List ℕ)) (text : List ℕ) where
-  -- one more part was written
-  pub one_more : (mid now : Option (List ℕ)) (part rest : List ℕ) → WroteUpTo held mid (part ++ rest) text → Appends mid now part
-      → WroteUpTo held now rest text
-  one_more mid now part rest at sent = record {
-    done = at.done ++ part;
-    sent = appends_more held mid now at.done part at.sent sent;
-    whole = at.whole ∙ sym (append_assoc at.done part rest);
-  }
-
-  -- of one more part a prefix was written
-  pub broken_off : (mid now : Option (List ℕ)) (part rest : List ℕ) → WroteUpTo held mid (part ++ rest) text → WroteFront mid now part
-      → WroteFront held now text
-  broken_off mid now part rest at front =
-      subst (WroteFront held now) (sym at.whole) (front_after held mid now at.done (part ++ rest) at.sent (front_before mid now part rest front))
+use Rattle.reports.specs.declared.faults.ReportFault.{ReportFault}
+use Rattle.report_rows.specs.declared.progress.Progress.{Progress}
+use Rattle.desk_sql.proofs.Quieting.{quiet_twice}
+use Rattle.sql_model.proofs.Quieting.{quiet_clean, quiet_keeps}
+use Rattle.sqlite.specs.Store.{Ghosts}
+use Rattle.sqlite.specs.Held.{Held}
+use Rattle.report_jobs.specs.Reporting.{asked_cells, cells_of_kind, ShowsCells, WritesCells}
 
 -- Kinds.
 
@@ -198,70 +180,102 @@ length_append (x ∷ xs) ys =
     let rest = length_append xs ys in
     let e : suc (length (xs ++ ys)) ≡ suc (length xs) + length ys = omega (arith, rest) in e
 
--- the report in its parts
-pub in_parts : (format : Format) (a b c d all : List (Cell × Places)) → all ≡ a ++ (b ++ (c ++ d))
-    → stock_in format all
-    ≡ stock_head format
-    ++ (flat_map (stock_row format) a ++ (flat_map (stock_row format) b ++ (flat_map (stock_row format) c ++ (flat_map (stock_row format) d
-    ++ last_line format (codes "cells") (length all)))))
-in_parts format a b c d all is =
-    let f = stock_row format in
-    let ending = last_line format (codes "cells") (length all) in
-    let rows : flat_map f all ≡ flat_map f a ++ (flat_map f b ++ (flat_map f c ++ flat_map f d)) =
-    ap (flat_map f) is ∙ flat_append f a (b ++ (c ++ d))
-    ∙ ap (λ more. flat_map f a ++ more) (flat_append f b (c ++ d) ∙ ap (λ more. flat_map f b ++ more) (flat_append f c d)) in
-    ap (λ t. stock_head format ++ t ++ ending) rows ∙ simp append_assoc
+-- The report in its parts: the head, the lines of its cells, the ending.
 
--- so many cells there are
-pub count_of : (a b c d all : List (Cell × Places)) (na nb nc nd : ℕ) → all ≡ a ++ (b ++ (c ++ d)) → na ≡ length a + 0 → nb ≡ length b + na
-    → nc ≡ length c + nb → nd ≡ length d + nc → nd ≡ length all
-count_of a b c d all na nb nc nd is one two three four =
-    let sum : length all ≡ length a + (length b + (length c + length d)) =
-    ap length is ∙ length_append a (b ++ (c ++ d)) ∙ ap (λ n. length a + n) (length_append b (c ++ d) ∙ ap (λ n. length b + n) (length_append c d)) in
-    omega (arith, sum, one, two, three, four)
+module _ (format : Format) (cells : List (Cell × Places)) where
+  abbrev lines : List ℕ
+  lines = flat_map (stock_row format) cells
 
--- The report of these cells, kind after kind.
-module _ (held : Option (List ℕ)) (format : Format) (f : CellFilter) (rows : List (Cell × Places)) (order : are_in_order rows ≡ true) where
-  abbrev pub lines_of : Kind → List ℕ
-  lines_of kind = flat_map (stock_row format) (cells_of_kind kind f rows)
+  abbrev ending : List ℕ
+  ending = last_line format (codes "cells") (length cells)
 
-  abbrev pub text : List ℕ
-  text = stock_in format (asked_cells f rows)
+  pub head_front : (held now : Option (List ℕ)) → WroteFront held now (stock_head format) → WroteFront held now (stock_in format cells)
+  head_front held now front =
+      front_before held now (stock_head format ++ lines) ending (front_before held now (stock_head format) lines front)
 
-  -- what comes last, and what comes after each kind
-  abbrev pub ending : List ℕ
-  ending = last_line format (codes "cells") (length (asked_cells f rows))
+  module _ (held mid : Option (List ℕ)) (sent : Appends held mid (stock_head format)) where
+    pub lines_front : (now : Option (List ℕ)) → WroteFront mid now lines → WroteFront held now (stock_in format cells)
+    lines_front now front =
+        front_before held now (stock_head format ++ lines) ending (front_after held mid now (stock_head format) lines sent front)
 
-  abbrev pub after_transfers : List ℕ
-  after_transfers = lines_of Cover ++ ending
+    pub ending_front : (late now : Option (List ℕ)) → Appends mid late lines → WroteFront late now ending → WroteFront held now (stock_in format cells)
+    ending_front late now wrote front =
+        front_after held late now (stock_head format ++ lines) ending (appends_more held mid late (stock_head format) lines sent wrote) front
 
-  abbrev pub after_rooms : List ℕ
-  after_rooms = lines_of Transfer ++ after_transfers
+    pub all_written : (late now : Option (List ℕ)) → Appends mid late lines → Appends late now ending → Appends held now (stock_in format cells)
+    all_written late now wrote ended =
+        appends_more held late now (stock_head format ++ lines) ending (appends_more held mid late (stock_head format) lines sent wrote) ended
 
-  abbrev pub after_flights : List ℕ
-  after_flights = lines_of Room ++ after_rooms
+-- Lines that are written one list of cells after another.
 
-  abbrev pub after_head : List ℕ
-  after_head = lines_of Flight ++ after_flights
+module _ (held half holds : Option (List ℕ)) (format : Format) (xs ys : List (Cell × Places)) (before between : Progress) where
+  writes_both : (result : Result Progress ReportFault) → WritesCells held half format xs before (Ok between)
+      → WritesCells half holds format ys between result → WritesCells held holds format (xs ++ ys) before result
+  writes_both (Err fault) one two = record {
+    whole = tt;
+    front = subst (WroteFront held holds) (sym (flat_append (stock_row format) xs ys))
+        (front_after held half holds (flat_map (stock_row format) xs) (flat_map (stock_row format) ys) one.whole two.front);
+    going = tt;
+    counted = tt;
+  }
+  writes_both (Ok after) one two =
+      let all : Appends held holds (flat_map (stock_row format) (xs ++ ys)) =
+      subst (Appends held holds) (sym (flat_append (stock_row format) xs ys))
+      (appends_more held half holds (flat_map (stock_row format) xs) (flat_map (stock_row format) ys) one.whole two.whole) in
+      record {
+        whole = all;
+        front = front_whole held holds _ all;
+        going = two.going;
+        counted = (let first : between.given ≡ length xs + before.given = one.counted in
+            let second : after.given ≡ length ys + between.given = two.counted in
+            let e : after.given ≡ length (xs ++ ys) + before.given = omega (arith, first, second, length_append xs ys) in e);
+      }
 
-  parts : text ≡ stock_head format ++ after_head
-  parts =
-      in_parts format (cells_of_kind Flight f rows) (cells_of_kind Room f rows) (cells_of_kind Transfer f rows) (cells_of_kind Cover f rows)
-      (asked_cells f rows) (by_kinds f rows order)
+writes_less : (held holds : Option (List ℕ)) (format : Format) (cells : List (Cell × Places)) (before : Progress) (result : Result Progress ReportFault)
+    → IsErr result → WroteFront held holds (flat_map (stock_row format) cells) → WritesCells held holds format cells before result
+writes_less held holds format cells before (Ok after) failed front = let no : false ≡ true = failed in absurd (cc)
+writes_less held holds format cells before (Err fault) failed front = record { whole = tt; front = front; going = tt; counted = tt }
 
-  pub head_written : (now : Option (List ℕ)) → Appends held now (stock_head format) → WroteUpTo held now after_head text
-  head_written now sent = record { done = stock_head format; sent = sent; whole = parts }
+module _ {S : Type 0} (g : Ghosts S) (format : Format) where
+  -- one more list of cells was shown
+  pub shows_both : {old mid new : Held S} {held half holds : Option (List ℕ)} {one two : List (Cell × Places) → List (Cell × Places)}
+      {before between : Progress} {result : Result Progress ReportFault}
+      → ShowsCells g old mid held half format one before (Ok between)
+      → ShowsCells g mid new half holds format two between result
+      → ShowsCells g old new held holds format (λ all. one all ++ two all) before result
+  shows_both {old} {mid} {new} {held} {half} {holds} {one} {two} {before} {between} {result} first second = record {
+    told = λ clean v s desk keeps going all stock. (
+        let wrote = first.told (quiet_clean g mid new second.quiet clean) v s desk keeps going all stock in
+        writes_both held half holds format (one all) (two all) before between result wrote
+        (second.told clean v s desk (quiet_keeps g old mid first.quiet v s keeps) wrote.going all stock));
+    quiet = quiet_twice g old mid new first.quiet second.quiet;
+  }
 
-  pub head_begun : (now : Option (List ℕ)) → WroteFront held now (stock_head format) → WroteFront held now text
-  head_begun now front = subst (WroteFront held now) (sym parts) (front_before held now (stock_head format) after_head front)
+  -- a fault came before the next one
+  pub shows_less : {old new : Held S} {held holds : Option (List ℕ)} {one : List (Cell × Places) → List (Cell × Places)}
+      {before : Progress} {result : Result Progress ReportFault} (two : List (Cell × Places) → List (Cell × Places))
+      (after : Result Progress ReportFault) → IsErr after
+      → ShowsCells g old new held holds format one before result
+      → ShowsCells g old new held holds format (λ all. one all ++ two all) before after
+  shows_less {old} {new} {held} {holds} {one} {before} {result} two after failed first = record {
+    told = λ clean v s desk keeps going all stock. writes_less held holds format (one all ++ two all) before after failed
+        (subst (WroteFront held holds) (sym (flat_append (stock_row format) (one all) (two all)))
+        (front_before held holds (flat_map (stock_row format) (one all)) (flat_map (stock_row format) (two all))
+        (first.told clean v s desk keeps going all stock).front));
+    quiet = first.quiet;
+  }
 
-  -- a prefix of the ending was written
-  pub ending_begun : (mid now : Option (List ℕ)) → WroteUpTo held mid ending text → WroteFront mid now ending → WroteFront held now text
-  ending_begun mid now at front = subst (WroteFront held now) (sym at.whole) (front_after held mid now at.done ending at.sent front)
-
-  -- the ending was written too
-  pub all_written : (mid now : Option (List ℕ)) → WroteUpTo held mid ending text → Appends mid now ending → Appends held now text
-  all_written mid now at sent = subst (Appends held now) (sym at.whole) (appends_more held mid now at.done ending at.sent sent)
+  -- those of the four kinds are those that are asked for
+  pub shows_asked : {old new : Held S} {held holds : Option (List ℕ)} {before : Progress} {result : Result Progress ReportFault}
+      (f : CellFilter)
+      → ShowsCells g old new held holds format
+      (λ all. cells_of_kind Flight f all ++ (cells_of_kind Room f all ++ (cells_of_kind Transfer f all ++ cells_of_kind Cover f all))) before result
+      → ShowsCells g old new held holds format (asked_cells f) before result
+  shows_asked {old} {new} {held} {holds} {before} {result} f shows = record {
+    told = λ clean v s desk keeps going all stock. subst (λ cells. WritesCells held holds format cells before result)
+        (sym (by_kinds f all stock.in_order)) (shows.told clean v s desk keeps going all stock);
+    quiet = shows.quiet;
+  }
 
 -- The cells of one kind.
 

@@ -1,10 +1,9 @@
--- The nights of a want by the cells that a filter lets through, and the end of the report of a journey. For the report
--- of why a journey goes on or does not.
-use Rattle.std.proofs.Common.{◌≡◌, ℕ, zero, suc, ◌+◌, ◌-◌, ◌<◌, ◌≤◌, List, [], ◌∷◌, map, filter, find, cond, refl, ap, ap₂, sym, ◌∙◌, subst, arith, eq-eqb, true, false, Bool, Option}
+-- The nights of a want by the cells that a filter lets through. For the report of why a journey goes on or does not.
+use Rattle.std.proofs.Common.{◌≡◌, ℕ, zero, suc, ◌+◌, ◌-◌, ◌<◌, ◌≤◌, List, [], ◌∷◌, map, filter, find, cond, refl, ap, ap₂, sym, ◌∙◌, arith, eq-eqb, true, false, Bool}
 use Rattle.std.proofs.lemmas.Bool.{and_from, and_parts, le-leb}
 use Rattle.std.proofs.lemmas.List.Folds.{list_all-map}
 use Rattle.std.proofs.lemmas.Slice.Eq.{bytes_eq-Decides}
-use Rattle.std.specs.Prelude.{Some, None, if◌then◌else◌, option_map, Result}
+use Rattle.std.specs.Prelude.{Some, None, if◌then◌else◌, option_map}
 use Rattle.std.specs.List.{list_all}
 use Rattle.allotment.specs.Cells.{cell_at, cells_of, is_cell, kind_number, numbers_from}
 use Rattle.allotment.specs.Limits.{is_night}
@@ -12,38 +11,13 @@ use Rattle.allotment.specs.Texts.{keep_if}
 use Rattle.allotment.specs.Want.{Wanted}
 use Rattle.allotment.specs.declared.cells.Cell.{Cell}
 use Rattle.allotment.specs.declared.places.Held.{Held as Places}
-use Rattle.commands.specs.declared.replies.Refusal.TheVariants as refusal
 use Rattle.filters.specs.CellFilters.{is_cell_of, is_from, is_name_asked, is_to}
 use Rattle.filters.specs.declared.cells.CellFilter.{CellFilter}
-use Rattle.ledger.specs.Answer.{State}
 use Rattle.ledger.specs.Ledger.{Event}
 use Rattle.ledger.proofs.Cells.{is_cell-same}
-use Rattle.saga_core.specs.Views.{IsStock, places_at, places_of, places_said, record_of}
-use Rattle.saga_core.specs.declared.records.Record.{Record}
-use Rattle.outlooks.specs.Layouts.{why_of}
+use Rattle.saga_core.specs.Views.{IsStock, places_at, places_of, places_said}
 use Rattle.outlooks.specs.Nights.{night_with, nights_in, nights_of}
-use Rattle.outlooks.specs.Outlooks.{begun_as}
-use Rattle.program_ends.specs.declared.ends.End.{End}
-use Rattle.program_ends.specs.declared.ends.End.TheVariants as finish
-use Rattle.program_ends.specs.declared.faults.ProgramFault.{ProgramFault}
-use Rattle.reports.specs.declared.faults.ReportFault.{ReportFault}
-use Rattle.reports.specs.declared.formats.Format.{Format}
-use Rattle.streams.proofs.ByteLemmas.{keeps_same}
-use Rattle.desk_sql.specs.declared.versions.Version.{Version}
-use Rattle.sqlite.specs.Store.{Ghosts}
-use Rattle.sqlite.specs.Held.{Held, state}
-use Rattle.sqlite.specs.State.{HasCleanDisk}
-use Rattle.tables.specs.Keeping.{StoodFor}
-use Rattle.tables.specs.Opening.{Tells}
-use Rattle.tables.specs.declared.faults.OpenFault.{OpenFault}
-use Rattle.tables.specs.declared.faults.OpenFault.TheVariants as opening
-use Rattle.program_ends.specs.Ends.{IsNotRefused}
-use Rattle.openings.specs.Ends.{end_of_open}
-use Rattle.report_jobs.specs.Reporting.{WritesText, end_of_report}
-use Rattle.report_jobs.specs.Whys.{LetsCellsOf, ReportsOutlook, ReportsWhy}
-use Rattle.report_jobs.proofs.ReportLemmas.{not_refused, reported, reported_none}
-
--- The cells of a want.
+use Rattle.report_jobs.specs.Whys.{LetsCellsOf}
 
 -- each number of a range is within it
 each_number : (test : ℕ → Bool) (first n : ℕ) → ((k : ℕ) → first ≤ k → k < first + n → test k ≡ true)
@@ -106,43 +80,3 @@ nights-asked l w f stock is lets = each (cells_of w) lets
     each (x ∷ xs) all =
         let both = and_parts (is_cell_of w.kind f x) (list_all (is_cell_of w.kind f) xs) all in
         ap₂ (λ n later. n ∷ later) (ap (night_with x) (listed x both.0 ∙ is.each x)) (each xs both.1)
-
--- The end of the report.
-
-module _ (held holds : Option (List ℕ)) (format : Format) (id : ℕ) (s : State) where
-  -- a journey that is there
-  pub reported_why : {T : Type 0} (journey : Record) (r : Result T ReportFault) (e : End)
-      → record_of s.ledger id ≡ Some journey → e ≡ end_of_report r
-      → WritesText held holds (why_of format s.ledger id (begun_as journey)) r
-      → ReportsOutlook held holds format s.ledger id (record_of s.ledger id) e
-  reported_why journey r e found end wrote =
-      subst (λ o. ReportsOutlook held holds format s.ledger id o e) (sym found)
-      (subst IsNotRefused (sym end) (not_refused r), reported held holds _ r e end wrote)
-
--- one that is absent
-pub absent_why : (held : Option (List ℕ)) (format : Format) (id : ℕ) (s : State) → record_of s.ledger id ≡ None
-    → ReportsOutlook held held format s.ledger id (record_of s.ledger id) (finish.Refused refusal.NoJourney)
-absent_why held format id s none =
-    subst (λ o. ReportsOutlook held held format s.ledger id o (finish.Refused refusal.NoJourney)) (sym none)
-    (refl, keeps_same held)
-
--- a fault, where nothing was written
-failed_outlook : (held : Option (List ℕ)) (format : Format) (l : List Event) (id : ℕ) (o : Option Record) (f : ProgramFault)
-    → ReportsOutlook held held format l id o (finish.Fault f)
-failed_outlook held format l id None f = keeps_same held
-failed_outlook held format l id (Some journey) f = (tt, reported_none held _ (finish.Fault f) tt)
-
-pub failed_why : (held : Option (List ℕ)) (format : Format) (id : ℕ) (f : ProgramFault) (s : State)
-    → ReportsWhy held held format id (finish.Fault f) s
-failed_why held format id f s rows stock = failed_outlook held format s.ledger id (record_of s.ledger id) f
-
--- the opening failed, of a connection that stood for a state
-pub unopened_why : {S : Type 0} (g : Ghosts S) (old new : Held S) (held : Option (List ℕ)) (format : Format)
-    (id : ℕ) (fault : OpenFault) (v : Version) (s : State)
-    → Tells g old new fault
-    → HasCleanDisk (state g new) → StoodFor v (state g old) s
-    → ReportsWhy held held format id (end_of_open fault) s
-unopened_why g old new held format id (opening.UnknownSchema n) v s tells clean stood =
-    absurd (tells.2 clean v s stood)
-unopened_why g old new held format id opening.Store v s tells clean stood = failed_why held format id _ s
-unopened_why g old new held format id opening.Memory v s tells clean stood = failed_why held format id _ s

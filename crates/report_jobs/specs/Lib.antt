@@ -1,3 +1,3 @@
-pub mod Holding
+pub mod Jobs
 pub mod Reporting
 pub mod Whys

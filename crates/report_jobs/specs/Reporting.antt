@@ -3,20 +3,24 @@ use Rattle.std.specs.Prelude.{◌≡◌, ◌==◌, ◌&&◌, ◌+◌, ⊤, ℕ, 
 use Rattle.std.specs.List.{flat_map}
 use Rattle.std.specs.Io.KnownBytes.{Appends, Keeps}
 use Rattle.sqlite.specs.Store.{Ghosts}
-use Rattle.sqlite.specs.Held.{Held}
+use Rattle.sqlite.specs.Held.{Held, state}
+use Rattle.sqlite.specs.State.{HasCleanDisk}
 use Rattle.allotment.specs.Cells.{kind_number}
 use Rattle.allotment.specs.declared.cells.Cell.{Cell}
 use Rattle.allotment.specs.declared.codes.Kind.{Kind}
 use Rattle.allotment.specs.declared.places.Held.{Held as Places}
-use Rattle.commands.specs.declared.items.Item.{Item}
 use Rattle.commands.specs.declared.replies.Refusal.{Refusal}
 use Rattle.commands.specs.declared.replies.Refusal.TheVariants as refusal
+use Rattle.desk_sql.specs.Calls.{Quiet}
+use Rattle.desk_sql.specs.declared.versions.Version.{Version}
 use Rattle.ledger.specs.Answer.{State}
 use Rattle.ledger.specs.Ledger.{history}
 use Rattle.filters.specs.CellFilters.{is_cell_asked}
 use Rattle.filters.specs.JourneyFilters.{asked_of}
 use Rattle.filters.specs.declared.cells.CellFilter.{CellFilter}
 use Rattle.filters.specs.declared.journeys.JourneyFilter.{JourneyFilter}
+use Rattle.holder_reports.specs.Holders.{holders_of}
+use Rattle.holder_reports.specs.Layouts.{holders_in}
 use Rattle.saga_core.specs.Views.{IsStock, record_of}
 use Rattle.saga_core.specs.declared.records.Record.{Record}
 use Rattle.reports.specs.Formats.{history_in, journeys_in, stock_in, stock_row}
@@ -28,6 +32,7 @@ use Rattle.month_reports.specs.declared.by_month.MonthReport.{MonthReport}
 use Rattle.streams.specs.Written.{WroteFront}
 use Rattle.sql_model.specs.Standing.{IsDesk}
 use Rattle.report_rows.specs.declared.progress.Progress.{Progress}
+use Rattle.tables.specs.Keeping.{KeepsIn}
 use Rattle.tables.specs.Lending.{OpenedKeeps}
 use Rattle.tables.specs.Opening.{Tells}
 use Rattle.tables.specs.declared.faults.OpenFault.TheVariants as opening
@@ -53,11 +58,6 @@ module _ {S : Type 0} (g : Ghosts S) (old new : Held S) where
   abbrev pub RefusesVersion : Refusal → Type 0
   RefusesVersion (refusal.UnknownSchema n) = Tells g old new (opening.UnknownSchema n)
   RefusesVersion _ = ⊥
-
-  -- the refusal names such a version, or is that there is no such journey
-  abbrev pub RefusesToShow : Refusal → Type 0
-  RefusesToShow refusal.NoJourney = ⊤
-  RefusesToShow why = RefusesVersion why
 
 -- the end of a report that was begun: it was written, or a fault came
 abbrev pub end_of_report : {T : Type 0} → Result T ReportFault → End
@@ -113,6 +113,10 @@ module _ (held holds : Option (List ℕ)) where
       (rows : List (Cell × Places)) → IsStock s.ledger rows
       → ReportsText (months_in report (asked_months f rows)) e
 
+  -- the report of the holders of a cell
+  abbrev pub ReportsHolders : Format → Cell → End → State → Type 0
+  ReportsHolders format x e s = ReportsText (holders_in format (holders_of s.ledger x)) e
+
   -- the report of the journeys that are asked for, in order of number
   abbrev pub WritesJourneys : {T : Type 0} → JourneyReport → Format → JourneyFilter
       → Result T ReportFault → State → Type 0
@@ -127,12 +131,21 @@ module _ (held holds : Option (List ℕ)) where
   ReportsNone (finish.Refused why) = (why ≡ refusal.NoJourney) × Keeps held holds
   ReportsNone _ = Keeps held holds
 
-  -- the report of the history of a journey, if there is one of this number
-  abbrev pub ReportsJourney : Format → ℕ → List Item → Option Record → End → Type 0
-  ReportsJourney format id items None e = ReportsNone e
-  ReportsJourney format id items (Some journey) e =
-      IsNotRefused e × ReportsText (history_in format id journey items) e
+  -- the report of a journey, by its text, if there is one of this number
+  abbrev pub ReportsIfThere : (Record → List ℕ) → Option Record → End → Type 0
+  ReportsIfThere text None e = ReportsNone e
+  ReportsIfThere text (Some journey) e = IsNotRefused e × ReportsText (text journey) e
 
+  -- the report of the history of a journey
   abbrev pub ReportsHistory : Format → ℕ → End → State → Type 0
   ReportsHistory format id e s =
-      ReportsJourney format id (history s.ledger id) (record_of s.ledger id) e
+      ReportsIfThere (λ journey. history_in format id journey (history s.ledger id)) (record_of s.ledger id) e
+
+module _ {S : Type 0} (g : Ghosts S) (old new : Held S) (held holds : Option (List ℕ)) where
+  -- of a stock that the connection kept, the lines of such cells were written and counted; the connection was only read
+  pub record ShowsCells (format : Format) (asked : List (Cell × Places) → List (Cell × Places)) (before : Progress)
+      (result : Result Progress ReportFault) : Type 0 where
+    pub told : HasCleanDisk (state g new) → (v : Version) (s : State) → IsDesk s → KeepsIn v (state g old) s
+        → before.failed ≡ false → (all : List (Cell × Places)) → IsStock s.ledger all
+        → WritesCells held holds format (asked all) before result
+    pub quiet : Quiet g old new

@@ -1,5 +1,5 @@
 -- What the report of why a journey goes on or does not writes of a desk.
-use Rattle.std.specs.Prelude.{◌≡◌, ℕ, true, List, Option, None, Some}
+use Rattle.std.specs.Prelude.{◌≡◌, ℕ, true, List, Option}
 use Rattle.std.specs.List.{list_all}
 use Rattle.allotment.specs.Cells.{cells_of}
 use Rattle.allotment.specs.Want.{Wanted}
@@ -11,26 +11,18 @@ use Rattle.ledger.specs.Answer.{State}
 use Rattle.ledger.specs.Ledger.{Event}
 use Rattle.outlooks.specs.Layouts.{why_of}
 use Rattle.outlooks.specs.Outlooks.{begun_as, nights_ahead, outlook_of}
-use Rattle.program_ends.specs.Ends.{IsNotRefused}
 use Rattle.program_ends.specs.declared.ends.End.{End}
 use Rattle.reports.specs.declared.formats.Format.{Format}
 use Rattle.saga_core.specs.Views.{IsStock, record_of}
 use Rattle.saga_core.specs.declared.records.Record.{Record}
-use Rattle.report_jobs.specs.Reporting.{ReportsNone, ReportsText}
+use Rattle.report_jobs.specs.Reporting.{ReportsIfThere}
 use Rattle.report_jobs.specs.declared.whys.Seen.{Seen}
 
-module _ (held holds : Option (List ℕ)) where
-  -- the report of a journey, if there is one of this number
-  abbrev pub ReportsOutlook : Format → List Event → ℕ → Option Record → End → Type 0
-  ReportsOutlook format l id None e = ReportsNone held holds e
-  ReportsOutlook format l id (Some journey) e =
-      IsNotRefused e × ReportsText held holds (why_of format l id (begun_as journey)) e
-
-  -- the same, by the places of each cell that has an allotment
-  abbrev pub ReportsWhy : Format → ℕ → End → State → Type 0
-  ReportsWhy format id e s =
-      (rows : List (Cell × Places)) → IsStock s.ledger rows
-      → ReportsOutlook format s.ledger id (record_of s.ledger id) e
+-- the report of a journey, by the places of each cell that has an allotment
+abbrev pub ReportsWhy : Option (List ℕ) → Option (List ℕ) → Format → ℕ → End → State → Type 0
+ReportsWhy held holds format id e s =
+    (rows : List (Cell × Places)) → IsStock s.ledger rows
+    → ReportsIfThere held holds (λ journey. why_of format s.ledger id (begun_as journey)) (record_of s.ledger id) e
 
 -- what was read is the outlook of the journey, and what is free of the nights of its next want
 pub record IsSeenOf (l : List Event) (id : ℕ) (journey : Record) (seen : Seen) : Type 0 where

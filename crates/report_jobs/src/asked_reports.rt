@@ -1,68 +1,71 @@
 //! The reports of cells and of journeys that a filter lets through, each by a statement in which the filter stands.
-ghost use Rattle.std.specs.Prelude.{◌≡◌, false, List, OnOk};
-ghost use Rattle.std.specs.Io.KnownBytes.{Appends};
+ghost use Rattle.std.specs.Prelude.{◌≡◌, false, List};
 ghost use Rattle.sqlite.specs.Held.{state};
 ghost use Rattle.sqlite.specs.State.{HasCleanDisk};
 ghost use Rattle.desk_sql.specs.Calls.{Quiet};
 ghost use Rattle.desk_sql.specs.declared.versions.Version.{Version};
 ghost use Rattle.ledger.specs.Answer.{State};
-ghost use Rattle.reports.specs.Formats.{journeys_in, stock_in};
-ghost use Rattle.streams.specs.Written.{WroteFront};
+ghost use Rattle.reports.specs.Formats.{stock_in};
 ghost use Rattle.saga_core.specs.Views.{IsStock};
 ghost use Rattle.sql_model.specs.Standing.{IsDesk};
-ghost use Rattle.sql_reads.specs.RemainingRows.{StaysUnder};
 ghost use Rattle.report_rows.specs.RowsLeft.{AreCellsOf};
-ghost use Rattle.sql_lists.specs.ListedRows.{BriefsRest, StockRests};
 ghost use Rattle.tables.specs.Keeping.{KeepsIn};
-ghost use Rattle.report_jobs.specs.Reporting.{asked_cells, cells_of_kind, WritesCells, WritesJourneys, WritesText};
+ghost use Rattle.report_jobs.specs.Reporting.{asked_cells, cells_of_kind, ShowsCells, WritesCells, WritesJourneys, WritesText};
 
-use crate::reporting::flush;
 use allotment::{Cell, Held, Kind};
 use filters::{CellFilter, JourneyFilter};
-use report_rows::{CellRows, JourneyRows, Progress, start_cells, start_journeys};
+use report_rows::{FoundRows, Progress, start_cells, start_journeys};
 use reports::{
     Format, JourneyReport, ReportFault, begin_stock, end_stock, journeys_text, stock_lines,
 };
-use saga_core::Brief;
 use sql_model::fault_of;
-use sqlite::{Alter, Connection, Rows};
+use sqlite::{Alter, Connection};
 use std::alloc::Global;
 use std::io::Write;
 
-/// Writes the stock report of the cells of the desk of a connection that are asked for, kind after kind, and flushes it: the
-/// key of the cells leads to those of a kind.
-#[tactic(auto, using(desk_sql::proofs::Quieting::quiet_twice, desk_sql::proofs::Quieting::quiet_alone))]
+/// Writes the stock report of the cells of the desk of a connection that are asked for, and returns how many there are.
+#[tactic(auto, using(desk_sql::proofs::Quieting::quiet_alone))]
 pub(crate) fn write_kinds<S: Alter, O: Write>(
     alloc: Global,
     filter: &CellFilter,
     format: Format,
     conn: &mut Connection<S>,
     out: &mut O,
-) -> Result<(), ReportFault>
-    ensures whole { HasCleanDisk (state S.Store conn.new) → (v : Version) (s : State) → IsDesk s →
+) -> Result<u64, ReportFault>
+    ensures told { HasCleanDisk (state S.Store conn.new) → (v : Version) (s : State) → IsDesk s →
         KeepsIn v (state S.Store conn.old) s → (rows : List (Cell × Held)) → IsStock s.ledger rows →
-        OnOk result (Appends (O.contents out.old) (O.contents out.new)
-        (stock_in format (asked_cells filter.now rows))) }
-
-    ensures front { HasCleanDisk (state S.Store conn.new) → (v : Version) (s : State) → IsDesk s →
-        KeepsIn v (state S.Store conn.old) s → (rows : List (Cell × Held)) → IsStock s.ledger rows →
-        WroteFront (O.contents out.old) (O.contents out.new)
-        (stock_in format (asked_cells filter.now rows)) }
-
+        WritesText (O.contents out.old) (O.contents out.new)
+        (stock_in format (asked_cells filter.now rows)) result }
     ensures quiet { Quiet S.Store conn.old conn.new }
 {
     begin_stock(format, out)?;
     let none = Progress::new();
-    let flights = write_kind(alloc, filter, Kind::Flight, format, none, conn, out)?;
-    let rooms = write_kind(alloc, filter, Kind::Room, format, flights, conn, out)?;
-    let transfers = write_kind(alloc, filter, Kind::Transfer, format, rooms, conn, out)?;
-    let covers = write_kind(alloc, filter, Kind::Cover, format, transfers, conn, out)?;
-    end_stock(alloc, format, covers.given(), out)?;
-    flush(out)
+    let lines = write_lines(alloc, filter, format, none, conn, out)?;
+    let count = lines.given();
+    end_stock(alloc, format, count, out)?;
+    Ok(count)
 }
 
-/// Writes the lines of the cells of a kind that are asked for, and counts them after those that were written before.
-#[tactic(auto, using(desk_sql::proofs::Quieting::quiet_alone))]
+/// Writes the lines of the cells that are asked for, kind after kind, and counts them after those that were written before:
+/// the key of the cells leads to those of a kind.
+fn write_lines<S: Alter, O: Write>(
+    alloc: Global,
+    filter: &CellFilter,
+    format: Format,
+    before: Progress,
+    conn: &mut Connection<S>,
+    out: &mut O,
+) -> Result<Progress, ReportFault>
+    ensures cells { ShowsCells S.Store conn.old conn.new (O.contents out.old) (O.contents out.new)
+        format (asked_cells filter.now) before result }
+{
+    let flights = write_kind(alloc, filter, Kind::Flight, format, before, conn, out)?;
+    let rooms = write_kind(alloc, filter, Kind::Room, format, flights, conn, out)?;
+    let transfers = write_kind(alloc, filter, Kind::Transfer, format, rooms, conn, out)?;
+    write_kind(alloc, filter, Kind::Cover, format, transfers, conn, out)
+}
+
+/// Writes the lines of the cells of a kind that are asked for, and counts them so.
 fn write_kind<S: Alter, O: Write>(
     alloc: Global,
     filter: &CellFilter,
@@ -72,12 +75,8 @@ fn write_kind<S: Alter, O: Write>(
     conn: &mut Connection<S>,
     out: &mut O,
 ) -> Result<Progress, ReportFault>
-    ensures told { HasCleanDisk (state S.Store conn.new) → (v : Version) (s : State) → IsDesk s →
-        KeepsIn v (state S.Store conn.old) s → before.failed ≡ false →
-        (all : List (Cell × Held)) → IsStock s.ledger all →
-        WritesCells (O.contents out.old) (O.contents out.new)
-        format (cells_of_kind kind filter.now all) before result }
-    ensures quiet { Quiet S.Store conn.old conn.new }
+    ensures cells { ShowsCells S.Store conn.old conn.new (O.contents out.old) (O.contents out.new)
+        format (cells_of_kind kind filter.now) before result }
 {
     if !filter.lets_kind(kind) {
         return Ok(before);
@@ -106,24 +105,8 @@ fn write_found<S: Alter, O: Write>(
         Ok(rows) => rows,
         Err(error) => return Err(fault_of(&error).into()),
     };
-    write_cells(alloc, format, before, &mut rows, out)
-}
-
-/// Writes the lines of the cells that remain.
-fn write_cells<S: Alter, O: Write>(
-    alloc: Global,
-    format: Format,
-    before: Progress,
-    rows: &mut Rows<'_, S>,
-    out: &mut O,
-) -> Result<Progress, ReportFault>
-    ensures told { HasCleanDisk (state S.Store rows.new.conn.now) → before.failed ≡ false →
-        (all : List (Cell × Held)) → StockRests S.Store rows.old.conn.now all →
-        WritesCells (O.contents out.old) (O.contents out.new) format all before result }
-    ensures kept { StaysUnder S.Store rows.old.conn rows.new.conn }
-{
-    let mut cells = CellRows {
-        rows,
+    let mut cells = FoundRows {
+        rows: &mut rows,
         progress: before,
     };
     match stock_lines(alloc, format, &mut cells, out) {
@@ -132,8 +115,8 @@ fn write_cells<S: Alter, O: Write>(
     }
 }
 
-/// Writes the report of the journeys of the desk of a connection that are asked for, and flushes it.
-#[tactic(auto, using(desk_sql::proofs::Quieting::quiet_twice))]
+/// Writes the report of the journeys of the desk of a connection that are asked for, and returns how many there are.
+#[tactic(auto, using(desk_sql::proofs::Quieting::quiet_twice, crate::proofs::ReportLemmas::wrote_none))]
 pub(crate) fn write_asked<S: Alter, O: Write>(
     alloc: Global,
     name: JourneyReport,
@@ -141,7 +124,7 @@ pub(crate) fn write_asked<S: Alter, O: Write>(
     format: Format,
     conn: &mut Connection<S>,
     out: &mut O,
-) -> Result<(), ReportFault>
+) -> Result<u64, ReportFault>
     ensures told { HasCleanDisk (state S.Store conn.new) → (v : Version) (s : State) → IsDesk s →
         KeepsIn v (state S.Store conn.old) s →
         WritesJourneys (O.contents out.old) (O.contents out.new) name format filter.now result s }
@@ -151,26 +134,9 @@ pub(crate) fn write_asked<S: Alter, O: Write>(
         Ok(rows) => rows,
         Err(error) => return Err(fault_of(&error).into()),
     };
-    write_briefs(alloc, name, format, &mut rows, out)
-}
-
-/// Writes the report of the journeys that remain, and flushes it.
-fn write_briefs<S: Alter, O: Write>(
-    alloc: Global,
-    name: JourneyReport,
-    format: Format,
-    rows: &mut Rows<'_, S>,
-    out: &mut O,
-) -> Result<(), ReportFault>
-    ensures told { HasCleanDisk (state S.Store rows.new.conn.now) → (all : List Brief) →
-        BriefsRest S.Store rows.old.conn.now all →
-        WritesText (O.contents out.old) (O.contents out.new) (journeys_in name format all) result }
-    ensures kept { StaysUnder S.Store rows.old.conn rows.new.conn }
-{
-    let progress = Progress::new();
-    let mut briefs = JourneyRows { rows, progress };
-    match journeys_text(alloc, name, format, &mut briefs, out) {
-        Ok(_) => flush(out),
-        Err(fault) => Err(fault),
-    }
+    let mut briefs = FoundRows {
+        rows: &mut rows,
+        progress: Progress::new(),
+    };
+    journeys_text(alloc, name, format, &mut briefs, out)
 }

@@ -1,4 +1,4 @@
-//! The jobs that only show the desk of any store of the SQL library: the report that each writes.
+//! The job that only shows the desk of any store of the SQL library: the report that it writes.
 //!
 //! A job takes a connection that is in no transaction and has no limit of steps, and returns it so, to be closed, with
 //! its end. It recovers nothing and writes nothing to the store: the connection represents what it represented.
@@ -11,10 +11,9 @@ mod asked_reports;
 mod holding;
 mod month_reporting;
 mod plain_reports;
+mod report_kinds;
 mod reporting;
 mod whys;
 
-pub use holding::holders_over;
-pub use month_reporting::months_over;
-pub use reporting::{history_over, journeys_over, stock_over};
-pub use whys::why_over;
+pub use report_kinds::Report;
+pub use reporting::{report_over, tell_report};

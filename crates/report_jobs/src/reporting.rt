@@ -1,30 +1,30 @@
-//! Reports of a desk that is not recovered.
-ghost use Rattle.std.specs.Prelude.{◌≡◌, true, false, None, List, IsTrue};
+//! The job of a report, of a desk that is not recovered.
+ghost use Rattle.std.specs.Prelude.{◌≡◌, ℕ, true, false, None, List, Option, IsTrue};
 ghost use Rattle.std.specs.Io.KnownBytes.{Keeps};
 ghost use Rattle.sqlite.specs.Held.{state};
 ghost use Rattle.sqlite.specs.State.{HasCleanDisk};
 ghost use Rattle.desk_sql.specs.Calls.{Quiet};
 ghost use Rattle.desk_sql.specs.declared.versions.Version.{Version};
 ghost use Rattle.ledger.specs.Answer.{State};
-ghost use Rattle.ledger.specs.Ledger.{history};
-ghost use Rattle.reports.specs.Formats.{history_in, stock_in};
-ghost use Rattle.saga_core.specs.Views.{IsStock};
-ghost use Rattle.sql_model.specs.Standing.{IsDesk};
-ghost use Rattle.sql_model.specs.Keeping.{WasClean};
-ghost use Rattle.tables.specs.Keeping.{KeepsIn};
-ghost use Rattle.tables.specs.Lending.{IsOnlyRead};
-ghost use Rattle.program_ends.specs.Ends.{EndsJob, IfFault, IfRefused, IsNotRefused};
-ghost use Rattle.openings.specs.Connections.{RepresentsIn, StillRepresents};
+ghost use Rattle.ledger.specs.Ledger.{Event, history};
 ghost use Rattle.filters.specs.CellFilters.{is_cell_asked};
 ghost use Rattle.filters.specs.JourneyFilters.{asked_of};
-ghost use Rattle.ledger.specs.Ledger.{Event};
+ghost use Rattle.openings.specs.Connections.{RepresentsIn};
+ghost use Rattle.reports.specs.Formats.{history_in, stock_in};
 ghost use Rattle.reports.specs.declared.formats.JourneyReport.TheVariants.{Unfinished};
-ghost use Rattle.saga_core.specs.Views.{unfinished_of};
-ghost use Rattle.report_jobs.specs.Reporting.{IsFaultOfReport, IsNoJourney, RefusesToShow, RefusesVersion};
-ghost use Rattle.report_jobs.specs.Reporting.{asked_cells, end_of_report, IsDeskIn, ReportsHistory, ReportsJourneys, ReportsStock, WritesJourneys, WritesText};
+ghost use Rattle.saga_core.specs.Views.{IsStock, unfinished_of};
+ghost use Rattle.sql_model.specs.Standing.{IsDesk};
+ghost use Rattle.tables.specs.Keeping.{KeepsIn};
+ghost use Rattle.tables.specs.Lending.{IsOnlyRead};
+ghost use Rattle.report_jobs.specs.Jobs.{EndsReport, KeepsDesk, RefusesAbsent, RefusesToShow, Reports};
+ghost use Rattle.report_jobs.specs.Reporting.{asked_cells, end_of_report, IsDeskIn, IsNoJourney, ReportsHistory, ReportsText, WritesJourneys, WritesText};
 
 use crate::asked_reports::{write_asked, write_kinds};
+use crate::holding::write_holders;
+use crate::month_reporting::write_months;
 use crate::plain_reports::{write_unfinished, write_whole_stock};
+use crate::report_kinds::Report;
+use crate::whys::tell_why;
 use allotment::{Cell, Held};
 use commands::Refusal;
 use filters::{CellFilter, JourneyFilter, Phases};
@@ -37,14 +37,12 @@ use std::alloc::Global;
 use std::io::Write;
 use tables::{Opened, open_from};
 
-/// Writes the stock report of the cells that a filter lets through, of the desk of a connection, in a format, and flushes
-/// it. Returns the connection, and the end.
-#[tactic(auto, using(sql_model::proofs::Quieting::quiet_clean, sql_model::proofs::Quieting::quiet_keeps))]
-pub fn stock_over<S: Alter + Drop, O: Write>(
+/// Writes a report of the desk of a connection, and flushes it. A journey that is absent is refused. Returns the
+/// connection, and the end.
+pub fn report_over<S: Alter + Drop, O: Write>(
     alloc: Global,
     conn: Connection<S>,
-    filter: &CellFilter,
-    format: Format,
+    report: &Report,
     out: &mut O,
 ) -> (Connection<S>, End)
     requires outside { conn.in_transaction ≡ false }
@@ -52,134 +50,59 @@ pub fn stock_over<S: Alter + Drop, O: Write>(
 
     ensures told { HasCleanDisk (state S.Store result.0) → (v : Version) (s : State) →
         RepresentsIn S.Store conn v s →
-        ReportsStock (O.contents out.old) (O.contents out.new) format filter.now result.1 s }
-    ensures refused { IfRefused result.1 (RefusesVersion S.Store conn result.0) }
-    ensures fault { IfFault result.1 IsFaultOfReport }
-    ensures end { EndsJob result.1 }
+        Reports (O.contents out.old) (O.contents out.new) report.now result.1 s }
+    ensures ends { EndsReport (RefusesToShow S.Store conn result.0 report.now) result.1 }
 
-    ensures same { HasCleanDisk (state S.Store result.0) → (v : Version) (s : State) →
-        RepresentsIn S.Store conn v s → StillRepresents S.Store result.0 s }
-    ensures outside { result.0.in_transaction ≡ false }
-    ensures unlimited { result.0.step_limit ≡ None }
-    ensures sound { WasClean S.Store conn result.0 }
+    ensures keeps { KeepsDesk S.Store conn result.0 }
 {
     let mut opened = match open_from(conn) {
         Ok(opened) => opened,
         Err((conn, fault)) => return (conn, end_of_opening(fault)),
     };
-    let end = tell_stock(alloc, filter, format, &mut opened, out);
+    let end = tell_report(alloc, report, &mut opened, out);
     (opened.into_store(), end)
 }
 
-/// Writes the report of the journeys that a filter lets through, of the desk of a connection, in a format, and flushes it.
-/// Returns the connection, and the end.
-#[tactic(auto, using(sql_model::proofs::Quieting::quiet_clean, sql_model::proofs::Quieting::quiet_keeps))]
-pub fn journeys_over<S: Alter + Drop, O: Write>(
+/// Writes a report of what was opened, and flushes it. A journey that is absent is refused. What was opened was only
+/// read, and may be read again.
+#[tactic(auto, using(crate::proofs::EndLemmas::ends_any))]
+pub fn tell_report<S: Alter, O: Write>(
     alloc: Global,
-    conn: Connection<S>,
-    name: JourneyReport,
-    filter: &JourneyFilter,
-    format: Format,
-    out: &mut O,
-) -> (Connection<S>, End)
-    requires outside { conn.in_transaction ≡ false }
-    requires unlimited { conn.step_limit ≡ None }
-
-    ensures told { HasCleanDisk (state S.Store result.0) → (v : Version) (s : State) →
-        RepresentsIn S.Store conn v s →
-        ReportsJourneys (O.contents out.old) (O.contents out.new)
-        name format filter.now result.1 s }
-    ensures refused { IfRefused result.1 (RefusesVersion S.Store conn result.0) }
-    ensures fault { IfFault result.1 IsFaultOfReport }
-    ensures end { EndsJob result.1 }
-
-    ensures same { HasCleanDisk (state S.Store result.0) → (v : Version) (s : State) →
-        RepresentsIn S.Store conn v s → StillRepresents S.Store result.0 s }
-    ensures outside { result.0.in_transaction ≡ false }
-    ensures unlimited { result.0.step_limit ≡ None }
-    ensures sound { WasClean S.Store conn result.0 }
-{
-    let mut opened = match open_from(conn) {
-        Ok(opened) => opened,
-        Err((conn, fault)) => return (conn, end_of_opening(fault)),
-    };
-    let end = tell_journeys(alloc, name, filter, format, &mut opened, out);
-    (opened.into_store(), end)
-}
-
-/// Writes the history of the journey of this number in the desk of a connection in a format, and flushes it. A journey
-/// that is absent is refused. Returns the connection, and the end.
-#[tactic(auto, using(sql_model::proofs::Quieting::quiet_clean, sql_model::proofs::Quieting::quiet_keeps))]
-pub fn history_over<S: Alter + Drop, O: Write>(
-    alloc: Global,
-    conn: Connection<S>,
-    format: Format,
-    id: u64,
-    out: &mut O,
-) -> (Connection<S>, End)
-    requires outside { conn.in_transaction ≡ false }
-    requires unlimited { conn.step_limit ≡ None }
-
-    ensures told { HasCleanDisk (state S.Store result.0) → (v : Version) (s : State) →
-        RepresentsIn S.Store conn v s →
-        ReportsHistory (O.contents out.old) (O.contents out.new) format id result.1 s }
-    ensures refused { IfRefused result.1 (RefusesToShow S.Store conn result.0) }
-    ensures fault { IfFault result.1 IsFaultOfReport }
-    ensures end { EndsJob result.1 }
-
-    ensures same { HasCleanDisk (state S.Store result.0) → (v : Version) (s : State) →
-        RepresentsIn S.Store conn v s → StillRepresents S.Store result.0 s }
-    ensures outside { result.0.in_transaction ≡ false }
-    ensures unlimited { result.0.step_limit ≡ None }
-    ensures sound { WasClean S.Store conn result.0 }
-{
-    let mut opened = match open_from(conn) {
-        Ok(opened) => opened,
-        Err((conn, fault)) => return (conn, end_of_opening(fault)),
-    };
-    let end = tell_history(alloc, format, id, &mut opened, out);
-    (opened.into_store(), end)
-}
-
-/// Writes the stock report of what was opened, and flushes it.
-fn tell_stock<S: Alter, O: Write>(
-    alloc: Global,
-    filter: &CellFilter,
-    format: Format,
+    report: &Report,
     opened: &mut Opened<S>,
     out: &mut O,
 ) -> End
     ensures told { HasCleanDisk (state S.Store opened.new.conn) → (s : State) →
         IsDeskIn S.Store opened.old s →
-        ReportsStock (O.contents out.old) (O.contents out.new) format filter.now result s }
-    ensures taken { IsNotRefused result }
-    ensures fault { IfFault result IsFaultOfReport }
-    ensures end { EndsJob result }
+        Reports (O.contents out.old) (O.contents out.new) report.now result s }
+    ensures ends { EndsReport (RefusesAbsent report.now) result }
 
     ensures kept { IsOnlyRead S.Store opened.old opened.new }
 {
-    end_of_report(write_stock(alloc, filter, format, opened.connection(), out))
-}
-
-/// Writes the report of the journeys of what was opened, and flushes it.
-fn tell_journeys<S: Alter, O: Write>(
-    alloc: Global,
-    name: JourneyReport,
-    filter: &JourneyFilter,
-    format: Format,
-    opened: &mut Opened<S>,
-    out: &mut O,
-) -> End
-    ensures told { HasCleanDisk (state S.Store opened.new.conn) → (s : State) →
-        IsDeskIn S.Store opened.old s →
-        ReportsJourneys (O.contents out.old) (O.contents out.new) name format filter.now result s }
-    ensures taken { IsNotRefused result }
-    ensures fault { IfFault result IsFaultOfReport }
-    ensures end { EndsJob result }
-
-    ensures kept { IsOnlyRead S.Store opened.old opened.new }
-{
-    end_of_report(write_journeys(alloc, name, filter, format, opened.connection(), out))
+    match report {
+        Report::Stock { filter, format } => {
+            let done = write_stock(alloc, filter, *format, opened.connection(), out);
+            finish(done, out)
+        }
+        Report::Journeys {
+            name,
+            filter,
+            format,
+        } => {
+            let done = write_journeys(alloc, *name, filter, *format, opened.connection(), out);
+            finish(done, out)
+        }
+        Report::Holders { cell, format } => {
+            let done = write_holders(alloc, cell, *format, opened.connection(), out);
+            finish(done, out)
+        }
+        Report::Months { months, filter } => {
+            let done = write_months(alloc, *months, filter, opened.connection(), out);
+            finish(done, out)
+        }
+        Report::History { id, format } => tell_history(alloc, *format, *id, opened, out),
+        Report::Why { id, format } => tell_why(alloc, *format, *id, opened, out),
+    }
 }
 
 /// Whether the filter names no value, so that it lets each cell through.
@@ -198,15 +121,15 @@ fn names_nothing(filter: &CellFilter) -> bool
     )
 }
 
-/// Writes the stock report of the cells of the desk of a connection that are asked for, and flushes it. The whole table
-/// is read where each cell is asked for, so that a row with a value out of range is found.
+/// Writes the stock report of the cells of the desk of a connection that are asked for. The whole table is
+/// read where each cell is asked for, so that a row with a value out of range is found.
 fn write_stock<S: Alter, O: Write>(
     alloc: Global,
     filter: &CellFilter,
     format: Format,
     conn: &mut Connection<S>,
     out: &mut O,
-) -> Result<(), ReportFault>
+) -> Result<u64, ReportFault>
     ensures told { HasCleanDisk (state S.Store conn.new) → (v : Version) (s : State) → IsDesk s →
         KeepsIn v (state S.Store conn.old) s → (rows : List (Cell × Held)) → IsStock s.ledger rows →
         WritesText (O.contents out.old) (O.contents out.new)
@@ -236,8 +159,8 @@ fn is_plain(name: JourneyReport, filter: &JourneyFilter) -> bool
     )
 }
 
-/// Writes the report of the journeys of the desk of a connection that are asked for, and flushes it. The statement without a
-/// filter serves where all unfinished ones are asked for.
+/// Writes the report of the journeys of the desk of a connection that are asked for. The statement without a filter
+/// serves where all unfinished ones are asked for.
 fn write_journeys<S: Alter, O: Write>(
     alloc: Global,
     name: JourneyReport,
@@ -245,7 +168,7 @@ fn write_journeys<S: Alter, O: Write>(
     format: Format,
     conn: &mut Connection<S>,
     out: &mut O,
-) -> Result<(), ReportFault>
+) -> Result<u64, ReportFault>
     ensures told { HasCleanDisk (state S.Store conn.new) → (v : Version) (s : State) → IsDesk s →
         KeepsIn v (state S.Store conn.old) s →
         WritesJourneys (O.contents out.old) (O.contents out.new) name format filter.now result s }
@@ -258,7 +181,7 @@ fn write_journeys<S: Alter, O: Write>(
 }
 
 /// Writes the history of the journey of this number in what was opened, or refuses one that is absent.
-#[tactic(auto, using(desk_sql::proofs::Quieting::quiet_twice, sql_model::proofs::Quieting::quiet_clean, sql_model::proofs::Quieting::quiet_keeps))]
+#[tactic(auto, using(desk_sql::proofs::Quieting::quiet_twice, crate::proofs::EndLemmas::ends_any))]
 fn tell_history<S: Alter, O: Write>(
     alloc: Global,
     format: Format,
@@ -269,21 +192,19 @@ fn tell_history<S: Alter, O: Write>(
     ensures told { HasCleanDisk (state S.Store opened.new.conn) → (s : State) →
         IsDeskIn S.Store opened.old s →
         ReportsHistory (O.contents out.old) (O.contents out.new) format id result s }
-    ensures refused { IfRefused result IsNoJourney }
-    ensures fault { IfFault result IsFaultOfReport }
-    ensures end { EndsJob result }
+    ensures ends { EndsReport IsNoJourney result }
 
     ensures kept { IsOnlyRead S.Store opened.old opened.new }
 {
     match opened.journey_of(alloc, id) {
-        Ok(Some(journey)) => end_of_report(write_history(alloc, format, id, &journey, opened, out)),
+        Ok(Some(journey)) => finish(write_history(alloc, format, id, &journey, opened, out), out),
         Ok(None) => End::Refused(Refusal::NoJourney),
         Err(fault) => end_of_report(Err(fault.into())),
     }
 }
 
-/// Writes the history of a journey in what was opened, and flushes it.
-#[tactic(auto, using(desk_sql::proofs::Quieting::quiet_twice))]
+/// Writes the history of a journey in what was opened, and returns how many items it has.
+#[tactic(auto, using(desk_sql::proofs::Quieting::quiet_twice, crate::proofs::ReportLemmas::wrote_none))]
 fn write_history<S: Alter, O: Write>(
     alloc: Global,
     format: Format,
@@ -291,7 +212,7 @@ fn write_history<S: Alter, O: Write>(
     journey: &Record,
     opened: &mut Opened<S>,
     out: &mut O,
-) -> Result<(), ReportFault>
+) -> Result<u64, ReportFault>
     ensures told { HasCleanDisk (state S.Store opened.new.conn) → (s : State) →
         IsDeskIn S.Store opened.old s →
         WritesText (O.contents out.old) (O.contents out.new)
@@ -303,19 +224,27 @@ fn write_history<S: Alter, O: Write>(
         Ok(rows) => rows,
         Err(fault) => return Err(fault.into()),
     };
-    match history_text(alloc, format, id, journey, &mut rows, out) {
-        Ok(_) => flush(out),
-        Err(fault) => Err(fault),
+    history_text(alloc, format, id, journey, &mut rows, out)
+}
+
+/// Flushes the writer after a report that was written so, and returns its end.
+#[tactic(auto, using(crate::proofs::EndLemmas::ends_any))]
+pub(crate) fn finish<T: Copy, O: Write>(done: Result<T, ReportFault>, out: &mut O) -> End
+    ensures told { (held : Option (List ℕ)) → (text : List ℕ) →
+        WritesText held (O.contents out.old) text done →
+        ReportsText held (O.contents out.new) text result }
+    ensures ends { EndsReport (λ _. ⊥) result }
+{
+    match done {
+        Ok(_) => end_of_report(flush(out)),
+        Err(fault) => end_of_report(Err(fault)),
     }
 }
 
 /// The end of a report that was begun: it was written, or a fault came.
 pub(crate) fn end_of_report(done: Result<(), ReportFault>) -> End
     ensures end { result ≡ end_of_report done }
-
-    ensures taken { IsNotRefused result }
-    ensures fault { IfFault result IsFaultOfReport }
-    ensures job { EndsJob result }
+    ensures ends { EndsReport (λ _. ⊥) result }
 {
     match done {
         Ok(()) => End::Done,
@@ -324,7 +253,7 @@ pub(crate) fn end_of_report(done: Result<(), ReportFault>) -> End
 }
 
 /// Flushes the writer.
-pub(crate) fn flush<O: Write>(out: &mut O) -> Result<(), ReportFault>
+fn flush<O: Write>(out: &mut O) -> Result<(), ReportFault>
     ensures same { Keeps (O.contents out.old) (O.contents out.new) }
 {
     match out.flush() {

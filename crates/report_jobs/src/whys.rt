@@ -1,5 +1,5 @@
 //! The report of why a journey goes on or does not, of a desk that is not recovered.
-ghost use Rattle.std.specs.Prelude.{◌≡◌, false, None, Some, List, IfOk};
+ghost use Rattle.std.specs.Prelude.{◌≡◌, Some, List, IfOk};
 ghost use Rattle.sqlite.specs.Held.{state};
 ghost use Rattle.sqlite.specs.State.{HasCleanDisk};
 ghost use Rattle.desk_sql.specs.Calls.{Quiet};
@@ -8,38 +8,33 @@ ghost use Rattle.ledger.specs.Answer.{State};
 ghost use Rattle.ledger.specs.Ledger.{history};
 ghost use Rattle.saga_core.specs.Views.{record_of, IsStock};
 ghost use Rattle.sql_model.specs.Standing.{IsDesk};
-ghost use Rattle.sql_model.specs.Keeping.{WasClean};
-ghost use Rattle.sql_reads.specs.RemainingRows.{StaysUnder};
-ghost use Rattle.sql_lists.specs.ListedRows.{StockRests};
 ghost use Rattle.tables.specs.Keeping.{KeepsIn};
 ghost use Rattle.tables.specs.Lending.{IsOnlyRead};
 ghost use Rattle.allotment.specs.declared.cells.Cell.{Cell};
 ghost use Rattle.allotment.specs.declared.places.Held.{Held};
-ghost use Rattle.outlooks.specs.Layouts.{why_in, why_of};
-ghost use Rattle.outlooks.specs.Nights.{nights_in, nights_of};
+ghost use Rattle.outlooks.specs.Layouts.{why_of};
+ghost use Rattle.outlooks.specs.Nights.{nights_of};
 ghost use Rattle.outlooks.specs.Outlooks.{begun_as, latest_option as latest_option_of, nights_ahead, IsTaken};
-ghost use Rattle.program_ends.specs.Ends.{EndsJob, IfFault, IfRefused};
-ghost use Rattle.openings.specs.Connections.{RepresentsIn, StillRepresents};
-ghost use Rattle.report_jobs.specs.Reporting.{IsDeskIn, IsFaultOfReport, IsNoJourney, RefusesToShow, WritesText};
+ghost use Rattle.report_jobs.specs.Jobs.{EndsReport};
+ghost use Rattle.report_jobs.specs.Reporting.{IsDeskIn, IsNoJourney, WritesText};
 ghost use Rattle.report_jobs.specs.Whys.{IsSeenOf, LetsCellsOf, ReportsWhy};
 
-use crate::reporting::{end_of_report, flush};
+use crate::reporting::{end_of_report, finish};
 use allotment::{Night, Want};
 use commands::{Fault, Phase, Refusal};
 use filters::CellFilter;
-use openings::end_of_opening;
 use outlooks::{
     FreeNight, NextStep, Outlook, latest_option, look_ahead, next_step, read_nights, why_text,
 };
 use program_ends::End;
-use report_rows::{CellRows, Progress, start_cells};
+use report_rows::{FoundRows, Progress, start_cells};
 use reports::{Format, ReportFault};
 use saga_core::Record;
 use sql_model::fault_of;
-use sqlite::{Alter, Connection, Rows};
+use sqlite::{Alter, Connection};
 use std::alloc::Global;
 use std::io::Write;
-use tables::{Opened, open_from};
+use tables::Opened;
 
 /// What was read of a journey: its outlook, and what is free of the nights of its next want.
 #[derive(Drop)]
@@ -48,44 +43,9 @@ struct Seen {
     nights: Vec<FreeNight>,
 }
 
-/// Writes why the journey of this number in the desk of a connection goes on or does not, in a format, and flushes it:
-/// where it is, its next want, what is free of each night of it, and what a step of the house would make. A journey that
-/// is absent is refused. Returns the connection, and the end.
-#[tactic(auto, using(sql_model::proofs::Quieting::quiet_clean, sql_model::proofs::Quieting::quiet_keeps))]
-pub fn why_over<S: Alter + Drop, O: Write>(
-    alloc: Global,
-    conn: Connection<S>,
-    id: u64,
-    format: Format,
-    out: &mut O,
-) -> (Connection<S>, End)
-    requires outside { conn.in_transaction ≡ false }
-    requires unlimited { conn.step_limit ≡ None }
-
-    ensures told { HasCleanDisk (state S.Store result.0) → (v : Version) (s : State) →
-        RepresentsIn S.Store conn v s →
-        ReportsWhy (O.contents out.old) (O.contents out.new) format id result.1 s }
-    ensures refused { IfRefused result.1 (RefusesToShow S.Store conn result.0) }
-    ensures fault { IfFault result.1 IsFaultOfReport }
-    ensures end { EndsJob result.1 }
-
-    ensures same { HasCleanDisk (state S.Store result.0) → (v : Version) (s : State) →
-        RepresentsIn S.Store conn v s → StillRepresents S.Store result.0 s }
-    ensures outside { result.0.in_transaction ≡ false }
-    ensures unlimited { result.0.step_limit ≡ None }
-    ensures sound { WasClean S.Store conn result.0 }
-{
-    let mut opened = match open_from(conn) {
-        Ok(opened) => opened,
-        Err((conn, fault)) => return (conn, end_of_opening(fault)),
-    };
-    let end = tell_why(alloc, format, id, &mut opened, out);
-    (opened.into_store(), end)
-}
-
 /// Writes the report of the journey of this number in what was opened, or refuses one that is absent.
-#[tactic(auto, using(desk_sql::proofs::Quieting::quiet_twice))]
-fn tell_why<S: Alter, O: Write>(
+#[tactic(auto, using(desk_sql::proofs::Quieting::quiet_twice, crate::proofs::EndLemmas::ends_any))]
+pub(crate) fn tell_why<S: Alter, O: Write>(
     alloc: Global,
     format: Format,
     id: u64,
@@ -95,20 +55,18 @@ fn tell_why<S: Alter, O: Write>(
     ensures told { HasCleanDisk (state S.Store opened.new.conn) → (s : State) →
         IsDeskIn S.Store opened.old s →
         ReportsWhy (O.contents out.old) (O.contents out.new) format id result s }
-    ensures refused { IfRefused result IsNoJourney }
-    ensures fault { IfFault result IsFaultOfReport }
-    ensures end { EndsJob result }
+    ensures ends { EndsReport IsNoJourney result }
 
     ensures kept { IsOnlyRead S.Store opened.old opened.new }
 {
     match opened.journey_of(alloc, id) {
-        Ok(Some(journey)) => end_of_report(write_why(alloc, format, id, &journey, opened, out)),
+        Ok(Some(journey)) => finish(write_why(alloc, format, id, &journey, opened, out), out),
         Ok(None) => End::Refused(Refusal::NoJourney),
         Err(fault) => end_of_report(Err(fault.into())),
     }
 }
 
-/// Writes the report of a journey in what was opened, and flushes it.
+/// Writes the report of a journey in what was opened.
 fn write_why<S: Alter, O: Write>(
     alloc: Global,
     format: Format,
@@ -125,26 +83,8 @@ fn write_why<S: Alter, O: Write>(
 
     ensures kept { IsOnlyRead S.Store opened.old opened.new }
 {
-    match read_outlook(alloc, id, journey, opened) {
-        Ok(seen) => send_why(alloc, format, &seen, out),
-        Err(fault) => Err(fault),
-    }
-}
-
-/// Writes the report of what was read, and flushes it.
-fn send_why<O: Write>(
-    alloc: Global,
-    format: Format,
-    seen: &Seen,
-    out: &mut O,
-) -> Result<(), ReportFault>
-    ensures told { WritesText (O.contents out.old) (O.contents out.new)
-        (why_in format seen.now.outlook seen.now.nights.items) result }
-{
-    match why_text(alloc, format, &seen.outlook, seen.nights.as_slice(), out) {
-        Ok(()) => flush(out),
-        Err(fault) => Err(fault),
-    }
+    let seen = read_outlook(alloc, id, journey, opened)?;
+    why_text(alloc, format, &seen.outlook, seen.nights.as_slice(), out)
 }
 
 /// Reads the outlook of a journey in what was opened.
@@ -256,21 +196,9 @@ fn nights_of<S: Alter>(
         Ok(rows) => rows,
         Err(error) => return Err(fault_of(&error).into()),
     };
-    nights_left(alloc, want, &mut rows)
-}
-
-/// Reads what is free of each night of a want by the cells that remain.
-fn nights_left<S: Alter>(
-    alloc: Global,
-    want: &Want,
-    rows: &mut Rows<'_, S>,
-) -> Result<Vec<FreeNight>, ReportFault>
-    ensures nights { HasCleanDisk (state S.Store rows.new.conn.now) → (all : List (Cell × Held)) →
-        StockRests S.Store rows.old.conn.now all
-        → IfOk result (λ nights. nights.items ≡ nights_in all want.now) }
-    ensures kept { StaysUnder S.Store rows.old.conn rows.new.conn }
-{
-    let progress = Progress::new();
-    let mut cells = CellRows { rows, progress };
+    let mut cells = FoundRows {
+        rows: &mut rows,
+        progress: Progress::new(),
+    };
     read_nights(alloc, want, &mut cells)
 }

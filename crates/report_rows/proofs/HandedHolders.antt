@@ -1,5 +1,5 @@
 -- The rows of the holders of a cell, in their only order. For `holder_rows`.
-use Rattle.std.proofs.Common.{◌≡◌, ◌⊎◌, inl, inr, ℕ, suc, ◌<◌, ◌≤◌, List, [], ◌∷◌, map, filter, Bool, false, Some, None, refl, sym, ap, ap₂, subst, ◌∙◌, arith}
+use Rattle.std.proofs.Common.{◌≡◌, ◌⊎◌, inl, inr, ℕ, suc, ◌<◌, ◌≤◌, List, [], ◌∷◌, map, filter, Bool, refl, sym, ap, ap₂, subst, ◌∙◌, arith}
 use Rattle.std.specs.Prelude.{flat_map}
 use Rattle.std.specs.List.{AllByRecursion}
 use Rattle.std.specs.List.Sorted.{IsPermutation}
@@ -11,10 +11,9 @@ use Rattle.allotment.specs.Want.{Wanted}
 use Rattle.allotment.specs.declared.cells.Cell.{Cell}
 use Rattle.plan.specs.PlanModel.{Planned, StepPlan}
 use Rattle.ledger.specs.Ledger.{Event, IsLegal, Journey, history, journeys}
-use Rattle.saga_core.specs.RowSources.{Hands}
 use Rattle.desk_sql.specs.Rows.{StepRow, Tables}
 use Rattle.desk_sql.specs.FoundRows.{IsByPlace}
-use Rattle.desk_sql.specs.RemainingRows.{Hands as HandsRows, IsOnlyOrder}
+use Rattle.desk_sql.specs.RemainingRows.{IsOnlyOrder}
 use Rattle.desk_sql.proofs.Members.{permutation_from, permutation_to}
 use Rattle.sql_lists.specs.HolderLists.{IsByStep, ListsHolders, is_row_held}
 use Rattle.sql_lists.specs.declared.holders.HolderFound.{HolderFound}
@@ -180,29 +179,11 @@ module _ (x : Cell) (l : List Event) (t : Tables) (called : IsPermutation (steps
   pub lists_holders : IsLegal l → (holders : List Holder) → holders ≡ holders_of l x → ListsHolders x t (map found_of holders)
   lists_holders legal holders is = (held_rows, held_in_order, ap (map found_of) is ∙ held_told l legal x)
 
--- What is returned.
-
-found_one : (h k : Holder) → found_of h ≡ found_of k → h ≡ k
-found_one h k e =
+-- a row determines its holder
+pub holder_same : (h k : Holder) → found_of h ≡ found_of k → h ≡ k
+holder_same h k e =
     let journey : h.journey ≡ k.journey = ap (λ (f : HolderFound). f.journey) e in
     let step : h.step ≡ k.step = ap (λ (f : HolderFound). f.place) e in
     let option : h.option ≡ k.option = ap (λ (f : HolderFound). f.opt) e in
     let places : h.places ≡ k.places = ap (λ (f : HolderFound). f.places) e in
     rw (journey, step, option, places) refl
-
-module _ (Before After : List HolderFound → Type 0) where
-  -- the first row is that of the first remaining holder
-  pub holder_first : (f : HolderFound) (h : Holder) → found_of h ≡ f → HandsRows Before After (Some f) → (failed : Bool)
-      → Hands (λ rows. (failed ≡ false) × Before (map found_of rows)) (λ rows. (false ≡ false) × After (map found_of rows)) (Some h)
-  holder_first f h is hands failed [] rests = let none : Some f ≡ None = (hands [] rests.1).0 in absurd (cc)
-  holder_first f h is hands failed (k ∷ later) rests =
-      let got = hands (map found_of (k ∷ later)) rests.1 in
-      let first : Some f ≡ Some (found_of k) = got.0 in
-      let same : f ≡ found_of k = cc in
-      (ap Some (found_one h k (is ∙ same)), (refl, got.1))
-
-  -- no row is returned where none remains
-  pub holder_none : HandsRows Before After None → (failed : Bool)
-      → Hands (λ rows. (failed ≡ false) × Before (map found_of rows)) (λ rows. (false ≡ false) × After (map found_of rows)) None
-  holder_none hands failed [] rests = (refl, (refl, (hands [] rests.1).1))
-  holder_none hands failed (k ∷ later) rests = let some : None ≡ Some (found_of k) = (hands (map found_of (k ∷ later)) rests.1).0 in absurd (cc)

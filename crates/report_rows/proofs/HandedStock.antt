@@ -1,5 +1,5 @@
 -- The rows of the stock, in their only order. For `cell_rows`.
-use Rattle.std.proofs.Common.{◌≡◌, inl, inr, ℕ, ◌≤◌, List, [], ◌∷◌, map, find, Bool, true, false, Option, Some, None, refl, sym, ap, ap₂, subst, ◌∙◌, eqb-true, eq-eqb}
+use Rattle.std.proofs.Common.{◌≡◌, inl, inr, ℕ, ◌≤◌, List, [], ◌∷◌, map, find, true, false, Option, Some, None, refl, sym, ap, ap₂, subst, ◌∙◌, eqb-true, eq-eqb}
 use Rattle.std.specs.Prelude.{option_map}
 use Rattle.std.specs.Ordering.{is_lt, ordering_reverse}
 use Rattle.std.specs.declared.cmp.Ordering.{Ordering}
@@ -21,10 +21,9 @@ use Rattle.allotment.specs.declared.places.Held.{Held}
 use Rattle.ledger.specs.Ledger.{Event}
 use Rattle.ledger.proofs.Cells.{is_cell-same}
 use Rattle.saga_core.specs.Views.{Places, places_said, places_at, cell_cmp, are_in_order, IsStock}
-use Rattle.saga_core.specs.RowSources.{HandsFirst}
 use Rattle.desk_sql.specs.Rows.{StockRow}
 use Rattle.desk_sql.specs.Stock.{IsByCell, cell_cmp as stock_cmp}
-use Rattle.desk_sql.specs.RemainingRows.{IsOnlyOrder, HandsFirst as HandsFirstRow, Hands as HandsRows}
+use Rattle.desk_sql.specs.RemainingRows.{IsOnlyOrder}
 use Rattle.desk_sql.proofs.Members.{permutation_from, permutation_to}
 use Rattle.sql_model.specs.Standing.{AreApart, is_stock_of, is_same_stock, places_told, StockStands}
 use Rattle.sql_model.specs.Reading.{stock_row_of}
@@ -197,25 +196,3 @@ cell_same c d e =
     ((bytes_eq-Decides c.0.product d.0.product).1 (ap (λ (r : StockRow). r.product) e))) (eq-eqb _ _ (ap (λ (r : StockRow). r.night) e))) in
     let places : c.1 ≡ d.1 = held_same c.1 d.1 (ap (λ (r : StockRow). r.allot) e) (ap (λ (r : StockRow). r.free) e) in
     ap (λ x. (x, c.1)) cell ∙ ap (λ h. (d.0, h)) places
-
-module _ (Before After : List StockRow → Type 0) where
-  -- the first row is that of the first remaining cell
-  pub cell_first : (r : StockRow) (c : Cell × Held) → stock_row_of c ≡ r → HandsRows Before After (Some r) → (failed : Bool)
-      → (cells : List (Cell × Held)) → (failed ≡ false) × Before (map stock_row_of cells)
-      → HandsFirst (λ ds. (false ≡ false) × After (map stock_row_of ds)) (Some c) cells
-  cell_first r c told hands failed cells rests = go cells (hands (map stock_row_of cells) rests.1)
-    where
-      go : (cells : List (Cell × Held)) → HandsFirstRow After (Some r) (map stock_row_of cells)
-          → HandsFirst (λ ds. (false ≡ false) × After (map stock_row_of ds)) (Some c) cells
-      go [] h = absurd (let none = h.0 in cc)
-      go (d ∷ ds) h = (ap Some (cell_same c d (told ∙ (let e : r ≡ stock_row_of d = (let s = h.0 in cc) in e))), (refl, h.1))
-
-  pub cell_none : HandsRows Before After None → (failed : Bool)
-      → (cells : List (Cell × Held)) → (failed ≡ false) × Before (map stock_row_of cells)
-      → HandsFirst (λ ds. (false ≡ false) × After (map stock_row_of ds)) None cells
-  cell_none hands failed cells rests = go cells (hands (map stock_row_of cells) rests.1)
-    where
-      go : (cells : List (Cell × Held)) → HandsFirstRow After None (map stock_row_of cells)
-          → HandsFirst (λ ds. (false ≡ false) × After (map stock_row_of ds)) None cells
-      go [] h = (refl, (refl, h.1))
-      go (d ∷ ds) h = absurd (let some = h.0 in cc)

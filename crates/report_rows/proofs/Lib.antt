@@ -3,3 +3,4 @@ pub mod HandedCells
 pub mod HandedBriefs
 pub mod HeldRows
 pub mod HandedHolders
+pub mod HandedRows

@@ -1,35 +1,21 @@
 //! The holders of a cell, in order of journey and step, read one at a time.
 
-ghost use Rattle.std.specs.Prelude.{◌≡◌, ◌<◌, ◌+◌, ◌-◌, ◌^◌, false, IfOk, IsErrOf};
+ghost use Rattle.std.specs.Prelude.{◌≡◌, IfOk};
 ghost use Rattle.std.specs.Borrow.{sem};
-ghost use Rattle.sqlite.specs.Held.{state};
-ghost use Rattle.sqlite.specs.State.{HasCleanDisk};
 ghost use Rattle.desk_sql.specs.Calls.{Quiet};
 ghost use Rattle.desk_sql.specs.declared.versions.Version.{Version};
 ghost use Rattle.holder_reports.specs.Holders.{holders_of};
 ghost use Rattle.sql_reads.specs.Lending.{LeavesIfErr};
-ghost use Rattle.sql_reads.specs.RemainingRows.{RowsStay};
-ghost use Rattle.report_rows.specs.HoldersLeft.{AreHoldersRest, HoldersLeft, found_of};
 ghost use Rattle.sql_reads.specs.RemainingRows.{BeginsKept};
-ghost use Rattle.saga_core.specs.RowSources.{count_of, Hands};
-ghost use Rattle.desk_sql.specs.Causes.{HasFaulted, IsUp};
-ghost use Rattle.report_rows.specs.Stopping.{StopsAtFault};
+ghost use Rattle.report_rows.specs.HoldersLeft.{HoldersLeft, found_of};
 
-use crate::progress::Progress;
+use crate::found_rows::FoundRow;
 use allotment::Cell;
 use commands::Fault;
 use holder_reports::Holder;
-use saga_core::RowSource;
 use sql_lists::{HolderFound, hand_holders, next_holder};
 use sql_model::fault_of;
 use sqlite::{Alter, Connection, Error, Rows};
-
-/// The holders that remain of rows that `start_holders` returned. After a fault every call returns `Store`.
-#[derive(Drop)]
-pub struct HolderRows<'r, 'c, S: Alter> {
-    pub rows: &'r mut Rows<'c, S>,
-    pub progress: Progress,
-}
 
 /// Starts to read the holders of a cell, in order of journey and step. If that fails, nothing has changed.
 pub fn start_holders<'a, S: Alter>(
@@ -58,64 +44,17 @@ fn holder_of(found: &HolderFound) -> Holder
     }
 }
 
-impl<S: Alter> RowSource<Holder> for HolderRows<'_, '_, S> {
-    ghost use Rattle.sql_reads.specs.RemainingRows.{rows_stay_alone, rows_stay_twice};
+impl<S: Alter> FoundRow<S> for Holder {
+    ghost use Rattle.report_rows.specs.HoldersLeft.{AreHoldersRest};
 
-    ghost is_sound = { λ s. HasCleanDisk (state S.Store s.rows.now.conn.now) };
+    ghost rests = { HoldersLeft S.Store };
 
-    ghost rests = { λ s holders. (s.progress.failed ≡ false)
-        × HoldersLeft S.Store s.rows.now.conn.now holders };
+    ghost are_good = { AreHoldersRest S.Store };
 
-    ghost given = { λ s. s.progress.given };
-
-    ghost becomes = { λ a b. RowsStay S.Store a.rows b.rows };
-
-    ghost stays = { λ s. rows_stay_alone s.rows };
-
-    ghost joins = { λ a b c. rows_stay_twice a.rows b.rows c.rows };
-
-    fn next_row(&mut self) -> Result<Option<Holder>, Fault>
-        ensures next { HasCleanDisk (state S.Store self.new.rows.now.conn.now) → IfOk result (Hands
-            (λ rows. (self.old.progress.failed ≡ false)
-            × HoldersLeft S.Store self.old.rows.now.conn.now rows)
-            (λ rows. (self.new.progress.failed ≡ false)
-            × HoldersLeft S.Store self.new.rows.now.conn.now rows)) }
-        ensures counted { IfOk result (λ found.
-            self.new.progress.given ≡ count_of found + self.old.progress.given) }
-        ensures few { self.new.progress.given < 2 ^ 64 }
-
-        ensures kept { RowsStay S.Store self.old.rows self.new.rows }
-        ensures sound { HasCleanDisk (state S.Store self.new.rows.now.conn.now)
-            → HasCleanDisk (state S.Store self.old.rows.now.conn.now) }
-
-        ensures store { HasCleanDisk (state S.Store self.new.rows.now.conn.now)
-            → self.old.progress.failed ≡ false
-            → AreHoldersRest S.Store self.old.rows.now.conn.now
-            → self.old.progress.given < 2 ^ 64 - 1
-            → IsUp (state S.Store self.old.rows.now.conn.now) → IsErrOf result Fault.Store
-            → HasFaulted (state S.Store self.old.rows.now.conn.now)
-            (state S.Store self.new.rows.now.conn.now) }
-        ensures stops { StopsAtFault self.old.progress self.new.progress result }
-    {
-        let given = self.progress.given;
-        if self.progress.failed {
-            return Err(Fault::Store);
-        }
-        self.progress.failed = true;
-        match next_holder(self.rows) {
-            Ok(Some(found)) => {
-                if given == u64::MAX {
-                    return Err(Fault::Store);
-                }
-                let holder = holder_of(&found);
-                self.progress.given = given + 1;
-                self.progress.failed = false;
-                Ok(Some(holder))
-            }
-            Ok(None) => {
-                self.progress.failed = false;
-                Ok(None)
-            }
+    fn next_found(rows: &mut Rows<'_, S>) -> Result<Option<Holder>, Fault> {
+        match next_holder(rows) {
+            Ok(Some(found)) => Ok(Some(holder_of(&found))),
+            Ok(None) => Ok(None),
             Err(error) => Err(fault_of(&error)),
         }
     }

@@ -9,10 +9,12 @@
 
 mod brief_rows;
 mod cell_rows;
+mod found_rows;
 mod holder_rows;
 mod progress;
 
-pub use brief_rows::{JourneyRows, start_journeys, start_unfinished};
-pub use cell_rows::{CellRows, start_cells, start_stock};
-pub use holder_rows::{HolderRows, start_holders};
+pub use brief_rows::{start_journeys, start_unfinished};
+pub use cell_rows::{start_cells, start_stock};
+pub use found_rows::{FoundRow, FoundRows};
+pub use holder_rows::start_holders;
 pub use progress::Progress;

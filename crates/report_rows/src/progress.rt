@@ -1,6 +1,6 @@
 //! How far a source of rows has come.
 //!
-//! A source is written where it is used, as `CellRows { rows, progress: Progress::new() }`: the check follows a loan
+//! A source is written where it is used, as `FoundRows { rows, progress: Progress::new() }`: the check follows a loan
 //! into a struct only there. What it counts stays private. A later source may go on with the progress of an earlier
 //! one, and then counts the rows of both.
 

@@ -1,11 +1,10 @@
 -- Executions that go on, repeatedly. For chains.
 use Rattle.std.proofs.Common.{◌≡◌, true, false, List, [], ◌∷◌, ◌++◌, refl, sym, ap, subst, ◌∙◌, arith, append_assoc, append-nil, IsTrue}
-use Rattle.std.specs.Prelude.{Bool}
 use Rattle.ledger.specs.Answer.{State, start, outcome}
 use Rattle.ledger.specs.World.{Moment, Done, Cut, Reopened, after, GoesOn, IsWorld}
 use Rattle.saga_core.specs.Runs.{Asks, state_after, outcome_of}
 use Rattle.saga_core.specs.Worlds.{is_whole, dones, continued, cut_off, KeepLimits}
-use Rattle.saga_core.specs.Chains.{GoesOnTo, GoesOnAll, Crashes, StaysWorld, StaysWhole, Reopens, Adds, Begins}
+use Rattle.saga_core.specs.Chains.{GoesOnAll, Crashes, StaysWorld, StaysWhole, Reopens, Adds, Begins}
 use Rattle.saga_core.proofs.WorldLemmas.{after-append, is_whole-append, is_whole-dones, KeepLimits-append, KeepLimits-front, KeepLimits-rest, GoesOn-cut, IsWorld-continued, after-continued}
 
 -- all asks may be answered

@@ -7,3 +7,4 @@ pub mod RunEndLemmas
 pub mod ChainLemmas
 pub mod FirstLemmas
 pub mod BriefLemmas
+pub mod RulingLemmas

@@ -9,7 +9,7 @@ use Rattle.commands.specs.declared.replies.Fault.{Fault}
 use Rattle.commands.specs.declared.replies.Fault.TheVariants.{Memory, Store}
 use Rattle.commands.specs.declared.asks.Command.{Command}
 use Rattle.commands.specs.declared.replies.Reply.{Reply}
-use Rattle.ledger.specs.Answer.{State, Outcome, outcome}
+use Rattle.ledger.specs.Answer.{State, Outcome}
 use Rattle.saga_core.specs.Books.{LeavesAtStore, KeepsAtMemory}
 use Rattle.saga_core.specs.Runs.{Asks, asked_by, asks_of, replies_to, state_after, outcome_of, StopsAmong}
 

@@ -1,12 +1,10 @@
 -- How an execution goes on with asks. For run, and for all other continuations: recovery, lines and messages.
-use Rattle.std.proofs.Common.{◌≡◌, ℕ, ◌+◌, ◌≤◌, true, false, List, [], ◌∷◌, ◌++◌, length, take, drop, refl, ap, sym, ◌∙◌, subst, arith, append-nil, append_assoc, IsTrue}
-use Rattle.std.specs.Prelude.{Bool, Option, Err}
-use Rattle.commands.specs.Asks.{Asked}
-use Rattle.commands.specs.Request.{Request}
-use Rattle.ledger.specs.Answer.{State, start, outcome, is_request}
+use Rattle.std.proofs.Common.{◌≡◌, ◌≤◌, true, false, List, [], ◌∷◌, ◌++◌, length, refl, ap, sym, ◌∙◌, subst, arith, append-nil, IsTrue}
+use Rattle.std.specs.Prelude.{Bool}
+use Rattle.ledger.specs.Answer.{State, start, outcome}
 use Rattle.ledger.specs.World.{Moment, Done, Cut, Reopened, after, GoesOn, IsWorld}
 use Rattle.saga_core.specs.Runs.{Asks, state_after, outcome_of}
-use Rattle.saga_core.specs.Worlds.{is_whole, dones, continued, cut_off, KeepLimits, Progress, StandsAtEnd, LeavesEnd, EndsWith, EndsAmong}
+use Rattle.saga_core.specs.Worlds.{is_whole, dones, continued, cut_off, KeepLimits, StandsAtEnd, LeavesEnd, EndsWith, EndsAmong}
 use Rattle.saga_core.proofs.RunLemmas.{state_after-append}
 
 -- Moments.

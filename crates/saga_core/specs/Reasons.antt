@@ -1,7 +1,7 @@
 -- Why a book fails with Store. `could` and `can` say of a state and of asks that a book may act for them there, before a call
 -- and after it: it represents the state, and executes the asks in order, unless it has a reason to fail. `reason` says of two
 -- states that there was a reason why the step from the one to the other failed.
-use Rattle.std.specs.Prelude.{ℕ, ◌+◌, ◌<◌, [], ◌∷◌, ◌++◌, length, take, Option, Result, Ok, Err}
+use Rattle.std.specs.Prelude.{ℕ, ◌+◌, ◌<◌, ◌∷◌, ◌++◌, length, take, Option, Result, Ok, Err}
 use Rattle.commands.specs.Asks.{Asked}
 use Rattle.commands.specs.Request.{Request}
 use Rattle.commands.specs.declared.replies.Fault.{Fault}

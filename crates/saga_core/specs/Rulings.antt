@@ -1,5 +1,5 @@
 -- Turns and save-points: for each request about a journey but its next step, the item that it makes, or its refusal.
-use Rattle.std.specs.Prelude.{◌&&◌, not, nat_lt, if◌then◌else◌, Result, Ok, Err}
+use Rattle.std.specs.Prelude.{◌≡◌, ℕ, ◌&&◌, not, nat_lt, if◌then◌else◌, Result, Ok, Err, MatchResult}
 use Rattle.std.specs.FinSet as set
 use Rattle.std.specs.Ordering.{nat_cmp}
 use Rattle.plan.specs.PlanModel.{Planned}
@@ -14,6 +14,8 @@ use Rattle.commands.specs.declared.items.Item.TheVariants as item
 use Rattle.commands.specs.declared.replies.Refusal.{Refusal}
 use Rattle.commands.specs.declared.replies.Refusal.TheVariants.{Finished, NoSavePoint, NoSave}
 use Rattle.ledger.specs.History.{is_running, is_finished}
+use Rattle.ledger.specs.Replies.{Answer, refused}
+use Rattle.ledger_transitions.specs.Answers.{moves}
 use Rattle.ledger_transitions.specs.JourneyChanges.{target_of}
 
 -- the turn to the target of the rules, if it may be made
@@ -31,3 +33,7 @@ save_said plan c marks =
     else if is_running c.phase && nat_lt 0 c.pos
     && not (rules.is_save_point plan (is_taken_in marks) c.pos c.pos)
     then Ok (item.Save c.pos) else Err NoSave
+
+-- the rules answer with this result of a move: its item is made, or it is refused
+abbrev pub Fits : ℕ → Planned → Cursor → Answer → Result Item Refusal → Type 0
+Fits j plan c answered next = MatchResult next (λ x. answered ≡ moves j plan c x) (λ why. answered ≡ refused why)

@@ -10,7 +10,7 @@ use Rattle.std.proofs.lemmas.Bool.Decides.{nat_tests}
 use Rattle.savepoints.specs.declared.turns.Turn.TheVariants as turn
 use Rattle.commands.specs.declared.items.Cause.{Cause}
 use Rattle.commands.specs.declared.items.Cause.TheVariants as causes
-use Rattle.saga_core.specs.Rulings.{turn_said}
+use Rattle.saga_core.specs.Rulings.{turn_said, Fits}
 use Rattle.commands.specs.declared.items.Cursor.{Cursor}
 use Rattle.commands.specs.declared.items.Item.{Item}
 use Rattle.commands.specs.declared.items.Item.TheVariants as item
@@ -44,7 +44,7 @@ use Rattle.sql_reads.specs.declared.reads.Stand.{Stand}
 use Rattle.sql_writes.specs.declared.events.Event.TheVariants as event
 use Rattle.sql_reads.specs.OptionChoice.{IsNextChoice, IsLastChoice}
 use Rattle.sql_commands.specs.Moving.{IsStepUp, IsStepDown, IsTurnedToStart, LeadsToStart, FitsIn, IsNextMade, IsMade, ComesFor, IsLastOption, FitsNext, IsEventOf, IsUnfit, IsNext, IsDue, IsRead, Runs, asked_for}
-use Rattle.sql_commands.specs.Placing.{begun_as, IsSeen, Fits, SeesStand, StandsAt, turned_to_start}
+use Rattle.sql_commands.specs.Placing.{begun_as, IsSeen, SeesStand, StandsAt, turned_to_start}
 use Rattle.sql_commands.specs.declared.step_outcome.Coming.TheVariants as coming
 use Rattle.sql_commands.specs.declared.moves.Made.{Made}
 use Rattle.sql_reads.specs.declared.plan_rows.Choice.{Choice}

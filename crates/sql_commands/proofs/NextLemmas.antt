@@ -27,9 +27,10 @@ use Rattle.ledger_transitions.proofs.Histories.{follows}
 use Rattle.ledger_transitions.proofs.Moves.{move-finished, seen, unseen, seen-none}
 use Rattle.ledger_transitions.proofs.Taken.{last_save_by-marks, is_save_point_by-marks}
 use Rattle.saga_core.specs.Views.{record_of, record_of_journey}
-use Rattle.saga_core.specs.Rulings.{turn_said, save_said}
+use Rattle.saga_core.proofs.RulingLemmas.{abort_ruled, save_ruled, stop_ruled}
+use Rattle.saga_core.specs.Rulings.{turn_said, save_said, Fits}
 use Rattle.saga_core.specs.declared.records.Record.{Record}
-use Rattle.sql_commands.specs.Placing.{begun_as, IsSeen, Fits}
+use Rattle.sql_commands.specs.Placing.{begun_as, IsSeen}
 
 -- Records.
 
@@ -93,72 +94,6 @@ none_seen s who id e = seen-none s.ledger who id (go (journey_at s.ledger id) e)
 
 -- Moves.
 
--- one of two answers, by a test, is one of two moves, by the same test
-by_test : (b : Bool) (j : ℕ) (plan : Planned) (c : Cursor) (x : Item) (why : Refusal) (a : Answer)
-    → a ≡ (if b then moves j plan c x else refused why)
-    → Fits j plan c a (if b then Ok x else Err why)
-by_test true j plan c x why a e = e
-by_test false j plan c x why a e = e
-
--- of a journey in a legal ledger
-module _ (l : List Event) (legal : IsLegal l) (j : ℕ) (a : Journey) (at : journey_at l j ≡ Some a) where
-  -- its items
-  abbrev h : List Item
-  h = history l j
-
-  -- the cursor of the journey
-  abbrev c : Cursor
-  c = cursor_of a.plan (history l j)
-
-  -- the answer to an abort, by the phase
-  abort-by_phase : (p : Phase) → phase a.plan h ≡ p → (q : ℕ)
-      → Fits j a.plan c (answer_move l j (abort_choices q) NoSavePoint (Some a))
-      (turn_said a.plan (record c { phase = p }) (marks_of h) (turn.Asked q) causes.Asked)
-  abort-by_phase Run e q =
-      by_test _ j a.plan c (item.Turn q causes.Asked) NoSavePoint _
-      (abort-answer l j a q legal at (runs e)
-      ∙ ap (λ p. if may_be_made a.plan (is_taken_in (marks_of h)) (position_of h) (target_of p)
-      (turn.Asked q) then moves j a.plan c (item.Turn q causes.Asked) else refused NoSavePoint) e)
-  abort-by_phase (Back r) e q =
-      by_test _ j a.plan c (item.Turn q causes.Asked) NoSavePoint _
-      (abort-answer l j a q legal at (goes_back r e)
-      ∙ ap (λ p. if may_be_made a.plan (is_taken_in (marks_of h)) (position_of h) (target_of p)
-      (turn.Asked q) then moves j a.plan c (item.Turn q causes.Asked) else refused NoSavePoint) e)
-  abort-by_phase Ended e q = move-finished l j (abort_choices q) NoSavePoint a (ap is_finished e)
-  abort-by_phase Undone e q = move-finished l j (abort_choices q) NoSavePoint a (ap is_finished e)
-
-  -- the answer to a stop, by the phase
-  stop-by_phase : (p : Phase) → phase a.plan h ≡ p
-      → Fits j a.plan c (answer_move l j stop_choices NoSavePoint (Some a))
-      (turn_said a.plan (record c { phase = p }) (marks_of h) turn.Stop causes.Stop)
-  stop-by_phase Run e =
-      stop-answer l j a legal at (runs e)
-      ∙ ap (λ p. if may_be_made a.plan (is_taken_in (marks_of h)) (position_of h) (target_of p)
-      turn.Stop then moves j a.plan c (item.Turn (last_save a.plan h) causes.Stop)
-      else refused NoSavePoint) e
-      ∙ ap (λ p. moves j a.plan c (item.Turn p causes.Stop)) (last_save_by-marks a.plan h (follows l legal j a at))
-  stop-by_phase (Back r) e =
-      stop-answer l j a legal at (goes_back r e)
-      ∙ ap (λ p. if may_be_made a.plan (is_taken_in (marks_of h)) (position_of h) (target_of p)
-      turn.Stop then moves j a.plan c (item.Turn (last_save a.plan h) causes.Stop)
-      else refused NoSavePoint) e
-  stop-by_phase Ended e = move-finished l j stop_choices NoSavePoint a (ap is_finished e)
-  stop-by_phase Undone e = move-finished l j stop_choices NoSavePoint a (ap is_finished e)
-
-  -- the answer to a save-point, by the phase
-  save-by_phase : (p : Phase) → phase a.plan h ≡ p
-      → Fits j a.plan c (answer_move l j save_choices NoSave (Some a))
-      (save_said a.plan (record c { phase = p }) (marks_of h))
-  save-by_phase Run e =
-      by_test _ j a.plan c (item.Save (position_of h)) NoSave _
-      (save-answer l j a legal at e
-      ∙ ap (λ b. if nat_lt 0 (position_of h) && not b
-      then moves j a.plan c (item.Save (position_of h)) else refused NoSave)
-      (is_save_point_by-marks a.plan h (position_of h) (follows l legal j a at)))
-  save-by_phase (Back r) e = save-back l j a r legal at e
-  save-by_phase Ended e = move-finished l j save_choices NoSave a (ap is_finished e)
-  save-by_phase Undone e = move-finished l j save_choices NoSave a (ap is_finished e)
-
 -- a record that the caller sees
 module _ (s : State) (legal : IsLegal s.ledger) (who : Option (List ℕ)) (id : ℕ) (r : Record) (is : IsSeen s who id r) where
   -- the items of the record's journey
@@ -188,7 +123,7 @@ module _ (s : State) (legal : IsLegal s.ledger) (who : Option (List ℕ)) (id : 
       from_history (abort_choices q) NoSavePoint next
       (subst (Fits id r.plan (cursor_of r.plan items) (answer_move s.ledger id (abort_choices q) NoSavePoint (Some (begun_as r))))
       (turn_same (turn.Asked q) causes.Asked ∙ sym said)
-      (abort-by_phase s.ledger legal id (begun_as r) is.at (phase r.plan items) refl q))
+      (abort_ruled s.ledger legal id (begun_as r) is.at q))
 
   -- a stop
   pub stop_next : (next : Result Item Refusal) → next ≡ turn_said r.plan r.cursor r.marks turn.Stop causes.Stop
@@ -197,7 +132,7 @@ module _ (s : State) (legal : IsLegal s.ledger) (who : Option (List ℕ)) (id : 
       from_history stop_choices NoSavePoint next
       (subst (Fits id r.plan (cursor_of r.plan items) (answer_move s.ledger id stop_choices NoSavePoint (Some (begun_as r))))
       (turn_same turn.Stop causes.Stop ∙ sym said)
-      (stop-by_phase s.ledger legal id (begun_as r) is.at (phase r.plan items) refl))
+      (stop_ruled s.ledger legal id (begun_as r) is.at))
 
   -- taking a save-point
   pub save_next : (next : Result Item Refusal) → next ≡ save_said r.plan r.cursor r.marks
@@ -207,4 +142,4 @@ module _ (s : State) (legal : IsLegal s.ledger) (who : Option (List ℕ)) (id : 
       (subst (Fits id r.plan (cursor_of r.plan items) (answer_move s.ledger id save_choices NoSave (Some (begun_as r))))
       (ap (λ c. save_said r.plan c (marks_of items)) (sym is.cursor)
       ∙ ap (λ ms. save_said r.plan r.cursor ms) (sym is.marks) ∙ sym said)
-      (save-by_phase s.ledger legal id (begun_as r) is.at (phase r.plan items) refl))
+      (save_ruled s.ledger legal id (begun_as r) is.at))

@@ -29,7 +29,8 @@ use Rattle.ledger_transitions.proofs.Histories.{Follows, follows, is_option_of}
 use Rattle.saga_core.specs.declared.records.Record.{Record}
 use Rattle.sql_model.specs.Standing.{IsDesk}
 use Rattle.sql_commands.specs.Moving.{asked_for}
-use Rattle.sql_commands.specs.Placing.{begun_as, Fits, IsSeen, MayBeMade}
+use Rattle.sql_commands.specs.Placing.{begun_as, IsSeen, MayBeMade}
+use Rattle.saga_core.specs.Rulings.{Fits}
 use Rattle.sql_commands.specs.declared.moves.Motion.{Motion}
 use Rattle.sql_commands.specs.declared.moves.Motion.TheVariants as motion
 

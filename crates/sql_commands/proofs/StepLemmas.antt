@@ -26,7 +26,8 @@ use Rattle.saga_core.specs.declared.deciding.Move.{Move}
 use Rattle.saga_core.specs.declared.deciding.Move.TheVariants as move
 use Rattle.saga_core.specs.declared.records.Record.{Record}
 use Rattle.sql_commands.specs.Moving.{FitsNext, IsLastOption}
-use Rattle.sql_commands.specs.Placing.{begun_as, IsSeen, Fits}
+use Rattle.sql_commands.specs.Placing.{begun_as, IsSeen}
+use Rattle.saga_core.specs.Rulings.{Fits}
 use Rattle.sql_commands.proofs.NextLemmas.{from_history}
 
 -- the item, or the refusal, of the decision

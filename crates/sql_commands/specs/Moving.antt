@@ -37,7 +37,8 @@ use Rattle.sql_writes.specs.declared.events.Event.{Event}
 use Rattle.sql_writes.specs.declared.events.Event.TheVariants.{Transaction, Compensation, Turn, Save}
 use Rattle.sql_commands.specs.Answering.{Counts}
 use Rattle.sql_model.specs.Keeping.{Keeps, MayLeave}
-use Rattle.sql_commands.specs.Placing.{IsSeen, SeesStand, Fits, stepped_up, stepped_down, turned_to_start}
+use Rattle.sql_commands.specs.Placing.{IsSeen, SeesStand, stepped_up, stepped_down, turned_to_start}
+use Rattle.saga_core.specs.Rulings.{Fits}
 use Rattle.sql_reads.specs.Reading.{stand_of}
 use Rattle.sql_reads.specs.declared.reads.Stand.{Stand}
 use Rattle.sql_reads.specs.declared.plan_rows.Choice.{Choice}

@@ -79,8 +79,3 @@ pub record StandsAt (id : ℕ) (stand : Stand) (s : State) : Type 0 where
   pub at : journey_at s.ledger id ≡ Some journey
   pub steps : stand.steps ≡ step_count journey.plan
   pub cursor : stand.cursor ≡ cursor_of journey.plan (history s.ledger id)
-
--- the answer is the item of a move, or its refusal
-abbrev pub Fits : ℕ → Planned → Cursor → Answer → Result Item Refusal → Type 0
-Fits j plan c answered next =
-    MatchResult next (λ x. answered ≡ moves j plan c x) (λ why. answered ≡ refused why)

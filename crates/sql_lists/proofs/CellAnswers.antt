@@ -128,10 +128,10 @@ as_named g old new kind f supplier product one two begins =
 pub cells_started : {S : Type 0} (g : Ghosts S) (old new : Held S) (kind : Kind) (f : CellFilter) (supplier product : Option (List ℕ))
     → f.supplier ≡ supplier → f.product ≡ product
     → (HasCleanDisk (state g new)
-        → HasBegun g (cells_text (is_some supplier) (is_some product)) (params (kind_number kind) f.from (last_day f.to) supplier product) old new)
+    → HasBegun g (cells_text (is_some supplier) (is_some product)) (params (kind_number kind) f.from (last_day f.to) supplier product) old new)
     → (old.in_transaction ≡ false → new.in_transaction ≡ false)
     → Survives (state g old) (state g new) (CommitsShowing (cells_text (is_some supplier) (is_some product))
-      (params (kind_number kind) f.from (last_day f.to) supplier product) (state g old))
+    (params (kind_number kind) f.from (last_day f.to) supplier product) (state g old))
     → Starts g old new (IsListOf kind f) (CellsRest g)
 cells_started g old new kind f supplier product one two begun mode survives =
     started g (cells_text (is_some supplier) (is_some product)) (cells_query (is_some supplier) (is_some product)) find_stock_names

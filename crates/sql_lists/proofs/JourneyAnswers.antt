@@ -112,10 +112,10 @@ as_named g old new f agent one begins =
 -- a query of the journeys that a filter lets through has started
 pub journeys_started : {S : Type 0} (g : Ghosts S) (old new : Held S) (f : JourneyFilter) (agent : Option (List ℕ)) → f.agent ≡ agent
     → (HasCleanDisk (state g new)
-        → HasBegun g (journeys_text (is_some agent)) (params (least_phase f.phases) (most_phase f.phases) agent) old new)
+    → HasBegun g (journeys_text (is_some agent)) (params (least_phase f.phases) (most_phase f.phases) agent) old new)
     → (old.in_transaction ≡ false → new.in_transaction ≡ false)
     → Survives (state g old) (state g new) (CommitsShowing (journeys_text (is_some agent))
-      (params (least_phase f.phases) (most_phase f.phases) agent) (state g old))
+    (params (least_phase f.phases) (most_phase f.phases) agent) (state g old))
     → Starts g old new (ListsJourneys f) (JourneysRest g)
 journeys_started g old new f agent one begun mode survives =
     started g (journeys_text (is_some agent)) (journeys_query (is_some agent)) journey_names (journeys_means (is_some agent))

@@ -1,5 +1,5 @@
--- The state that a connection represents when it is closed: its limit of steps does not count. For both `into_store`.
-use Rattle.std.proofs.Common.{inl}
+-- The state that a connection represents when it is let go: its limit of steps does not count. For both `into_store`.
+use Rattle.std.proofs.Common.{inl, refl}
 use Rattle.std.specs.Prelude.{None}
 use Rattle.sqlite.specs.Store.{Ghosts}
 use Rattle.sqlite.specs.Held.{Held, state}
@@ -7,6 +7,9 @@ use Rattle.desk_sql.specs.declared.versions.Version.{Version}
 use Rattle.desk_sql.specs.declared.versions.Version.TheVariants.{One, Two}
 use Rattle.ledger.specs.Answer.{State}
 use Rattle.tables.specs.Keeping.{SeesOf, IsKeptIn, IsFound}
+use Rattle.tables.specs.Making.{GivesBack, LetsGo}
+use Rattle.tables.specs.declared.books.TableBook.{TableBook}
+use Rattle.tables.specs.declared.opening.Opened.{Opened}
 
 module _ {S : Type 0} (g : Ghosts S) (h : Held S) where
   -- the connection without its limit
@@ -24,8 +27,27 @@ module _ {S : Type 0} (g : Ghosts S) (h : Held S) where
   }
 
   -- the state that is kept is found
-  pub kept_found : (v : Version) (s : State) → IsKeptIn v (state g h) s → IsFound v (state g unlimited) s
+  kept_found : (v : Version) (s : State) → IsKeptIn v (state g h) s → IsFound v (state g unlimited) s
   kept_found One s kept =
       record { sees = λ live. still_seen One s (kept.sees live); leaves = kept.leaves }
   kept_found Two s kept =
       record { sees = λ live. inl (still_seen Two s (kept.sees live)); leaves = kept.leaves }
+
+-- so it is with the connection of a book, and with that of what was opened
+pub lets_go : {S : Type 0} (g : Ghosts S) (b : TableBook S g) → LetsGo g b (unlimited g b.conn)
+lets_go g b = record {
+  found = λ s stands clean. kept_found g b.conn Two s (stands.keeps clean);
+  left = λ s t leaves. leaves;
+  idle = record { outside = b.outside; unlimited = refl };
+  sound = λ clean. clean;
+  same = refl;
+}
+
+pub gives_back : {S : Type 0} (g : Ghosts S) (o : Opened S) → GivesBack g o (unlimited g o.conn)
+gives_back g o = record {
+  found = λ s keeps clean. kept_found g o.conn o.version s (keeps clean);
+  outside = λ out. out;
+  unlimited = refl;
+  sound = λ clean. clean;
+  same = refl;
+}

@@ -12,4 +12,4 @@ pub mod SpelledLemmas
 pub mod NewDesks
 pub mod ActingLemmas
 pub mod SinceLemmas
-pub mod OtherTables
+pub mod Founding

@@ -1,10 +1,7 @@
 -- What reads of its connection leave of a book. For its looks.
-use Rattle.std.proofs.Common.{◌≡◌, ℕ, Bool, inl, refl, sym, subst, arith}
+use Rattle.std.proofs.Common.{◌≡◌, ℕ, Bool, refl, sym, subst}
 use Rattle.std.specs.Prelude.{Option, Result, Ok, Err}
-use Rattle.sqlite.specs.Held.{Held}
 use Rattle.sqlite.specs.State.{State as Connected}
-use Rattle.sqlite.specs.Store.{Ghosts}
-use Rattle.sql_model.specs.Staying.{StaysUp}
 use Rattle.commands.specs.declared.replies.Fault.{Fault}
 use Rattle.commands.specs.declared.replies.Fault.TheVariants.{Memory, Store}
 use Rattle.ledger.specs.Answer.{State}
@@ -21,25 +18,7 @@ still_stands failed finished unfinished old first looked (Err Memory) =
 still_stands failed finished unfinished old first looked (Ok shown) =
     λ s here. record { working = here.working; known = here.known; counted = here.counted; desk = here.desk; keeps = looked s here.keeps }
 
--- unless the store failed, the book represents what it represented: out of memory, both reads have changed nothing
-pub uncounted : {W : Type 0} (failed : Bool) (finished : ℕ) (unfinished : Option ℕ) (old first end : Connected) (f : Fault)
-    → ((s : State) → Keeps old s → Keeps first s)
-    → ((s : State) → Keeps first s → f ≡ Memory → Keeps end s)
-    → (result : Result W Fault) → result ≡ Err f
-    → books.Keeps (Stands failed finished unfinished old) (Stands failed finished unfinished end) result
-uncounted failed finished unfinished old first end Memory looked counted result is =
-    subst (books.Keeps (Stands failed finished unfinished old) (Stands failed finished unfinished end)) (sym is)
-    (λ s here. record {
-      working = here.working;
-      known = here.known;
-      counted = here.counted;
-      desk = here.desk;
-      keeps = counted s (looked s here.keeps) refl;
-    })
-uncounted failed finished unfinished old first end Store looked counted result is =
-    subst (books.Keeps (Stands failed finished unfinished old) (Stands failed finished unfinished end)) (sym is) tt
-
--- the same of a read after one that answered, and after which the book may remember more
+-- unless the store failed, a read after one that answered leaves what the book represents, though it may remember more since
 pub untold : {W : Type 0} (Before : State → Type 0) (failed : Bool) (finished : ℕ) (unfinished : Option ℕ) (mid end : Connected) (f : Fault)
     → ((s : State) → Before s → Stands failed finished unfinished mid s)
     → ((s : State) → Keeps mid s → f ≡ Memory → Keeps end s)
@@ -56,7 +35,3 @@ untold Before failed finished unfinished mid end Memory first second result is =
     })
 untold Before failed finished unfinished mid end Store first second result is =
     subst (books.Keeps Before (Stands failed finished unfinished end)) (sym is) tt
-
--- where no call reached the store, it is as much up as before
-pub stays_alone : {S : Type 0} (g : Ghosts S) (a : Held S) → StaysUp g a a
-stays_alone g a = record { counts = omega arith; up = λ clean up. inl up }

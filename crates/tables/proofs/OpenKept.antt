@@ -8,7 +8,7 @@ use Rattle.sqlite_schema.specs.declared.schema.Schema.{Schema}
 use Rattle.sqlite.specs.Held.{Held, state}
 use Rattle.sqlite.specs.Steps.{FailsToCommit}
 use Rattle.sqlite.specs.declared.error.Error.{Error}
-use Rattle.sqlite.specs.State.{State as Connected, HasCleanDisk, IsUnchanged, IsRolledBack, KeepsCommit, Survives, Shows as ShowsNow}
+use Rattle.sqlite.specs.State.{State as Connected, HasCleanDisk, IsUnchanged, IsRolledBack, KeepsCommit, Shows as ShowsNow}
 use Rattle.desk_sql.specs.declared.versions.Version.{Version}
 use Rattle.desk_sql.specs.declared.versions.Version.TheVariants.{One, Two}
 use Rattle.desk_sql.specs.Versions.{number_of, AreOfVersion}
@@ -26,12 +26,12 @@ use Rattle.sql_model.specs.Keeping.{Sees as SeesFound, SeesNew}
 use Rattle.sql_model.specs.Standing.{StandsFor}
 use Rattle.sql_model.proofs.Founding.{founded_stands}
 use Rattle.sql_model.proofs.KeepLemmas.{is_database}
-use Rattle.sql_model.proofs.Quieting.{quiet_keeps, quiet_leaves, quiet_sees}
+use Rattle.sql_model.proofs.Quieting.{quiet_clean, quiet_keeps, quiet_leaves, quiet_sees}
 use Rattle.tables.specs.declared.faults.OpenFault.{OpenFault}
 use Rattle.tables.specs.declared.faults.OpenFault.TheVariants.{Store, Memory}
 use Rattle.sql_model.specs.Keeping.{MeansIn}
 use Rattle.tables.specs.Keeping.{MeansOf, SeesOf, IsKept, IsKeptIn, IsFound}
-use Rattle.tables.specs.Opening.{Tells}
+use Rattle.tables.specs.Opening.{FailsOpening, FailsToOpen, Idle, Tells}
 use Rattle.sql_writes.proofs.CommitLemmas.{KeepsOne}
 
 -- the schema of the desk has tables, in each version
@@ -97,6 +97,11 @@ still_bare Two a b s found bare back = elim (found.sees back.was_open) [
 ]
 
 -- A quiet call changes nothing, or is rolled back.
+
+-- so it leaves a connection as an opening asks for it
+pub quiet_idle : {S : Type 0} (g : Ghosts S) (old new : Held S) → Quiet g old new → Idle old → Idle new
+quiet_idle g old new it was = record { outside = it.mode was.outside; unlimited = it.survives.limit ∙ was.unlimited }
+
 module _ {S : Type 0} (g : Ghosts S) (old new : Held S) (s : State) (it : Quiet g old new) (clean : HasCleanDisk (state g new)) where
   same_or_back : IsTrue (state g new).is_open → (state g old).now ≡ (state g old).committed → HasGoneBack (state g old) (state g new)
   same_or_back live settled =
@@ -108,7 +113,7 @@ module _ {S : Type 0} (g : Ghosts S) (old new : Held S) (s : State) (it : Quiet 
       }
 
   -- the connection represents what it represented before the call
-  pub still_found : (v : Version) → IsFound v (state g old) s → IsFound v (state g new) s
+  still_found : (v : Version) → IsFound v (state g old) s → IsFound v (state g new) s
   still_found One found =
       let kept = quiet_keeps g old new it One s (λ _. record { sees = found.sees; leaves = found.leaves }) clean in
       record { sees = kept.sees; leaves = kept.leaves }
@@ -166,6 +171,18 @@ module _ {S : Type 0} (g : Ghosts S) (old new : Held S) where
       → LeavesNoMore g old new → Tells g old new r
   tells_fault fault.Memory r memory store less = subst (λ (x : OpenFault). Tells g old new x) (sym (memory.1 refl)) less
   tells_fault fault.Store r memory store less = subst (λ (x : OpenFault). Tells g old new x) (sym (store.1 refl)) tt
+
+-- an opening that only read, and failed for this fault, leaves all as it was
+pub fails_quietly : {S : Type 0} (g : Ghosts S) (old new : Held S) → Quiet g old new → Idle old → (old.schema ≡ no_schema → ⊥)
+    → (f : OpenFault) → Tells g old new f → FailsToOpen g old new f → FailsOpening g old new f
+fails_quietly g old new it was filled f told store = record {
+  stands = λ v s stood clean. still_found g old new s it clean v (stood (quiet_clean g old new it clean));
+  told = told;
+  store = store;
+  founds = λ clean bare up is. absurd (filled bare);
+  idle = quiet_idle g old new it was;
+  sound = quiet_clean g old new it;
+}
 
 -- the one row that was read has its version
 pub has_version : (t : Tables) (m : Meta) → IsMeta t m → AreOfVersion m.version t

@@ -1,6 +1,6 @@
 -- What each call leaves of a book that may act, as the contract of every book says it. For the book over tables.
-use Rattle.std.proofs.Common.{◌≡◌, ◌≤◌, ◌⊎◌, ◌∙◌, ◌+◌, inl, inr, true, false, refl, sym, arith}
-use Rattle.std.specs.Prelude.{Option, Result, Ok, Err}
+use Rattle.std.proofs.Common.{◌≡◌, ◌≤◌, ◌⊎◌, ◌∙◌, ◌+◌, ◌∷◌, inl, inr, true, false, refl, sym, arith}
+use Rattle.std.specs.Prelude.{◌↔◌, Option, Result, Ok, Err, IsErrOf, IsTrue}
 use Rattle.std.specs.Borrow.{Bor}
 use Rattle.std.specs.Option.{option_copied}
 use Rattle.sqlite.specs.Store.{Ghosts}
@@ -21,8 +21,10 @@ use Rattle.sql_model.specs.Spelling.{IsSpelled}
 use Rattle.sql_model.specs.Staying.{SeesAsBefore, StaysUp}
 use Rattle.sql_model.proofs.Staying.{faulted_earlier, faulted_later, rowids_stay}
 use Rattle.tables.specs.Acting.{ActsOn, ActsSince, AreShort, HasReasonSince, MayAct, MayActSince, rowids_for}
-use Rattle.tables.specs.BookTerms.{FailsToAct, StandsBook}
+use Rattle.tables.specs.BookTerms.{Answers, FailsToAct, KeepsAtMemory, LeavesAtStore, LeavesRowids, MovesOn, StandsBook}
+use Rattle.tables.specs.Reading.{Executes}
 use Rattle.tables.specs.declared.books.TableBook.{TableBook}
+use Rattle.tables.proofs.ActingLemmas.{may_act}
 
 module _ {S : Type 0} (g : Ghosts S) (first old new : TableBook S g) (stays : StaysUp g old.conn new.conn)
     (low : (state g first.conn).faults ≤ (state g old.conn).faults) where
@@ -84,9 +86,9 @@ failed_since g first old conn stays s asks since fails = elim since.may [
 ]
 
 -- a book that has failed did so for a reason
-pub had_failed : {S : Type 0} (g : Ghosts S) (b first : TableBook S g) (s : State) (asks : Asks) → b.failed ≡ true
-    → MayActSince g first b s asks → HasReasonSince g first b s s
-had_failed g b first s asks failed since = elim since.may [
+pub had_failed : {S : Type 0} (g : Ghosts S) (b first : TableBook S g) (s next : State) (asks : Asks) → b.failed ≡ true
+    → MayActSince g first b s asks → HasReasonSince g first b s next
+had_failed g b first s next asks failed since = elim since.may [
   | inr faulted ↦ inl faulted
   | inl may ↦ absurd (let both : true ≡ false = sym failed ∙ may.0.stands.working in cc)
 ]
@@ -94,7 +96,7 @@ had_failed g b first s asks failed since = elim since.may [
 -- A command.
 
 module _ {S : Type 0} (g : Ghosts S) (old new : TableBook S g) (stays : StaysUp g old.conn new.conn) where
-  pub acts_since : (ask : Option (Bor Asked)) (asked : Request) (result : Result Reply Fault) → ActsOn g old new ask asked result
+  acts_since : (ask : Option (Bor Asked)) (asked : Request) (result : Result Reply Fault) → ActsOn g old new ask asked result
       → FailsToAct g old new ask asked result → ActsSince g old new ask asked result
   acts_since ask asked (Ok r) acts fails clean first s later since = elim since.may [
     | inr faulted ↦ faulted_since g first old new stays since.counts (outcome s (option_copied ask) asked).state later faulted
@@ -115,3 +117,63 @@ module _ {S : Type 0} (g : Ghosts S) (old new : TableBook S g) (stays : StaysUp 
           | inr ran ↦ inr ran
         ])
   ]
+
+-- A command that reached the store, from what it left of the connection.
+module _ {S : Type 0} (g : Ghosts S) (old new : TableBook S g) (ask : Option (Bor Asked)) (asked : Request) (less : WasClean g old.conn new.conn)
+    (stays : StaysUp g old.conn new.conn) (rowids : LeavesRowids g old new ask asked)
+    (spells : (s : State) → IsSpelled s.ledger → IsSpelled (outcome s (option_copied ask) asked).state.ledger) where
+  -- after a success the book may act on the next state, and out of memory on the same one
+  acts_by : (result : Result Reply Fault) → MovesOn g old new ask asked result → KeepsAtMemory g old new result → ActsOn g old new ask asked result
+  acts_by (Ok r) after memory clean s m may =
+      may_act g old new ask asked clean stays rowids s (outcome s (option_copied ask) asked).state m may (after clean s may.stands)
+      (spells s may.spelled)
+  acts_by (Err Memory) after memory clean s m may =
+      may_act g old new ask asked clean stays rowids s s m may (memory clean s may.stands) may.spelled
+  acts_by (Err Store) after memory clean s m may = inl tt
+
+  pub executed : (result : Result Reply Fault) → old.failed ≡ false → Answers g old new ask asked result → MovesOn g old new ask asked result
+      → KeepsAtMemory g old new result → LeavesAtStore g old new ask asked result → (IsErrOf result Store ↔ IsTrue new.failed)
+      → FailsToAct g old new ask asked result → Executes g old new ask asked result
+  executed result working reply after memory store fails reason =
+      let acts = acts_by result after memory in
+      record {
+        book = record {
+          reply = reply;
+          after = after;
+          memory = memory;
+          store = store;
+          fails = fails;
+          stays_failed = λ failed. absurd (let both : true ≡ false = sym failed ∙ working in cc);
+          stays_left = λ failed. absurd (let both : true ≡ false = sym failed ∙ working in cc);
+          may_act = acts_since g old new stays ask asked result acts reason;
+          sound = less;
+        };
+        sound = less;
+        reason = reason;
+        rowids = rowids;
+        up = stays;
+        acts = acts;
+      }
+
+-- a book that has failed answers a command with Store, and is as it was
+pub not_executed : {S : Type 0} (g : Ghosts S) (b : TableBook S g) (ask : Option (Bor Asked)) (asked : Request) → b.failed ≡ true
+    → Executes g b b ask asked (Err Store)
+not_executed g b ask asked failed = record {
+  book = record {
+    reply = λ clean s here. tt;
+    after = λ clean s here. tt;
+    memory = λ clean. tt;
+    store = λ clean s here. absurd (let both : true ≡ false = sym failed ∙ here.working in cc);
+    fails = (λ _. failed, λ _. refl);
+    stays_failed = λ _. failed;
+    stays_left = λ _ s t left. left;
+    may_act = λ clean first s later since.
+        had_failed g b first s (outcome s (option_copied ask) asked).state ((asked, option_copied ask) ∷ later) failed since;
+    sound = λ clean. clean;
+  };
+  sound = λ clean. clean;
+  reason = λ clean s here spelled short has up is. absurd (let both : true ≡ false = sym failed ∙ here.working in cc);
+  rowids = λ clean s here m has up. absurd (let both : true ≡ false = sym failed ∙ here.working in cc);
+  up = record { counts = omega arith; up = λ clean up. inl up };
+  acts = λ clean s m may. inl tt;
+}

@@ -1,10 +1,10 @@
 -- When a book may act, so that its next commands fail with Store only for a reason, and what each of them leaves of that.
-use Rattle.std.specs.Prelude.{◌≡◌, ◌⊎◌, ◌+◌, ◌≤◌, ◌<◌, ◌^◌, ⊤, ℕ, [], ◌∷◌, length, take, Option, Result, Ok, Err}
+use Rattle.std.specs.Prelude.{◌⊎◌, ◌+◌, ◌≤◌, ◌<◌, ◌^◌, ⊤, ℕ, [], ◌∷◌, Option, Result, Ok, Err}
 use Rattle.std.proofs.Common.{inl, arith}
 use Rattle.std.specs.Borrow.{Bor}
 use Rattle.std.specs.Option.{option_copied}
 use Rattle.sqlite.specs.Store.{Ghosts}
-use Rattle.sqlite.specs.Held.{Held, state}
+use Rattle.sqlite.specs.Held.{state}
 use Rattle.sqlite.specs.State.{HasCleanDisk}
 use Rattle.commands.specs.Asks.{Asked}
 use Rattle.commands.specs.Request.{Request}
@@ -13,13 +13,11 @@ use Rattle.commands.specs.declared.replies.Fault.TheVariants.{Memory, Store}
 use Rattle.commands.specs.declared.replies.Reply.{Reply}
 use Rattle.desk_sql.specs.Causes.{IsUp, HasFaulted}
 use Rattle.desk_sql.specs.Writable.{HasRowids}
-use Rattle.desk_sql.specs.declared.versions.Version.TheVariants.{Two}
 use Rattle.ledger.specs.Answer.{State, outcome, start}
 use Rattle.saga_core.specs.Reasons as reasons
-use Rattle.saga_core.specs.Runs.{Asks, state_after}
+use Rattle.saga_core.specs.Runs.{Asks}
 use Rattle.sql_commands.specs.Committing.{HasShortText}
 use Rattle.sql_commands.specs.Failing.{RanOutOf, asked_rowids}
-use Rattle.sql_model.specs.Keeping.{StoodFor}
 use Rattle.sql_model.specs.Spelling.{IsSpelled}
 use Rattle.tables.specs.BookTerms.{StandsBook}
 use Rattle.tables.specs.declared.books.TableBook.{TableBook}
@@ -64,43 +62,6 @@ rowids_for (c ∷ later) = asked_rowids c.1 c.0 + rowids_for later
 abbrev pub AreShort : Asks → Type 0
 AreShort [] = ⊤
 AreShort (c ∷ later) = HasShortText c.1 × AreShort later
-
-module _ {S : Type 0} (g : Ghosts S) (new : TableBook S g) where
-  -- those before one of these asks were executed, and its commit ran out of memory
-  pub record RanOutAmong (s : State) (asks : Asks) : Type 0 where
-    pub count : ℕ
-    pub within : count < length asks
-    pub ran_out : RanOutOf g new.conn (state_after s (take count asks)) (state_after s (take (count + 1) asks))
-
-  -- Store among these asks has a reason, since the connection was so: the disk failed or refused, or a commit ran out of memory
-  abbrev pub HasReasonAmong : Held S → State → Asks → Type 0
-  HasReasonAmong old s asks = HasFaulted (state g old) (state g new.conn) ⊎ RanOutAmong s asks
-
-  -- The asks came after the opening of a connection that was up and stood for a new desk: if their texts are short, and the
-  -- store can choose rowids for all of them, Store has a reason.
-  abbrev pub FailsFromNew : Held S → Asks → Fault → Type 0
-  FailsFromNew old asks fault =
-      HasCleanDisk (state g new.conn) → StoodFor Two (state g old) start → IsUp (state g old)
-      → AreShort asks → rowids_for asks < 2 ^ 63 → fault ≡ Store → HasReasonAmong old start asks
-
-  -- the book came of a connection that stood for a new desk, and its store has returned what was written
-  pub record CameFromNew (old : Held S) : Type 0 where
-    pub clean : HasCleanDisk (state g new.conn)
-    pub stood : StoodFor Two (state g old) start
-
-module _ {S : Type 0} (g : Ghosts S) (old new : TableBook S g) where
-  -- A book that may act, for asks with short texts and no more rowids: Store says that the disk failed or refused meanwhile, or
-  -- that the commit of one of them ran out of memory.
-  abbrev pub FailsAmong : Asks → Fault → Type 0
-  FailsAmong asks fault =
-      HasCleanDisk (state g new.conn) → (s : State) → MayAct g old s (rowids_for asks) → AreShort asks → fault ≡ Store
-      → HasReasonAmong g new old.conn s asks
-
-  -- unless the disk fails or refuses, it may act on after them, with their rowids fewer
-  abbrev pub ActsOnAfter : Asks → Type 0
-  ActsOnAfter asks =
-      HasCleanDisk (state g new.conn) → (s : State) (m : ℕ) → MayAct g old s (rowids_for asks + m)
-      → MayAct g new (state_after s asks) m ⊎ HasFaulted (state g old.conn) (state g new.conn)
 
 -- What the contract of every book says of a book over tables. `first` is the book since which a reason counts.
 

@@ -93,6 +93,3 @@ module _ {S : Type 0} (g : Ghosts S) where
         HasCleanDisk (state g new.conn)
         → books.LeavesAtStore (StandsBook old) (MayLeave (state g new.conn))
         (option_copied ask) asked result
-
-    abbrev pub LeavesNoMore : Type 0
-    LeavesNoMore = books.LeavesNoMore (MayLeave (state g old.conn)) (MayLeave (state g new.conn))

@@ -4,6 +4,7 @@ pub mod BookTerms
 pub mod FinishedJourneys
 pub mod Keeping
 pub mod Lending
+pub mod Making
 pub mod Opening
 pub mod Reading
 pub mod UnfinishedCount

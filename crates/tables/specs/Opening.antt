@@ -1,5 +1,5 @@
 -- What the opening of a store finds.
-use Rattle.std.specs.Prelude.{◌≡◌, ◌≢◌, ⊤, ℕ, ◌⊎◌, true}
+use Rattle.std.specs.Prelude.{◌≡◌, ◌≢◌, ⊤, ℕ, ◌⊎◌, true, false, None}
 use Rattle.sqlite.specs.Store.{Ghosts}
 use Rattle.sqlite.specs.Held.{Held, state}
 use Rattle.sqlite.specs.State.{HasCleanDisk}
@@ -14,9 +14,16 @@ use Rattle.desk_sql.specs.Causes.{IsUp, HasFaulted}
 use Rattle.desk_sql.specs.Changes.{founded}
 use Rattle.desk_sql.specs.Schema.{no_schema}
 use Rattle.ledger.specs.Answer.{State}
+use Rattle.sql_model.specs.Keeping.{WasClean}
+use Rattle.sql_model.specs.Staying.{SeesAsBefore, StaysUp}
 use Rattle.tables.specs.declared.faults.OpenFault.{OpenFault}
 use Rattle.tables.specs.declared.faults.OpenFault.TheVariants.{UnknownSchema, Store, Memory}
 use Rattle.tables.specs.Keeping.{IsKeptIn, KeepsIn, StoodFor}
+
+-- the connection is in no transaction, and has no limit of steps
+pub record Idle {S : Type 0} (h : Held S) : Type 0 where
+  pub outside : h.in_transaction ≡ false
+  pub unlimited : h.step_limit ≡ None
 
 module _ {S : Type 0} (g : Ghosts S) (old new : Held S) where
   -- the connection keeps the state that it represented, in tables of this version
@@ -52,13 +59,6 @@ module _ {S : Type 0} (g : Ghosts S) (old new : Held S) where
       (n ≢ 2) × SawVersion g old new n
       × (HasCleanDisk (state g new) → (s : State) → StoodFor Two (state g old) s → ⊥)
 
-  -- What the fault of a book that was not made implies: only other tables are refused. Out of memory: a crash leaves
-  -- nothing new.
-  abbrev pub TellsUnmade : OpenFault → Type 0
-  TellsUnmade (UnknownSchema n) = SawOther n
-  TellsUnmade Store = ⊤
-  TellsUnmade Memory = LeavesNoMore g old new
-
   -- a transaction that began here created the tables of a new desk, and its commit ran out of memory
   pub record FoundingRanOut : Type 0 where
     pub late : Held S
@@ -79,3 +79,29 @@ module _ {S : Type 0} (g : Ghosts S) (old new : Held S) where
       ((v : Version) → n ≢ number_of v) × SawVersion g old new n × StoodForNone
   Tells Store = ⊤
   Tells Memory = LeavesNoMore g old new
+
+  -- A store was opened, with tables of this version.
+  pub record Opens (now : Version) : Type 0 where
+    -- each state that it represented is kept in these tables, and in tables of another version it represented none
+    pub finds : KeepsIt now
+    pub only : StoodOnlyIn now
+    -- if it had tables, they are of this version
+    pub version : SawVersion g old new (number_of now)
+    -- the connection is as an opening asks for it
+    pub idle : Idle new
+    pub sound : WasClean g old new
+    -- the store stays up; and if it had tables, it sees what it saw
+    pub up : StaysUp g old new
+    pub sees : old.schema ≢ no_schema → SeesAsBefore g old new
+
+  -- A store could not be opened, for this fault.
+  pub record FailsOpening (fault : OpenFault) : Type 0 where
+    -- it represents what it represented
+    pub stands : StandsOn
+    pub told : Tells fault
+    -- a failed store has a reason, where it kept a desk and where it had no tables
+    pub store : FailsToOpen fault
+    pub founds : FailsToFound fault
+    -- the connection may be opened again
+    pub idle : Idle new
+    pub sound : WasClean g old new

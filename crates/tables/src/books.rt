@@ -2,7 +2,7 @@
 mod calls;
 mod looks;
 
-ghost use Rattle.std.specs.Prelude.{◌≡◌, ◌↔◌, false, None, IfOk, IfErr, IsOk, IsErrAnd};
+ghost use Rattle.std.specs.Prelude.{◌≡◌, false, IfOk, IfErr, IsOk};
 
 use crate::faults::OpenFault;
 use crate::opening::{Opened, without_limit};
@@ -24,22 +24,11 @@ pub struct TableBook<S: Alter> {
 }
 
 impl<S: Alter> TableBook<S> {
-    ghost use Rattle.sqlite.specs.Held.{state};
-    ghost use Rattle.ledger.specs.Answer.{State};
-    ghost use Rattle.sql_model.specs.Keeping.{WasClean};
-    ghost use Rattle.tables.specs.BookTerms.{StandsBook, LeavesBook};
-    ghost use Rattle.tables.specs.Keeping.{MayLeave, StoodFor};
+    ghost use Rattle.tables.specs.Making.{LetsGo};
 
     /// Returns the connection without a limit of steps. The next `open_from` finds the state that the book represented.
     pub fn into_store(self) -> Connection<S>
-        ensures found { (s : State) → StandsBook S.Store self s
-            → StoodFor Version.Two (state S.Store result) s }
-        ensures left { (s t : State) → LeavesBook S.Store self s t
-            → MayLeave (state S.Store result) s t }
-        ensures outside { result.in_transaction ≡ false }
-        ensures unlimited { result.step_limit ≡ None }
-        ensures sound { WasClean S.Store self.conn result }
-        ensures same { result ≡ record self.conn { step_limit = None } }
+        ensures { LetsGo S.Store self result }
     {
         let TableBook {
             conn,
@@ -53,28 +42,16 @@ impl<S: Alter> TableBook<S> {
 }
 
 impl<S: Alter> Opened<S> {
-    ghost use Rattle.ledger.specs.Answer.{State};
-    ghost use Rattle.sql_model.specs.Standing.{IsDesk};
-    ghost use Rattle.tables.specs.BookTerms.{StandsBook};
-    ghost use Rattle.tables.specs.Lending.{OpenedKeeps};
+    ghost use Rattle.tables.specs.Making.{MakesBook, MakesNoBook};
 
     /// Makes a book of what was opened, if its tables are of the newest version. Else, or if the connection is in a
     /// transaction, returns what was opened as it is.
     pub fn into_book(self, alloc: Global) -> Result<TableBook<S>, (Opened<S>, OpenFault)>
-        ensures stands { IfOk result (λ b. (s : State) → IsDesk s → OpenedKeeps S.Store self s
-            → StandsBook S.Store b s) }
-        ensures book { IfOk result (λ b. b.conn ≡ self.conn) }
-        ensures newest { IfOk result (λ b. self.version ≡ Version.Two) }
-        ensures working { IfOk result (λ b. b.failed ≡ false) }
-        ensures unknown { IfOk result (λ b. b.finished ≡ 0) }
-        ensures uncounted { IfOk result (λ b. b.unfinished ≡ None) }
+        ensures made { IfOk result (MakesBook S.Store self) }
         ensures ready { self.conn.in_transaction ≡ false → self.version ≡ Version.Two →
             IsOk result }
 
-        ensures unknown_schema { IsErrAnd result (λ e. e.1 ≡ OpenFault.UnknownSchema 1)
-            ↔ self.version ≡ Version.One }
-        ensures told { IfErr result (λ e. self.version ≡ Version.Two → e.1 ≡ OpenFault.Store) }
-        ensures refused { IfErr result (λ e. e.0 ≡ self) }
+        ensures unmade { IfErr result (λ e. MakesNoBook self e.0 e.1) }
     {
         match self.version() {
             Version::One => Err((self, OpenFault::UnknownSchema(1))),

@@ -3,15 +3,14 @@
 //! The rows borrow what was opened, and query it for each item. Once the rows are dropped, the caller has what was
 //! opened again: it was only read, even if the rows could not be started.
 
-ghost use Rattle.std.specs.Prelude.{◌≡◌, ◌<◌, ◌+◌, ◌-◌, ◌^◌, true, false, Err, IfOk, OnErr};
+ghost use Rattle.std.specs.Prelude.{◌≡◌, ◌<◌, ◌+◌, ◌-◌, ◌^◌, false, IfOk};
 ghost use Rattle.sqlite.specs.Held.{state};
 ghost use Rattle.sqlite.specs.State.{HasCleanDisk};
 ghost use Rattle.saga_core.specs.RowSources.{count_of, Hands};
 ghost use Rattle.sql_reads.specs.Causes.{FailsForReasonIn};
-ghost use Rattle.sql_model.specs.Staying.{StaysUp};
 ghost use Rattle.sql_reads.specs.ItemSearch.{IsLow};
 ghost use Rattle.sql_reads.specs.RemainingRows.{ItemsRest};
-ghost use Rattle.tables.specs.Lending.{StaysUnder};
+ghost use Rattle.tables.specs.Lending.{GoesOnFrom, IsAtStart, StaysUnder};
 
 use crate::opening::Opened;
 use commands::{Fault, Item};
@@ -37,13 +36,9 @@ impl<S: Alter> Opened<S> {
         ensures rows { IfOk result (λ it. BeginsKept S.Store self.old.conn self.new.conn
             self.old.version (λ s items. items ≡ history s.ledger id)
             (ItemsRest S.Store self.new.conn it)) }
-        ensures none { IfOk result (λ it. it.given ≡ 0) }
-        ensures kept { IsOnlyRead S.Store self.old self.new }
-
+        ensures start { IfOk result (IsAtStart self.old.version) }
         ensures store { FailsForReasonIn S.Store self.old.conn self.new.conn self.old.version result }
-        ensures going { IfOk result (λ it. it.failed ≡ false) }
-        ensures low { IfOk result (λ it. IsLow it.sought) }
-        ensures version { IfOk result (λ it. it.version ≡ self.old.version) }
+        ensures kept { IsOnlyRead S.Store self.old self.new }
     {
         item_cursor(&mut self.conn, self.version, id)
     }
@@ -59,13 +54,8 @@ impl<S: Alter> Opened<S> {
         ensures rows { IfOk result (λ it. BeginsKept S.Store self.old.conn it.opened.now.conn
             self.old.version (λ s items. items ≡ history s.ledger id)
             (⟦<ItemRows<'c, S> as RowSource<Item>>⟧.rests it)) }
-        ensures none { IfOk result (λ it. ⟦<ItemRows<'c, S> as RowSource<Item>>⟧.given it ≡ 0) }
+        ensures start { IfOk result (λ it. IsAtStart self.old.version it.cursor) }
         ensures kept { IfOk result (λ it. IsOnlyRead S.Store self.old it.opened.now) }
-
-        ensures going { IfOk result (λ it. it.cursor.failed ≡ false) }
-        ensures low { IfOk result (λ it. IsLow it.cursor.sought) }
-        ensures version { IfOk result (λ it. it.cursor.version ≡ self.old.version) }
-        ensures up { IfOk result (λ it. StaysUp S.Store self.old.conn it.opened.now.conn) }
     {
         match self.begin_items(id) {
             Ok(cursor) => Ok(ItemRows {
@@ -98,22 +88,17 @@ impl<S: Alter> RowSource<Item> for ItemRows<'_, S> {
             (ItemsRest S.Store self.new.opened.now.conn self.new.cursor)) }
         ensures counted { IfOk result
             (λ found. self.new.cursor.given ≡ count_of found + self.old.cursor.given) }
-        ensures uncounted { OnErr result (self.new.cursor.given ≡ self.old.cursor.given) }
         ensures few { self.new.cursor.given < 2 ^ 64 }
 
         ensures kept { StaysUnder S.Store self.old.opened self.new.opened }
         ensures sound { HasCleanDisk (state S.Store self.new.opened.now.conn)
             → HasCleanDisk (state S.Store self.old.opened.now.conn) }
 
-        ensures low { IsLow self.old.cursor.sought → IsLow self.new.cursor.sought }
-        ensures version { self.new.cursor.version ≡ self.old.cursor.version }
+        ensures goes { GoesOnFrom self.old.cursor self.new.cursor result }
         ensures store { IsLow self.old.cursor.sought → self.old.cursor.failed ≡ false
             → self.old.cursor.given < 2 ^ 64 - 1
             → FailsForReasonIn S.Store self.old.opened.now.conn self.new.opened.now.conn
             self.old.cursor.version result }
-        ensures failed { OnErr result (self.new.cursor.failed ≡ true) }
-        ensures stays_failed { self.old.cursor.failed ≡ true → result ≡ Err Fault.Store }
-        ensures up { StaysUp S.Store self.old.opened.now.conn self.new.opened.now.conn }
     {
         self.cursor.next_item(&mut self.opened.conn)
     }

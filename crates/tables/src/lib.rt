@@ -1,22 +1,21 @@
 //! The desk over one SQLite database: one commit for each event, and after a crash the old state or the new one.
 //!
 //! `open_from` finds the state that a store represents, and creates the tables if there are none. `TableBook` is the
-//! book over the tables: `sql_commands` executes its commands, and `sql_reads` its reads. `act_all` executes commands one
-//! after another: it says which replies came before a fault, and why the store failed.
+//! book over the tables: `sql_commands` executes its commands, and `sql_reads` its reads.
 //!
 //! Words: a connection *keeps* a state if its tables represent the state and a crash leaves just that state. A book *may act*
 //! if its store is up, its agents have their form, and enough rowids are left.
 #![tactic(auto)]
 
 mod books;
-mod chains;
 mod counting;
 mod faults;
 mod item_rows;
+mod laws;
 mod opening;
 
 pub use books::TableBook;
-pub use chains::{act_all, new_desk_may_act, open_and_act};
 pub use faults::OpenFault;
 pub use item_rows::ItemRows;
+pub use laws::new_desk_may_act;
 pub use opening::{Opened, open_from};

@@ -6,15 +6,9 @@
 //! Words: a connection *stood for* a state (`StoodFor`) if it showed that state and a crash left just that state; a
 //! store without tables represents a new desk.
 
-ghost use Rattle.std.specs.Prelude.{◌≡◌, ◌≢◌, ◌↔◌, false, None, IsTrue, IfOk, IfErr, OnOk, OnErr};
-ghost use Rattle.sqlite.specs.Held.{state};
+ghost use Rattle.std.specs.Prelude.{◌≡◌, ◌≢◌, ◌↔◌, false, None, IsTrue, IfOk, IfErr, OnOk};
 ghost use Rattle.desk_sql.specs.Schema.{no_schema};
-ghost use Rattle.desk_sql.specs.Versions.{number_of, SawVersion};
-ghost use Rattle.desk_sql.specs.declared.versions.Version.{Version};
-ghost use Rattle.ledger.specs.Answer.{State};
-ghost use Rattle.tables.specs.Opening.{FailsToOpen, KeepsIt, StandsOn, StoodOnlyIn, Tells, FailsToFound};
-ghost use Rattle.sql_model.specs.Staying.{SeesAsBefore, StaysUp};
-ghost use Rattle.sql_model.specs.Keeping.{WasClean};
+ghost use Rattle.tables.specs.Opening.{FailsOpening, Idle, Opens};
 
 use crate::faults::OpenFault;
 use commands::Fault;
@@ -42,17 +36,11 @@ pub(crate) fn without_limit<S: Alter>(mut conn: Connection<S>) -> Connection<S>
 }
 
 impl<S: Alter> Opened<S> {
-    ghost use Rattle.tables.specs.Keeping.{StoodFor};
-    ghost use Rattle.tables.specs.Lending.{OpenedKeeps};
+    ghost use Rattle.tables.specs.Making.{GivesBack};
 
     /// Returns the connection without a limit of steps. The next `open_from` finds the state that was kept.
     pub fn into_store(self) -> Connection<S>
-        ensures found { (s : State) → OpenedKeeps S.Store self s
-            → StoodFor self.version (state S.Store result) s }
-        ensures outside { self.conn.in_transaction ≡ false → result.in_transaction ≡ false }
-        ensures unlimited { result.step_limit ≡ None }
-        ensures sound { WasClean S.Store self.conn result }
-        ensures same { result ≡ record self.conn { step_limit = None } }
+        ensures { GivesBack S.Store self result }
     {
         let Opened { conn, version: _ } = self;
         without_limit(conn)
@@ -113,19 +101,11 @@ fn opening_fault(fault: Fault) -> OpenFault
 
 /// Creates all tables of the newest version in one commit, in a store that has none.
 fn found_tables<S: Alter>(conn: &mut Connection<S>) -> Result<(), OpenFault>
-    requires outside { conn.old.in_transaction ≡ false }
+    requires idle { Idle conn.old }
     requires bare { conn.old.schema ≡ no_schema }
 
-    ensures outside { conn.new.in_transaction ≡ false }
-    ensures limit { conn.new.step_limit ≡ conn.old.step_limit }
-    ensures sound { WasClean S.Store conn.old conn.new }
-    ensures finds { OnOk result (KeepsIt S.Store conn.old conn.new Version.Two) }
-    ensures only { OnOk result (StoodOnlyIn S.Store conn.old conn.new Version.Two) }
-    ensures stands { OnErr result (StandsOn S.Store conn.old conn.new) }
-    ensures version { OnOk result (SawVersion S.Store conn.old conn.new 2) }
-    ensures up { OnOk result (StaysUp S.Store conn.old conn.new) }
-    ensures told { IfErr result (Tells S.Store conn.old conn.new) }
-    ensures founds { IfErr result (FailsToFound S.Store conn.old conn.new) }
+    ensures opens { OnOk result (Opens S.Store conn.old conn.new Version.Two) }
+    ensures fails { IfErr result (FailsOpening S.Store conn.old conn.new) }
 {
     let mut tx = conn.transaction();
     if let Err(error) = make_tables(&mut tx) {
@@ -140,20 +120,11 @@ fn found_tables<S: Alter>(conn: &mut Connection<S>) -> Result<(), OpenFault>
 
 /// Reads the version of the tables, and changes nothing.
 fn read_version<S: Alter>(conn: &mut Connection<S>) -> Result<Version, OpenFault>
-    requires outside { conn.old.in_transaction ≡ false }
+    requires idle { Idle conn.old }
     requires filled { conn.old.schema ≢ no_schema }
 
-    ensures outside { conn.new.in_transaction ≡ false }
-    ensures limit { conn.new.step_limit ≡ conn.old.step_limit }
-    ensures sound { WasClean S.Store conn.old conn.new }
-    ensures finds { IfOk result (KeepsIt S.Store conn.old conn.new) }
-    ensures only { IfOk result (StoodOnlyIn S.Store conn.old conn.new) }
-    ensures stands { OnErr result (StandsOn S.Store conn.old conn.new) }
-    ensures version { IfOk result (λ v. SawVersion S.Store conn.old conn.new (number_of v)) }
-    ensures up { OnOk result (StaysUp S.Store conn.old conn.new) }
-    ensures sees { SeesAsBefore S.Store conn.old conn.new }
-    ensures told { IfErr result (Tells S.Store conn.old conn.new) }
-    ensures store { IfErr result (FailsToOpen S.Store conn.old conn.new) }
+    ensures opens { IfOk result (Opens S.Store conn.old conn.new) }
+    ensures fails { IfErr result (FailsOpening S.Store conn.old conn.new) }
 {
     match read_meta(conn) {
         Ok(meta) => match Version::from_number(meta.version) {
@@ -170,24 +141,10 @@ fn read_version<S: Alter>(conn: &mut Connection<S>) -> Result<Version, OpenFault
 /// Over a store that is up, and that has no tables or keeps a desk, `Store` has a reason: the disk failed or refused, or
 /// the commit of new tables ran out of memory.
 pub fn open_from<S: Alter>(mut conn: Connection<S>) -> Result<Opened<S>, (Connection<S>, OpenFault)>
-    requires outside { conn.in_transaction ≡ false }
-    requires unlimited { conn.step_limit ≡ None }
+    requires idle { Idle conn }
 
-    ensures finds { IfOk result (λ o. KeepsIt S.Store conn o.conn o.version) }
-    ensures only { IfOk result (λ o. StoodOnlyIn S.Store conn o.conn o.version) }
-    ensures version { IfOk result (λ o. SawVersion S.Store conn o.conn (number_of o.version)) }
-    ensures ready { IfOk result (λ o. o.conn.in_transaction ≡ false) }
-    ensures unlimited { IfOk result (λ o. o.conn.step_limit ≡ None) }
-    ensures sound { IfOk result (λ o. WasClean S.Store conn o.conn) }
-    ensures up { IfOk result (λ o. StaysUp S.Store conn o.conn) }
-    ensures sees { IfOk result (λ o. conn.schema ≢ no_schema → SeesAsBefore S.Store conn o.conn) }
-    ensures outside { IfErr result (λ e. e.0.in_transaction ≡ false) }
-    ensures stands { IfErr result (λ e. StandsOn S.Store conn e.0) }
-    ensures told { IfErr result (λ e. Tells S.Store conn e.0 e.1) }
-    ensures store { IfErr result (λ e. FailsToOpen S.Store conn e.0 e.1) }
-    ensures founds { IfErr result (λ e. FailsToFound S.Store conn e.0 e.1) }
-    ensures unharmed { IfErr result (λ e. WasClean S.Store conn e.0) }
-    ensures limit { IfErr result (λ e. e.0.step_limit ≡ None) }
+    ensures opens { IfOk result (λ o. Opens S.Store conn o.conn o.version) }
+    ensures fails { IfErr result (λ e. FailsOpening S.Store conn e.0 e.1) }
 {
     let bare = has_no_tables(conn.schema());
     if bare {

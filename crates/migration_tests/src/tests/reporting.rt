@@ -5,7 +5,7 @@ use crate::tests::old_desks::{IN_A_ROUND, OldJourney, cells, is_unfinished, jour
 use crate::tests::old_files::old_file;
 use allotment::{Cell, Held};
 use memory_files::Session;
-use report_rows::{CellRows, JourneyRows, Progress, start_stock, start_unfinished};
+use report_rows::{FoundRows, Progress, start_stock, start_unfinished};
 use saga_core::{Brief, RowSource};
 use sqlite::{Alter, Connection};
 use std::alloc::{AllocError, Global};
@@ -22,7 +22,7 @@ pub fn stock_of<S: Alter>(alloc: Global, conn: &mut Connection<S>) -> Result<Str
     let progress = Progress::new();
     cells_in(
         alloc,
-        &mut CellRows {
+        &mut FoundRows {
             rows: &mut rows,
             progress,
         },
@@ -47,7 +47,7 @@ pub fn unfinished_of<S: Alter>(alloc: Global, conn: &mut Connection<S>) -> Resul
     let progress = Progress::new();
     briefs_in(
         alloc,
-        &mut JourneyRows {
+        &mut FoundRows {
             rows: &mut rows,
             progress,
         },

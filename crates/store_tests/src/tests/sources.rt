@@ -5,7 +5,7 @@ use crate::tests::helping::{book_over, run};
 use allotment::{Cell, Held};
 use commands::{Fault, Item};
 use memory_files::{ClosedFile, Session};
-use report_rows::{CellRows, JourneyRows, Progress, start_stock, start_unfinished};
+use report_rows::{FoundRows, Progress, start_stock, start_unfinished};
 use saga_core::{Brief, RowSource};
 use sqlite::{Alter, Connection};
 use std::alloc::{AllocError, Global};
@@ -96,11 +96,11 @@ fn stock_told<S: Alter>(
     calls: u8,
 ) -> Result<String, Fail> {
     let mut rows = start_stock(conn)?;
-    let mut source = CellRows {
+    let mut source = FoundRows {
         rows: &mut rows,
         progress: Progress::new(),
     };
-    handed(alloc, &mut source, calls)
+    handed::<(Cell, Held), _>(alloc, &mut source, calls)
 }
 
 /// What the source of unfinished journeys returns in so many calls.
@@ -110,11 +110,11 @@ fn unfinished_told<S: Alter>(
     calls: u8,
 ) -> Result<String, Fail> {
     let mut rows = start_unfinished(conn)?;
-    let mut source = JourneyRows {
+    let mut source = FoundRows {
         rows: &mut rows,
         progress: Progress::new(),
     };
-    handed(alloc, &mut source, calls)
+    handed::<Brief, _>(alloc, &mut source, calls)
 }
 
 /// What the sources of stock, of unfinished journeys and of the second journey's items return in so many calls.

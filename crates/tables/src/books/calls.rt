@@ -1,5 +1,5 @@
 //! The calls of the book over tables. After the store has failed, no call reaches it.
-ghost use Rattle.std.specs.Prelude.{◌≡◌, ◌↔◌, IsErrOf, IsTrue};
+ghost use Rattle.std.specs.Prelude.{◌≡◌};
 ghost use Rattle.std.specs.Option.{option_copied};
 ghost use Rattle.commands.specs.Orders.{request_of};
 ghost use Rattle.tables.specs.Asking.{HasAgent};
@@ -186,11 +186,8 @@ impl<S: Alter> Look<S> for AllUnfinished {
 }
 
 impl<S: Alter> TableBook<S> {
-    ghost use Rattle.sql_model.specs.Staying.{StaysUp};
-    ghost use Rattle.sql_model.specs.Keeping.{WasClean};
-    ghost use Rattle.tables.specs.Acting.{ActsOn};
-    ghost use Rattle.tables.specs.BookTerms.{Answers, FailsToAct, KeepsAtMemory, LeavesAtStore, LeavesNoMore, LeavesRowids, MovesOn, ShowsKept};
-    ghost use Rattle.tables.specs.Reading.{Reads};
+    ghost use Rattle.tables.specs.BookTerms.{ShowsKept};
+    ghost use Rattle.tables.specs.Reading.{Executes, Reads};
 
     /// Looks at the tables, unless the store has failed. Where it fails now, the book remembers that.
     fn read<L: Look<S>>(&mut self, look: L) -> Result<L::Shown, Fault>
@@ -212,23 +209,8 @@ impl<S: Alter> TableBook<S> {
 
     /// Executes a command. After the store has failed, no call reaches it.
     fn carry_out(&mut self, command: &Command, ask: Option<&Ask>) -> Result<Reply, Fault>
-        ensures reply { Answers S.Store self.old self.new ask.entry
-            (request_of command.now) result }
-        ensures after { MovesOn S.Store self.old self.new ask.entry
-            (request_of command.now) result }
-        ensures memory { KeepsAtMemory S.Store self.old self.new result }
-        ensures store { LeavesAtStore S.Store self.old self.new ask.entry (request_of command.now)
+        ensures executes { Executes S.Store self.old self.new ask.entry (request_of command.now)
             result }
-        ensures fails { IsErrOf result Fault.Store ↔ IsTrue self.new.failed }
-        ensures stays_failed { IsTrue self.old.failed → IsTrue self.new.failed }
-        ensures stays_left { IsTrue self.old.failed → LeavesNoMore S.Store self.old self.new }
-        ensures sound { WasClean S.Store self.old.conn self.new.conn }
-
-        ensures reason { FailsToAct S.Store self.old self.new ask.entry
-            (request_of command.now) result }
-        ensures rowids { LeavesRowids S.Store self.old self.new ask.entry (request_of command.now) }
-        ensures up { StaysUp S.Store self.old.conn self.new.conn }
-        ensures acts { ActsOn S.Store self.old self.new ask.entry (request_of command.now) result }
     {
         if self.failed {
             return Err(Fault::Store);

@@ -1,33 +1,48 @@
 -- The book over a connection from which a job may start may recover, and what is said of it is said of the connection.
 use Rattle.std.proofs.Common.{[]}
-use Rattle.desk_jobs.proofs.EndLemmas.{book_fault}
+use Rattle.desk_jobs.proofs.EndLemmas.{book_fault, not_opening}
 use Rattle.desk_jobs.proofs.ReasonLemmas.{acts_from, book_store, fails_as, may_recover, reason_from, run_store}
 use Rattle.desk_jobs.proofs.opening.ready_over.Goals as goal
 
-pub returns-in-Ok-recover-clause-may_act : goal.returns-in-Ok-recover-clause-may_act
-returns-in-Ok-recover-clause-may_act g c sound later s may =
+pub returns-in-Ok-recover-clause-ready : goal.returns-in-Ok-recover-clause-ready
+returns-in-Ok-recover-clause-ready g c =
     let store = g.S.Store in
-    let first = record c.in-Ok.book { conn = c.args.conn; outside = c.requires.outside } in
-    acts_from store first c.in-Ok-recover.recovered.0 later s _ (c.in-Ok-recover.ensures.may_act sound first later s
-    (may_recover store first c.in-Ok.book c.in-Ok.ensures.up later s may
-    (c.in-Ok.ensures.may_act (c.in-Ok-recover.ensures.stays.sound sound) later s may) (c.in-Ok.ensures.stands s may.represents)))
+    let opened = c.in-Ok.ensures.opened in
+    let did = c.in-Ok-recover.ensures in
+    let first = record c.in-Ok.book { conn = c.args.conn; outside = c.requires.idle.outside } in
+    record {
+      recovered = λ sound s was. did.recovered sound s (opened.stands s was);
+      may_act = λ sound later s may. acts_from store first c.in-Ok-recover.recovered.0 later s _ (did.may_act sound first later s
+          (may_recover store first c.in-Ok.book opened.up later s may (opened.may_act (did.stays.sound sound) later s may)
+          (opened.stands s may.represents)));
+      sound = λ sound. opened.sound (did.stays.sound sound);
+    }
 
 -- recovery failed for a reason
-pub returns-in-Err-recover-clause-reason : goal.returns-in-Err-recover-clause-reason
-returns-in-Err-recover-clause-reason g c clean is =
+pub returns-in-Err-recover-clause-failed : goal.returns-in-Err-recover-clause-failed
+returns-in-Err-recover-clause-failed g c =
     let store = g.S.Store in
-    let left = c.in-Err-recover.book in
-    let first = record c.in-Ok.book { conn = c.args.conn; outside = c.requires.outside } in
-    let sound = c.into_store.ensures.sound clean in
-    let was = c.in-Err-recover.ensures.stays_at_fault.sound sound in
-    fails_as store c.args.conn c.into_store.result
-    (λ s may. may_recover store first c.in-Ok.book c.in-Ok.ensures.up [] s may (c.in-Ok.ensures.may_act was [] s may)
-    (c.in-Ok.ensures.stands s may.represents))
-    (reason_from store first left c.into_store.result c.into_store.ensures.same)
-    (c.in-Err-recover.ensures.reason sound first []
-    (book_store c.in-Err-recover.fault c.from.result c.from.ensures (run_store c.from.result c.into.result c.into.ensures is)))
-
--- and its fault is that of the book
-pub returns-in-Err-recover-clause-fault : goal.returns-in-Err-recover-clause-fault
-returns-in-Err-recover-clause-fault g c =
-    book_fault c.in-Err-recover.fault c.from.result c.into.result c.from.ensures c.into.ensures
+    let opened = c.in-Ok.ensures.opened in
+    let did = c.in-Err-recover.ensures in
+    let first = record c.in-Ok.book { conn = c.args.conn; outside = c.requires.idle.outside } in
+    record {
+      opening = record {
+        refused = tt;
+        opening = λ why. absurd (not_opening c.in-Err-recover.fault c.from.result c.into.result c.from.ensures c.into.ensures why);
+        founding = λ why. absurd (not_opening c.in-Err-recover.fault c.from.result c.into.result c.from.ensures c.into.ensures why);
+      };
+      reason = λ clean why. (
+          let sound = c.into_store.ensures.sound clean in
+          fails_as store c.args.conn c.into_store.result
+          (λ s may. may_recover store first c.in-Ok.book opened.up [] s may (opened.may_act (did.stays_at_fault.sound sound) [] s may)
+          (opened.stands s may.represents))
+          (reason_from store first c.in-Err-recover.book c.into_store.result c.into_store.ensures.same)
+          (did.reason sound first []
+          (book_store c.in-Err-recover.fault c.from.result c.from.ensures (run_store c.from.result c.into.result c.into.ensures why))));
+      fault = book_fault c.in-Err-recover.fault c.from.result c.into.result c.from.ensures c.into.ensures;
+      bad = tt;
+      leaves = record {
+        idle = c.into_store.ensures.idle;
+        sound = λ clean. opened.sound (did.stays_at_fault.sound (c.into_store.ensures.sound clean));
+      };
+    }

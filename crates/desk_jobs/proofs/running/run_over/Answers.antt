@@ -1,47 +1,73 @@
 -- The desk that answers was recovered.
-use Rattle.desk_jobs.proofs.RecoveredLemmas.{all_after_recovery, front_after_recovery, front_without_recovery, note_of_recovery}
+use Rattle.std.proofs.Common.{inl}
+use Rattle.streams.proofs.ByteLemmas.{keeps_same}
 use Rattle.desk_lines.specs.Lines.{lines}
 use Rattle.desk_lines.specs.Worlds.{asks_in}
 use Rattle.program_ends.proofs.EndLemmas.{unrefused}
-use Rattle.desk_jobs.proofs.EndLemmas.{recovery_fault}
+use Rattle.desk_jobs.proofs.AnswerLemmas.{undone_for}
+use Rattle.desk_jobs.proofs.EndLemmas.{bad_job, not_done, recovery_fault}
 use Rattle.desk_jobs.proofs.ReasonLemmas.{fails_after, fails_before}
+use Rattle.desk_jobs.proofs.RecoveredLemmas.{all_after_recovery, front_after_recovery, front_without_recovery, note_of_recovery}
 use Rattle.desk_jobs.proofs.running.run_over.Goals as goal
 
-pub returns-in-Ok-clause-all : goal.returns-in-Ok-clause-all
-returns-in-Ok-clause-all g c clean s was =
-    let grew = c.in-Ok.ensures.recovered (c.run_desk.ensures.sound clean) s was in
-    all_after_recovery _ _ s _ grew _ (g.R.Read.remaining c.args.reader.now) _
-    (λ t stood. c.run_desk.ensures.all clean t stood)
-
-pub returns-in-Ok-clause-front : goal.returns-in-Ok-clause-front
-returns-in-Ok-clause-front g c clean s was =
-    let grew = c.in-Ok.ensures.recovered (c.run_desk.ensures.sound clean) s was in
-    front_after_recovery _ _ s _ grew (g.R.Read.remaining c.args.reader.now)
-    (λ t stood. c.run_desk.ensures.front clean t stood)
-
-pub returns-in-Err-clause-front : goal.returns-in-Err-clause-front
-returns-in-Err-clause-front g c clean s was =
-    front_without_recovery _ s (g.R.Read.remaining c.args.reader.now) (c.one_recovery.ensures.one s was.desk.legal)
-
-pub returns-in-Ok-clause-noted : goal.returns-in-Ok-clause-noted
-returns-in-Ok-clause-noted g c clean s was =
-    let grew = c.in-Ok.ensures.recovered (c.run_desk.ensures.sound clean) s was in
-    note_of_recovery _ _ s _ grew c.note_recovered.ensures.either
-
 -- recovery failed, or one of the asks after it
-pub returns-in-Ok-clause-reason : goal.returns-in-Ok-clause-reason
-returns-in-Ok-clause-reason g c clean is =
-    fails_after g.S.Store c.args.conn _ (λ input. asks_in (lines input)) _ _ (g.R.Read.remaining c.args.reader.now)
-    (c.in-Ok.ensures.may_act (c.run_desk.ensures.sound clean)) (c.run_desk.ensures.reason clean is)
+pub returns-in-Ok-clause-answers : goal.returns-in-Ok-clause-answers
+returns-in-Ok-clause-answers g c =
+    let input = g.R.Read.remaining c.args.reader.now in
+    let ready = c.in-Ok.ensures.ready in
+    let ran = c.run_desk.ensures in
+    record {
+      all = λ clean s was. all_after_recovery _ _ s _ (ready.recovered (ran.leaves.sound clean) s was) _ input _ (λ t stood. ran.answers.all clean t stood);
+      front = λ clean s was. front_after_recovery _ _ s _ (ready.recovered (ran.leaves.sound clean) s was) input
+          (λ t stood. ran.answers.front clean t stood);
+      reason = λ clean why. fails_after g.S.Store c.args.conn _ (λ bytes. asks_in (lines bytes)) _ _ input
+          (ready.may_act (ran.leaves.sound clean)) (ran.answers.reason clean why);
+    }
 
-pub returns-in-Err-clause-reason : goal.returns-in-Err-clause-reason
-returns-in-Err-clause-reason g c clean is =
-    fails_before g.S.Store c.args.conn _ (λ input. asks_in (lines input)) (g.R.Read.remaining c.args.reader.now)
-    (c.in-Err.ensures.reason clean is)
+pub returns-in-Err-clause-answers : goal.returns-in-Err-clause-answers
+returns-in-Err-clause-answers g c =
+    let input = g.R.Read.remaining c.args.reader.now in
+    let failed = c.in-Err.ensures.failed in
+    record {
+      all = λ clean s was. undone_for c.in-Err.end failed.bad _ input;
+      front = λ clean s was. front_without_recovery _ s input (c.one_recovery.ensures.one s was.desk.legal);
+      reason = λ clean why. fails_before g.S.Store c.args.conn _ (λ bytes. asks_in (lines bytes)) input (failed.reason clean why);
+    }
+
+pub returns-in-Ok-clause-notes : goal.returns-in-Ok-clause-notes
+returns-in-Ok-clause-notes g c = record {
+  noted = λ clean s was. note_of_recovery _ _ s _ (c.in-Ok.ensures.ready.recovered (c.run_desk.ensures.leaves.sound clean) s was)
+      c.note_recovered.ensures.either;
+  may = c.note_recovered.ensures.some;
+}
+
+-- nothing was noted
+pub returns-in-Err-clause-notes : goal.returns-in-Err-clause-notes
+returns-in-Err-clause-notes g c = record { noted = λ clean s was. inl (keeps_same _); may = inl (keeps_same _) }
 
 -- a run refuses what its opening refuses, and nothing else
-pub returns-in-Ok-clause-refused : goal.returns-in-Ok-clause-refused
-returns-in-Ok-clause-refused g c = unrefused _ _ c.run_desk.ensures.taken
+pub returns-in-Ok-clause-ends : goal.returns-in-Ok-clause-ends
+returns-in-Ok-clause-ends g c =
+    let ran = c.run_desk.ensures in
+    record {
+      opening = record {
+        refused = unrefused _ _ ran.taken;
+        opening = λ why. absurd (ran.ends.opened why);
+        founding = λ why. absurd (ran.ends.opened why);
+      };
+      fault = ran.ends.fault;
+      job = ran.ends.job;
+    }
 
-pub returns-in-Err-clause-fault : goal.returns-in-Err-clause-fault
-returns-in-Err-clause-fault g c = recovery_fault c.in-Err.end c.in-Err.ensures.fault
+pub returns-in-Err-clause-ends : goal.returns-in-Err-clause-ends
+returns-in-Err-clause-ends g c =
+    let failed = c.in-Err.ensures.failed in
+    record { opening = failed.opening; fault = recovery_fault c.in-Err.end failed.fault; job = bad_job c.in-Err.end failed.bad }
+
+pub returns-in-Ok-clause-leaves : goal.returns-in-Ok-clause-leaves
+returns-in-Ok-clause-leaves g c =
+    let left = c.run_desk.ensures.leaves in
+    record { idle = left.idle; sound = λ clean. c.in-Ok.ensures.ready.sound (left.sound clean) }
+
+pub returns-in-Err-clause-read : goal.returns-in-Err-clause-read
+returns-in-Err-clause-read g c = not_done _ c.in-Err.end c.in-Err.ensures.failed.bad

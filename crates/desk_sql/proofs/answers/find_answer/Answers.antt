@@ -1,44 +1,32 @@
 -- The row that is read is one under the key; no row means that there is none.
-use Rattle.std.proofs.Common.{Some, None, inl, rules}
-use Rattle.sqlite.specs.Held.{state}
-use Rattle.desk_sql.proofs.Selecting.{given_as}
-use Rattle.desk_sql.proofs.Meaning.{find_answer_means}
-use Rattle.desk_sql.proofs.KeptReplies.{finds_answer, finds_no_answer, answer_given}
-use Rattle.desk_sql.specs.Causes.{HasReason}
-use Rattle.desk_sql.proofs.Causing.{query_reason}
-use Rattle.desk_sql.proofs.Taking.{find_answer_takes}
+use Rattle.std.proofs.Common.{rules}
+use Rattle.desk_sql.proofs.Asking.{found_some, found_none, one_unasked, one_unread}
+use Rattle.desk_sql.proofs.KeptReplies.{finds_answer}
 use Rattle.desk_sql.proofs.answers.find_answer.Goals as goal
 
 pub first_row-requires : goal.first_row-requires
-first_row-requires g c = find_answer_means.selects
+first_row-requires g c = (finds_answer c.args.agent.now c.args.mark.now).selects
 
 pub returns-in_ok-answer-in-Some-clause-found : goal.returns-in_ok-answer-in-Some-clause-found
-returns-in_ok-answer-in-Some-clause-found g c clean t sees =
-    let given = simp (c.as_bytes.ensures.value, c.as_bytes-2.ensures.value) at (c.in_ok-row.ensures.row clean) in
-    finds_answer (state g.S.Store c.args.conn.now) (state g.S.Store c.first_row.new.conn) t sees c.args.agent.now
-    c.args.mark.now c.in-Some.row c.in_ok-answer-in-Some.answer c.in_ok-answer-in-Some.ensures.shown
-    (given_as _ _ _ _ c.in_ok-row.field-0 (Some c.in-Some.row) c.in-Some.is given)
+returns-in_ok-answer-in-Some-clause-found g c =
+    found_some (finds_answer c.args.agent.now c.args.mark.now) g.S.Store c.args.conn.now c.first_row.new.conn c.in_ok-answer-in-Some.answer (simp (c.as_bytes.ensures.value, c.as_bytes-2.ensures.value) at c.in_ok-row.ensures.row)
+    c.in-Some.is c.in_ok-answer-in-Some.ensures.shown
 
 pub returns-in-None-clause-found : goal.returns-in-None-clause-found
-returns-in-None-clause-found g c clean t sees =
-    let given = simp (c.as_bytes.ensures.value, c.as_bytes-2.ensures.value) at (c.in_ok-row.ensures.row clean) in
-    finds_no_answer (state g.S.Store c.args.conn.now) (state g.S.Store c.first_row.new.conn) t sees c.args.agent.now
-    c.args.mark.now (given_as _ _ _ _ c.in_ok-row.field-0 None c.in-None.is given)
+returns-in-None-clause-found g c =
+    found_none (finds_answer c.args.agent.now c.args.mark.now) g.S.Store c.args.conn.now c.first_row.new.conn (simp (c.as_bytes.ensures.value, c.as_bytes-2.ensures.value) at c.in_ok-row.ensures.row) c.in-None.is
 
 -- the query fails for a reason
 pub returns-in_err-row-clause-reason : goal.returns-in_err-row-clause-reason
 returns-in_err-row-clause-reason g c clean t sees fits up =
-    let why = simp (c.as_bytes.ensures.value, c.as_bytes-2.ensures.value) at (c.in_err-row.ensures.reason clean) in
-    let reason : HasReason (state g.S.Store c.args.conn.now) (state g.S.Store c.first_row.new.conn) c.in_err-row.field-0.0 =
-    query_reason find_answer_means (find_answer_takes c.args.agent.now c.args.mark.now) (state g.S.Store c.args.conn.now) (state g.S.Store c.first_row.new.conn) up (sees up.is_open).schema _ why in
+    let reason = one_unasked (finds_answer c.args.agent.now c.args.mark.now) g.S.Store c.args.conn.now c.first_row.new.conn c.in_err-row.field-0.0
+    (simp (c.as_bytes.ensures.value, c.as_bytes-2.ensures.value) at c.in_err-row.ensures.reason) clean t sees up in
     search rules
 
 -- the row that it gave can be read
 pub returns-in_err-answer-in-Some-clause-reason : goal.returns-in_err-answer-in-Some-clause-reason
 returns-in_err-answer-in-Some-clause-reason g c clean t sees fits up =
-    let given = simp (c.as_bytes.ensures.value, c.as_bytes-2.ensures.value) at (c.in_ok-row.ensures.row clean) in
-    let it = answer_given (state g.S.Store c.args.conn.now) (state g.S.Store c.first_row.new.conn) t sees c.args.agent.now c.args.mark.now c.in-Some.row fits
-    (given_as _ _ _ _ c.in_ok-row.field-0 (Some c.in-Some.row) c.in-Some.is given) in
-    let reason : HasReason (state g.S.Store c.args.conn.now) (state g.S.Store c.first_row.new.conn) c.in_err-answer-in-Some.field-0.0 =
-    inl (c.in_err-answer-in-Some.ensures.reason it.0 it.1 it.2) in
+    let reason = one_unread (finds_answer c.args.agent.now c.args.mark.now) g.S.Store c.args.conn.now c.first_row.new.conn c.in_err-answer-in-Some.field-0.0
+    (simp (c.as_bytes.ensures.value, c.as_bytes-2.ensures.value) at c.in_ok-row.ensures.row) c.in-Some.is
+    (λ it. c.in_err-answer-in-Some.ensures.reason it.0 it.1 it.2) clean t sees fits in
     search rules

@@ -1,50 +1,33 @@
 -- The row that is read is the first of the query's answer; no row means that there is none.
-use Rattle.std.proofs.Common.{Some, None, inl, rules}
-use Rattle.sqlite.specs.Held.{state}
-use Rattle.desk_sql.specs.declared.versions.Version.TheVariants.{Two}
+use Rattle.std.proofs.Common.{rules}
+use Rattle.desk_sql.proofs.Asking.{found_some, found_none, one_unasked, one_unread}
+use Rattle.desk_sql.proofs.JourneyQueries.{finds_unfinished}
 use Rattle.desk_sql.proofs.Writing.{pos_is}
-use Rattle.desk_sql.proofs.Selecting.{given_as}
-use Rattle.desk_sql.proofs.Meaning.{first_unfinished_means}
-use Rattle.desk_sql.proofs.JourneyQueries.{finds_unfinished, finds_none_unfinished, unfinished_given}
-use Rattle.desk_sql.specs.Causes.{HasReason}
-use Rattle.desk_sql.proofs.Causing.{query_reason}
-use Rattle.desk_sql.proofs.Taking.{first_unfinished_takes}
 use Rattle.desk_sql.proofs.journeys.first_unfinished.Goals as goal
 
 pub first_row-requires : goal.first_row-requires
-first_row-requires g c = (first_unfinished_means Two).selects
+first_row-requires g c = (finds_unfinished c.args.after).selects
 
 pub returns-in_ok-journey-in-Some-clause-found : goal.returns-in_ok-journey-in-Some-clause-found
-returns-in_ok-journey-in-Some-clause-found g c clean t sees =
-    let small = c.requires in
-    let given = simp pos_is at (c.in_ok-row.ensures.row clean) in
-    finds_unfinished (state g.S.Store c.args.conn.now) (state g.S.Store c.first_row.new.conn) t sees c.args.after c.in-Some.row
-    c.in_ok-journey-in-Some.journey c.in_ok-journey-in-Some.ensures.shown
-    (given_as _ _ _ _ c.in_ok-row.field-0 (Some c.in-Some.row) c.in-Some.is given)
+returns-in_ok-journey-in-Some-clause-found g c =
+    found_some (finds_unfinished c.args.after) g.S.Store c.args.conn.now c.first_row.new.conn c.in_ok-journey-in-Some.journey (simp (pos_is c.args.after c.requires) at c.in_ok-row.ensures.row)
+    c.in-Some.is c.in_ok-journey-in-Some.ensures.shown
 
 pub returns-in-None-clause-found : goal.returns-in-None-clause-found
-returns-in-None-clause-found g c clean t sees =
-    let small = c.requires in
-    let given = simp pos_is at (c.in_ok-row.ensures.row clean) in
-    finds_none_unfinished (state g.S.Store c.args.conn.now) (state g.S.Store c.first_row.new.conn) t sees c.args.after
-    (given_as _ _ _ _ c.in_ok-row.field-0 None c.in-None.is given)
+returns-in-None-clause-found g c =
+    found_none (finds_unfinished c.args.after) g.S.Store c.args.conn.now c.first_row.new.conn (simp (pos_is c.args.after c.requires) at c.in_ok-row.ensures.row) c.in-None.is
 
 -- the query fails for a reason
 pub returns-in_err-row-clause-reason : goal.returns-in_err-row-clause-reason
 returns-in_err-row-clause-reason g c clean t sees fits up =
-    let small = c.requires in
-    let why = simp pos_is at (c.in_err-row.ensures.reason clean) in
-    let reason : HasReason (state g.S.Store c.args.conn.now) (state g.S.Store c.first_row.new.conn) c.in_err-row.field-0.0 =
-    query_reason (first_unfinished_means Two) (first_unfinished_takes Two c.args.after) (state g.S.Store c.args.conn.now) (state g.S.Store c.first_row.new.conn) up (sees up.is_open).schema _ why in
+    let reason = one_unasked (finds_unfinished c.args.after) g.S.Store c.args.conn.now c.first_row.new.conn c.in_err-row.field-0.0
+    (simp (pos_is c.args.after c.requires) at c.in_err-row.ensures.reason) clean t sees up in
     search rules
 
 -- the row that it gave can be read
 pub returns-in_err-journey-in-Some-clause-reason : goal.returns-in_err-journey-in-Some-clause-reason
 returns-in_err-journey-in-Some-clause-reason g c clean t sees fits up =
-    let small = c.requires in
-    let given = simp pos_is at (c.in_ok-row.ensures.row clean) in
-    let it = unfinished_given (state g.S.Store c.args.conn.now) (state g.S.Store c.first_row.new.conn) t sees c.args.after c.in-Some.row fits
-    (given_as _ _ _ _ c.in_ok-row.field-0 (Some c.in-Some.row) c.in-Some.is given) in
-    let reason : HasReason (state g.S.Store c.args.conn.now) (state g.S.Store c.first_row.new.conn) c.in_err-journey-in-Some.field-0.0 =
-    inl (c.in_err-journey-in-Some.ensures.reason it.0 it.1 it.2) in
+    let reason = one_unread (finds_unfinished c.args.after) g.S.Store c.args.conn.now c.first_row.new.conn c.in_err-journey-in-Some.field-0.0
+    (simp (pos_is c.args.after c.requires) at c.in_ok-row.ensures.row) c.in-Some.is
+    (λ it. c.in_err-journey-in-Some.ensures.reason it.0 it.1 it.2) clean t sees fits in
     search rules

@@ -1,37 +1,12 @@
 -- Each number is passed as the integer that it is.
-use Rattle.sqlite.specs.Held.{state}
+use Rattle.std.proofs.Common.{rules}
+use Rattle.desk_sql.proofs.Effects.{done}
+use Rattle.desk_sql.proofs.RemovedRows.{drops}
 use Rattle.desk_sql.proofs.Writing.{pos_is}
-use Rattle.sqlite.specs.State.{ExecutesInside}
-use Rattle.desk_sql.specs.Causes.{HasReason}
-use Rattle.desk_sql.specs.Texts.{delete_mark_text}
-use Rattle.desk_sql.proofs.Changing.{drops, place_params}
-use Rattle.desk_sql.proofs.RowidsTaken.{delete_rowids}
-use Rattle.desk_sql.proofs.Refusing.{if_failed}
-use Rattle.desk_sql.proofs.RemovedRows.{drop_reason}
 use Rattle.desk_sql.proofs.marks.delete_mark.Goals as goal
 
-pub returns-clause-made : goal.returns-clause-made
-returns-clause-made g c clean t may fits =
-    let journey = c.requires.journey in
-    let at = c.requires.pos in
-    drops (state g.S.Store c.args.tx.now.conn.now) (state g.S.Store c.execute.new.self.conn.now) t
-    c.args.journey c.args.pos c.execute.result may
-    (simp pos_is at (c.execute.ensures.runs clean may.inside))
-
--- no rule of the tables refuses it
-pub returns-clause-reason : goal.returns-clause-reason
-returns-clause-reason g c clean t may fits up =
-    let journey = c.requires.journey in
-    let at = c.requires.pos in
-    if_failed (HasReason (state g.S.Store c.args.tx.now.conn.now) (state g.S.Store c.execute.new.self.conn.now))
-    (ExecutesInside 0 delete_mark_text (place_params c.args.journey c.args.pos) (state g.S.Store c.args.tx.now.conn.now) (state g.S.Store c.execute.new.self.conn.now)) c.execute.result
-    (simp pos_is at (c.execute.ensures.runs clean may.inside))
-    (λ e ran. drop_reason (state g.S.Store c.args.tx.now.conn.now) (state g.S.Store c.execute.new.self.conn.now) t c.args.journey c.args.pos e may up ran)
-
--- the rowids that are left
-pub returns-clause-rowids : goal.returns-clause-rowids
-returns-clause-rowids g c clean t may fits n has =
-    let journey = c.requires.journey in
-    let at = c.requires.pos in
-    delete_rowids (state g.S.Store c.args.tx.now.conn.now) (state g.S.Store c.execute.new.self.conn.now) t c.args.journey c.args.pos c.execute.result may
-    (simp (pos_is) at (c.execute.ensures.runs clean may.inside)) n has
+pub returns : goal.returns
+returns g c =
+    let it = done g.S.Store c.args.tx.now.conn.now c.execute.new.self.conn.now c.execute.result (drops c.args.journey c.args.pos)
+    (simp (pos_is c.args.journey c.requires.journey, pos_is c.args.pos c.requires.pos) at c.execute.ensures.runs) in
+    record { goes = search rules; made = it.made; reason = it.reason tt; rowids = it.rowids }

@@ -3,15 +3,12 @@ use Rattle.std.proofs.Common.{Some, None, inl, rules}
 use Rattle.sqlite.specs.Held.{state}
 use Rattle.desk_sql.specs.declared.versions.Version.TheVariants.{Two}
 use Rattle.desk_sql.proofs.Selecting.{given_as, ok_then, err_then}
-use Rattle.desk_sql.proofs.Meaning.{read_meta_means}
-use Rattle.desk_sql.proofs.Metas.{finds_meta, meta_given, meta_there}
+use Rattle.desk_sql.proofs.Metas.{meta_asked, finds_meta, meta_given, meta_there}
 use Rattle.desk_sql.specs.Causes.{HasReason}
-use Rattle.desk_sql.proofs.Causing.{query_reason}
-use Rattle.desk_sql.proofs.Taking.{read_meta_takes}
 use Rattle.desk_sql.proofs.meta.read_meta.Goals as goal
 
 pub first_row-requires : goal.first_row-requires
-first_row-requires g c = (read_meta_means Two).selects
+first_row-requires g c = (meta_asked Two).selects
 
 pub returns-in-Some-clause-found : goal.returns-in-Some-clause-found
 returns-in-Some-clause-found g c v clean t sees =
@@ -23,7 +20,7 @@ returns-in-Some-clause-found g c v clean t sees =
 pub returns-in_err-row-clause-reason : goal.returns-in_err-row-clause-reason
 returns-in_err-row-clause-reason g c v clean t sees fits up =
     let reason : HasReason (state g.S.Store c.args.conn.now) (state g.S.Store c.first_row.new.conn) c.in_err-row.field-0.0 =
-    query_reason (read_meta_means v) (read_meta_takes v) (state g.S.Store c.args.conn.now) (state g.S.Store c.first_row.new.conn) up (sees up.is_open).schema _ (c.in_err-row.ensures.reason clean) in
+    (meta_asked v).reason (state g.S.Store c.args.conn.now) (state g.S.Store c.first_row.new.conn) t sees up _ (c.in_err-row.ensures.reason clean) in
     search rules
 
 -- the row that it gave can be read

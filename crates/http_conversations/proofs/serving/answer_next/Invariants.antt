@@ -1,12 +1,9 @@
-use Rattle.std.proofs.Common.{◌≡◌, List, [], ℕ}
+use Rattle.std.proofs.Common.{◌≡◌, List, ℕ}
 use Rattle.std.specs.Prelude.{Some}
 use Rattle.ledger.specs.Answer.{State}
 use Rattle.saga_core.specs.Calls.{Stays}
-use Rattle.desk_http.specs.declared.doors.Door.TheVariants.{Port}
-use Rattle.http_ways.specs.declared.ways.Way.TheVariants.{Profile}
 use Rattle.http_conversations.specs.Conversations.{history}
-use Rattle.http_conversations.specs.Serving.{to_come}
-use Rattle.http_conversations.specs.declared.conversation.Stage.TheVariants.{Open}
+use Rattle.http_conversations.specs.Serving.{AwaitsNext, to_come}
 use Rattle.http_conversations.proofs.serving.answer_next.Given as goal
 
 -- nothing was answered, and what is to come is what was to come
@@ -16,10 +13,7 @@ invariant-loop g l =
     let left = g.R.Read.remaining in
     let h = history l.conversation in
     record {
-      is_open : h.stage ≡ Open;
-      free : h.pending ≡ [];
-      door : h.door ≡ Port;
-      way : h.way ≡ Profile;
+      awaits : AwaitsNext h;
       stream : (stream : List ℕ) → to_come (history l.fn.conversation) (left l.fn.reader) ≡ Some stream
           → to_come h (left l.reader) ≡ Some stream;
       stands : book.is_sound l.book → (s : State) → book.stands l.fn.book s → book.stands l.book s;

@@ -7,7 +7,7 @@ use Rattle.http_conversations.proofs.serving.read_more.Goals as goal
 pub returns-in-Ok-clause-more : goal.returns-in-Ok-clause-more
 returns-in-Ok-clause-more g c =
     let left = g.R.Read.remaining in
-    let more = c.in-Ok.ensures.ok in (
+    let more = c.in-Ok.ensures.receives.ok in (
       more.0,
       more.1,
       consumes_after (left c.args.reader.now) (left c.loop.reader) (left c.receive.new.reader) more.0 c.loop.invariant.kept more.2,

@@ -6,8 +6,13 @@ use Rattle.http_live.proofs.serving.clear_at.Goals as goal
 
 pub returns : goal.returns
 returns g c =
-    let seats = c.args.seats.now in record {
-      kept = map-set_same exchanges_at seats c.args.at _ c.index-seats-at.result c.clear.ensures.kept;
-      arrivals = map-set_same arrivals_at seats c.args.at _ c.index-seats-at.result c.clear.ensures.arrivals;
-      unread = map-set_same received_at seats c.args.at _ c.index-seats-at.result c.clear.ensures.unread;
+    let seats = c.args.seats.now in
+    let seat = c.index-seats-at.result in
+    let left = c.clear.ensures.left in
+    record {
+      left = record {
+        kept = map-set_same exchanges_at seats c.args.at _ seat left.kept;
+        arrivals = map-set_same arrivals_at seats c.args.at _ seat left.arrivals;
+        unread = map-set_same received_at seats c.args.at _ seat left.unread;
+      };
     }

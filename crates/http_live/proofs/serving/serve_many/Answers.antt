@@ -6,15 +6,13 @@ use Rattle.commands.specs.declared.replies.Fault.TheVariants.{Memory, Store}
 use Rattle.http_conversations.specs.Leading.{has_broken}
 use Rattle.http_live.specs.Endings.{has_stopped}
 use Rattle.http_live.proofs.Merged.{merges_none}
+use Rattle.http_live.proofs.TurnLemmas.{no_turns}
 use Rattle.http_live.proofs.WorldLemmas.{worlds_go_on}
 use Rattle.http_live.proofs.serving.serve_many.Goals as goal
 
 -- out of memory, no turn was taken
-pub returns-in_default-clause-served : goal.returns-in_default-clause-served
-returns-in_default-clause-served g c =
-    let book = g.B.Book in
-    let b = c.args.book.now in
-    merges_none (book.is_sound b) (book.stands b) (book.leaves b) _ _ refl
+pub returns-in_default-clause-turns : goal.returns-in_default-clause-turns
+returns-in_default-clause-turns g c = no_turns c.args.seats.now
 
 pub returns-in_default-clause-worlds : goal.returns-in_default-clause-worlds
 returns-in_default-clause-worlds g c =
@@ -23,11 +21,8 @@ returns-in_default-clause-worlds g c =
     worlds_go_on false false (book.is_sound b) (book.stands b) (book.stands b) (book.leaves b) _ _ (g.met.B.Book.settled b)
     (merges_none (book.is_sound b) (book.stands b) (book.leaves b) _ _ refl)
 
-pub returns-in_default-vec-clause-served : goal.returns-in_default-vec-clause-served
-returns-in_default-vec-clause-served g c =
-    let book = g.B.Book in
-    let b = c.args.book.now in
-    merges_none (book.is_sound b) (book.stands b) (book.leaves b) _ _ refl
+pub returns-in_default-vec-clause-turns : goal.returns-in_default-vec-clause-turns
+returns-in_default-vec-clause-turns g c = no_turns c.args.seats.now
 
 pub returns-in_default-vec-clause-worlds : goal.returns-in_default-vec-clause-worlds
 returns-in_default-vec-clause-worlds g c =
@@ -42,7 +37,7 @@ returns-clause-worlds g c =
     let book = g.B.Book in
     let new = c.serve_turns.new.book in
     worlds_go_on (has_broken c.serve_turns.result) (has_stopped c.serve_turns.result) (book.is_sound new) (book.stands c.args.book.now) (book.stands new) (book.leaves new) _ _
-    (g.met.B.Book.settled new) c.serve_turns.ensures.served
+    (g.met.B.Book.settled new) c.serve_turns.ensures.turns.served
 
 -- where the only fault is that of the store, memory did not run out
 never_memory : {T : Type 0} (r : Result T Fault) → IfErr r (λ fault. fault ≡ Store) → r ≡ Err Memory → ⊥

@@ -3,8 +3,9 @@ use Rattle.std.proofs.Common.{◌≡◌, ◌∙◌, [], All, Err, ap, false, map
 use Rattle.std.proofs.lemmas.List.Elements.{All-nil}
 use Rattle.std.proofs.lemmas.Result.{err_from_is_err_and}
 use Rattle.commands.specs.declared.replies.Fault.TheVariants.{Memory}
+use Rattle.http_live.specs.Calls.{IsEmpty}
 use Rattle.http_live.specs.Merging.{exchange_of}
-use Rattle.http_live.specs.Seats.{connections_at, exchanges_at}
+use Rattle.http_live.specs.Seats.{exchanges_at}
 use Rattle.http_live.proofs.Merged.{merges_none}
 use Rattle.http_live.proofs.WorldLemmas.{worlds_go_on}
 use Rattle.http_sockets.specs.Doors.{IsAt, IsReadBy}
@@ -54,13 +55,13 @@ returns-in_err-ending-clause-doors g c =
     let failed = err_from_is_err_and c.from_residual.result c.from_residual.ensures.1 in
     let m = c.in_err-ending.ensures.worlds in
     let seats = c.as_mut_slice.result.now in
-    let same = sym c.as_mut_slice.ensures.value in
+    let empty = subst (All IsEmpty) (sym c.as_mut_slice.ensures.value) c.in-Ok.ensures.empty in
     rw (failed.1, failed.2) (record {
       seats = c.serve_many.new.seats;
-      doors = c.in_err-ending.ensures.doors (at_doors seats IsAt (subst (All (λ seat. connections_at seat ≡ [])) same c.in-Ok.ensures.empty));
-      ways = c.in_err-ending.ensures.ways (by_ways seats IsReadBy (subst (All (λ seat. connections_at seat ≡ [])) same c.in-Ok.ensures.empty));
+      doors = c.in_err-ending.ensures.turns.admits.doors (at_doors seats IsAt empty);
+      ways = c.in_err-ending.ensures.turns.admits.ways (by_ways seats IsReadBy empty);
       before = map exchanges_at seats;
-      none = no_exchanges seats (subst (All (λ seat. exchanges_at seat ≡ [])) same c.in-Ok.ensures.none);
+      none = no_exchanges seats empty;
       merged = m.merged;
       is_merged = m.is_merged;
       worlds = m.worlds;
@@ -71,12 +72,12 @@ pub returns-clause-doors : goal.returns-clause-doors
 returns-clause-doors g c =
     let m = c.in_ok-ending.ensures.worlds in
     let seats = c.as_mut_slice.result.now in
-    let same = sym c.as_mut_slice.ensures.value in record {
+    let empty = subst (All IsEmpty) (sym c.as_mut_slice.ensures.value) c.in-Ok.ensures.empty in record {
       seats = c.serve_many.new.seats;
-      doors = c.in_ok-ending.ensures.doors (at_doors seats IsAt (subst (All (λ seat. connections_at seat ≡ [])) same c.in-Ok.ensures.empty));
-      ways = c.in_ok-ending.ensures.ways (by_ways seats IsReadBy (subst (All (λ seat. connections_at seat ≡ [])) same c.in-Ok.ensures.empty));
+      doors = c.in_ok-ending.ensures.turns.admits.doors (at_doors seats IsAt empty);
+      ways = c.in_ok-ending.ensures.turns.admits.ways (by_ways seats IsReadBy empty);
       before = map exchanges_at seats;
-      none = no_exchanges seats (subst (All (λ seat. exchanges_at seat ≡ [])) same c.in-Ok.ensures.none);
+      none = no_exchanges seats empty;
       merged = m.merged;
       is_merged = m.is_merged;
       worlds = m.worlds;

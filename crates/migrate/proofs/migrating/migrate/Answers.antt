@@ -1,88 +1,71 @@
--- What a crash leaves, and what the connection shows, if the migration did not complete.
-use Rattle.std.proofs.Common.{◌≡◌, inl, inr, Ok, Err, sym, ◌∙◌, rules}
-use Rattle.migrate.specs.Migrating.{LeavesEither, ShowsAsBefore}
-use Rattle.migrate.specs.declared.faults.MigrateFault.TheVariants.{UnknownSchema}
+-- What a crash leaves, and what the connection shows, whether the migration was completed or not.
+use Rattle.std.proofs.Common.{◌≡◌, inl, inr, Ok, Err, ap, sym, ◌∙◌, rules}
+use Rattle.desk_sql.specs.Rows.{MetaRow}
+use Rattle.desk_sql.specs.Schema.{no_schema}
 use Rattle.sql_model.proofs.Quieting.{quiet_up}
 use Rattle.migrate.specs.Reasons.{HasTooMany}
+use Rattle.migrate.specs.declared.faults.MigrateFault.TheVariants.{UnknownSchema}
 use Rattle.migrate.proofs.FailLemmas.{fails_later}
 use Rattle.migrate.proofs.Quiet.{as_before}
-use Rattle.migrate.proofs.Reading.{on_err}
-use Rattle.migrate.proofs.Stopping.{kept_there, left_as_before, shows_as_before, refuses_others, left_either, shows_either}
+use Rattle.migrate.proofs.Stopping.{kept_there, left_as_before, left_either, refuses_others, shows_as_before, shows_either}
+use Rattle.migrate.proofs.Telling.{not_refused, tells_later}
 use Rattle.migrate.proofs.migrating.migrate.Goals as goal
 
--- a refusal, or a fault before the transaction: a crash leaves what it could leave before
-pub returns-in_err-meta-clause-stop : goal.returns-in_err-meta-clause-stop
-returns-in_err-meta-clause-stop g c =
-    on_err (LeavesEither g.S.Store c.args.conn.now c.read_old.new.conn) c.from_residual.result
-    (left_as_before g.S.Store c.args.conn.now c.read_old.new.conn c.read_old.ensures.quiet)
-
-pub returns-in_err-meta-clause-shows : goal.returns-in_err-meta-clause-shows
-returns-in_err-meta-clause-shows g c =
-    on_err (ShowsAsBefore g.S.Store c.args.conn.now c.read_old.new.conn) c.from_residual.result
-    (shows_as_before g.S.Store c.args.conn.now c.read_old.new.conn c.read_old.ensures.quiet)
-
--- a refusal does not come on tables of version 1
-pub returns-in_err-meta-clause-only_old : goal.returns-in_err-meta-clause-only_old
-returns-in_err-meta-clause-only_old g c =
+-- a refusal, or a fault before the transaction: nothing has changed
+pub returns-in_err-meta-clause-fails : goal.returns-in_err-meta-clause-fails
+returns-in_err-meta-clause-fails g c =
+    let old = c.args.conn.now in
+    let mid = c.read_old.new.conn in
+    let quiet = c.read_old.ensures.quiet in
     let why = c.in_err-meta.field-0.0 in
     let same : c.from_residual.result ≡ Err why = search rules in
-    rw same (refuses_others g.S.Store c.args.conn.now c.read_old.new.conn c.read_old.ensures.quiet why c.in_err-meta.ensures.told)
+    rw same (record {
+      told = c.in_err-meta.ensures.told;
+      only_old = refuses_others g.S.Store old mid quiet why c.in_err-meta.ensures.told;
+      reason = λ clean s stood up store. elim (c.in_err-meta.ensures.store clean s stood up store) [
+        | inl faulted ↦ inl faulted
+        | inr many ↦ inr (inr many)
+      ];
+      shows = shows_as_before g.S.Store old mid quiet;
+      stop = left_as_before g.S.Store old mid quiet;
+    })
 
 -- a fault after the version was read: a crash leaves the old tables or the new ones
-pub returns-in_err-bring_over-clause-stop : goal.returns-in_err-bring_over-clause-stop
-returns-in_err-bring_over-clause-stop g c =
-    on_err (LeavesEither g.S.Store c.args.conn.now c.bring_over.new.conn) c.from_residual-in_err-bring_over.result
-    (left_either g.S.Store c.args.conn.now c.read_old.new.conn c.bring_over.new.conn c.in_ok-meta.meta c.read_old.ensures.quiet
-    c.in_ok-meta.ensures.version (λ none. absurd (let never : Ok c.in_ok-meta.meta ≡ Err (UnknownSchema 0) = sym c.in_ok-meta.was ∙ c.read_old.ensures.bare none in cc)) c.bring_over.ensures.sound c.in_ok-meta.ensures.numbers c.in_err-bring_over.ensures.stop)
-
-pub returns-in_err-bring_over-clause-shows : goal.returns-in_err-bring_over-clause-shows
-returns-in_err-bring_over-clause-shows g c =
-    on_err (ShowsAsBefore g.S.Store c.args.conn.now c.bring_over.new.conn) c.from_residual-in_err-bring_over.result
-    (shows_either g.S.Store c.args.conn.now c.read_old.new.conn c.bring_over.new.conn c.in_ok-meta.meta c.read_old.ensures.quiet
-    c.in_ok-meta.ensures.version (λ none. absurd (let never : Ok c.in_ok-meta.meta ≡ Err (UnknownSchema 0) = sym c.in_ok-meta.was ∙ c.read_old.ensures.bare none in cc)) c.bring_over.ensures.sound c.in_err-bring_over.ensures.shows)
-
--- out of memory nothing was brought over
-pub returns-in_err-bring_over-clause-memory : goal.returns-in_err-bring_over-clause-memory
-returns-in_err-bring_over-clause-memory g c =
-    let before = as_before g.S.Store c.args.conn.now c.read_old.new.conn c.read_old.ensures.quiet in search rules
-
--- the connection kept the state when the transaction began, so the new tables have the same state
-pub returns-clause-same_state : goal.returns-clause-same_state
-returns-clause-same_state g c clean s stood =
-    let at_mid = c.bring_over.ensures.sound clean in
-    c.in_ok-bring_over.ensures.done s (c.in_ok-meta.ensures.numbers at_mid s stood)
-    (kept_there g.S.Store c.args.conn.now c.read_old.new.conn c.read_old.ensures.quiet s stood) clean
-
--- the version was read before the transaction began
-pub returns-clause-version : goal.returns-clause-version
-returns-clause-version g c clean v t sees = c.in_ok-meta.ensures.version (c.bring_over.ensures.sound clean) v t sees
-
--- a crash leaves only the new tables
-pub returns-clause-left : goal.returns-clause-left
-returns-clause-left g c clean s stood db may =
-    let at_mid = c.bring_over.ensures.sound clean in
-    c.in_ok-bring_over.ensures.left clean s (c.in_ok-meta.ensures.numbers at_mid s stood)
-    (kept_there g.S.Store c.args.conn.now c.read_old.new.conn c.read_old.ensures.quiet s stood) db may
-
--- Store only for a reason: the numbers were not read
-pub returns-in_err-meta-clause-reason : goal.returns-in_err-meta-clause-reason
-returns-in_err-meta-clause-reason g c =
-    let why = c.in_err-meta.field-0.0 in
-    let same : c.from_residual.result ≡ Err why = search rules in
-    rw same (λ clean s stood up store. elim (c.in_err-meta.ensures.store clean s stood up store) [
-      | inl faulted ↦ inl faulted
-      | inr many ↦ inr (inr many)
-    ])
-
--- or the tables were not brought over
-pub returns-in_err-bring_over-clause-reason : goal.returns-in_err-bring_over-clause-reason
-returns-in_err-bring_over-clause-reason g c =
+pub returns-in_err-bring_over-clause-fails : goal.returns-in_err-bring_over-clause-fails
+returns-in_err-bring_over-clause-fails g c =
+    let old = c.args.conn.now in
+    let mid = c.read_old.new.conn in
+    let new = c.bring_over.new.conn in
+    let m = c.in_ok-meta.meta in
+    let quiet = c.read_old.ensures.quiet in
+    let read = c.in_ok-meta.ensures.reads in
+    let sound = c.bring_over.ensures.idle.sound in
+    let failed = c.in_err-bring_over.ensures.fails in
+    let filled : old.schema ≡ no_schema → ⊥ = λ none.
+    let never : Ok m ≡ Err (UnknownSchema 0) = sym c.in_ok-meta.was ∙ c.read_old.ensures.bare none in cc in
     let why = c.in_err-bring_over.field-0.0 in
     let same : c.from_residual-in_err-bring_over.result ≡ Err why = search rules in
-    rw same (λ clean s stood up store. (
-    let at_mid = c.bring_over.ensures.sound clean in
-    fails_later g.S.Store c.args.conn.now c.read_old.new.conn c.bring_over.new.conn s
-    (quiet_up g.S.Store c.args.conn.now c.read_old.new.conn c.read_old.ensures.quiet) c.in_err-bring_over.ensures.up at_mid up
-    {Q = HasTooMany s}
-    (λ still. c.in_err-bring_over.ensures.store clean s (c.in_ok-meta.ensures.numbers at_mid s stood)
-    (kept_there g.S.Store c.args.conn.now c.read_old.new.conn c.read_old.ensures.quiet s stood) still store)))
+    rw same (record {
+      told = tells_later g.S.Store old mid new (as_before g.S.Store old mid quiet) why failed.fault failed.memory;
+      only_old = λ refused. absurd (not_refused why failed.fault refused);
+      reason = λ clean s stood up store. fails_later g.S.Store old mid new s (quiet_up g.S.Store old mid quiet) failed.up (sound clean) up {Q = HasTooMany s}
+          (λ still. failed.store clean s (read.numbers (sound clean) s stood) (kept_there g.S.Store old mid quiet s stood) still store);
+      shows = shows_either g.S.Store old mid new m quiet read.version filled sound failed.shows;
+      stop = left_either g.S.Store old mid new m quiet read.version filled sound read.numbers failed.stop;
+    })
+
+-- the connection kept the state when the transaction began, so the new tables have the same state, and a crash leaves only these
+pub returns-clause-migrates : goal.returns-clause-migrates
+returns-clause-migrates g c =
+    let old = c.args.conn.now in
+    let mid = c.read_old.new.conn in
+    let quiet = c.read_old.ensures.quiet in
+    let read = c.in_ok-meta.ensures.reads in
+    let sound = c.bring_over.ensures.idle.sound in
+    let brought = c.in_ok-bring_over.ensures.brings in
+    record {
+      same_state = λ clean s stood. brought.done s (read.numbers (sound clean) s stood) (kept_there g.S.Store old mid quiet s stood) clean;
+      left = λ clean s stood. brought.left clean s (read.numbers (sound clean) s stood) (kept_there g.S.Store old mid quiet s stood);
+      events = λ clean s stood. ap (λ (r : MetaRow). r.events) (read.numbers (sound clean) s stood);
+      version = λ clean v t sees. read.version (sound clean) v t sees;
+    }

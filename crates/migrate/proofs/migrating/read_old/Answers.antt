@@ -6,34 +6,30 @@ use Rattle.desk_sql.proofs.Selecting.{ok_then}
 use Rattle.desk_sql.specs.Versions.{SawVersion}
 use Rattle.desk_sql.specs.declared.meta.Meta.{Meta}
 use Rattle.desk_sql.specs.declared.versions.Version.TheVariants.{One}
-use Rattle.migrate.specs.Migrating.{IsAsBefore, NumbersOld, RefusesNumbers, Tells}
+use Rattle.migrate.specs.Migrating.{IsAsBefore, RefusesNumbers, Tells}
+use Rattle.migrate.specs.Outcomes.{ReadsOld}
 use Rattle.migrate.specs.Reasons.{FailsToRead}
 use Rattle.migrate.proofs.FailLemmas.{meta_fails, not_memory, too_many_events}
 use Rattle.migrate.proofs.Quiet.{as_before}
 use Rattle.migrate.proofs.Reading.{numbers_read}
-use Rattle.migrate.proofs.Telling.{on_ok, on_errors, saw_read, tells_numbers, tells_fault}
+use Rattle.migrate.proofs.Telling.{on_errors, saw_read, tells_numbers, tells_fault}
 use Rattle.migrate.proofs.migrating.read_old.Goals as goal
 
-pub returns-in-Ok-clause-numbers : goal.returns-in-Ok-clause-numbers
-returns-in-Ok-clause-numbers g c =
+pub returns-in-Ok-clause-reads : goal.returns-in-Ok-clause-reads
+returns-in-Ok-clause-reads g c =
     let old = c.args.conn.now in
     let new = c.read_meta.new.conn in
     let meta = c.in-Ok.meta in
-    ok_then _ (NumbersOld g.S.Store old new) c.old_only.result
-    (λ m is clean s stood. (
-    let at_old : HasCleanDisk (state g.S.Store old) = omega (arith, c.read_meta.ensures.quiet.survives.clean) in
-    let here : m ≡ meta = is.0 in
-    rw here (numbers_read (state g.S.Store old) (state g.S.Store new) meta (λ v t sees. c.in-Ok.ensures.found v clean t sees) s (stood at_old))))
-    c.old_only.ensures.ok
-
-pub returns-in-Ok-clause-version : goal.returns-in-Ok-clause-version
-returns-in-Ok-clause-version g c =
-    let old = c.args.conn.now in
-    let new = c.read_meta.new.conn in
-    let meta = c.in-Ok.meta in
-    let saw : SawVersion g.S.Store old new meta.version = saw_read g.S.Store old new meta c.in-Ok.ensures.found in
-    on_ok (SawVersion g.S.Store old new 1) _ c.old_only.result
-    (λ m is. subst (SawVersion g.S.Store old new) (ap (λ (n : Meta). n.version) (sym is.0) ∙ is.1) saw)
+    ok_then _ (ReadsOld g.S.Store old new) c.old_only.result
+    (λ m is. record {
+      numbers = λ clean s stood. (
+          let at_old : HasCleanDisk (state g.S.Store old) = omega (arith, c.read_meta.ensures.quiet.survives.clean) in
+          let here : m ≡ meta = is.0 in
+          rw here (numbers_read (state g.S.Store old) (state g.S.Store new) meta (λ v t sees. c.in-Ok.ensures.found v clean t sees) s (stood at_old)));
+      version = subst (SawVersion g.S.Store old new) (ap (λ (n : Meta). n.version) (sym is.0) ∙ is.1)
+          (saw_read g.S.Store old new meta c.in-Ok.ensures.found);
+      few = is.2;
+    })
     c.old_only.ensures.ok
 
 -- a refusal of the numbers changed nothing, and neither did a fault

@@ -2,8 +2,7 @@
 use Rattle.std.proofs.Common.{◌≤◌}
 use Rattle.ledger.specs.Answer.{State}
 use Rattle.saga_core.specs.Calls.{Stays}
-use Rattle.saga_core.specs.Runs.{Asks}
-use Rattle.recovery.specs.Reasons.{MayRecover}
+use Rattle.recovery.specs.Following.{MayGoOn}
 use Rattle.recovery.proofs.TurnedLemmas.{TurnedSoFar}
 use Rattle.recovery.proofs.passes.turn_back.Given as goal
 
@@ -13,8 +12,6 @@ invariant-loop-round g l =
     record {
       each_once : l.made ≤ l._round;
       stays : Stays book.is_sound book.leaves book.has_failed l.fn.book l.book;
-      turned : book.is_sound l.book → (s : State) → book.stands l.fn.book s
-          → TurnedSoFar (book.stands l.book) s l.after l.made l._round;
-      may_act : book.is_sound l.book → (first : _) (later : Asks) (s : State) → MayRecover (book.stands l.fn.book) (book.may_act first l.fn.book) later s
-          → TurnedSoFar (MayRecover (book.stands l.book) (book.may_act first l.book) later) s l.after l.made l._round;
+      turned : book.is_sound l.book → (following : _) (s : State) → MayGoOn book.stands book.may_act following l.fn.book s
+          → TurnedSoFar (MayGoOn book.stands book.may_act following l.book) s l.after l.made l._round;
     }

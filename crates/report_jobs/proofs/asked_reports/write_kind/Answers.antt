@@ -2,6 +2,7 @@
 use Rattle.std.specs.Prelude.{Ok}
 use Rattle.std.proofs.Common.{◌≡◌, ◌+◌, arith, false, refl, rules, subst, sym, true}
 use Rattle.allotment.specs.Cells.{kind_number}
+use Rattle.desk_sql.proofs.Quieting.{quiet_alone}
 use Rattle.filters.specs.CellFilters.{is_kind_asked}
 use Rattle.reports.proofs.FrontLemmas.{appends_none, front_none}
 use Rattle.report_jobs.specs.Reporting.{WritesCells}
@@ -9,22 +10,32 @@ use Rattle.report_jobs.proofs.StockLemmas.{kind_asked, kind_passed}
 use Rattle.report_jobs.proofs.asked_reports.write_kind.Goals as goal
 
 -- the cells that the statement finds are those of the kind that are asked for
-pub returns-clause-told : goal.returns-clause-told
-returns-clause-told g c clean v s desk keeps going all stock =
+pub returns : goal.returns
+returns g c =
     let filter = c.args.filter.now in
-    let kind = c.args.kind in
-    let asked : is_kind_asked filter.kind (kind_number kind) ≡ true = search rules in
-    subst (λ cells. WritesCells (g.O.Write.contents c.args.out.now) (g.O.Write.contents c.write_found.new.out) c.args.format cells c.args.before c.write_found.result)
-    (sym (kind_asked kind filter all asked))
-    (c.write_found.ensures.told clean v s desk keeps going _ (all, stock, refl))
+    let asked : is_kind_asked filter.kind (kind_number c.args.kind) ≡ true = search rules in
+    let found = c.write_found.ensures in
+    record {
+      cells = record {
+        told = λ clean v s desk keeps going all stock. subst
+            (λ cells. WritesCells (g.O.Write.contents c.args.out.now) (g.O.Write.contents c.write_found.new.out) c.args.format cells c.args.before c.write_found.result)
+            (sym (kind_asked c.args.kind filter all asked))
+            (found.told clean v s desk keeps going _ (all, stock, refl));
+        quiet = found.quiet;
+      };
+    }
 
 -- the kind is not asked for, and no cell of it is
-pub returns-then-not-lets_kind-clause-told : goal.returns-then-not-lets_kind-clause-told
-returns-then-not-lets_kind-clause-told g c clean v s desk keeps going all stock =
+pub returns-then-not-lets_kind : goal.returns-then-not-lets_kind
+returns-then-not-lets_kind g c =
     let filter = c.args.filter.now in
-    let kind = c.args.kind in
     let held = g.O.Write.contents c.args.out.now in
-    let passed : is_kind_asked filter.kind (kind_number kind) ≡ false = search rules in
-    subst (λ cells. WritesCells held held c.args.format cells c.args.before (Ok c.args.before))
-    (sym (kind_passed kind filter all passed))
-    (record { whole = appends_none _; front = front_none _ _; going = going; counted = (let e : c.args.before.given ≡ 0 + c.args.before.given = omega arith in e) })
+    let passed : is_kind_asked filter.kind (kind_number c.args.kind) ≡ false = search rules in
+    record {
+      cells = record {
+        told = λ clean v s desk keeps going all stock. subst (λ cells. WritesCells held held c.args.format cells c.args.before (Ok c.args.before))
+            (sym (kind_passed c.args.kind filter all passed))
+            (record { whole = appends_none _; front = front_none _ _; going = going; counted = (let e : c.args.before.given ≡ 0 + c.args.before.given = omega arith in e) });
+        quiet = quiet_alone _ _;
+      };
+    }

@@ -2,18 +2,16 @@
 use Rattle.std.proofs.Common.{refl, rules}
 use Rattle.sqlite.specs.Held.{state}
 use Rattle.sqlite.specs.State.{HasCleanDisk}
-use Rattle.reports.proofs.FrontLemmas.{front_none}
 use Rattle.sql_model.proofs.Quieting.{quiet_clean}
-use Rattle.report_jobs.proofs.ReportLemmas.{wrote_front}
 use Rattle.report_jobs.proofs.plain_reports.write_unfinished.Goals as goal
 
 pub returns-clause-told : goal.returns-clause-told
 returns-clause-told g c clean v s desk keeps =
-    let stayed = c.write_briefs.ensures.kept in
+    let stayed = c.unfinished_text.ensures.kept.under in
     -- the connection is the one that the rows give back when they are let go
-    let read : HasCleanDisk (state g.S.Store c.write_briefs.new.rows.conn.now) = search rules in
-    c.write_briefs.ensures.told read _ (c.in-Ok.ensures.rows v (quiet_clean _ _ _ stayed.quiet read) s desk keeps _ refl)
-
--- nothing was written
-pub returns-in-Err-clause-told : goal.returns-in-Err-clause-told
-returns-in-Err-clause-told g c clean v s desk keeps = wrote_front _ _ _ _ (front_none _ _)
+    let sound : HasCleanDisk (state g.S.Store c.unfinished_text.new.rows.rows.now.conn.now) = search rules in
+    let rests = c.in-Ok.ensures.rows v (quiet_clean _ _ _ stayed.quiet sound) s desk keeps _ refl in
+    record {
+      whole = c.unfinished_text.ensures.written sound _ (c.new.ensures.going, rests);
+      front = c.unfinished_text.ensures.front sound _ (c.new.ensures.going, rests);
+    }

@@ -1,11 +1,29 @@
--- A fault of the read, where nothing was written.
-use Rattle.std.proofs.Common.{sym, subst}
+-- A journey that is there is reported, and one that is absent is refused.
+use Rattle.std.proofs.Common.{◌≡◌, ◌∙◌, sym, subst}
+use Rattle.std.specs.Prelude.{Some}
+use Rattle.sql_model.proofs.Quieting.{quiet_clean}
+use Rattle.ledger.specs.Ledger.{history}
+use Rattle.reports.specs.Formats.{history_in}
+use Rattle.saga_core.specs.Views.{record_of}
 use Rattle.report_jobs.specs.Reporting.{ReportsHistory}
-use Rattle.report_jobs.proofs.ReportLemmas.{failed_history}
+use Rattle.report_jobs.proofs.ReportLemmas.{reported_absent, reported_fault, reported_there, still_in}
 use Rattle.report_jobs.proofs.reporting.tell_history.Goals as goal
+
+pub returns-in-Ok-Some-clause-told : goal.returns-in-Ok-Some-clause-told
+returns-in-Ok-Some-clause-told g c clean s is =
+    let told = c.in-Ok-Some.ensures.journey (quiet_clean _ _ _ c.write_history.ensures.kept.quiet clean) s is.desk is.keeps in
+    let found : record_of s.ledger c.args.id ≡ Some c.in-Ok-Some.journey = sym told ∙ c.in-Ok-Some.field-0-is in
+    let here = still_in g.S.Store c.args.opened.now c.journey_of.new.self s c.journey_of.ensures.kept is in
+    reported_there _ _ (λ journey. history_in c.args.format c.args.id journey (history s.ledger c.args.id)) _ c.in-Ok-Some.journey _ found c.finish.ensures.ends
+    (c.finish.ensures.told _ _ (c.write_history.ensures.told clean s here))
+
+pub returns-in-Ok-None-clause-told : goal.returns-in-Ok-None-clause-told
+returns-in-Ok-None-clause-told g c clean s is =
+    let told = c.in-Ok-None.ensures.journey clean s is.desk is.keeps in
+    reported_absent _ (λ journey. history_in c.args.format c.args.id journey (history s.ledger c.args.id)) _ (sym told ∙ c.in-Ok-None.field-0-is)
 
 pub returns-in-Err-clause-told : goal.returns-in-Err-clause-told
 returns-in-Err-clause-told g c clean s is =
     let held = g.O.Write.contents c.args.out.now in
-    subst (λ e. ReportsHistory held held c.args.format c.args.id e s) (sym c.end_of_report-in-Err.ensures.end)
-    (failed_history held c.args.format c.args.id _ s)
+    subst (λ e. ReportsHistory held held c.args.format c.args.id e s) (sym c.end_of_report.ensures.end)
+    (reported_fault held (λ journey. history_in c.args.format c.args.id journey (history s.ledger c.args.id)) (record_of s.ledger c.args.id) _)

@@ -1,4 +1,4 @@
--- The whole stock where each cell is asked for, and else the cells that are asked for, kind after kind.
+-- The whole stock where each cell is asked for.
 use Rattle.std.proofs.Common.{◌≡◌, rules, sym, subst, true}
 use Rattle.reports.specs.Formats.{stock_in}
 use Rattle.allotment.specs.declared.cells.Cell.{Cell}
@@ -14,9 +14,3 @@ returns-then-names_nothing-clause-told g c clean v s desk keeps rows stock =
     subst (λ cells. WritesText (g.O.Write.contents c.args.out.now) (g.O.Write.contents c.write_whole_stock.new.out) (stock_in c.args.format cells) c.write_whole_stock.result)
     (sym (asked_all f rows each))
     (c.write_whole_stock.ensures.told clean v s desk keeps rows stock)
-
-pub returns-clause-told : goal.returns-clause-told
-returns-clause-told g c clean v s desk keeps rows stock = record {
-  whole = c.write_kinds.ensures.whole clean v s desk keeps rows stock;
-  front = c.write_kinds.ensures.front clean v s desk keeps rows stock;
-}

@@ -12,14 +12,14 @@ use Rattle.report_jobs.proofs.whys.nights_of.Goals as goal
 
 pub returns-clause-nights : goal.returns-clause-nights
 returns-clause-nights g c clean v s desk keeps rows stock =
-    let stayed = c.nights_left.ensures.kept in
+    let stayed = c.read_nights.ensures.kept.under in
     -- the connection is the one that the rows give back when they are let go
-    let read : HasCleanDisk (state g.S.Store c.nights_left.new.rows.conn.now) = search rules in
+    let sound : HasCleanDisk (state g.S.Store c.read_nights.new.rows.rows.now.conn.now) = search rules in
     let w = c.args.want.now in
     let f = c.filter_of-filter.result in
     let asked = filter (λ (r : Cell × Places). is_cell_of w.kind f r.0) rows in
-    let rest = c.in-Ok.ensures.rows v (quiet_clean _ _ _ stayed.quiet read) s desk keeps asked
+    let rests = c.in-Ok.ensures.rows v (quiet_clean _ _ _ stayed.quiet sound) s desk keeps asked
     (rows, stock, ap (λ k. filter (λ (r : Cell × Places). is_cell_of k f r.0) rows) (sym c.kind.ensures.kind)) in
-    subst (λ ns. IfOk c.nights_left.result (λ nights. nights.items ≡ ns))
+    subst (λ ns. IfOk c.read_nights.result (λ nights. nights.items ≡ ns))
     (nights-asked s.ledger w f rows stock c.filter_of-filter.ensures.lets)
-    (c.nights_left.ensures.nights read asked rest)
+    (c.read_nights.ensures.nights sound asked (c.new.ensures.going, rests))

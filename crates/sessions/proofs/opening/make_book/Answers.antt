@@ -11,5 +11,5 @@ returns-in-Err-clause-left g c s keeps =
     let opened = c.in-Err.opened in (
       opened.version,
       c.into_store-in-Err.ensures.found s
-          (subst (λ o. OpenedKeeps g.S.Store o s) (sym c.in-Err.ensures.refused) keeps),
+          (subst (λ o. OpenedKeeps g.S.Store o s) (sym c.in-Err.ensures.unmade.refused) keeps),
     )

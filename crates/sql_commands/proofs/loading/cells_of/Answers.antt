@@ -34,8 +34,7 @@ loop-place-preserved g c =
     ∙ ap (λ (x : Cell). held_at x.night nights.places.items) c.cell-cell.ensures
     ∙ held_read s desk nights row.cell are among in
     let gets = subst (λ o. LeavesPlaces row (held s.ledger row.cell) o) c.in-Some.is
-    (subst (λ k. LeavesPlaces row k c.places_left-left.result) holds c.places_left-left.ensures.places) in
-    (
+    (subst (λ k. LeavesPlaces row k c.places_left-left.result) holds c.places_left-left.ensures.places) in (
       subst (HavePlaces (take (n + 1) rows) s) (sym pushed)
           (subst (λ first. HavePlaces first s (cells ++ (row.cell, p) ∷ [])) (sym (take-more rows n row within c.index-rows-place.is))
           (have_more (take n rows) s cells row p both.0.0 gets)),

@@ -9,5 +9,5 @@ invariant_of-self g c =
     let s = c.args.self.now in record {
       faithful = ∥∥₁_map s.faithful
           (reads g.R.Read.remaining g.W.Write.contents s.came.items s.reader c.receive.new.reader s.writer (history s.conversation) (history c.receive.new.self)
-          c.receive.result c.receive.ensures.ok c.receive.ensures.err);
+          c.receive.result c.receive.ensures.receives);
     }

@@ -9,5 +9,5 @@ invariant_of-self g c =
     let s = c.args.self.now in record {
       faithful = ∥∥₁_map s.faithful
           (writes g.R.Read.remaining g.W.Write.contents s.came.items s.reader s.writer c.send.new.writer (history s.conversation) (history c.send.new.self)
-          c.send.result c.send.ensures.ok c.send.ensures.err);
+          c.send.result c.send.ensures.sends);
     }

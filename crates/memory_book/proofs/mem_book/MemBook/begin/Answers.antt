@@ -5,7 +5,7 @@ use Rattle.plan.specs.PlanModel.{is_plan}
 use Rattle.commands.specs.declared.replies.Reply.TheVariants as reply
 use Rattle.ledger.specs.Answer.{kept_after, most_events}
 use Rattle.memory_book.specs.MemoryAnswers.{kept_in}
-use Rattle.memory_book.proofs.BeginLemmas.{owner, carried_out-begun, carried_out-full}
+use Rattle.memory_book.proofs.BeginLemmas.{owner, carried_out-begun}
 use Rattle.memory_book.proofs.GrowthLemmas.{keeps_book, room_left, stands-same}
 use Rattle.memory_book.proofs.mem_book.MemBook.begin.Goals as goal
 use Rattle.memory_book.proofs.mem_book.MemBook.begin.Goals.{in-Some, in-None}

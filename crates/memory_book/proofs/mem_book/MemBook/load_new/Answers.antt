@@ -1,6 +1,5 @@
-use Rattle.std.proofs.Common.{◌≡◌, true, refl, ap, sym, subst, ◌∙◌}
-use Rattle.std.specs.Prelude.{not, position}
-use Rattle.std.specs.List.{list_all}
+use Rattle.std.proofs.Common.{refl, ap, sym, ◌∙◌}
+use Rattle.std.specs.Prelude.{position}
 use Rattle.std.specs.Option.{option_copied}
 use Rattle.memory_book.specs.MemoryStock.{is_below_in}
 use Rattle.memory_book.proofs.LoadLemmas.{none_at, due, carried_out-below}

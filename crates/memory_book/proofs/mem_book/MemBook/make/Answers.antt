@@ -1,5 +1,5 @@
 use Rattle.std.proofs.Common.{◌≡◌, ◌+◌, suc, refl, ap, sym, subst, ◌∙◌}
-use Rattle.std.specs.Prelude.{Some, slice_get, IsTrue}
+use Rattle.std.specs.Prelude.{Some, IsTrue}
 use Rattle.std.specs.Option.{option_copied}
 use Rattle.std.specs.Vec.{with_item}
 use Rattle.std.proofs.lemmas.Option.{slice_get-get_or}
@@ -11,7 +11,7 @@ use Rattle.ledger_transitions.specs.JourneyChanges.{cursor_after}
 use Rattle.memory_book.specs.MemoryAnswers.{kept_in}
 use Rattle.memory_book.specs.MemoryJourneys.{IsNext}
 use Rattle.memory_book.specs.MemoryStock.{IsInPlan, fits_where_taken, ChangesFor}
-use Rattle.memory_book.specs.Memory.{begun_as, IsSameJourney}
+use Rattle.memory_book.specs.Memory.{IsSameJourney}
 use Rattle.memory_book.specs.declared.journeys.Journey.{Journey}
 use Rattle.memory_book.proofs.GrowthLemmas.{keeps_book}
 use Rattle.memory_book.proofs.MoveLemmas.{carried_out-made}

@@ -1,4 +1,4 @@
-use Rattle.std.proofs.Common.{◌≡◌, ◌∙◌}
+use Rattle.std.proofs.Common.{◌∙◌}
 use Rattle.memory_book.proofs.RowLemmas.{places_shown-stock}
 use Rattle.memory_book.proofs.mem_book.MemBookBook.cells.Goals as goal
 

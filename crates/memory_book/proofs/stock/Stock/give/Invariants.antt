@@ -1,9 +1,8 @@
 use Rattle.std.proofs.Common.{◌≡◌, true}
-use Rattle.std.specs.List.{list_all}
 use Rattle.allotment.specs.Cells.{cells_of}
 use Rattle.allotment.specs.declared.cells.Cell.{Cell}
 use Rattle.memory_book.specs.MemoryStock.{stock_at, with_back}
-use Rattle.memory_book.proofs.CellLemmas.{are_apart, changed, has_free_at}
+use Rattle.memory_book.proofs.CellLemmas.{are_apart, changed}
 use Rattle.memory_book.proofs.stock.Stock.give.Given as goal
 
 -- the cells that are left are distinct, and their changes complete those of the want

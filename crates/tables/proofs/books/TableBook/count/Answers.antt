@@ -1,5 +1,5 @@
 -- The number that is remembered is that of the ledger, and so is the one that is counted.
-use Rattle.std.proofs.Common.{◌≡◌, ◌∙◌, refl, rules}
+use Rattle.std.proofs.Common.{◌∙◌, refl, rules}
 use Rattle.desk_sql.specs.declared.versions.Version.TheVariants.{Two}
 use Rattle.sql_model.proofs.Quieting.{quiet_keeps}
 use Rattle.tables.proofs.ReadingLemmas.{looks_failed}

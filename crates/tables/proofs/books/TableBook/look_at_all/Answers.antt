@@ -1,5 +1,5 @@
 -- The list that was read is that of the unfinished journeys, and the journeys before its first have finished, or all have.
-use Rattle.std.proofs.Common.{◌≡◌, ◌≤◌, Some, None, refl, sym, ap, subst, ◌∙◌, rules}
+use Rattle.std.proofs.Common.{◌≡◌, ◌≤◌, Some, None, refl, sym, subst, ◌∙◌, rules}
 use Rattle.std.specs.Prelude.{slice_get}
 use Rattle.desk_sql.specs.declared.versions.Version.TheVariants.{Two}
 use Rattle.desk_sql.proofs.Quieting.{quiet_twice}
@@ -30,20 +30,20 @@ returns-in-Some-clause-looks g c =
     let said = c.in_ok-briefs.ensures in
     record {
       same = λ clean s here. (
-        let low : c.min-known.result ≤ c.args.self.now.finished = search rules in
-        let known = finished_lower s.ledger c.args.self.now.finished c.min-known.result low here.known in
-        let listed = said.shows clean s here.desk here.keeps in
-        let first : Some c.in-Some.first.now ≡ slice_get c.in_ok-briefs.briefs.items 0 = search rules in
-        record {
-          working = here.working;
-          known =
-              subst (AreFinishedTo s.ledger) (sym c.saturating_sub-self.ensures)
-              (finished-found s.ledger c.min-known.result c.in-Some.first.now known
-              (first ∙ first_listed s.ledger c.min-known.result c.in_ok-briefs.briefs.items listed));
-          counted = here.counted;
-          desk = here.desk;
-          keeps = quiet_keeps g.S.Store _ _ said.quiet Two s here.keeps;
-        });
+          let low : c.min-known.result ≤ c.args.self.now.finished = search rules in
+          let known = finished_lower s.ledger c.args.self.now.finished c.min-known.result low here.known in
+          let listed = said.shows clean s here.desk here.keeps in
+          let first : Some c.in-Some.first.now ≡ slice_get c.in_ok-briefs.briefs.items 0 = search rules in
+          record {
+            working = here.working;
+            known =
+                subst (AreFinishedTo s.ledger) (sym c.saturating_sub-self.ensures)
+                (finished-found s.ledger c.min-known.result c.in-Some.first.now known
+                (first ∙ first_listed s.ledger c.min-known.result c.in_ok-briefs.briefs.items listed));
+            counted = here.counted;
+            desk = here.desk;
+            keeps = quiet_keeps g.S.Store _ _ said.quiet Two s here.keeps;
+          });
       failed = refl;
       store = search rules;
       quiet = said.quiet;
@@ -56,21 +56,21 @@ returns-clause-looks g c =
     let counted = c.in_ok-now.ensures.read in
     record {
       same = λ clean s here. (
-        let low : c.min-known.result ≤ c.args.self.now.finished = search rules in
-        let known = finished_lower s.ledger c.args.self.now.finished c.min-known.result low here.known in
-        let listed = said.shows (quiet_clean g.S.Store _ _ counted.quiet clean) s here.desk here.keeps in
-        let kept = quiet_keeps g.S.Store _ _ said.quiet Two s here.keeps in
-        let first : None ≡ slice_get c.in_ok-briefs.briefs.items 0 = search rules in
-        record {
-          working = here.working;
-          known =
-              subst (AreFinishedTo s.ledger) (sym (counted.shows clean s here.desk kept).journeys_are)
-              (finished-all s.ledger c.min-known.result known
-              (first ∙ first_listed s.ledger c.min-known.result c.in_ok-briefs.briefs.items listed));
-          counted = here.counted;
-          desk = here.desk;
-          keeps = quiet_keeps g.S.Store _ _ counted.quiet Two s kept;
-        });
+          let low : c.min-known.result ≤ c.args.self.now.finished = search rules in
+          let known = finished_lower s.ledger c.args.self.now.finished c.min-known.result low here.known in
+          let listed = said.shows (quiet_clean g.S.Store _ _ counted.quiet clean) s here.desk here.keeps in
+          let kept = quiet_keeps g.S.Store _ _ said.quiet Two s here.keeps in
+          let first : None ≡ slice_get c.in_ok-briefs.briefs.items 0 = search rules in
+          record {
+            working = here.working;
+            known =
+                subst (AreFinishedTo s.ledger) (sym (counted.shows clean s here.desk kept).journeys_are)
+                (finished-all s.ledger c.min-known.result known
+                (first ∙ first_listed s.ledger c.min-known.result c.in_ok-briefs.briefs.items listed));
+            counted = here.counted;
+            desk = here.desk;
+            keeps = quiet_keeps g.S.Store _ _ counted.quiet Two s kept;
+          });
       failed = refl;
       store = search rules;
       quiet = quiet_twice g.S.Store _ _ _ said.quiet counted.quiet;

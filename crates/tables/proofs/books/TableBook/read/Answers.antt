@@ -17,7 +17,7 @@ returns-then-self-clause-reads g c = record {
     fails = search rules;
     stays_failed = λ failed. failed;
     stays_left = λ failed s t left. left;
-    may_act = λ clean first s asks since. had_failed g.S.Store c.args.self.now first s asks c.if-self.true since;
+    may_act = λ clean first s asks since. had_failed g.S.Store c.args.self.now first s s asks c.if-self.true since;
     sound = λ clean. clean;
   };
   sound = λ clean. clean;

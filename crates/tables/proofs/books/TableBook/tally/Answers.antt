@@ -1,5 +1,5 @@
 -- The unfinished journeys were counted, and the other numbers were read, or could not be.
-use Rattle.std.proofs.Common.{◌≡◌, ap, rules}
+use Rattle.std.proofs.Common.{◌≡◌, rules}
 use Rattle.std.specs.Prelude.{Err}
 use Rattle.sqlite.specs.Held.{state}
 use Rattle.commands.specs.declared.replies.Fault.TheVariants.{Store}
@@ -26,14 +26,14 @@ returns-clause-looks g c =
     let counted = c.in_ok-meta.ensures.read in
     record {
       same = λ clean s here. (
-        let now = known.same (quiet_clean g.S.Store _ _ counted.quiet clean) s here in
-        record {
-          working = now.working;
-          known = now.known;
-          counted = now.counted;
-          desk = now.desk;
-          keeps = quiet_keeps g.S.Store _ _ counted.quiet Two s now.keeps;
-        });
+          let now = known.same (quiet_clean g.S.Store _ _ counted.quiet clean) s here in
+          record {
+            working = now.working;
+            known = now.known;
+            counted = now.counted;
+            desk = now.desk;
+            keeps = quiet_keeps g.S.Store _ _ counted.quiet Two s now.keeps;
+          });
       failed = known.failed;
       store = search rules;
       quiet = quiet_twice g.S.Store _ _ _ known.quiet counted.quiet;

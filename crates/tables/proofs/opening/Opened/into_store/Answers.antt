@@ -1,15 +1,8 @@
--- The state that was kept is found, whatever the limit of steps was.
+-- The connection of what was opened is let go without its limit of steps.
 use Rattle.std.proofs.Common.{sym, subst}
-use Rattle.sqlite.specs.Held.{state}
-use Rattle.ledger.specs.Answer.{State}
-use Rattle.tables.specs.Keeping.{StoodFor}
-use Rattle.tables.specs.Lending.{OpenedKeeps}
-use Rattle.tables.proofs.ClosingLemmas.{kept_found}
+use Rattle.tables.specs.Making.{GivesBack}
+use Rattle.tables.proofs.ClosingLemmas.{gives_back}
 use Rattle.tables.proofs.opening.Opened.into_store.Goals as goal
 
-pub returns-clause-found : goal.returns-clause-found
-returns-clause-found g c =
-    let self = c.args.self in
-    subst (λ h. (s : State) → OpenedKeeps g.S.Store self s → StoodFor self.version (state g.S.Store h) s)
-    (sym c.without_limit.ensures.same)
-    (λ s keeps clean. kept_found g.S.Store self.conn self.version s (keeps clean))
+pub returns : goal.returns
+returns g c = subst (GivesBack g.S.Store c.args.self) (sym c.without_limit.ensures.same) (gives_back g.S.Store c.args.self)

@@ -1,0 +1,64 @@
+-- What a statement that writes does whenever it is run, and what its contract says of one run. For each statement that writes.
+use Rattle.std.proofs.Common.{◌≡◌, ℕ, List, length, Bool, true, Ok, Err, Result, OnOk, IsTrue}
+use Rattle.sqlite.specs.declared.error.Error.{Error}
+use Rattle.sqlite.specs.Command.{Command}
+use Rattle.sqlite.specs.Order.{Row}
+use Rattle.sqlite.specs.Tree.{Trees}
+use Rattle.sqlite.specs.Store.{Ghosts}
+use Rattle.sqlite.specs.Held.{Held, state}
+use Rattle.sqlite.specs.Listing.{understood}
+use Rattle.sqlite.specs.State.{State, HasCleanDisk, ExecutesInside}
+use Rattle.desk_sql.specs.Schema.{desk_schema}
+use Rattle.desk_sql.specs.Rows.{Tables}
+use Rattle.desk_sql.specs.Calls.{MayRun, Makes, WritesWhere}
+use Rattle.desk_sql.specs.Causes.{IsUp, HasReason, FailsToWrite}
+use Rattle.desk_sql.specs.Writable.{HasRowids}
+use Rattle.desk_sql.proofs.Causing.{takes}
+use Rattle.desk_sql.proofs.Meaning.{Means}
+use Rattle.desk_sql.proofs.Refusing.{if_failed}
+
+-- the text means this command, and takes values as many and of such types
+pub record Says (text : List ℕ) (command : Command) (params : Row) (typed : Bool) : Type 0 where
+  pub means : Means text command
+  pub whole : takes (length text) (length params) (understood desk_schema text) ≡ true
+  pub types : typed ≡ true
+
+-- The statement with these values, run in a transaction. Where the rows are such as are seen, a success changes them; where there is
+-- room and the rows fit, it fails for a reason; and where such rows are left, a success takes so many rowids.
+pub record Effect (text : List ℕ) (params : Row) (Seen : Tables → Type 0) (after : Tables → Tables) (Room : Trees → Type 0)
+    (Fits Left : Tables → Type 0) (taken : ℕ → ℕ) : Type 1 where
+  pub made : (old new : State) (t : Tables) (count : ℕ) → MayRun old t → Seen t → ExecutesInside 0 text params old new (Ok count)
+      → Makes old new (after t)
+  pub reason : (old new : State) (t : Tables) (e : Error) → Room old.now.trees → MayRun old t → Fits t → IsUp old
+      → ExecutesInside 0 text params old new (Err e) → HasReason old new e
+  pub rowids : (old new : State) (t : Tables) (count : ℕ) → MayRun old t → Left t → ExecutesInside 0 text params old new (Ok count)
+      → (n : ℕ) → HasRowids (taken n) old.now.trees → HasRowids n new.now.trees
+
+-- the same of one run, as contracts say it
+pub record Done {S : Type 0} (g : Ghosts S) (old new : Held S) (result : Result ℕ Error) (Seen : Tables → Type 0)
+    (after : Tables → Tables) (Room : Trees → Type 0) (Fits Left : Tables → Type 0) (taken : ℕ → ℕ) : Type 0 where
+  pub made : WritesWhere g old new Seen result after
+  pub reason : Room (state g old).now.trees → FailsToWrite g old new result Fits
+  pub rowids : HasCleanDisk (state g new) → (t : Tables) → MayRun (state g old) t → Left t → (n : ℕ)
+      → HasRowids (taken n) (state g old).now.trees → OnOk result (HasRowids n (state g new).now.trees)
+
+if_done : (P : Type 0) (Ran : Result ℕ Error → Type 0) (r : Result ℕ Error) → Ran r → ((count : ℕ) → Ran (Ok count) → P) → OnOk r P
+if_done P Ran (Ok count) ran so = so count ran
+if_done P Ran (Err e) ran so = tt
+
+pub done : {S : Type 0} (g : Ghosts S) (old new : Held S) (result : Result ℕ Error) {text : List ℕ} {params : Row}
+    {Seen : Tables → Type 0} {after : Tables → Tables} {Room : Trees → Type 0} {Fits Left : Tables → Type 0} {taken : ℕ → ℕ}
+    → Effect text params Seen after Room Fits Left taken
+    → (HasCleanDisk (state g new) → IsTrue (state g old).in_transaction → ExecutesInside 0 text params (state g old) (state g new) result)
+    → Done g old new result Seen after Room Fits Left taken
+done g old new result {text = text} {params = params} {after = after} it runs =
+    let a = state g old in
+    let b = state g new in
+    record {
+      made = λ clean t may seen. if_done (Makes a b (after t)) (ExecutesInside 0 text params a b) result (runs clean may.inside)
+          (λ count ran. it.made a b t count may seen ran);
+      reason = λ room clean t may fits up. if_failed (HasReason a b) (ExecutesInside 0 text params a b) result (runs clean may.inside)
+          (λ e ran. it.reason a b t e room may fits up ran);
+      rowids = λ clean t may left n has. if_done (HasRowids n b.now.trees) (ExecutesInside 0 text params a b) result (runs clean may.inside)
+          (λ count ran. it.rowids a b t count may left ran n has);
+    }

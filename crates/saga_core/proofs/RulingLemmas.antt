@@ -1,0 +1,104 @@
+-- The answers of the rules to turns and save-points are the rulings on them. For who executes them.
+use Rattle.std.proofs.Common.{◌≡◌, ℕ, Bool, true, false, List, Some, refl, ap, ◌∙◌}
+use Rattle.std.specs.Prelude.{◌&&◌, not, nat_lt, if◌then◌else◌, Ok, Err}
+use Rattle.plan.specs.PlanModel.{Planned}
+use Rattle.savepoints.specs.Marks.{is_taken_in}
+use Rattle.savepoints.specs.Turns.{may_be_made}
+use Rattle.savepoints.specs.declared.turns.Turn.TheVariants as turn
+use Rattle.commands.specs.declared.items.Cause.TheVariants as causes
+use Rattle.commands.specs.declared.items.Cursor.{Cursor}
+use Rattle.commands.specs.declared.items.Item.{Item}
+use Rattle.commands.specs.declared.items.Item.TheVariants as item
+use Rattle.commands.specs.declared.items.Phase.{Phase}
+use Rattle.commands.specs.declared.items.Phase.TheVariants.{Run, Back, Ended, Undone}
+use Rattle.commands.specs.declared.replies.Refusal.{Refusal}
+use Rattle.commands.specs.declared.replies.Refusal.TheVariants.{NoSavePoint, NoSave}
+use Rattle.ledger.specs.Replies.{Answer, refused, answer_move, abort_choices, stop_choices, save_choices}
+use Rattle.ledger.specs.Ledger.{Event, Journey, journey_at, history, IsLegal}
+use Rattle.ledger.specs.History.{last_save, position_of, phase, is_finished}
+use Rattle.ledger_transitions.specs.Answers.{moves}
+use Rattle.ledger_transitions.specs.JourneyChanges.{target_of}
+use Rattle.ledger_transitions.specs.Cursors.{cursor_of, marks_of}
+use Rattle.ledger_transitions.proofs.Answering.{abort-answer, stop-answer, save-answer, save-back, runs, goes_back}
+use Rattle.ledger_transitions.proofs.Histories.{follows}
+use Rattle.ledger_transitions.proofs.Moves.{move-finished}
+use Rattle.ledger_transitions.proofs.Taken.{last_save_by-marks, is_save_point_by-marks}
+use Rattle.saga_core.specs.Rulings.{turn_said, save_said, Fits}
+
+-- one of two answers, by a test, is one of two moves, by the same test
+by_test : (b : Bool) (j : ℕ) (plan : Planned) (c : Cursor) (x : Item) (why : Refusal) (a : Answer)
+    → a ≡ (if b then moves j plan c x else refused why)
+    → Fits j plan c a (if b then Ok x else Err why)
+by_test true j plan c x why a e = e
+by_test false j plan c x why a e = e
+
+-- of a journey in a legal ledger
+module _ (l : List Event) (legal : IsLegal l) (j : ℕ) (a : Journey) (at : journey_at l j ≡ Some a) where
+  -- its items
+  abbrev h : List Item
+  h = history l j
+
+  -- the cursor of the journey
+  abbrev c : Cursor
+  c = cursor_of a.plan (history l j)
+
+  -- The answers, by the phase.
+
+  abort-by_phase : (p : Phase) → phase a.plan h ≡ p → (q : ℕ)
+      → Fits j a.plan c (answer_move l j (abort_choices q) NoSavePoint (Some a))
+      (turn_said a.plan (record c { phase = p }) (marks_of h) (turn.Asked q) causes.Asked)
+  abort-by_phase Run e q =
+      by_test _ j a.plan c (item.Turn q causes.Asked) NoSavePoint _
+      (abort-answer l j a q legal at (runs e)
+      ∙ ap (λ p. if may_be_made a.plan (is_taken_in (marks_of h)) (position_of h) (target_of p)
+      (turn.Asked q) then moves j a.plan c (item.Turn q causes.Asked) else refused NoSavePoint) e)
+  abort-by_phase (Back r) e q =
+      by_test _ j a.plan c (item.Turn q causes.Asked) NoSavePoint _
+      (abort-answer l j a q legal at (goes_back r e)
+      ∙ ap (λ p. if may_be_made a.plan (is_taken_in (marks_of h)) (position_of h) (target_of p)
+      (turn.Asked q) then moves j a.plan c (item.Turn q causes.Asked) else refused NoSavePoint) e)
+  abort-by_phase Ended e q = move-finished l j (abort_choices q) NoSavePoint a (ap is_finished e)
+  abort-by_phase Undone e q = move-finished l j (abort_choices q) NoSavePoint a (ap is_finished e)
+
+  stop-by_phase : (p : Phase) → phase a.plan h ≡ p
+      → Fits j a.plan c (answer_move l j stop_choices NoSavePoint (Some a))
+      (turn_said a.plan (record c { phase = p }) (marks_of h) turn.Stop causes.Stop)
+  stop-by_phase Run e =
+      stop-answer l j a legal at (runs e)
+      ∙ ap (λ p. if may_be_made a.plan (is_taken_in (marks_of h)) (position_of h) (target_of p)
+      turn.Stop then moves j a.plan c (item.Turn (last_save a.plan h) causes.Stop)
+      else refused NoSavePoint) e
+      ∙ ap (λ p. moves j a.plan c (item.Turn p causes.Stop)) (last_save_by-marks a.plan h (follows l legal j a at))
+  stop-by_phase (Back r) e =
+      stop-answer l j a legal at (goes_back r e)
+      ∙ ap (λ p. if may_be_made a.plan (is_taken_in (marks_of h)) (position_of h) (target_of p)
+      turn.Stop then moves j a.plan c (item.Turn (last_save a.plan h) causes.Stop)
+      else refused NoSavePoint) e
+  stop-by_phase Ended e = move-finished l j stop_choices NoSavePoint a (ap is_finished e)
+  stop-by_phase Undone e = move-finished l j stop_choices NoSavePoint a (ap is_finished e)
+
+  save-by_phase : (p : Phase) → phase a.plan h ≡ p
+      → Fits j a.plan c (answer_move l j save_choices NoSave (Some a))
+      (save_said a.plan (record c { phase = p }) (marks_of h))
+  save-by_phase Run e =
+      by_test _ j a.plan c (item.Save (position_of h)) NoSave _
+      (save-answer l j a legal at e
+      ∙ ap (λ b. if nat_lt 0 (position_of h) && not b
+      then moves j a.plan c (item.Save (position_of h)) else refused NoSave)
+      (is_save_point_by-marks a.plan h (position_of h) (follows l legal j a at)))
+  save-by_phase (Back r) e = save-back l j a r legal at e
+  save-by_phase Ended e = move-finished l j save_choices NoSave a (ap is_finished e)
+  save-by_phase Undone e = move-finished l j save_choices NoSave a (ap is_finished e)
+
+  -- the answer to an abort is its ruling
+  pub abort_ruled : (q : ℕ) → Fits j a.plan c (answer_move l j (abort_choices q) NoSavePoint (Some a))
+      (turn_said a.plan c (marks_of h) (turn.Asked q) causes.Asked)
+  abort_ruled q = abort-by_phase (phase a.plan h) refl q
+
+  -- so is that to a stop
+  pub stop_ruled : Fits j a.plan c (answer_move l j stop_choices NoSavePoint (Some a)) (turn_said a.plan c (marks_of h) turn.Stop causes.Stop)
+  stop_ruled = stop-by_phase (phase a.plan h) refl
+
+  -- and that to a save-point
+  pub save_ruled : Fits j a.plan c (answer_move l j save_choices NoSave (Some a)) (save_said a.plan c (marks_of h))
+  save_ruled = save-by_phase (phase a.plan h) refl

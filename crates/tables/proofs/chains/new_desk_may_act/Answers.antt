@@ -1,6 +1,0 @@
--- A new desk has no row that takes a rowid.
-use Rattle.tables.proofs.NewDesks.{new_desk_may_act}
-use Rattle.tables.proofs.chains.new_desk_may_act.Goals as goal
-
-pub returns : goal.returns
-returns g c = record { law = new_desk_may_act g.S.Store c.args.book.now }
