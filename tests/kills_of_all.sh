@@ -43,6 +43,10 @@ after() {
   holds other.db
 }
 
+# is_made: whether the killed program came to make its file a database. sqlite3 removes the log beside a file that is not yet
+# one; the desk knows such a file as its own by that log alone, so it is left for recovery.
+is_made() { [ -e trips.db ] && head -c 1 trips.db | grep -q S; }
+
 # looks WHAT: the killed program answered as the other one, and its file holds what so many lines come to, or one more
 looks() {
   local answered held
@@ -50,7 +54,7 @@ looks() {
   all=$((all + answered))
   same "$1: the answers" "$(head -n "$answered" answers | cksum)" "$(head -n "$answered" out | cksum)"
   same "$1: standard error" "" "$(cat err)"
-  [ -e trips.db ] || return
+  is_made || return
   held=$(holds trips.db)
   if [ "$held" != "$(after "$answered")" ] && [ "$(rows 'SELECT count(*) FROM sqlite_schema')" != 0 ]; then
     same "$1: what $answered lines and one more come to" "$(after $((answered + 1)))" "$held"
