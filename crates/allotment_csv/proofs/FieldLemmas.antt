@@ -1,8 +1,8 @@
 -- The five fields of a record, by their places. For `fields`.
 use Rattle.std.proofs.Common.{◌≡◌, ◌≢◌, ◌∙◌, ap, sym, subst, refl, ℕ, zero, suc, ◌-◌, ◌<◌, take, drop, List, [], ◌∷◌, Bool, true, false, length, arith, Some, None}
-use Rattle.std.specs.Prelude.{◌==◌, ◌&&◌, bytes_eq, codes, option_map, unwrap_or}
+use Rattle.std.specs.Prelude.{◌==◌, ◌&&◌, bytes_eq, codes}
 use Rattle.std.specs.List.{list_all}
-use Rattle.std.proofs.lemmas.Bool.{and_parts, ne_eqb}
+use Rattle.std.proofs.lemmas.Bool.{and_parts}
 use Rattle.std.specs.Str.{IsAscii, IsUtf8, is_utf8}
 use Rattle.std.proofs.lemmas.Str.{IsAscii-drop, IsAscii-take, IsUtf8-from_ascii, IsUtf8-from_is_utf8, is_utf8-from_IsUtf8}
 use Rattle.csv.specs.Records.{Row, cut_from, field_at, fields_of, text_of}
@@ -58,10 +58,6 @@ no_shape_at fields k low five none =
     keep_if_no has_shape fields
     (ap (λ n. (n == 5) && list_all is_utf8 fields) five ∙ none_text fields k none (omega arith))
 
--- a record with another number of fields has not the shape of a row
-pub no_shape : (fields : List (List ℕ)) → length fields ≢ 5 → keep_if has_shape fields ≡ None
-no_shape fields other = keep_if_no has_shape fields (ap (λ b. b && list_all is_utf8 fields) (ne_eqb (length fields) 5 other))
-
 -- if five tests hold, their conjunction holds
 all_texts : (v w x y z : Bool) → v ≡ true → w ≡ true → x ≡ true → y ≡ true → z ≡ true
     → (v && (w && (x && (y && (z && true))))) ≡ true
@@ -109,11 +105,6 @@ not_heading fields other = go (is_heading fields) refl
     go : (b : Bool) → is_heading fields ≡ b → b ≡ false
     go true is = absurd (other (as_many fields heading is))
     go false is = refl
-
--- the field at this place is this word of the heading
-pub at_word : (fields : List (List ℕ)) (place : ℕ) (word field : List ℕ) → Some field ≡ field_at fields place
-    → bytes_eq field word ≡ is_at fields place word
-at_word fields place word field there = ap (λ o. unwrap_or (option_map (λ f. bytes_eq f word) o) false) there
 
 -- the heading, word by word
 pub heading_words : (fields : List (List ℕ)) → length fields ≡ 5

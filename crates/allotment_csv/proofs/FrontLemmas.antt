@@ -239,11 +239,6 @@ pub record IsReadTo (all left : List (List (List ℕ))) (rows : List Row) : Type
   pub good : AreRows front rows
   pub parts : all ≡ front ++ left
 
--- nothing was read yet
-pub read_to_start : (all left : List (List (List ℕ))) (rows : List Row) → all ≡ left → rows ≡ [] → IsReadTo all left rows
-read_to_start all left rows same none =
-    record { front = []; good = subst (AreRows []) (sym none) tt; parts = same }
-
 -- one more row
 pub read_to_more : (all left later : List (List (List ℕ))) (rows : List Row) (fields : List (List ℕ)) (r : Row)
     → IsReadTo all left rows → left ≡ fields ∷ later → record_causes fields ≡ [] → row_of_record fields ≡ Some r

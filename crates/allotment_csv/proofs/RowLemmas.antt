@@ -121,15 +121,6 @@ no_places kind supplier product night places k s p n is first second there none 
       ∙ ap (λ b. causes_by true true true b) (found_none (places_in places) none),
 )
 
--- all is there
-pub no_causes : (kind supplier product night places : List ℕ) (k : Kind) (s p : List ℕ) (n m : ℕ)
-    → kind_of_word kind ≡ Some k → keep_if is_code supplier ≡ Some s → keep_if is_code product ≡ Some p
-    → night_in night ≡ Some n → places_in places ≡ Some m
-    → field_causes (kind ∷ supplier ∷ product ∷ night ∷ places ∷ []) ≡ []
-no_causes kind supplier product night places k s p n m is first second there some =
-    up_to_places kind supplier product night places k s p n is first second there
-    ∙ ap (λ b. causes_by true true true b) (found_some (places_in places) m some)
-
 -- the night that a text names is a night
 named_is_night : (text : List ℕ) (named n : ℕ) → (if is_text_of text named then Some named else None) ≡ Some n
     → is_night n ≡ true

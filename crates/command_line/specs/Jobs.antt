@@ -1,9 +1,8 @@
 -- The jobs of the words of the command line. The first word names the subcommand, and the other words are read by
 -- clap's rules for that subcommand.
-use Rattle.std.specs.Prelude.{◌≡◌, ◌||◌, ◌⊎◌, ⊤, ℕ, Bool, true, false, is_none, bytes_eq, if◌then◌else◌, List, [], ◌∷◌, codes, Option, None, Some, option_map, Result, Ok, Err}
-use Rattle.std.specs.Option.{option_and_then, option_map_or}
+use Rattle.std.specs.Prelude.{◌≡◌, ◌||◌, ◌⊎◌, ⊤, Bool, true, false, is_none, bytes_eq, if◌then◌else◌, List, [], ◌∷◌, codes, Option, None, Some, option_map, Result, Ok, Err}
+use Rattle.std.specs.Option.{option_map_or}
 use Rattle.std.specs.String.{string_bytes}
-use Rattle.allotment.specs.Texts.{number_from}
 use Rattle.clap.specs.Words.{App, Text, first_of, matches_of}
 use Rattle.command_line.specs.Filters.{HasCells, HasJourneys, cell_asked, has_bad_cells, has_bad_journeys, journey_asked, phases_in, unfinished_in}
 use Rattle.command_line.specs.Subcommands.{app_for, is_refused_by, name_of, subcommand_in}

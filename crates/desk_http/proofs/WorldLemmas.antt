@@ -19,7 +19,7 @@ use Rattle.ledger.specs.Answer.{State, start, is_request}
 use Rattle.ledger.specs.World.{Moment, after}
 use Rattle.http_messages.specs.Heads.{Parts, agent_of, is_method, is_unnamed, parts_of}
 use Rattle.http_messages.specs.Messages as sent
-use Rattle.http_messages.specs.Messages.{Message, NoHead, BeginsWithAll}
+use Rattle.http_messages.specs.Messages.{Message, NoHead}
 use Rattle.http_pages.specs.declared.routes.Denied.{Denied}
 use Rattle.http_pages.specs.declared.answers.HtmlPage.{HtmlPage}
 use Rattle.http_pages.specs.declared.routes.Verb.TheVariants.{Get}

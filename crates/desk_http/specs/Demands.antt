@@ -31,11 +31,6 @@ use Rattle.desk_http.specs.declared.doors.Door.TheVariants as doors
 
 -- What a body says.
 
--- the value, or the refusal of a malformed body
-abbrev pub or_bad_body : {X : Type 0} → Option X → Result X Refusal
-or_bad_body (Some x) = Ok x
-or_bad_body None = Err refusal.BadBody
-
 -- a batch is loaded, and a bad file is refused
 abbrev pub load_of : Result Batched CsvFault → Result Request Refusal
 load_of (Ok batch) = Ok (asks.Load batch.name batch.rows)

@@ -116,21 +116,12 @@ goes_on u0 u2 None r1 piece front read = tt
 goes_on u0 u2 (Some xs) None piece front read = absurd read
 goes_on u0 u2 (Some xs) (Some ys) piece front read = ap₂ (λ a b. a ++ b) front read
 
--- where nothing changes, nothing is read
-consumes_none : (known : Option (List ℕ)) → Consumes known known []
-consumes_none None = tt
-consumes_none (Some xs) = refl
-
 -- this text is the start of a line that was taken, and the line keeps it
 pub record IsBegun (start now : Option (List ℕ)) (line : Line) : Type 0 where
   pub text : List ℕ
   pub plain : HasNoLineFeed text
   pub kept : Keeps line text
   pub taken : Consumes start now text
-
--- of an empty line nothing was taken
-pub begun_none : (start : Option (List ℕ)) (line : Line) → Keeps line [] → IsBegun start start line
-begun_none start line kept = record { text = []; plain = refl; kept = kept; taken = consumes_none start }
 
 -- one more piece, without a line feed
 pub begun_more : (start : Option (List ℕ)) (u0 u1 u2 : Unanswered) (r0 r1 : Option (List ℕ))

@@ -1,6 +1,5 @@
 -- The upsert of a cell. For `put_cell`.
 use Rattle.std.proofs.Common.{◌≡◌, ◌<◌, ◌^◌, inl, inr, ℕ, ℤ, suc, eq-eqb, eqb-true, List, [], ◌∷◌, ◌++◌, map, Bool, true, false, if◌then◌else◌, Some, is_eq, refl, sym, ap, ap₂, subst, ◌∙◌, arith}
-use Rattle.std.specs.Prelude.{bytes_eq}
 use Rattle.std.specs.List.{list_any}
 use Rattle.std.specs.Ordering.{int_cmp}
 use Rattle.std.proofs.lemmas.Int.{ints}
@@ -44,9 +43,6 @@ use Rattle.desk_sql.proofs.Updating.{updated}
 use Rattle.desk_sql.proofs.Upserting.{target, IsPut}
 
 -- Keys of cells.
-
-bytes_same : (a : List ℕ) → bytes_eq a a ≡ true
-bytes_same a = (bytes_eq-Decides a a).1 refl
 
 -- two rows of one cell have the same key
 record SameKey (a b : StockRow) : Type 0 where

@@ -176,8 +176,3 @@ module _ {S : Type 0} (g : Ghosts S) (a b c : MutBor (Held S)) {V W : Type 0} (v
             record { was_open = λ live. first.was_open (second.was_open live); committed = λ live. second.committed live ∙ first.committed (second.was_open live) });
         survives = survives_twice (state g a.now) (state g b.now) (state g c.now) one.survives two.survives;
       }
-
-pub goes_failed : {S : Type 0} (g : Ghosts S) (a b : MutBor (Held S)) {V W : Type 0} (e : Error)
-    → GoesOn g a b {V = V} (Err e) → GoesOn g a b {V = W} (Err e)
-goes_failed g a b e it =
-    record { same_reference = it.same_reference; inside = λ _ _. tt; live = λ _ _. tt; commit = it.commit; survives = it.survives }

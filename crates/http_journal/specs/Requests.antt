@@ -1,5 +1,5 @@
 -- What the line of a request says of it.
-use Rattle.std.specs.Prelude.{ℕ, List, [], bytes_eq, codes, if◌then◌else◌, Option, Some, None, option_and_then, option_map}
+use Rattle.std.specs.Prelude.{ℕ, List, [], bytes_eq, codes, if◌then◌else◌, Option, None, option_and_then, option_map}
 use Rattle.http_messages.specs.declared.requests.Message.{Message}
 use Rattle.http_messages.specs.declared.requests.Message.TheVariants.{NoHead, Asks}
 use Rattle.http_messages.specs.declared.requests.Request.{Request}

@@ -4,7 +4,7 @@ use Rattle.std.specs.List.{concat}
 use Rattle.std.proofs.lemmas.List.{drop-take, length-take, length-take-le, take-take}
 use Rattle.std.proofs.lemmas.Grind.{common_steps}
 use Rattle.http_messages.specs.Messages as sent
-use Rattle.http_messages.specs.Messages.{AreEach, BeginsWithAll, HasNoMessage, IsMessage, is_told}
+use Rattle.http_messages.specs.Messages.{AreEach, BeginsWithAll, HasNoMessage, is_told}
 use Rattle.http_messages.specs.Heads.{IsHead, body_length, parts_of}
 use Rattle.http_messages.specs.Places.{IsToldAt}
 use Rattle.http_messages.specs.Requests.{IsRequest}

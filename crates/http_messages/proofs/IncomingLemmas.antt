@@ -21,11 +21,6 @@ use Rattle.http_messages.proofs.HeadLemmas.{first_of_told}
 
 -- Reading.
 
--- nothing was read
-pub reads_none : (u : Unused) (known : Option (List ℕ)) → ReadsOn u u known known
-reads_none u None = record { more = []; waits = sym (append-nil u.waiting); read = tt }
-reads_none u (Some xs) = record { more = []; waits = sym (append-nil u.waiting); read = refl }
-
 -- bytes that were read, and then more bytes
 consumes_more : (x y z : Option (List ℕ)) (us bs : List ℕ)
     → Consumes x y us

@@ -1,5 +1,5 @@
 -- The first message of a stream is the one that is said first. For the law.
-use Rattle.std.proofs.Common.{◌≡◌, ◌∙◌, ap, sym, subst, refl, ℕ, false, List, [], ◌∷◌, ◌++◌}
+use Rattle.std.proofs.Common.{◌≡◌, ◌∙◌, ap, subst, refl, ℕ, false, List, ◌∷◌, ◌++◌}
 use Rattle.http_wide.specs.Wide as wide
 use Rattle.http_wide.specs.Wide.{Wide, WideMessages, ends_with}
 use Rattle.http_wide.proofs.FirstLemmas.{one_first}

@@ -1,9 +1,8 @@
 -- The text of the message that was read first. For first_wide.
-use Rattle.std.proofs.Common.{◌≡◌, ◌∙◌, ap, sym, subst, refl, inl, inr, ℕ, ◌≤◌, List, [], ◌∷◌, ◌++◌, length, take, drop, arith, append-nil, append_assoc, take-append-drop, Ok}
+use Rattle.std.proofs.Common.{◌≡◌, ◌∙◌, ap, sym, subst, refl, inl, inr, ℕ, ◌≤◌, List, [], ◌++◌, length, take, drop, arith, append-nil, append_assoc, take-append-drop}
 use Rattle.std.proofs.lemmas.List.{append_cancel_right, take_all}
 use Rattle.httparse.specs.Grammar.{RequestHead, print_section}
 use Rattle.http1.specs.ChunkedBody.{print_chunks}
-use Rattle.http_messages.specs.Heads.{parts_of}
 use Rattle.http_messages.specs.Messages as sent
 use Rattle.http_messages.specs.Reading as plain
 use Rattle.http_messages.specs.Requests.{IsRequest, IsTaken}
@@ -19,11 +18,10 @@ use Rattle.http_wide.specs.declared.framing.BodyKind.{BodyKind}
 use Rattle.http_wide.specs.declared.framing.BodyKind.TheVariants.{Sized, Chunked}
 use Rattle.http_wide.proofs.LawLemmas.{begins_with}
 use Rattle.http_wide_messages.specs.Messages.{IsFirstOf, IsOpen, IsWideMessage, rest_of}
-use Rattle.http_wide_messages.specs.Plain.{plain_parts}
 use Rattle.http_wide_messages.specs.declared.messages.WideMessage.TheVariants as taken
 use Rattle.http_wide_messages.specs.declared.messages.WideRequest.{WideRequest}
 use Rattle.http_ways.specs.Reading.{IsFirstOfBy}
-use Rattle.http_ways.specs.Ways.{IsSaidWidely, IsWideText, Said, Says, unread}
+use Rattle.http_ways.specs.Ways.{IsSaidWidely, IsWideText, Says, unread}
 use Rattle.http_ways.specs.declared.ways.TheConstants.{MOST_TEXT}
 use Rattle.http_ways.specs.declared.ways.Arrived.{Arrived}
 use Rattle.http_ways.specs.declared.ways.Layout.{Layout}

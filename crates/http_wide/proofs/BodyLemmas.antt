@@ -6,7 +6,7 @@ use Rattle.httparse.specs.declared.spans.HeaderSpan.{HeaderSpan}
 use Rattle.http1.specs.Body.{ReadsBody, body_of}
 use Rattle.http1.specs.ChunkedDecoder.{run, run_result}
 use Rattle.http1.specs.Decoder as http1
-use Rattle.http1.specs.Decoder.{Completes, Continues, HasNoBody, Runs, Starves, decoder_for}
+use Rattle.http1.specs.Decoder.{Completes, Continues, Runs, Starves, decoder_for}
 use Rattle.http1.specs.declared.chunked.ChunkedDecoder.{ChunkedDecoder}
 use Rattle.http1.specs.declared.decode.Decoder.{Decoder}
 use Rattle.http1.specs.declared.decode.Decoder.TheVariants.{Length, Chunked, UntilClose}
@@ -15,7 +15,7 @@ use Rattle.http1.proofs.RunLemmas.{run_after}
 use Rattle.commands.specs.Limits.{most_bytes}
 use Rattle.http_messages.specs.Heads.{most_fields}
 use Rattle.http_wide.specs.declared.framing.BodyKind.{BodyKind}
-use Rattle.http_wide.specs.Bodies.{Awaits, Ends, ExceedsBy, Goes, IsBody, IsFit, Moves, NeverEnds, Reading, framing_of, limits}
+use Rattle.http_wide.specs.Bodies.{Awaits, Ends, ExceedsBy, Goes, IsBody, IsFit, Moves, Reading, framing_of, limits}
 
 -- a reader of this decoder, with this body so far
 abbrev pub reading : Decoder → List ℕ → Reading
@@ -106,23 +106,6 @@ moves_on old new body input piece len on = record {
   exceeds = exceeds_before old new body input piece len on.runs;
 }
 
--- a body with a piece more is still fit, unless it is too large
-pub stays_fit : (old new : Decoder) (body input piece : List ℕ) (len : ℕ) → IsFit old body → Continues old input new len piece
-    → length (body ++ piece) ≤ most_bytes → IsFit new (body ++ piece)
-stays_fit (Length left) new body input piece len fit on short =
-    subst (λ d. IsFit d (body ++ piece)) (sym on.runs) (omega (arith, fit, piece_fits left len input piece new on, length-append body piece))
-stays_fit (Chunked chunks longest) new body input piece len fit on short =
-    subst (λ d. IsFit d (body ++ piece)) (sym on.runs.1) short
-stays_fit UntilClose new body input piece len fit on short = absurd fit
-
--- the same where there is no piece
-pub stays_fit_empty : (old new : Decoder) (body input : List ℕ) (len : ℕ) → IsFit old body → Continues old input new len []
-    → IsFit new body
-stays_fit_empty (Length left) new body input len fit on =
-    subst (λ d. IsFit d body) (sym on.runs) (omega (arith, fit))
-stays_fit_empty (Chunked chunks longest) new body input len fit on = subst (λ d. IsFit d body) (sym on.runs.1) fit
-stays_fit_empty UntilClose new body input len fit on = absurd fit
-
 -- a fit body is within the limit
 pub is_short : (d : Decoder) (body : List ℕ) → IsFit d body → length body ≤ most_bytes
 is_short (Length left) body fit = omega (arith, fit)
@@ -177,12 +160,6 @@ ends old new body input spans len count fit room end = record {
     short = is_short old body fit;
   };
 }
-
--- no body begins so
-pub never_ends : (old : Decoder) (body input : List ℕ) (room : ℕ) → room ≡ most_fields → HasNoBody old input room
-    → NeverEnds (reading old body) input
-never_ends old body input room is none more whole rest waits =
-    omega (arith, is, none more (body_of waits.later waits.trailers) rest waits.completes, waits.few)
 
 -- A stream begins with one body.
 

@@ -1,7 +1,7 @@
 -- The ledger: all events of loads and journeys, in order. What it says of journeys and places, and
 -- which ledgers are legal.
-use Rattle.std.specs.Prelude.{ℕ, ◌+◌, ◌==◌, ◌&&◌, not, Bool, true, false, List, [], ◌∷◌, ◌++◌, length, nat_le, if◌then◌else◌, filter, filter_map, flat_map, sum_by, Option, Some, None, option_map, unwrap_or, bytes_eq, IsTrue}
-use Rattle.std.specs.List.{list_any, list_all}
+use Rattle.std.specs.Prelude.{ℕ, ◌+◌, ◌==◌, ◌&&◌, Bool, false, List, [], ◌∷◌, ◌++◌, length, nat_le, if◌then◌else◌, filter, filter_map, flat_map, sum_by, Option, Some, None, option_map, unwrap_or, bytes_eq, IsTrue}
+use Rattle.std.specs.List.{list_all}
 use Rattle.allotment.specs.Want.{Wanted}
 use Rattle.allotment.specs.Cells.{is_cell, cells_of, wants_cell, numbers_from}
 use Rattle.allotment.specs.declared.cells.Cell.{Cell}

@@ -128,13 +128,6 @@ open-unfinished : (p : Phase) → Open p → is_finished p ≡ false
 open-unfinished p (runs e) = ap is_finished e
 open-unfinished p (goes_back q e) = ap is_finished e
 
--- a phase that is not finished is open
-pub open-from : (p : Phase) → is_finished p ≡ false → Open p
-open-from Run e = runs refl
-open-from (Back q) e = goes_back q refl
-open-from Ended e = cc
-open-from Undone e = cc
-
 -- in this phase a caller may turn the journey, by the rule for turns
 abort-rule : (plan : Planned) (h : List Item) (p : ℕ) (q : Phase) → Open q
     → may_turn plan h q p ≡ may_be_made plan (is_taken h) (position_of h) (target_of q)

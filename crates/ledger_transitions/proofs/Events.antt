@@ -12,7 +12,7 @@ use Rattle.commands.specs.declared.items.Item.{Item}
 use Rattle.ledger.specs.Ledger.{Event, Loaded, Began, Did, Journey, journeys, journey_at, numbers, history, batches_named, rows_if_named, IsLegal}
 use Rattle.ledger.proofs.Growing as growing
 use Rattle.ledger.proofs.Ledgers.{all_go}
-use Rattle.ledger.proofs.Lists.{numbered-some, numbered-past}
+use Rattle.ledger.proofs.Lists.{numbered-past}
 use Rattle.ledger.proofs.Numbers.{numbers_from-append}
 
 -- The length.
@@ -57,13 +57,6 @@ journey_at-loaded l name rows j = ap (λ js. numbered js j) (journeys-loaded l n
 pub journey_at-did : (l : List Event) (k : ℕ) (item : Item) (j : ℕ)
     → journey_at (l ++ Did k item ∷ []) j ≡ journey_at l j
 journey_at-did l k item j = ap (λ js. numbered js j) (journeys-did l k item)
-
--- a begin leaves the journeys that were there
-pub journey_at-began_old : (l : List Event) (agent : List ℕ) (plan : Planned) (j : ℕ) (a : Journey)
-    → journey_at l j ≡ Some a → journey_at (l ++ Began agent plan ∷ []) j ≡ Some a
-journey_at-began_old l agent plan j a at =
-    ap (λ js. numbered js j) (journeys-began l agent plan)
-    ∙ numbered-some (journeys l) (begun agent plan) j a at
 
 -- the last of a list has the list's length as its number
 numbered-last : {X : Type 0} (xs : List X) (x : X)

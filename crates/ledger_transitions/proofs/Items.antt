@@ -14,8 +14,7 @@ use Rattle.commands.specs.declared.items.Item.{Item}
 use Rattle.commands.specs.declared.items.Item.TheVariants.{Transaction, Compensation, Turn, Save}
 use Rattle.commands.specs.declared.items.Phase.{Phase}
 use Rattle.commands.specs.declared.items.Phase.TheVariants.{Run, Back, Ended, Undone}
-use Rattle.ledger.specs.History.{net, position_of, refusals, phase, phase_at, back_or_run, going_to, has_turned_to_start, is_save_point, is_refused_turn, is_running, next_want, may_come, may_turn}
-use Rattle.ledger.specs.Ledger.{Event, Did, Journey, journey_at, history, fits, is_allowed, IsLegal}
+use Rattle.ledger.specs.History.{net, position_of, refusals, phase, phase_at, back_or_run, going_to, has_turned_to_start, is_save_point, is_refused_turn, is_running, may_come, may_turn}
 use Rattle.ledger.proofs.Coming.{step-comes, compensation-comes, stop-comes, refused-comes}
 use Rattle.ledger.proofs.Going.{going_to-turn, going_to-compensation, going_to-save, turned-other, turned-turn}
 use Rattle.ledger.proofs.Lists.{last_of-is}
@@ -26,8 +25,7 @@ use Rattle.ledger.proofs.Standing as standing
 use Rattle.ledger_transitions.specs.JourneyChanges.{phase_up, phase_down, phase_back, used_after, cursor_after}
 use Rattle.ledger_transitions.specs.Cursors.{cursor_of}
 use Rattle.ledger_transitions.proofs.Events as events
-use Rattle.ledger_transitions.proofs.Histories.{Follows, follows}
-use Rattle.ledger_transitions.proofs.Inductions.{may_come-allowed}
+use Rattle.ledger_transitions.proofs.Histories.{Follows}
 use Rattle.ledger_transitions.proofs.Numbered.{filter-above, front-numbered}
 
 -- Refusals.
@@ -233,16 +231,6 @@ cursor_of-more plan h may_fit (Compensation i c) f may =
     cursor_of-compensation plan h may_fit i c f may
 cursor_of-more plan h may_fit (Turn p cause) f may = cursor_of-turn plan h may_fit p cause f may
 cursor_of-more plan h may_fit (Save p) f may = cursor_of-save plan h p
-
--- in a legal ledger the cursor changes by the rule, after each item that is allowed
-pub cursor_of-did : (l : List Event) (j : ℕ) (a : Journey) (x : Item) → IsLegal l
-    → journey_at l j ≡ Some a → IsTrue (is_allowed l (Did j x))
-    → cursor_of a.plan (history (l ++ Did j x ∷ []) j)
-    ≡ cursor_after a.plan (cursor_of a.plan (history l j)) x
-cursor_of-did l j a x legal at may =
-    ap (cursor_of a.plan) (events.history-did_same l j x)
-    ∙ cursor_of-more a.plan (history l j) (fits l (next_want a.plan (history l j))) x
-    (follows l legal j a at) (may_come-allowed l j a x at may)
 
 -- What stands.
 

@@ -1,11 +1,11 @@
 -- The answer to a request about a journey, by the first of its choices that is allowed. For each such request.
-use Rattle.std.proofs.Common.{◌≡◌, ℕ, List, [], ◌∷◌, refl, ap, ◌∙◌}
+use Rattle.std.proofs.Common.{◌≡◌, ℕ, List, [], ◌∷◌, ap, ◌∙◌}
 use Rattle.std.specs.Prelude.{Bool, true, false, if◌then◌else◌, cond, find, Option, Some, None, option_map, option_and_then, unwrap_or}
 use Rattle.plan.specs.PlanModel.{Planned}
 use Rattle.commands.specs.declared.items.Cursor.{Cursor}
 use Rattle.commands.specs.declared.items.Item.{Item}
 use Rattle.commands.specs.declared.replies.Refusal.{Refusal}
-use Rattle.commands.specs.declared.replies.Refusal.TheVariants.{NoJourney, Finished}
+use Rattle.commands.specs.declared.replies.Refusal.TheVariants.{Finished}
 use Rattle.commands.specs.declared.replies.Reply.TheVariants as reply
 use Rattle.ledger.specs.History.{next_want, phase, is_finished}
 use Rattle.ledger.specs.Ledger.{Event, Did, Journey, journey_at, history, fits, may_do, IsLegal}
@@ -39,12 +39,6 @@ seen-none l who j absent =
     ap (λ o. option_and_then (λ (b : Journey). if sees who b then Some b else None) o) absent
 
 -- Moves.
-
--- to a request about no journey
-pub move-none : (l : List Event) (j : ℕ) (choices : Planned → List Item → List Item)
-    (otherwise : Refusal)
-    → answer_move l j choices otherwise None ≡ refused NoJourney
-move-none l j choices otherwise = refl
 
 -- to a request about a journey that has ended or is undone
 pub move-finished : (l : List Event) (j : ℕ) (choices : Planned → List Item → List Item)

@@ -169,10 +169,6 @@ pub places_in-cell : (w : Wanted) (x : Cell) → wants_cell w x ≡ true
     → places_in x (Some w) ≡ w.count
 places_in-cell w x e = ap (λ b. if b then w.count else 0) e
 
--- a want takes no places of other cells
-pub places_in-other : (w : Wanted) (x : Cell) → wants_cell w x ≡ false → places_in x (Some w) ≡ 0
-places_in-other w x e = ap (λ b. if b then w.count else 0) e
-
 -- a transaction that is allowed takes a want that fits
 pub transaction_fits : (l : List Event) (j i c : ℕ) (a : Journey) → journey_at l j ≡ Some a
     → IsTrue (is_allowed l (Did j (Transaction i c))) → fits l (want_at a.plan i c) ≡ true

@@ -3,9 +3,9 @@ use Rattle.std.proofs.Common.{◌≡◌, ℕ, ◌<◌, List, [], ◌∷◌, leng
 use Rattle.std.specs.Prelude.{Some}
 use Rattle.plan.specs.PlanModel.{Planned, step_count}
 use Rattle.commands.specs.declared.items.Item.{Item}
-use Rattle.commands.specs.declared.items.Phase.TheVariants.{Run, Back, Ended, Undone}
+use Rattle.commands.specs.declared.items.Phase.TheVariants.{Run, Back}
 use Rattle.ledger.specs.History.{net, position_of, phase, is_running, is_going_back, last_of}
-use Rattle.ledger.proofs.Modes.{Mode, rises, falls, fell, upward, runs, ended, phase-falling, phase-fallen, running-rises, going_back-falls}
+use Rattle.ledger.proofs.Modes.{falls, phase-falling, running-rises, going_back-falls}
 use Rattle.ledger.proofs.Standing.{compensates}
 use Rattle.ledger_transitions.proofs.Histories.{Follows}
 
@@ -25,34 +25,6 @@ back_above plan h p f back =
     let falls_to = way.falls in
     let short = way.short in
     (omega arith, omega arith)
-
--- a journey that has ended stands at its last step
-pub ended_at : (plan : Planned) (h : List Item) → Follows plan h → phase plan h ≡ Ended
-    → position_of h ≡ step_count plan
-ended_at plan h f e = by_mode f.goes.mode
-  where
-    by_mode : Mode plan h → position_of h ≡ step_count plan
-    by_mode (rises r) = elim (upward plan h r) [
-      | runs below run ↦ (let bad : Run ≡ Ended = sym run ∙ e in cc)
-      | ended at same ↦ at
-    ]
-    by_mode (falls way) =
-        let bad : Back way.target ≡ Ended = sym (phase-falling plan h way) ∙ e in cc
-    by_mode (fell way) = let bad : Undone ≡ Ended = sym (phase-fallen plan h way) ∙ e in cc
-
--- a journey that is undone stands at the start
-pub undone_at : (plan : Planned) (h : List Item) → Follows plan h → phase plan h ≡ Undone
-    → position_of h ≡ 0
-undone_at plan h f e = by_mode f.goes.mode
-  where
-    by_mode : Mode plan h → position_of h ≡ 0
-    by_mode (rises r) = elim (upward plan h r) [
-      | runs below run ↦ (let bad : Run ≡ Undone = sym run ∙ e in cc)
-      | ended at same ↦ (let bad : Ended ≡ Undone = sym same ∙ e in cc)
-    ]
-    by_mode (falls way) =
-        let bad : Back way.target ≡ Undone = sym (phase-falling plan h way) ∙ e in cc
-    by_mode (fell way) = way.low
 
 -- a list that is not empty has a last element
 last_of-some : {X : Type 0} (xs : List X) → 0 < length xs → (t : X) × (last_of xs ≡ Some t)

@@ -1,12 +1,11 @@
 -- How a begin changes a book in memory. For `MemBook::begin`.
-use Rattle.std.proofs.Common.{◌≡◌, ℕ, suc, ◌+◌, ◌<◌, ◌≤◌, ◌⊎◌, inl, inr, List, [], ◌∷◌, ◌++◌, length, map, refl, ap, sym, ◌∙◌, subst, arith}
+use Rattle.std.proofs.Common.{◌≡◌, ℕ, suc, ◌+◌, ◌<◌, ◌⊎◌, inl, inr, List, [], ◌∷◌, ◌++◌, length, map, refl, ap, sym, ◌∙◌, subst, arith}
 use Rattle.std.specs.Prelude.{slice_get, Option, Some, unwrap_or, IsTrue}
 use Rattle.std.proofs.lemmas.List.{length-map, map-append}
 use Rattle.plan.specs.PlanModel.{Planned, is_plan}
 use Rattle.commands.specs.Asks.{Asked}
 use Rattle.commands.specs.Names.{house}
 use Rattle.commands.specs.Request as request
-use Rattle.commands.specs.declared.replies.Refusal.TheVariants.{Limit}
 use Rattle.commands.specs.declared.replies.Reply.{Reply}
 use Rattle.commands.specs.declared.replies.Reply.TheVariants as reply
 use Rattle.ledger.specs.Answer.{State, Answer, answer, asker, kept_after, most_events, state_with}
@@ -21,7 +20,7 @@ use Rattle.memory_book.specs.declared.journeys.Journey.{Journey}
 use Rattle.memory_book.specs.declared.mem_book.MemBook.{MemBook}
 use Rattle.memory_book.proofs.PlaceLemmas.{place_of-push}
 use Rattle.memory_book.proofs.StandLemmas.{history-past}
-use Rattle.memory_book.proofs.GrowthLemmas.{kept_after-alike, loads-none, places_of-began, limited-room, limited-full, carried_out-refused}
+use Rattle.memory_book.proofs.GrowthLemmas.{kept_after-alike, loads-none, places_of-began, limited-room}
 
 -- one more journey is begun in the book, and its reply is kept
 pub record BeginsIn (m n : MemBook) (ask : Option Asked) (plan : Planned) : Type 0 where
@@ -97,11 +96,3 @@ carried_out-begun m n s ask plan r here good b room is =
       replied = is ∙ ap (λ i. reply.Begun (i + 1)) (length-begun m s here);
       stands = stands-begun m n s ask plan here good b;
     })
-
--- a begin is refused where the ledger has no room
-pub carried_out-full : (m : MemBook) (s : State) (ask : Option Asked) (plan : Planned) (r : Reply)
-    → StandsFor m s → most_events ≤ m.events → r ≡ reply.Refused Limit
-    → IsCarriedOut m s ask (answer s.ledger (asker ask) (request.Begin plan)) r
-carried_out-full m s ask plan r here full is =
-    carried_out-refused m s ask (answer s.ledger (asker ask) (request.Begin plan)) Limit here
-    (limited-full s.ledger (answer_begin s.ledger (asker ask) plan) refl (omega (arith, here.events))) r is

@@ -95,15 +95,6 @@ changed-step change none n k cells old new apart one x = go (is_cell x k) refl
         ∙ ap (λ b. option_map (change (if b || list_any (is_cell x) cells then n else 0)) (old x))
         (sym e)
 
--- where no cell is left, nothing more changes
-pub changed-none : (change : ℕ → Places → Places) → ((p : Places) → change 0 p ≡ p)
-    → (n : ℕ) (places : Cell → Option Places) (x : Cell) → changed change n [] places x ≡ places x
-changed-none change none n places x = same (places x)
-  where
-    same : (o : Option Places) → option_map (change 0) o ≡ o
-    same None = refl
-    same (Some p) = ap (λ q. Some q) (none p)
-
 -- so many places of a cell are free
 abbrev pub has_free_at : (Cell → Option Places) → ℕ → Cell → Bool
 has_free_at places n x =

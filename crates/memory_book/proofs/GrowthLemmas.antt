@@ -88,10 +88,6 @@ limited-full l a due full =
     ap (λ b. if b && nat_le most_events (length l) then refused Limit else a) due
     ∙ ap (λ b. if b then refused Limit else a) (le-leb most_events (length l) full)
 
--- the limit does not change a refusal
-pub limited-refused : (l : List Event) (why : Refusal) → limited l (refused why) ≡ refused why
-limited-refused l why = refl
-
 -- a refusal leaves the book as it was
 pub carried_out-refused : (m : MemBook) (s : State) (ask : Option Asked) (a : Answer) (why : Refusal)
     → StandsFor m s → a ≡ refused why → (r : Reply) → r ≡ (refused why).reply

@@ -1,6 +1,6 @@
 -- Which items a journey in a book in memory may make, and the journey after one. For the moves of the book.
 use Rattle.std.proofs.Common.{◌≡◌, ℕ, zero, suc, ◌+◌, ◌-◌, ◌<◌, ◌≤◌, ◌⊎◌, inl, inr, Bool, true, false, List, [], ◌∷◌, ◌++◌, length, get_or, map, refl, ap, sym, ◌∙◌, subst, arith, ltb-true}
-use Rattle.std.specs.Prelude.{◌&&◌, not, nat_lt, slice_get, slice_set, if◌then◌else◌, Some, Result, Ok, Err, IfOk, IsTrue}
+use Rattle.std.specs.Prelude.{◌&&◌, not, nat_lt, slice_get, slice_set, if◌then◌else◌, Some, Ok, Err, IfOk, IsTrue}
 use Rattle.std.proofs.lemmas.Option.{slice_get-get_or}
 use Rattle.std.specs.FinSet as set
 use Rattle.std.specs.Ordering.{nat_cmp}
@@ -8,72 +8,30 @@ use Rattle.plan.specs.Limits.{most_steps}
 use Rattle.plan.specs.PlanModel.{Planned, step_count, option_count}
 use Rattle.savepoints.specs.Marks.{is_taken_in}
 use Rattle.savepoints.specs.Rules as rules
-use Rattle.savepoints.specs.Turns.{may_be_made, turn_target}
 use Rattle.savepoints.specs.declared.turns.Turn as turns
-use Rattle.commands.specs.declared.items.Cause.{Cause}
 use Rattle.commands.specs.declared.items.Cursor.{Cursor}
 use Rattle.commands.specs.declared.items.Item.{Item}
 use Rattle.commands.specs.declared.items.Item.TheVariants.{Transaction, Compensation, Turn, Save}
 use Rattle.commands.specs.declared.items.Phase.{Phase}
 use Rattle.commands.specs.declared.items.Phase.TheVariants.{Run, Back, Ended, Undone}
-use Rattle.commands.specs.declared.replies.Refusal.{Refusal}
-use Rattle.commands.specs.declared.replies.Refusal.TheVariants.{Finished, NoSavePoint, NoSave}
+use Rattle.commands.specs.declared.replies.Refusal.TheVariants.{Finished, NoSave}
 use Rattle.ledger.specs.History.{is_finished, is_going_back, is_running}
 use Rattle.ledger.specs.Ledger as l
 use Rattle.ledger.specs.Ledger.{history}
 use Rattle.ledger.specs.Answer.{State}
-use Rattle.ledger_transitions.specs.JourneyChanges.{cursor_after, target_of}
+use Rattle.ledger_transitions.specs.JourneyChanges.{cursor_after}
 use Rattle.ledger_transitions.specs.Cursors.{cursor_of}
 use Rattle.memory_book.specs.MemoryAnswers.{kept_in, AreKeptAlike}
 use Rattle.memory_book.specs.MemoryJourneys.{IsPlaced, IsNext, taken_after, stands_after}
-use Rattle.memory_book.specs.MemoryNext.{turn_said, save_said, step_said}
-use Rattle.memory_book.specs.MemoryStock.{stock_at, IsInPlan, fits_some, fits_where_taken}
-use Rattle.memory_book.specs.Memory.{begun_as, Tells, StandsFor, IsReady, IsSameJourney}
-use Rattle.memory_book.specs.declared.stock.Stock.{Stock}
+use Rattle.memory_book.specs.MemoryNext.{save_said}
+use Rattle.memory_book.specs.MemoryStock.{stock_at, IsInPlan}
+use Rattle.memory_book.specs.Memory.{begun_as, Tells, StandsFor, IsSameJourney}
 use Rattle.memory_book.specs.declared.journeys.Journey.{Journey}
 use Rattle.memory_book.specs.declared.mem_book.MemBook.{MemBook}
 use Rattle.memory_book.proofs.PlaceLemmas.{place_of-set, map-set}
 use Rattle.memory_book.proofs.TellLemmas.{MakesOne}
 
 -- Items that may be made.
-
--- an item that is next and fits is ready
-pub ready : (m : MemBook) (k : Journey) (next : Result Item Refusal)
-    → IfOk next (IsNext k.plan k.cursor)
-    → IfOk next (λ x. IsTrue (fits_where_taken m.stock k.plan x)) → IfOk next (IsReady m k)
-ready m k (Ok x) comes fits = record { next = comes; fits = fits }
-ready m k (Err why) comes fits = tt
-
--- a turn takes nothing
-pub turn_said-fits : (stock : Stock) (plan : Planned) (c : Cursor) (marks : set.FinSet nat_cmp)
-    (why : turns.Turn) (cause : Cause)
-    → IfOk (turn_said plan c marks why cause) (λ x. IsTrue (fits_where_taken stock plan x))
-turn_said-fits stock plan c marks why cause =
-    go (is_finished c.phase)
-    (may_be_made plan (is_taken_in marks) c.pos (target_of c.phase) why)
-  where
-    go : (a b : Bool)
-        → IfOk (if a then Err Finished else if b
-        then Ok (Turn (turn_target plan (is_taken_in marks) c.pos c.used why) cause)
-        else Err NoSavePoint) (λ x. IsTrue (fits_where_taken stock plan x))
-    go true b = tt
-    go false true = refl
-    go false false = tt
-
--- a save-point takes nothing
-pub save_said-fits : (stock : Stock) (plan : Planned) (c : Cursor) (marks : set.FinSet nat_cmp)
-    → IfOk (save_said plan c marks) (λ x. IsTrue (fits_where_taken stock plan x))
-save_said-fits stock plan c marks =
-    go (is_finished c.phase)
-    (is_running c.phase && nat_lt 0 c.pos
-    && not (rules.is_save_point plan (is_taken_in marks) c.pos c.pos))
-  where
-    go : (a b : Bool)
-        → IfOk (if a then Err Finished else if b then Ok (Save c.pos) else Err NoSave)
-        (λ x. IsTrue (fits_where_taken stock plan x))
-    go true b = tt
-    go false true = refl
-    go false false = tt
 
 -- a save-point is taken between the first step and the last
 pub save_said-next : (plan : Planned) (c : Cursor) (marks : set.FinSet nat_cmp) (taken : List ℕ)
@@ -95,23 +53,6 @@ save_said-next plan c marks taken placed few =
     go (Back q) e begun is stands = tt
     go Ended e begun is stands = tt
     go Undone e begun is stands = tt
-
--- what a step takes fits
-pub step_said-fits : (stock : Stock) (plan : Planned) (c : Cursor) (marks : set.FinSet nat_cmp)
-    (taken : List ℕ) (fit : Bool)
-    → (c.phase ≡ Run → fit ≡ fits_some stock (rules.next_want plan c.pos c.used))
-    → IfOk (step_said plan c marks taken fit) (λ x. IsTrue (fits_where_taken stock plan x))
-step_said-fits stock plan c marks taken fit tests = go c.phase refl fit tests
-  where
-    go : (p : Phase) → c.phase ≡ p → (fit : Bool)
-        → (c.phase ≡ Run → fit ≡ fits_some stock (rules.next_want plan c.pos c.used))
-        → IfOk (step_said plan (record c { phase = p }) marks taken fit)
-        (λ x. IsTrue (fits_where_taken stock plan x))
-    go Run e true tests = sym (tests e)
-    go Run e false tests = refl
-    go (Back q) e fit tests = refl
-    go Ended e fit tests = tt
-    go Undone e fit tests = tt
 
 -- an item that is next is in the plan
 pub in_plan : (plan : Planned) (cursor : Cursor) (taken : List ℕ) (x : Item)

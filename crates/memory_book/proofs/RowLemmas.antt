@@ -1,6 +1,6 @@
 -- Rows of batches, and the list of all cells. For the stock of a book in memory.
-use Rattle.std.proofs.Common.{◌≡◌, ℕ, Bool, true, false, cond, List, [], ◌∷◌, ◌++◌, map, refl, ap, sym, ◌∙◌, append_assoc, append-nil}
-use Rattle.std.specs.Prelude.{◌==◌, ◌&&◌, if◌then◌else◌, find, filter_map, filter, Option, Some, None, option_map, unwrap_or}
+use Rattle.std.proofs.Common.{◌≡◌, ℕ, Bool, true, false, cond, List, [], ◌∷◌, ◌++◌, map, refl, ap, sym, ◌∙◌, append-nil}
+use Rattle.std.specs.Prelude.{◌==◌, ◌&&◌, if◌then◌else◌, find, filter_map, filter, Option, Some, option_map, unwrap_or}
 use Rattle.std.specs.List.{list_all, cons_option, AllByRecursion}
 use Rattle.std.specs.List.Sorted.{IsStrictlySortedBy}
 use Rattle.std.specs.Map.{lookup, keys_of}
@@ -9,7 +9,6 @@ use Rattle.std.specs.BTreeMap.{is_at}
 use Rattle.std.specs.Cmp.Lexicographic.{pointwise}
 use Rattle.std.specs.Ordering.{is_lt}
 use Rattle.std.specs.declared.cmp.Ordering.TheVariants.{Less}
-use Rattle.std.proofs.lemmas.List.{map-append}
 use Rattle.std.proofs.lemmas.List.Elements.{filter-append}
 use Rattle.ledger.specs.History.{last_of}
 use Rattle.ledger.proofs.Cells.{is_cell-same}
@@ -20,7 +19,7 @@ use Rattle.allotment.specs.declared.cells.Row.{Row}
 use Rattle.allotment.specs.declared.places.Held.{Held}
 use Rattle.ledger.specs.Ledger.{Event}
 use Rattle.ledger.specs.Replies.{are_same_rows}
-use Rattle.saga_core.specs.Views.{Places, places_said, places_of, places_at, places_shown, at_night, night_said, cell_cmp, are_in_order, IsStock}
+use Rattle.saga_core.specs.Views.{Places, places_said, places_of, places_at, places_shown, at_night, cell_cmp, are_in_order, IsStock}
 use Rattle.memory_book.specs.MemoryStock.{cell_key_cmp, stock_at, set_to, last_row}
 use Rattle.commands.specs.declared.batches.CellKey.{CellKey}
 use Rattle.memory_book.specs.declared.stock.Stock.{Stock}
@@ -44,28 +43,6 @@ same_rows test each (r ∷ rs) (s ∷ ss) =
 -- what is shown of a night
 abbrev pub shown_at : (Cell → Option Places) → Cell → Option (ℕ × Places)
 shown_at places x = option_map (at_night x) (places x)
-
--- one more night was found
-pub nights-some : (places : Cell → Option Places) (nights : List (ℕ × Held)) (x : Cell)
-    (held : Held) (rest : List Cell) → Some (places_said held) ≡ places x
-    → map night_said (nights ++ (x.night, held) ∷ []) ++ filter_map (shown_at places) rest
-    ≡ map night_said nights ++ filter_map (shown_at places) (x ∷ rest)
-nights-some places nights x held rest found =
-    ap (λ ns. ns ++ filter_map (shown_at places) rest)
-    (map-append night_said nights ((x.night, held) ∷ []))
-    ∙ append_assoc (map night_said nights) (night_said (x.night, held) ∷ [])
-    (filter_map (shown_at places) rest)
-    ∙ ap (λ o. map night_said nights
-    ++ cons_option (option_map (at_night x) o) (filter_map (shown_at places) rest)) found
-
--- a night that was never loaded is skipped
-pub nights-none : (places : Cell → Option Places) (nights : List (ℕ × Held)) (x : Cell)
-    (rest : List Cell) → None ≡ places x
-    → map night_said nights ++ filter_map (shown_at places) rest
-    ≡ map night_said nights ++ filter_map (shown_at places) (x ∷ rest)
-nights-none places nights x rest none =
-    ap (λ o. map night_said nights
-    ++ cons_option (option_map (at_night x) o) (filter_map (shown_at places) rest)) none
 
 -- the values of a list depend on the values of its elements only
 filter_map-same : {X Y : Type 0} (f g : X → Option Y) → ((x : X) → f x ≡ g x) → (xs : List X)

@@ -16,7 +16,7 @@ use Rattle.commands.specs.declared.replies.Refusal.TheVariants.{NoSavePoint, NoS
 use Rattle.ledger.specs.Answer.{State}
 use Rattle.ledger.specs.Replies.{answer_move, seen_journey, step_choices, save_choices}
 use Rattle.ledger.specs.Ledger as l
-use Rattle.ledger.specs.Ledger.{Event, journey_at, history, allotment, held, fits, has_free}
+use Rattle.ledger.specs.Ledger.{journey_at, history, allotment, held, fits, has_free}
 use Rattle.ledger.specs.History.{net, last_of, position_of, refusals, phase, is_finished}
 use Rattle.ledger_transitions.specs.Answers.{moves}
 use Rattle.ledger_transitions.specs.Cursors.{cursor_of, marks_of}

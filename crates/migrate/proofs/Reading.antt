@@ -1,5 +1,5 @@
 -- The version that was read is that of the tables. For read_old.
-use Rattle.std.proofs.Common.{◌≡◌, [], ◌∷◌, Bool, true, false, IsTrue, Ok, Err, Result, OnErr, refl, sym, ◌∙◌}
+use Rattle.std.proofs.Common.{◌≡◌, [], ◌∷◌, Bool, true, false, IsTrue, refl, sym, ◌∙◌}
 use Rattle.sqlite.specs.State.{State as Connected, IsUnchanged}
 use Rattle.desk_sql.specs.declared.versions.Version.{Version}
 use Rattle.desk_sql.specs.declared.versions.Version.TheVariants.{One, Two}
@@ -28,11 +28,6 @@ module _ (old new : Connected) (m : Meta) (seen : (v : Version) (t : Tables) →
       let read = seen One desk.tables (λ _. record { schema = desk.schema; rows = desk.shown; sound = desk.sound }) in
       let same : meta_of m ∷ [] ≡ meta_in One s.ledger ∷ [] = sym read.1 ∙ desk.stands.meta in
       cc
-
--- a fact that holds for any result
-pub on_err : {V E : Type 0} (P : Type 0) (r : Result V E) → P → OnErr r P
-on_err P (Ok v) h = tt
-on_err P (Err e) h = h
 
 -- a state that is found in tables of version 1 is kept in them
 pub found_keeps : (c : Connected) (s : State) → IsFound One c s → IsKeptIn One c s

@@ -136,14 +136,6 @@ first_read rested rests found (row ∷ later) rest hands =
     let told = hands (row ∷ later) rest in
     subst (λ (f : Option Places). MonthsRest rests f (months_of (row ∷ later))) (sym told.0) (later, told.1, refl)
 
--- where no cell was read, no month remains
-pub none_rests : (rests : List Places → Type 0) → Hands (MonthsRest rests None) (MonthsRest rests None) None
-none_rests rests [] rest = (refl, rest)
-none_rests rests (month ∷ others) rest = absurd (cons_is_nil month others rest.0)
-  where
-    cons_is_nil : {A : Type 0} (x : A) (xs : List A) → x ∷ xs ≡ [] → ⊥
-    cons_is_nil x xs is = cc
-
 -- the day of a cell that goes on with a month is later
 pub later_day : (last next : Cell) (n : ℕ) → goes_on last next ≡ true → n ≤ (date_of last.night).1.1
     → n + 1 ≤ (date_of next.night).1.1

@@ -70,12 +70,6 @@ end_of_two front c d =
     ap (λ z. drop z ((front ++ c ∷ []) ++ d ∷ [])) (two_seam front c d)
     ∙ ap (drop (length front)) (two_behind front c d) ∙ drop-append_seam front (c ∷ d ∷ [])
 
--- what stands before the last two bytes is the prefix
-pub front_of_two : (front : List ℕ) (c d : ℕ) → front_of ((front ++ c ∷ []) ++ d ∷ []) ≡ front
-front_of_two front c d =
-    ap (λ z. take z ((front ++ c ∷ []) ++ d ∷ [])) (two_seam front c d)
-    ∙ ap (take (length front)) (two_behind front c d) ∙ take-append_seam front (c ∷ d ∷ [])
-
 -- the text of few tries is read as their number
 pub tries_again : (n : ℕ) → n ≤ most_tries → tries_in (tries_text n) ≡ Some n
 unfolding tries_in digits

@@ -5,7 +5,7 @@ use Rattle.std.specs.List.{slice_get}
 use Rattle.std.specs.Str.Parse.{digits_value, AllDigits, ParsesUnsigned}
 use Rattle.std.proofs.lemmas.Bool.{le-leb, leb-true}
 use Rattle.std.proofs.lemmas.Fmt.{decimal_digit, decimal_is_IsNumeral, decimal_nonempty, first_decimal, decimal-digits_value}
-use Rattle.std.proofs.lemmas.Option.{slice_get-get_or, get_or_from_slice_get}
+use Rattle.std.proofs.lemmas.Option.{get_or_from_slice_get}
 use Rattle.std.proofs.lemmas.Str.Parse.{IsNumeralModel, numerals_by_value, tells_digits, digit_at, parse_plain}
 use Rattle.allotment.specs.Limits.{is_between}
 use Rattle.allotment.specs.Texts.{keep_if, number_in, number_from}
@@ -58,14 +58,6 @@ first_byte t n e low high =
     let over : 48 < get_or (decimal n) 0 0 = first_decimal n low (omega arith) in
     let range = digit_at (decimal n) 0 (decimal_is_IsNumeral n (omega arith)).0.1 (decimal_nonempty n (omega arith)) in
     (omega arith, omega (arith, range.1))
-
--- an empty text spells no number
-pub small_number_empty : (t : List ℕ) → slice_get t 0 ≡ None → small_number t ≡ 0
-small_number_empty t e =
-    small_number_none t (λ n low high same.
-    let some : 0 < length t = omega (arith, ap length same, decimal_nonempty n (omega arith)) in
-    let first = slice_get-get_or t 0 0 some in
-    cc)
 
 -- a text that does not begin with 1 to 9 spells none of them
 pub small_number_other : (t : List ℕ) (d : ℕ) → slice_get t 0 ≡ Some d → (d < 49) ⊎ (57 < d) → small_number t ≡ 0

@@ -1,5 +1,5 @@
 -- A pass over one journey after another. For `carry`.
-use Rattle.std.proofs.Common.{◌≡◌, ℕ, zero, suc, ◌+◌, ◌<◌, ◌≤◌, List, [], ◌++◌, length, refl, ap, sym, ◌∙◌, arith, append_assoc, length-append}
+use Rattle.std.proofs.Common.{◌≡◌, ℕ, suc, ◌+◌, ◌≤◌, List, ◌++◌, length, refl, ap, sym, ◌∙◌, arith, append_assoc, length-append}
 use Rattle.std.proofs.lemmas.Bool.{false_from_ne_true, not_from_false, ltb-true, ltb-false}
 use Rattle.std.specs.Prelude.{Bool, true, false, nat_lt, Some, None}
 use Rattle.commands.specs.declared.replies.Fault.{Fault}
@@ -15,7 +15,7 @@ use Rattle.recovery.specs.Passes.{goes_on, makes, Carry, CarryOut, IsUnderWay, I
 use Rattle.recovery.specs.declared.passes.Pass.{Pass}
 use Rattle.recovery.proofs.CarryLemmas.{in-open}
 use Rattle.saga_core.proofs.FirstLemmas.{IsFirst, first-found, first-none}
-use Rattle.recovery.proofs.PassLemmas.{grew-as, grew-full, grew-join, grew-none, full-join, may-join, may-just, journeys-fewer}
+use Rattle.recovery.proofs.PassLemmas.{grew-as, grew-full, grew-join, full-join, may-join, may-just, journeys-fewer}
 use Rattle.recovery.proofs.ReachLemmas.{reached-further, reached-carried, reached-past}
 use Rattle.recovery.proofs.TurnedLemmas.{first-in}
 
@@ -29,24 +29,6 @@ pub record CarriedSoFar (p : Pass) (stands : State → Type 0) (s : State) (afte
   pub grew : Grew stands (IsDoneTo p s.ledger after) s made
   pub treated : rounds ≤ after
   pub below : after ≤ length (s.ledger ++ grew.events)
-
--- at first the pass has made no item
-pub carried-start : (p : Pass) (stands : State → Type 0) (s : State) → stands s → CarriedSoFar p stands s 0 0 0
-carried-start p stands s here = record {
-  grew = grew-none stands (IsDoneTo p s.ledger 0) s here (record {
-    allowed = tt;
-    items = refl;
-    by_number = refl;
-    up_to = refl;
-    done = λ j below. none j below;
-  });
-  treated = omega arith;
-  below = omega arith;
-}
-  where
-    none : (j : ℕ) → j < 1 → is_in (goes_on p) (s.ledger ++ []) j ≡ false
-    none zero below = refl
-    none (suc i) below = absurd (omega arith)
 
 -- the pass does not go on with a journey that is not open
 closed : (p : Pass) (m : List Event) (k : ℕ) → is_in is_open m k ≡ false

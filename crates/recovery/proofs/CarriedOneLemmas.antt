@@ -9,20 +9,13 @@ use Rattle.recovery.specs.Asking.{Steps, StepsOrNot, IsStepOrNone, stays, goes}
 use Rattle.recovery.specs.Growing.{with_events, Grew, GrewFull, MayHaveGrown}
 use Rattle.recovery.specs.Passes.{goes_on, Carry, CarryOut}
 use Rattle.recovery.specs.declared.passes.Pass.{Pass}
-use Rattle.recovery.proofs.CarryLemmas.{in-open, carry-start, carry-more, goes-told}
-use Rattle.recovery.proofs.PassLemmas.{grew-as, grew-full, grew-none, grew-one, may-join}
+use Rattle.recovery.proofs.CarryLemmas.{in-open, carry-more, goes-told}
+use Rattle.recovery.proofs.PassLemmas.{grew-as, grew-full, grew-one, may-join}
 
 -- the events are steps of the journey, after which the pass goes on with it or not
 pub record Carrying (p : Pass) (j : ℕ) (l : List Event) (on : Bool) (events : List Event) : Type 0 where
   pub carry : Carry p j l events
   pub then : is_in (goes_on p) (l ++ events) j ≡ on
-
--- at first the pass has made no step
-pub one-start : (p : Pass) (stands : State → Type 0) (s : State) (j : ℕ) → stands s → is_in (goes_on p) s.ledger j ≡ true
-    → Grew stands (Carrying p j s.ledger true) s 0
-one-start p stands s j here on =
-    grew-none stands (Carrying p j s.ledger true) s here
-    (record { carry = carry-start p j s.ledger; then = ap (λ m. is_in (goes_on p) m j) (append-nil s.ledger) ∙ on })
 
 module _ {p : Pass} {stood : State → Type 0} {s : State} {j made : ℕ} (t : Grew stood (Carrying p j s.ledger true) s made) where
   module _ {stands : State → Type 0} where

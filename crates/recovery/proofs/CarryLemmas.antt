@@ -47,10 +47,6 @@ step-made pass.Back m j item legal goes forward allowed =
 
 -- Steps of one journey.
 
--- at first there is no event
-pub carry-start : (p : Pass) (j : ℕ) (l : List Event) → Carry p j l []
-carry-start p j l = record { allowed = tt; items = refl; of_journey = refl }
-
 -- one more step
 pub carry-more : (p : Pass) (j : ℕ) (l events : List Event) (item : Item) → Carry p j l events
     → IsLegal (l ++ events) → is_in (goes_on p) (l ++ events) j ≡ true → is_forward item ≡ true

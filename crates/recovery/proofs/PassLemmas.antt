@@ -1,5 +1,5 @@
 -- How the state of a book is extended by a pass. For the passes.
-use Rattle.std.proofs.Common.{◌≡◌, ℕ, ◌+◌, ◌^◌, ◌<◌, ◌≤◌, List, [], ◌∷◌, suc, ◌++◌, length, refl, ap, ◌∙◌, arith, append_assoc, append-nil, length-append, sym, subst}
+use Rattle.std.proofs.Common.{◌≡◌, ℕ, ◌+◌, ◌^◌, ◌<◌, ◌≤◌, List, [], ◌∷◌, suc, ◌++◌, length, ap, ◌∙◌, arith, append_assoc, append-nil, length-append, sym, subst}
 use Rattle.std.specs.Prelude.{Option, Some, None}
 use Rattle.std.specs.List.{cons_option}
 use Rattle.commands.specs.declared.replies.Fault.{Fault}
@@ -43,16 +43,6 @@ module _ {stood stands : State → Type 0} {Before Are : List Event → Type 0} 
     within = let longer = length-with s t.events n t.counted in omega (arith, longer, room);
     stands_there = subst stands (with_more s t.events (e ∷ [])) here;
   }
-
--- an extension by no event
-abbrev pub grew-none : (stands : State → Type 0) (Are : List Event → Type 0) (s : State) → stands s → Are [] → Grew stands Are s 0
-grew-none stands Are s here are = record {
-  events = [];
-  are = are;
-  counted = refl;
-  within = omega arith;
-  stands_there = subst stands (ap (λ l. record { ledger = l; kept = s.kept }) (sym (append-nil s.ledger))) here;
-}
 
 module _ {stood stands : State → Type 0} {Before AreMore Are : List Event → Type 0} {s : State} {n m total : ℕ} where
   -- an extension of an extension is an extension

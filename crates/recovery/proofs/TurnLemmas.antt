@@ -21,12 +21,6 @@ abbrev pub turns_above : List Event → ℕ → List Event
 turns_above l a =
     map (stop_of l) (filter (is_in is_running l) (numbers_from (suc a) (length (journeys l) - a)))
 
--- the turns above 0 are all turns
-pub turns-all : (l : List Event) → stops l ≡ turns_above l 0
-turns-all l =
-    ap (λ n. map (stop_of l) (filter (is_in is_running l) (numbers_from 1 n)))
-    (let e : length (journeys l) ≡ length (journeys l) - 0 = omega arith in e)
-
 -- numbers that fail a test are left out
 filter-skip : (test : ℕ → Bool) (n first : ℕ) (ys : List ℕ)
     → ((k : ℕ) → first ≤ k → k < first + n → test k ≡ false)
@@ -131,16 +125,6 @@ stop-same a k l m same above =
 pub record Turning (l : List Event) (a : ℕ) (events : List Event) : Type 0 where
   pub all : stops l ≡ events ++ turns_above l a
   pub same : IsSameAbove a l (l ++ events)
-
--- at first the pass has made no turn
-pub turning-start : (l : List Event) → Turning l 0 []
-turning-start l = record {
-  all = turns-all l;
-  same = record {
-    begun = ap journeys (append-nil l);
-    of = λ j above. ap (λ m. history m j) (append-nil l);
-  };
-}
 
 -- the next running journey turns
 pub turning-more : (l : List Event) (a j : ℕ) (events : List Event) → Turning l a events → a < j

@@ -15,23 +15,15 @@ use Rattle.recovery.specs.Asking.{stop_of, Stops, StopsOrNot, IsAtMost, none, on
 use Rattle.recovery.specs.Growing.{with_events, Grew, GrewFull, MayHaveGrown}
 use Rattle.recovery.specs.Passes.{AreStops, AreFirstStops}
 use Rattle.saga_core.proofs.FirstLemmas.{IsFirst, first-found, first-none}
-use Rattle.recovery.proofs.PassLemmas.{grew-as, grew-full, grew-none, grew-one, may-join, may-just, journeys-fewer}
+use Rattle.recovery.proofs.PassLemmas.{grew-as, grew-full, grew-one, may-join, may-just, journeys-fewer}
 use Rattle.recovery.proofs.TellLemmas.{is_there}
-use Rattle.recovery.proofs.TurnLemmas.{Turning, turning-start, turning-more, turning-further, turns-none, turns_above, phase-same}
+use Rattle.recovery.proofs.TurnLemmas.{Turning, turning-more, turning-further, turns-none, turns_above, phase-same}
 
 -- the book represents the state with the turns up to this number appended
 pub record TurnedSoFar (stands : State → Type 0) (s : State) (after made rounds : ℕ) : Type 0 where
   pub grew : Grew stands (Turning s.ledger after) s made
   pub treated : rounds ≤ after
   pub below : after ≤ length (journeys s.ledger)
-
--- at first the pass has made no turn
-pub turned-start : (stands : State → Type 0) (s : State) → stands s → TurnedSoFar stands s 0 0 0
-turned-start stands s here = record {
-  grew = grew-none stands (Turning s.ledger 0) s here (turning-start s.ledger);
-  treated = omega arith;
-  below = omega arith;
-}
 
 -- the turns so far are a prefix of all turns
 firsts : (l : List Event) (after : ℕ) (events : List Event) → Turning l after events → AreFirstStops l events

@@ -65,32 +65,6 @@ goes_on shown rested rests held holds now all count row text so_far hands is sen
       counted = ap (λ n. n + 1) so_far.counted ∙ sym (length-append gone (row ∷ []));
     }
 
--- no row remains: all rows were written
-pub record Ended {T : Type 0} (shown : T → List ℕ) (rests : List T → Type 0)
-    (held holds : Option (List ℕ)) (all : List T) (count : ℕ) : Type 0 where
-  pub sent : Appends held holds (flat_map shown all)
-  pub counted : count ≡ length all
-  pub rest : rests []
-
-pub ends : {T : Type 0} (shown : T → List ℕ) (rested rests : List T → Type 0)
-    (held holds : Option (List ℕ)) (all : List T) (count : ℕ)
-    → SoFar shown rested held holds all count → Hands rested rests None
-    → Ended shown rests held holds all count
-ends shown rested rests held holds all count so_far hands = by so_far.later so_far.cut so_far.rest
-  where
-    none_is_some : {A : Type 0} (x : A) → None ≡ Some x → ⊥
-    none_is_some x is = cc
-
-    by : (later : List _) → all ≡ so_far.gone ++ later → rested later → Ended shown rests held holds all count
-    by [] cut rest =
-        let whole : all ≡ so_far.gone = cut ∙ append-nil so_far.gone in
-        record {
-          sent = subst (λ rows. Appends held holds (flat_map shown rows)) (sym whole) so_far.sent;
-          counted = so_far.counted ∙ ap length (sym whole);
-          rest = (hands [] rest).1;
-        }
-    by (row ∷ later) cut rest = absurd (none_is_some row (hands (row ∷ later) rest).0)
-
 -- what was written is a prefix
 pub front_of : {T : Type 0} (shown : T → List ℕ) (rests : List T → Type 0)
     (held holds : Option (List ℕ)) (all : List T) (count : ℕ)

@@ -1,14 +1,13 @@
 -- Worked examples of save-points: what the definitions say of a plan of three flights. A definition with one more
 -- premise, which these save-points do not meet, is refused here.
-use Rattle.std.specs.Prelude.{◌≡◌, ℕ, true, false, List, [], ◌∷◌, codes, IsTrue, refl}
+use Rattle.std.specs.Prelude.{◌≡◌, ℕ, true, false, List, [], ◌∷◌, codes, refl}
 use Rattle.std.specs.FinSet as set
 use Rattle.std.specs.Ordering.{nat_cmp}
 use Rattle.std.proofs.Common.{◌≤◌, arith}
 use Rattle.allotment.specs.Want.{Wanted, wanted}
 use Rattle.allotment.specs.declared.codes.Kind.TheVariants.{Flight}
-use Rattle.plan.specs.PlanModel.{Planned, StepPlan}
+use Rattle.plan.specs.PlanModel.{Planned}
 use Rattle.savepoints.specs.Marks.{AreInRange, is_taken_in}
-use Rattle.savepoints.specs.Rules.{is_save_point}
 use Rattle.savepoints.specs.Turns.{IsNoneAbove}
 
 -- a flight, on 2030-06-01

@@ -13,12 +13,6 @@ pub if_some_each : (known : Option (List ℕ)) (Q : List ℕ → Type 0) → ((b
 if_some_each None Q f = tt
 if_some_each (Some bytes) Q f = f bytes
 
--- two facts
-pub if_some_both : (known : Option (List ℕ)) (P R Q : List ℕ → Type 0)
-    → ((bytes : List ℕ) → P bytes → R bytes → Q bytes) → IfSome known P → IfSome known R → IfSome known Q
-if_some_both None P R Q f p r = tt
-if_some_both (Some bytes) P R Q f p r = f bytes p r
-
 -- what holds of a result, and leads to more
 pub if_ok_more : {T E : Type 0} (r : Result T E) (P Q : T → Type 0) → ((x : T) → P x → Q x) → IfOk r P → IfOk r Q
 if_ok_more (Ok x) P Q f p = f x p

@@ -111,13 +111,6 @@ module _ (reopens : Reopens) (w : List Moment) (world : IsWorld w) where
       let o = answering_opens stands held holds input (StandsAs db) r (left db may) in
       record { end = o.end; goes = o.goes; stands = o.there }
 
--- what an opening left for which a connection stands
-pub opened_leads : (finds : Trees → Type 0) (held holds : Option (List ℕ)) (input : Input) (w : List Moment)
-    (IsThere : State → Type 0) → ((s : State) → IsThere s → (db : Trees) → finds db → StandsAs db s)
-    → HasOpened held holds w input IsThere → LeadsEach finds held holds (input ∷ []) w
-opened_leads finds held holds input w IsThere means o db may =
-    record { end = o.end; goes = o.goes; stands = means (after start o.end) o.there db may }
-
 -- another one after it
 pub opened_then : (finds : Trees → Type 0) (a b c : Option (List ℕ)) (input : Input) (second : List Input)
     (w : List Moment) (IsThere : State → Type 0) (o : HasOpened a b w input IsThere)

@@ -1,5 +1,5 @@
 -- What a session answered to its connections.
-use Rattle.std.specs.Prelude.{ℕ, List, ◌++◌, map, option_to_list, All}
+use Rattle.std.specs.Prelude.{List, ◌++◌, map, option_to_list, All}
 use Rattle.std.specs.declared.io.traits.Read as Read
 use Rattle.std.specs.declared.io.traits.Write as Write
 use Rattle.http_conversations.specs.Conversations.{history}

@@ -1,9 +1,7 @@
 -- What a record implies for its journey, and the answers of the rules to its moves. For `moves` and `step_outcome`.
-use Rattle.std.proofs.Common.{◌≡◌, ℕ, Bool, true, false, List, Option, Some, None, refl, ap, sym, ◌∙◌, subst}
-use Rattle.std.specs.Prelude.{◌&&◌, not, nat_lt, if◌then◌else◌, option_map, Result, Ok, Err}
+use Rattle.std.proofs.Common.{◌≡◌, ℕ, true, false, List, Option, Some, None, refl, ap, sym, ◌∙◌, subst}
+use Rattle.std.specs.Prelude.{option_map, Result}
 use Rattle.plan.specs.PlanModel.{Planned}
-use Rattle.savepoints.specs.Marks.{is_taken_in}
-use Rattle.savepoints.specs.Turns.{may_be_made}
 use Rattle.savepoints.specs.declared.turns.Turn.{Turn}
 use Rattle.savepoints.specs.declared.turns.Turn.TheVariants as turn
 use Rattle.commands.specs.declared.items.Cause.{Cause}
@@ -11,21 +9,13 @@ use Rattle.commands.specs.declared.items.Cause.TheVariants as causes
 use Rattle.commands.specs.declared.items.Cursor.{Cursor}
 use Rattle.commands.specs.declared.items.Item.{Item}
 use Rattle.commands.specs.declared.items.Item.TheVariants as item
-use Rattle.commands.specs.declared.items.Phase.{Phase}
-use Rattle.commands.specs.declared.items.Phase.TheVariants.{Run, Back, Ended, Undone}
 use Rattle.commands.specs.declared.replies.Refusal.{Refusal}
 use Rattle.commands.specs.declared.replies.Refusal.TheVariants.{NoSavePoint, NoSave}
 use Rattle.ledger.specs.Answer.{State}
-use Rattle.ledger.specs.Replies.{Answer, refused, answer_move, sees, seen_journey, abort_choices, stop_choices, save_choices}
+use Rattle.ledger.specs.Replies.{answer_move, sees, seen_journey, abort_choices, stop_choices, save_choices}
 use Rattle.ledger.specs.Ledger.{Event, Journey, journey_at, history, IsLegal}
-use Rattle.ledger.specs.History.{last_save, position_of, phase, is_finished}
-use Rattle.ledger_transitions.specs.Answers.{moves}
-use Rattle.ledger_transitions.specs.JourneyChanges.{target_of}
 use Rattle.ledger_transitions.specs.Cursors.{cursor_of, marks_of}
-use Rattle.ledger_transitions.proofs.Answering.{abort-answer, stop-answer, save-answer, save-back, runs, goes_back}
-use Rattle.ledger_transitions.proofs.Histories.{follows}
-use Rattle.ledger_transitions.proofs.Moves.{move-finished, seen, unseen, seen-none}
-use Rattle.ledger_transitions.proofs.Taken.{last_save_by-marks, is_save_point_by-marks}
+use Rattle.ledger_transitions.proofs.Moves.{seen, unseen, seen-none}
 use Rattle.saga_core.specs.Views.{record_of, record_of_journey}
 use Rattle.saga_core.proofs.RulingLemmas.{abort_ruled, save_ruled, stop_ruled}
 use Rattle.saga_core.specs.Rulings.{turn_said, save_said, Fits}

@@ -150,7 +150,3 @@ step_next s legal who id r is fit fitting decided one nothing next said =
         subst (λ n. Fits id r.plan (cursor_of r.plan (history s.ledger id))
         (answer_move s.ledger id step_choices NoSavePoint (Some (begun_as r))) n) (sym item)
         (step-answer s.ledger id (begun_as r) x legal is.at found.1 comes)
-
--- a journey that runs is open
-pub running-open : (p : Phase) → is_running p ≡ true → is_open p ≡ true
-running-open p e = ap is_open (running-is p e)

@@ -1,8 +1,7 @@
 -- What a call over a connection keeps, returns and leaves.
-use Rattle.std.specs.Prelude.{◌≡◌, ◌≤◌, not, true, is_some, length, Option, Some, None, Result, Err, OnOk, IfOk, IsTrue, string_bytes}
+use Rattle.std.specs.Prelude.{◌≡◌, ◌≤◌, not, true, is_some, length, Option, Some, None, Result, Err, IsTrue, string_bytes}
 use Rattle.sqlite.specs.Store.{Ghosts}
 use Rattle.sqlite.specs.Held.{Held, state}
-use Rattle.sqlite.specs.State.{HasCleanDisk}
 use Rattle.commands.specs.Asks.{Asked}
 use Rattle.commands.specs.Request.{Request}
 use Rattle.commands.specs.declared.replies.Fault.{Fault}
@@ -13,8 +12,7 @@ use Rattle.desk_sql.specs.declared.meta.Meta.{Meta}
 use Rattle.desk_sql.specs.declared.answers.KeptAnswer.{KeptAnswer}
 use Rattle.ledger.specs.Ledger.{journeys}
 use Rattle.ledger.specs.Answer.{State, KeptReply, most_events, kept_for, answered_again, outcome}
-use Rattle.sql_model.specs.Standing.{IsDesk}
-use Rattle.sql_model.specs.Keeping.{Keeps, MayLeave}
+use Rattle.sql_model.specs.Keeping.{Keeps}
 use Rattle.sql_reads.specs.Reading.{ShowsKept}
 use Rattle.sql_commands.specs.declared.answering.Answered.{Answered}
 

@@ -11,23 +11,16 @@ use Rattle.commands.specs.Asks.{Asked}
 use Rattle.commands.specs.Request.{Request, Load, Begin}
 use Rattle.commands.specs.declared.replies.Fault.{Fault}
 use Rattle.commands.specs.declared.replies.Fault.TheVariants.{Store}
-use Rattle.commands.specs.declared.items.Item.{Item}
-use Rattle.commands.specs.declared.replies.Refusal.{Refusal}
 use Rattle.desk_sql.specs.Calls.{Makes}
 use Rattle.desk_sql.specs.Causes.{IsUp, HasFaulted}
 use Rattle.desk_sql.specs.Rows.{Tables}
 use Rattle.desk_sql.specs.Writable.{HasRowids}
-use Rattle.desk_sql.specs.declared.meta.Meta.{Meta}
 use Rattle.ledger.specs.Answer.{State, kept_for, outcome}
-use Rattle.saga_core.specs.declared.records.Record.{Record}
 use Rattle.sql_model.specs.Keeping.{Keeps}
 use Rattle.sql_model.specs.Spelling.{IsSpelled}
 use Rattle.sql_model.specs.Standing.{IsDesk, StandsFor}
-use Rattle.sql_model.specs.Staying.{StaysUp}
 use Rattle.sql_commands.specs.Committing.{HasShortText}
-use Rattle.sql_commands.specs.Moving.{IsDue, IsMade, IsRead, IsUnfit, Runs, asked_for}
-use Rattle.sql_reads.specs.declared.reads.Stand.{Stand}
-use Rattle.sql_commands.specs.declared.moves.Made.{Made}
+use Rattle.sql_commands.specs.Moving.{IsUnfit, Runs}
 use Rattle.sql_commands.specs.declared.moves.Motion.{Motion}
 
 -- how many options a plan has

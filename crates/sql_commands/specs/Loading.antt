@@ -1,24 +1,18 @@
 -- What a load of a batch finds, its outcome, and what it leaves.
-use Rattle.std.specs.Prelude.{◌≡◌, ℕ, ◌+◌, ◌-◌, not, true, false, List, [], ◌∷◌, map, position, nat_le, Option, Some, None, Result, IfOk, OnOk, IsTrue}
+use Rattle.std.specs.Prelude.{◌≡◌, ℕ, ◌+◌, ◌-◌, not, true, false, List, [], ◌∷◌, map, position, nat_le, Option, Some, None, IsTrue}
 use Rattle.std.specs.List.{list_all}
-use Rattle.sqlite.specs.Store.{Ghosts}
-use Rattle.sqlite.specs.Held.{Held, state}
-use Rattle.sqlite.specs.State.{HasCleanDisk}
 use Rattle.allotment.specs.declared.cells.Cell.{Cell}
 use Rattle.allotment.specs.declared.cells.Row.{Row}
 use Rattle.allotment.specs.declared.places.Held.{Held as HeldPlaces}
 use Rattle.commands.specs.Asks.{Asked}
 use Rattle.commands.specs.BatchData.{Batched}
 use Rattle.commands.specs.Batches.{is_good_row}
-use Rattle.commands.specs.Request.{Request}
-use Rattle.commands.specs.declared.replies.Fault.{Fault}
 use Rattle.commands.specs.declared.replies.Refusal.{Refusal}
 use Rattle.commands.specs.declared.replies.Refusal.TheVariants.{BelowHeld}
 use Rattle.commands.specs.declared.replies.Reply.{Reply}
-use Rattle.ledger.specs.Answer.{State, kept_for, outcome}
+use Rattle.ledger.specs.Answer.{State, kept_for}
 use Rattle.ledger.specs.Ledger.{batches_named, held, is_not_below_held}
 use Rattle.ledger.specs.Replies as rules
-use Rattle.desk_sql.specs.Calls.{Quiet}
 use Rattle.desk_sql.specs.Rows.{StockRow}
 use Rattle.desk_sql.specs.declared.batches.BatchFound.{BatchFound}
 use Rattle.desk_sql.specs.declared.meta.Meta.{Meta}
@@ -27,7 +21,6 @@ use Rattle.sql_model.specs.Reading.{stock_row_of}
 use Rattle.sql_model.specs.Standing.{IsDesk}
 use Rattle.sql_transitions.specs.Loading.{loaded_row}
 use Rattle.sql_commands.specs.Answering.{Counts}
-use Rattle.sql_model.specs.Keeping.{Keeps, MayLeave}
 
 -- Known batches.
 

@@ -1,15 +1,11 @@
 -- What a move of a journey requests, its outcome, and what it leaves.
-use Rattle.std.specs.Prelude.{◌≡◌, ℕ, ◌+◌, ◌<◌, ◌≤◌, Bool, false, List, ⊤, Option, Some, None, Result, Ok, Err, IfOk, OnOk}
-use Rattle.sqlite.specs.Store.{Ghosts}
-use Rattle.sqlite.specs.Held.{Held, state}
-use Rattle.sqlite.specs.State.{HasCleanDisk}
+use Rattle.std.specs.Prelude.{◌≡◌, ℕ, ◌+◌, ◌<◌, ◌≤◌, Bool, false, List, ⊤, Option, Some, None, Result, Ok, Err}
 use Rattle.allotment.specs.Want.{Wanted}
 use Rattle.plan.specs.Limits.{most_options}
 use Rattle.plan.specs.PlanModel.{Planned, want_at}
 use Rattle.commands.specs.Asks.{Asked}
 use Rattle.commands.specs.Request as request
 use Rattle.commands.specs.Request.{Request}
-use Rattle.commands.specs.declared.replies.Fault.{Fault}
 use Rattle.commands.specs.declared.items.Cause.{Cause}
 use Rattle.commands.specs.declared.items.Cause.TheVariants as causes
 use Rattle.commands.specs.declared.items.Cursor.{Cursor}
@@ -19,7 +15,7 @@ use Rattle.commands.specs.declared.items.Phase.TheVariants.{Run}
 use Rattle.commands.specs.declared.replies.Refusal.{Refusal}
 use Rattle.commands.specs.declared.replies.Refusal.TheVariants.{Finished}
 use Rattle.commands.specs.declared.replies.Reply.{Reply}
-use Rattle.ledger.specs.Answer.{State, asker, answer_within, kept_for, outcome}
+use Rattle.ledger.specs.Answer.{State, asker, answer_within, kept_for}
 use Rattle.ledger.specs.History.{net, last_of}
 use Rattle.ledger.specs.Ledger.{Journey, journey_at, history, fits}
 use Rattle.ledger.specs.Replies.{Answer}
@@ -36,7 +32,6 @@ use Rattle.sql_writes.specs.declared.events.Numbers.{Numbers}
 use Rattle.sql_writes.specs.declared.events.Event.{Event}
 use Rattle.sql_writes.specs.declared.events.Event.TheVariants.{Transaction, Compensation, Turn, Save}
 use Rattle.sql_commands.specs.Answering.{Counts}
-use Rattle.sql_model.specs.Keeping.{Keeps, MayLeave}
 use Rattle.sql_commands.specs.Placing.{IsSeen, SeesStand, stepped_up, stepped_down, turned_to_start}
 use Rattle.saga_core.specs.Rulings.{Fits}
 use Rattle.sql_reads.specs.Reading.{stand_of}

@@ -1,18 +1,16 @@
 -- The cursor of a journey by its record, and the item that may come next.
-use Rattle.std.specs.Prelude.{◌≡◌, ℕ, ◌+◌, ◌-◌, ◌<◌, ◌≤◌, ◌^◌, List, IsTrue, Option, Some, None, Result, MatchResult}
+use Rattle.std.specs.Prelude.{◌≡◌, ℕ, ◌+◌, ◌-◌, ◌<◌, ◌≤◌, ◌^◌, List, IsTrue, Option, Some, None}
 use Rattle.plan.specs.PlanModel.{Planned, step_count, option_count}
 use Rattle.commands.specs.declared.items.Cause.{Cause}
 use Rattle.commands.specs.declared.items.Cursor.{Cursor}
 use Rattle.commands.specs.declared.items.Item.{Item}
 use Rattle.commands.specs.declared.items.Item.TheVariants.{Transaction, Compensation, Turn, Save}
 use Rattle.commands.specs.declared.items.Phase.TheVariants.{Back}
-use Rattle.commands.specs.declared.replies.Refusal.{Refusal}
 use Rattle.ledger.specs.History.{is_open}
 use Rattle.ledger.specs.Ledger as l
 use Rattle.ledger.specs.Ledger.{journey_at, history}
 use Rattle.ledger.specs.Answer.{State}
-use Rattle.ledger.specs.Replies.{Answer, refused, seen_journey}
-use Rattle.ledger_transitions.specs.Answers.{moves}
+use Rattle.ledger.specs.Replies.{seen_journey}
 use Rattle.ledger_transitions.specs.JourneyChanges.{phase_up, phase_down, phase_back, used_after}
 use Rattle.ledger_transitions.specs.Cursors.{cursor_of, marks_of}
 use Rattle.saga_core.specs.declared.records.Record.{Record}

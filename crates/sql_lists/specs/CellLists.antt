@@ -1,8 +1,8 @@
 -- The statements that return cells: which rows they return, their texts, and what these mean.
-use Rattle.std.specs.Prelude.{ℕ, ◌==◌, ◌&&◌, Bool, true, false, List, [], ◌∷◌, ◌++◌, codes, filter, map, nat_le, Option, None, Some}
+use Rattle.std.specs.Prelude.{ℕ, ◌==◌, ◌&&◌, Bool, true, false, List, [], ◌∷◌, codes, filter, map, nat_le, Option, None, Some}
 use Rattle.allotment.specs.Cells.{kind_number}
 use Rattle.allotment.specs.declared.codes.Kind.{Kind}
-use Rattle.filters.specs.CellFilters.{first_day, is_from, is_name_asked, last_day}
+use Rattle.filters.specs.CellFilters.{is_from, is_name_asked, last_day}
 use Rattle.filters.specs.declared.cells.CellFilter.{CellFilter}
 use Rattle.sqlite.specs.Order.{Row}
 use Rattle.sqlite.specs.Store.{Ghosts}
@@ -15,7 +15,7 @@ use Rattle.sqlite_sql.specs.declared.ops.CompareOp.TheVariants.{Ge, Le}
 use Rattle.sqlite_value.specs.declared.keys.Collation.TheVariants.{Binary}
 use Rattle.desk_sql.specs.Meanings.{find_stock_query, in_range, is_equal, sorted_rows}
 use Rattle.desk_sql.specs.RemainingRows.{IsOnlyOrder, Rests, stock_shown}
-use Rattle.desk_sql.specs.Rows.{whole, StockRow, Tables}
+use Rattle.desk_sql.specs.Rows.{StockRow, Tables}
 use Rattle.desk_sql.specs.Stock.{IsByCell}
 
 -- the row is of this kind, and has the supplier, the product and a night that the filter names
@@ -58,12 +58,6 @@ cells_query supplier product =
 abbrev pub named : Option (List ℕ) → Row
 named None = []
 named (Some name) = Text name ∷ []
-
--- the parameters of a statement
-abbrev pub cells_params : Kind → CellFilter → Row
-cells_params kind f =
-    whole (kind_number kind)
-    ∷ (named f.supplier ++ (named f.product ++ (whole (first_day f.from) ∷ whole (last_day f.to) ∷ [])))
 
 -- the text of the statement of the whole stock
 abbrev pub stock_text : List ℕ

@@ -1,12 +1,11 @@
 -- The statements that return journeys: which rows they return, their texts, and what these mean.
-use Rattle.std.specs.Prelude.{ℕ, ◌&&◌, Bool, true, false, List, [], ◌∷◌, ◌++◌, codes, filter, map, nat_le, Option, None, Some}
+use Rattle.std.specs.Prelude.{ℕ, ◌&&◌, Bool, true, false, List, [], ◌∷◌, codes, filter, map, nat_le, Option, None, Some}
 use Rattle.filters.specs.CellFilters.{is_name_asked}
 use Rattle.filters.specs.declared.journeys.JourneyFilter.{JourneyFilter}
 use Rattle.filters.specs.declared.journeys.JourneyState.{JourneyState}
 use Rattle.filters.specs.declared.journeys.JourneyState.TheVariants.{Run, Back, Ended, Undone}
 use Rattle.filters.specs.declared.journeys.Phases.{Phases}
 use Rattle.filters.specs.declared.journeys.Phases.TheVariants.{All, Unfinished, Only}
-use Rattle.sqlite.specs.Order.{Row}
 use Rattle.sqlite.specs.Store.{Ghosts}
 use Rattle.sqlite.specs.Held.{Held}
 use Rattle.sqlite.specs.Query.{Query}
@@ -17,8 +16,7 @@ use Rattle.sqlite_value.specs.declared.keys.Collation.TheVariants.{Binary}
 use Rattle.desk_sql.specs.Lists.{IsListed}
 use Rattle.desk_sql.specs.Meanings.{first_unfinished_query, is_equal, journey_project, rising, sorted_rows}
 use Rattle.desk_sql.specs.RemainingRows.{IsByNumber, Rests, journey_shown}
-use Rattle.desk_sql.specs.Rows.{whole, JourneyRow, Tables}
-use Rattle.sql_lists.specs.CellLists.{named}
+use Rattle.desk_sql.specs.Rows.{JourneyRow, Tables}
 
 -- the number of a state in the tables
 abbrev pub state_number : JourneyState → ℕ
@@ -66,10 +64,6 @@ journey_tests true = is_equal (col 1 3) (col 0 0) ∷ is_phase_between 1 2
 -- what the texts mean
 abbrev pub journeys_query : Bool → Query
 journeys_query agent = sorted_rows 6 (journey_tests agent) journey_project ((col 1 0, rising) ∷ [])
-
--- the parameters of a statement
-abbrev pub journeys_params : JourneyFilter → Row
-journeys_params f = named f.agent ++ (whole (least_phase f.phases) ∷ whole (most_phase f.phases) ∷ [])
 
 -- the text of the statement of the unfinished journeys above a number
 abbrev pub unfinished_text : List ℕ

@@ -1,14 +1,12 @@
 -- The row found under an agent's key is the reply that is kept there. For Readings, and for commands.
 use Rattle.std.proofs.Common.{◌≡◌, ℕ, List, true, filter, find, Option, Some, None, IsTrue, refl, sym, ap, ◌∙◌}
-use Rattle.std.specs.Prelude.{option_map, if◌then◌else◌, IfSome, ◌≤◌, length}
-use Rattle.std.proofs.lemmas.Bool.{and_parts, and_from, le-leb}
+use Rattle.std.specs.Prelude.{option_map, IfSome}
+use Rattle.std.proofs.lemmas.Bool.{and_parts, and_from}
 use Rattle.std.proofs.lemmas.Slice.Eq.{bytes_eq-Decides}
 use Rattle.commands.specs.Asks.{Asked}
-use Rattle.commands.specs.Request.{Request, Begin}
-use Rattle.commands.specs.declared.replies.Refusal.TheVariants.{Limit}
+use Rattle.commands.specs.Request.{Request}
 use Rattle.commands.specs.Texts.{is_accepted}
-use Rattle.plan.specs.PlanModel.{Planned}
-use Rattle.ledger.specs.Answer.{Kept, KeptReply, State, refused, answer_begin, most_events, asker, text_of, kept_for, answered_again, outcome_for, carried_out, outcome}
+use Rattle.ledger.specs.Answer.{Kept, KeptReply, State, text_of, kept_for, answered_again, outcome_for, outcome}
 use Rattle.desk_sql.specs.Lists.{IsOneOf}
 use Rattle.desk_sql.specs.Rows.{AnswerRow}
 use Rattle.desk_sql.specs.FoundRows.{is_for}
@@ -66,12 +64,3 @@ tells-none IsOf (Some x) h = absurd h
 pub outcome-known : (s : State) (ask : Option Asked) (asked : Request) (k : KeptReply)
     → kept_for s ask ≡ Some k → outcome s ask asked ≡ answered_again s (text_of ask) k
 outcome-known s ask asked k known = ap (outcome_for s ask asked) known
-
--- a full ledger accepts no further journey
-pub outcome-full : (s : State) (ask : Option Asked) (plan : Planned) → most_events ≤ length s.ledger
-    → kept_for s ask ≡ None → outcome s ask (Begin plan) ≡ carried_out s ask (refused Limit)
-outcome-full s ask plan full new =
-    ap (outcome_for s ask (Begin plan)) new
-    ∙ ap
-    (λ v. carried_out s ask (if v then refused Limit else answer_begin s.ledger (asker ask) plan))
-    (le-leb most_events (length s.ledger) full)

@@ -26,9 +26,6 @@ bytes_back a b = go (bytes_eq a b) refl
         back true f = sym e ∙ (bytes_eq-Decides a b).1 (sym ((bytes_eq-Decides b a).0 f))
         back false f = refl
 
-same_bytes : (a : List ℕ) → bytes_eq a a ≡ true
-same_bytes a = (bytes_eq-Decides a a).1 refl
-
 none_told : {X Y : Type 0} (f : X → Y) (o : Option X) → option_map f o ≡ None → o ≡ None
 none_told f None e = refl
 none_told f (Some x) e = cc

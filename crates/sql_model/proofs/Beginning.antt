@@ -1,8 +1,7 @@
 -- The rows that the begin of a journey writes represent its outcome. For the begin of a journey over tables.
-use Rattle.std.proofs.Common.{◌≡◌, ℕ, suc, ◌+◌, ◌-◌, ◌<◌, ◌≤◌, List, [], ◌∷◌, ◌++◌, length, map, true, false, if◌then◌else◌, Option, None, IsTrue, refl, sym, ap, subst, ◌∙◌, arith, append-nil, length-append}
+use Rattle.std.proofs.Common.{◌≡◌, ℕ, suc, ◌+◌, ◌-◌, ◌<◌, ◌≤◌, List, [], ◌∷◌, ◌++◌, length, map, false, if◌then◌else◌, Option, None, IsTrue, refl, sym, ap, subst, ◌∙◌, arith, append-nil, length-append}
 use Rattle.std.specs.Prelude.{option_map, unwrap_or, nat_le, ◌==◌, flat_map}
 use Rattle.std.specs.List.Sorted.{IsPermutation}
-use Rattle.std.proofs.lemmas.Bool.{and_from, le-leb}
 use Rattle.std.proofs.lemmas.Bool.Decides.{nat_tests}
 use Rattle.std.proofs.lemmas.List.{map-append}
 use Rattle.std.proofs.lemmas.Grind.{flat_map-append}
@@ -13,7 +12,6 @@ use Rattle.plan.specs.PlanModel.{Planned, is_plan, step_count}
 use Rattle.commands.specs.Asks.{Asked}
 use Rattle.commands.specs.Names.{house}
 use Rattle.commands.specs.Request.{Begin}
-use Rattle.commands.specs.Texts.{is_accepted}
 use Rattle.commands.specs.declared.items.Phase.{Phase}
 use Rattle.commands.specs.declared.items.Phase.TheVariants.{Run}
 use Rattle.commands.specs.declared.replies.Refusal.TheVariants.{Limit}
@@ -21,7 +19,6 @@ use Rattle.commands.specs.declared.replies.Reply.TheVariants.{Begun as Begins}
 use Rattle.ledger.specs.History.{phase_at, is_taken}
 use Rattle.ledger.specs.Ledger.{Event, Loaded, Began, Did, Journey, journeys, journey_at, history, held, allotment, IsLegal}
 use Rattle.ledger.specs.Answer.{State, Outcome, refused, answer_begin, most_events, asker, kept_for, outcome_for, carried_out, outcome}
-use Rattle.ledger.proofs.Outcomes.{outcome-legal}
 use Rattle.ledger.proofs.Growing.{journeys-began, history-began}
 use Rattle.ledger.proofs.Ledgers.{all_go}
 use Rattle.ledger.proofs.Allotted.{allotment-same}
@@ -31,11 +28,11 @@ use Rattle.saga_core.specs.Views.{places_of, cursor_of}
 use Rattle.desk_sql.specs.Rows.{Tables, MetaRow, JourneyRow, StepRow}
 use Rattle.desk_sql.specs.Changes.{at_start, begun as first_row}
 use Rattle.sql_model.specs.ExpectedRows.{counted_from, meta_called, batches_called, Begun, begun, cursor_row, journey_row_of, journeys_called, is_standing, step_rows, step_rows_of, steps_called, entries_called}
-use Rattle.sql_model.specs.Standing.{IsKeepable, StandsFor, IsDesk}
+use Rattle.sql_model.specs.Standing.{StandsFor}
 use Rattle.sql_model.specs.Beginning.{meta_row_at, with_journey, with_answer}
 use Rattle.sql_model.proofs.Lists.{counted_from-last, map-same, flat_map-same}
 use Rattle.sql_model.proofs.Events.{batches_called-more, entries_called-more, begun-more, length-begun}
-use Rattle.sql_model.proofs.Answering.{answer_stands, keepable-more}
+use Rattle.sql_model.proofs.Answering.{answer_stands}
 
 -- a plan that keeps the limits has a step
 pub has_step : (plan : Planned) → IsTrue (is_plan plan) → 1 ≤ step_count plan
@@ -213,22 +210,3 @@ begin_stands t s ask plan st legal good room new =
     subst (λ (o : Outcome). StandsFor (with_answer ask (Begins id) shown) o.state)
     (sym (outcome-begin s ask plan room new))
     (answer_stands shown begun_now ask (Begins id) (journey_stands t s (beginner ask) plan st legal good) new)
-
--- the state after a begin is a desk's state
-pub begin_keeps : (s : State) (ask : Option Asked) (plan : Planned) → IsDesk s
-    → IsTrue (is_plan plan) → length s.ledger < most_events → kept_for s ask ≡ None
-    → IsDesk (outcome s ask (Begin plan)).state
-begin_keeps s ask plan desk good room new = record {
-  legal = outcome-legal s ask (Begin plan) desk.legal good;
-  keepable =
-      subst (λ (o : Outcome). IsKeepable o.state.kept) (sym (outcome-begin s ask plan room new))
-      (keepable-more s.kept ask (Begins (length (journeys s.ledger) + 1)) desk.keepable accepted);
-}
-  where
-    accepted : is_accepted (Begins (length (journeys s.ledger) + 1)) ≡ true
-    accepted =
-        let few = journeys-few s.ledger in
-        let low : 1 ≤ length (journeys s.ledger) + 1 = omega arith in
-        let high : length (journeys s.ledger) + 1 ≤ most_events = omega arith in
-        and_from (nat_le 1 (length (journeys s.ledger) + 1))
-        (nat_le (length (journeys s.ledger) + 1) most_events) (le-leb _ _ low) (le-leb _ _ high)

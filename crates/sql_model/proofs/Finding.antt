@@ -4,18 +4,6 @@ use Rattle.std.specs.List.{AllByRecursion}
 use Rattle.sqlite_trees.proofs.ListLemmas.{ascending-append, all_weaker}
 use Rattle.sql_model.specs.Standing.{AreApart}
 
--- an element that was found is found in a longer list too
-pub find-front : {X : Type 0} (test : X → Bool) (xs ys : List X) (x : X) → find test xs ≡ Some x
-    → find test (xs ++ ys) ≡ Some x
-find-front test [] ys x e = cc
-find-front test (z ∷ xs) ys x e = go (test z) e (find-front test xs ys x)
-  where
-    go : (v : Bool) → cond v (Some z) (find test xs) ≡ Some x
-        → (find test xs ≡ Some x → find test (xs ++ ys) ≡ Some x)
-        → cond v (Some z) (find test (xs ++ ys)) ≡ Some x
-    go true is later = is
-    go false is later = later is
-
 -- if nothing was found, the search goes on in the suffix
 pub find-back : {X : Type 0} (test : X → Bool) (xs ys : List X) → find test xs ≡ None
     → find test (xs ++ ys) ≡ find test ys

@@ -17,7 +17,7 @@ use Rattle.desk_sql.specs.FoundRows.{is_numbered}
 use Rattle.sql_model.specs.Reading.{Tells, IsJourneyOf}
 use Rattle.sql_model.proofs.Events.{begun-journeys}
 use Rattle.sql_model.proofs.Numbering.{counted_stands, counted_has, counted_rises, slice_get-map}
-use Rattle.sql_model.proofs.Orders.{Rises, one_order}
+use Rattle.sql_model.proofs.Orders.{Rises}
 
 -- the row of a journey that was begun
 abbrev pub row_in : List Event → ℕ × Begun → JourneyRow
@@ -115,13 +115,6 @@ pub called_rises : (l : List Event) → Rises (λ (r : JourneyRow). r.id) (journ
 called_rises l =
     ascending-map (λ (r s : JourneyRow). r.id < s.id) (row_in l) (counted_from 1 (begun l))
     (counted_rises 1 (begun l))
-
--- rows whose numbers rise are the expected rows, in their order
-pub journeys_in_order : (l : List Event) (rows : List JourneyRow)
-    → IsPermutation (journeys_called l) rows → Rises (λ (r : JourneyRow). r.id) rows
-    → rows ≡ journeys_called l
-journeys_in_order l rows same up =
-    one_order (λ (r : JourneyRow). r.id) (journeys_called l) rows same (called_rises l) up
 
 slice_get-low : {X : Type 0} (xs : List X) (i : ℕ) (x : X) → slice_get xs i ≡ Some x → i < length xs
 slice_get-low [] i x e = cc

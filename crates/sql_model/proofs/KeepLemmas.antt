@@ -2,7 +2,7 @@
 use Rattle.std.proofs.Common.{◌≡◌, inl, inr, Bool, true, false, IsTrue, refl, sym, ap, subst, ◌∙◌}
 use Rattle.sqlite.specs.Tree.{Trees}
 use Rattle.sqlite.specs.Effect.{Database, IsDatabase}
-use Rattle.sqlite.specs.State.{State as Connected, HasCleanDisk, IsUnchanged, Survives}
+use Rattle.sqlite.specs.State.{State as Connected, HasCleanDisk, Survives}
 use Rattle.desk_sql.specs.declared.versions.Version.{Version}
 use Rattle.sqlite_schema.specs.declared.schema.Schema.{Schema}
 use Rattle.desk_sql.specs.Calls.{SeesIn, MaySeeIn}
@@ -48,11 +48,4 @@ same_desk {v} a b s saw now committed = record {
   tables = saw.tables;
   shown = subst (λ (d : Database). ShowsIn v d.trees saw.tables) (sym now) saw.shown;
   stands = saw.stands;
-}
-
--- a read that succeeds keeps the state
-pub unchanged_keeps : {v : Version} (a b : Connected) (s : State) → IsKeptIn v a s → IsUnchanged a b → Survives a b (λ _. ⊥) → HasCleanDisk b → IsKeptIn v b s
-unchanged_keeps a b s kept same less clean = record {
-  sees = λ _. same_desk a b s (kept.sees same.0.was_open) same.0.now_is same.0.committed_is;
-  leaves = λ db may. kept.leaves db (left_before a b less clean db may);
 }

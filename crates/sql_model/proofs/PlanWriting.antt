@@ -51,11 +51,6 @@ option_rows-more taken id k s o w e =
     ∙ ap (λ n. map row (counted_from 1 (take o s.options)) ++ row (n, w) ∷ [])
     (let size = length-got s.options o w e in let next : 1 + length (take o s.options) ≡ o + 1 = omega arith in next)
 
--- before the first step there are no rows
-pub step_rows-none : (taken : ℕ → ℕ → Bool) (id : ℕ) (plan : Planned)
-    → step_rows taken id (first_steps 0 plan) ≡ []
-step_rows-none taken id plan = refl
-
 take-whole : {X : Type 0} (xs : List X) → take (length xs) xs ≡ xs
 take-whole [] = refl
 take-whole (x ∷ xs) = ap (λ ys. x ∷ ys) (take-whole xs)
@@ -67,11 +62,6 @@ step_rows-all taken id plan =
     ap
     (λ steps. flat_map (λ (p : ℕ × StepPlan). option_rows taken id p.0 p.1) (counted_from 1 steps))
     (take-whole plan.steps)
-
--- before the first option there are no rows
-pub option_rows-none : (taken : ℕ → ℕ → Bool) (id k : ℕ) (s : StepPlan)
-    → option_rows taken id k (first_options 0 s) ≡ []
-option_rows-none taken id k s = refl
 
 -- the rows up to the last option are all rows of the step
 pub option_rows-all : (taken : ℕ → ℕ → Bool) (id k : ℕ) (s : StepPlan)

@@ -194,29 +194,3 @@ steps_next id rows from to plan n low to_is left =
   where
     dropped : (k : ℕ) (xs : List StepFound) → drop k (first_rows id xs) ≡ first_rows id (drop k xs)
     dropped k xs = drop-map not_taken k (map (step_of id) xs) ∙ ap (map not_taken) (drop-map (step_of id) k xs)
-
--- after the last step there is no row
-pub none_left : (id : ℕ) (rows : List StepFound) (count : ℕ) (plan : Planned) (n : ℕ) → n ≡ step_count plan → count ≤ length rows
-    → first_rows id (drop count rows) ≡ steps_after id plan n → count ≡ length rows
-none_left id rows count plan n all within left =
-    let past : length (counted_from 1 plan.steps) ≤ n = let same = length-counted 1 plan.steps in omega (arith, same, all) in
-    let none : first_rows id (drop count rows) ≡ [] =
-    left ∙ ap (λ ss. flat_map (λ (s : ℕ × StepPlan). option_rows none_taken id s.0 s.1) ss) (drop_of_length-le (counted_from 1 plan.steps) past) in
-    go (cases count (length rows)) none
-  where
-    cases : (a b : ℕ) → (a < b) ⊎ (b ≤ a)
-    cases zero zero = inr (omega arith)
-    cases zero (suc b) = inl (omega arith)
-    cases (suc a) zero = inr (omega arith)
-    cases (suc a) (suc b) = elim (cases a b) [ inl low ↦ inl (omega (arith, low)) | inr high ↦ inr (omega (arith, high)) ]
-
-    go : (count < length rows) ⊎ (length rows ≤ count) → first_rows id (drop count rows) ≡ [] → count ≡ length rows
-    go (inr high) none = omega (arith, high, within)
-    go (inl low) none = absurd (let more = first_left low in cc)
-      where
-        first_left : (low : count < length rows) → (d : StepFound) × (first_rows id (drop count rows) ≡ not_taken (step_of id (get_or rows count d)) ∷ first_rows id (drop (count + 1) rows))
-        first_left low = go_on rows low
-          where
-            go_on : (xs : List StepFound) → count < length xs → (d : StepFound) × (first_rows id (drop count rows) ≡ not_taken (step_of id (get_or rows count d)) ∷ first_rows id (drop (count + 1) rows))
-            go_on [] low = absurd (omega arith)
-            go_on (x ∷ xs) inside = (x, next_left id rows count x low)

@@ -108,13 +108,3 @@ module _ {S : Type 0} (g : Ghosts S) (tables : Version) (old new : Held S) (w : 
         ),
       )
       go (y ∷ later) left e = cc
-
--- of a finished journey no item remains
-pub none_left : {S : Type 0} (g : Ghosts S) (tables : Version) (h : Held S) (w : Sought) (pos : ℕ) (was : Bool) → was ≡ true
-    → (failed : Bool) (xs : List Item) → (failed ≡ false) × ItemsLeft g tables h w pos was xs
-    → HandsFirst (λ zs. (failed ≡ false) × ItemsLeft g tables h w pos was zs) None xs
-none_left g tables h w pos was done failed xs rests = go xs (subst (λ v. ItemsLeft g tables h w pos v xs) done rests.1)
-  where
-    go : (ys : List Item) → ys ≡ [] → HandsFirst (λ zs. (failed ≡ false) × ItemsLeft g tables h w pos was zs) None ys
-    go [] none = (refl, (rests.0, subst (λ v. ItemsLeft g tables h w pos v []) (sym done) refl))
-    go (y ∷ ys) none = cc

@@ -1,59 +1,14 @@
 -- An allowed event whose reply accepts leaves a desk's state; the outcome of a request, by its answer. For commands.
-use Rattle.std.proofs.Common.{◌≡◌, ℕ, ◌<◌, ◌≤◌, List, length, Bool, true, false, if◌then◌else◌, Option, Some, None, IsTrue, refl, sym, ap, subst, ◌∙◌, arith}
-use Rattle.std.specs.Prelude.{◌&&◌, ◌==◌, nat_le, is_some}
-use Rattle.std.specs.List.{list_all}
-use Rattle.std.proofs.lemmas.Bool.{and_parts, and_from, le-leb}
+use Rattle.std.proofs.Common.{◌≡◌, ◌<◌, ◌≤◌, length, Bool, true, false, if◌then◌else◌, Option, Some, None, IsTrue, refl, ap, subst, ◌∙◌, arith}
+use Rattle.std.specs.Prelude.{◌&&◌, nat_le, is_some}
+use Rattle.std.proofs.lemmas.Bool.{and_from, le-leb}
 use Rattle.std.proofs.lemmas.Bool.Decides.{nat_tests}
-use Rattle.commands.specs.Limits.{most_rows}
-use Rattle.allotment.specs.Limits.{is_between}
-use Rattle.allotment.specs.declared.cells.Row.{Row}
 use Rattle.commands.specs.Asks.{Asked}
-use Rattle.commands.specs.Names.{is_batch_name}
 use Rattle.commands.specs.Request.{Request}
-use Rattle.commands.specs.Texts.{is_accepted}
-use Rattle.commands.specs.declared.items.Item.{Item}
 use Rattle.commands.specs.declared.replies.Refusal.TheVariants.{Limit}
-use Rattle.commands.specs.declared.replies.Reply.{Reply}
-use Rattle.ledger.specs.Answer.{State, Answer, Outcome, answer, is_request, refused, loaded, moved, asker, answer_within, most_events, kept_for, carried_out, outcome_for, outcome, state_with}
-use Rattle.ledger.specs.Ledger.{Event, Loaded, Did, Journey, journey_at, history, is_allowed, is_batch, is_good_row, are_distinct, is_not_below_held, batches_named}
+use Rattle.ledger.specs.Answer.{State, Answer, Outcome, answer, is_request, refused, asker, answer_within, most_events, kept_for, carried_out, outcome_for, outcome, state_with}
+use Rattle.ledger.specs.Ledger.{Event, is_allowed}
 use Rattle.ledger.proofs.Answers.{IsAllowedEvent, answer-allowed}
-use Rattle.ledger.proofs.Growing.{IsLegal-append, is_item_allowed-may_do}
-use Rattle.sql_model.specs.Standing.{IsDesk}
-use Rattle.sql_model.proofs.Accepting.{moved-good}
-use Rattle.sql_model.proofs.Answering.{keepable-more}
-
--- the state after an allowed event, whose reply accepts, is a desk's state
-pub event_keeps : (s : State) (ask : Option Asked) (reply : Reply) (e : Event) → IsDesk s
-    → IsTrue (is_allowed s.ledger e) → IsTrue (is_accepted reply)
-    → IsDesk (state_with s ask reply (Some e))
-event_keeps s ask reply e desk may accepted = record {
-  legal = IsLegal-append s.ledger e desk.legal may;
-  keepable = keepable-more s.kept ask reply desk.keepable accepted;
-}
-
--- the state after an item of a journey is a desk's state, if the ledger has room
-pub item_keeps : (s : State) (ask : Option Asked) (j : ℕ) (item : Item) (a : Journey) → IsDesk s
-    → journey_at s.ledger j ≡ Some a → IsTrue (is_allowed s.ledger (Did j item))
-    → length s.ledger < most_events
-    → IsDesk (state_with s ask (moved a.plan (history s.ledger j) j item).reply (Some (Did j item)))
-item_keeps s ask j item a desk at may room =
-    event_keeps s ask (moved a.plan (history s.ledger j) j item).reply (Did j item) desk may
-    (moved-good s.ledger desk.legal room j a item at (sym (is_item_allowed-may_do s.ledger j item a at) ∙ may))
-
--- the state after a load is a desk's state
-pub load_keeps : (s : State) (ask : Option Asked) (name : List ℕ) (rows : List Row) → IsDesk s
-    → IsTrue (is_allowed s.ledger (Loaded name rows))
-    → IsDesk (state_with s ask (loaded name rows) (Some (Loaded name rows)))
-load_keeps s ask name rows desk may =
-    let new =
-    (and_parts (is_batch name rows && list_all (is_not_below_held s.ledger) rows)
-    (length (batches_named s.ledger name) == 0) may).0 in
-    let batch = (and_parts (is_batch name rows) (list_all (is_not_below_held s.ledger) rows) new).0 in
-    let limits =
-    (and_parts (is_batch_name name && is_between 1 most_rows (length rows) && list_all is_good_row rows)
-    (are_distinct rows) batch).0 in
-    event_keeps s ask (loaded name rows) (Loaded name rows) desk may
-    (and_parts (is_batch_name name && is_between 1 most_rows (length rows)) (list_all is_good_row rows) limits).0
 
 -- The outcome of a request.
 

@@ -20,4 +20,3 @@ pub mod Taken
 pub mod Batches
 pub mod SameRows
 pub mod Lines
-pub mod Numbers

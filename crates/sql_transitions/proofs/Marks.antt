@@ -2,11 +2,11 @@
 use Rattle.std.proofs.Common.{◌≡◌, ℕ, ◌==◌, List, [], ◌∷◌, ◌++◌, Bool, true, false, filter, eqb-true, refl, sym, ap, ap₂, ◌∙◌, arith}
 use Rattle.std.specs.Prelude.{◌&&◌, ◌||◌, not}
 use Rattle.std.specs.List.{list_any}
-use Rattle.std.proofs.lemmas.Bool.{and_parts, false_from_ne_true, not_from_false}
+use Rattle.std.proofs.lemmas.Bool.{and_parts, false_from_ne_true}
 use Rattle.std.proofs.lemmas.Bool.Decides.{nat_tests}
 use Rattle.std.proofs.lemmas.List.Folds.{list_any-append}
 use Rattle.std.proofs.lemmas.Map.Views.{any-filter_same}
-use Rattle.sqlite_trees.proofs.ListLemmas.{ascending-filter, filter_all}
+use Rattle.sqlite_trees.proofs.ListLemmas.{ascending-filter}
 use Rattle.sqlite_rules.specs.Lists.{Has}
 use Rattle.sqlite_rules.proofs.ListLemmas.{all_from, some_from}
 use Rattle.commands.specs.declared.items.Item.{Item}
@@ -90,15 +90,3 @@ module _ (l : List Event) (j : ℕ) (item : Item) (rows : List MarkRow) (stand :
           ∙ ap (λ i. is_taken (history l i ++ item ∷ []) q) (sym is)
           ∙ ap (λ h. is_taken h q) (sym (history-did_same l j item k e))
       go k q false e = ap (λ h. is_taken h q) (sym (history-did_other l j item k e))
-
--- if no save-point stands at a position, there is no row to delete
-pub no_mark : (l : List Event) (j p : ℕ) (rows : List MarkRow) → MarksStand l rows
-    → is_taken (history l j) p ≡ false → filter (λ m. not (is_mark_at j p m)) rows ≡ rows
-no_mark l j p rows stand none =
-    filter_all (λ m. not (is_mark_at j p m)) rows
-    (all_from _ rows
-    (λ m h. not_from_false (is_mark_at j p m)
-    (false_from_ne_true (is_mark_at j p m)
-    (λ on.
-    let bad : true ≡ false = sym (some_from (is_mark_at j p) rows m h on) ∙ stand.each j p ∙ none in
-    cc))))

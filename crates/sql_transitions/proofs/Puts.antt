@@ -147,13 +147,6 @@ module _ (s : StockRow) (cells : List StockRow) where
 
 -- All cells of a batch.
 
--- one more row is put after the others
-pub put_rows-last : (holds : Cell → ℕ) (rows : List Row) (r : Row) (cells : List StockRow)
-    → put_rows holds (rows ++ r ∷ []) cells ≡ put (loaded_row (holds r.cell) r) (put_rows holds rows cells)
-put_rows-last holds [] r cells = refl
-put_rows-last holds (q ∷ rows) r cells =
-    put_rows-last holds rows r (put (loaded_row (holds q.cell) q) cells)
-
 module _ (holds : Cell → ℕ) where
   -- no two rows are of one cell after a batch
   pub once-rows : (rows : List Row) (cells : List StockRow) → AreApart is_same_stock cells

@@ -10,24 +10,11 @@ pub keeps_same : (x : Option (List ℕ)) → Keeps x x
 keeps_same None = tt
 keeps_same (Some xs) = refl
 
--- bytes that are kept, and kept again
-pub keeps_twice : (x y z : Option (List ℕ)) → Keeps x y → Keeps y z → Keeps x z
-keeps_twice None y z first second = tt
-keeps_twice (Some xs) None z first second = absurd first
-keeps_twice (Some xs) (Some ys) None first second = absurd second
-keeps_twice (Some xs) (Some ys) (Some zs) first second = second ∙ first
-
 -- where the bytes are kept, no byte was written
 pub appends_none : (x y : Option (List ℕ)) → Keeps x y → Appends x y []
 appends_none None y kept = tt
 appends_none (Some xs) None kept = absurd kept
 appends_none (Some xs) (Some ys) kept = kept ∙ sym (append-nil xs)
-
--- where no byte is written, the bytes are kept
-pub keeps_none : (x y : Option (List ℕ)) → Appends x y [] → Keeps x y
-keeps_none None y sent = tt
-keeps_none (Some xs) None sent = absurd sent
-keeps_none (Some xs) (Some ys) sent = sent ∙ append-nil xs
 
 -- bytes that were written, and then more bytes
 pub appends_more : (x y z : Option (List ℕ)) (us bs : List ℕ)
@@ -39,16 +26,6 @@ appends_more (Some xs) None z us bs first second = absurd first
 appends_more (Some xs) (Some ys) None us bs first second = absurd second
 appends_more (Some xs) (Some ys) (Some zs) us bs first second =
     second ∙ ap (λ front. front ++ bs) first ∙ append_assoc xs us bs
-
--- bytes that were kept, and then some that were written
-pub appends_after : (x y z : Option (List ℕ)) (bs : List ℕ)
-    → Keeps x y
-    → Appends y z bs
-    → Appends x z bs
-appends_after None y z bs kept sent = tt
-appends_after (Some xs) None z bs kept sent = absurd kept
-appends_after (Some xs) (Some ys) None bs kept sent = absurd sent
-appends_after (Some xs) (Some ys) (Some zs) bs kept sent = sent ∙ ap (λ front. front ++ bs) kept
 
 -- bytes that were written, and then kept
 pub appends_before : (x y z : Option (List ℕ)) (bs : List ℕ)

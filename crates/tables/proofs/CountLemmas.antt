@@ -34,9 +34,6 @@ Counts l a =
 allowed_last : (l : List Event) (e : Event) → IsLegal (l ++ e ∷ []) → IsTrue (is_allowed l e)
 allowed_last l e legal = (AreAllowedAfter-split [] l (e ∷ []) legal).1.0
 
-refused_counts : (l : List Event) (why : Refusal) → Counts l (refused why)
-refused_counts l why n m legal on is = on ∙ is
-
 load_counts : (l : List Event) (name : List ℕ) (rows : List Row) (known : List (List Row))
     → Counts l (answer_load l name rows known)
 load_counts l name rows (old ∷ others) = go (are_same_rows rows old)

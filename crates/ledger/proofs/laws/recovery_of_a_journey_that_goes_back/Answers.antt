@@ -1,5 +1,5 @@
 -- Each law is used as it stands: the recovered ledger that exists is the worked one, since there is only one.
-use Rattle.std.proofs.Common.{◌≡◌, ◌≤◌, ◌+◌, List, [], ◌∷◌, ◌++◌, length, refl, subst}
+use Rattle.std.proofs.Common.{◌≡◌, ◌≤◌, ◌+◌, List, [], ◌∷◌, length, subst}
 use Rattle.ledger.specs.Examples.{done, undone}
 use Rattle.ledger.specs.LawExamples.{aborted_to_2_is_legal, recovered_from_2, begun_from_2}
 use Rattle.ledger.specs.Ledger.{Event}

@@ -1,5 +1,5 @@
 -- One more session is one more step.
-use Rattle.std.proofs.Common.{◌≡◌, ◌+◌, ◌<◌, ◌≤◌, ◌++◌, [], ◌∷◌, length, length-append, get_or, refl, sym, ap, subst, ◌∙◌, arith}
+use Rattle.std.proofs.Common.{◌+◌, ◌<◌, ◌≤◌, ◌++◌, [], ◌∷◌, length, length-append, get_or, refl, sym, ap, subst, ◌∙◌, arith}
 use Rattle.sqlite.specs.Held.{state}
 use Rattle.sessions.specs.Chains.{AreKnown, Came, Comes, MayBeFound}
 use Rattle.sessions.proofs.ChainLemmas.{at_end, came_then, comes_none, known_first, known_rest, sets_next}

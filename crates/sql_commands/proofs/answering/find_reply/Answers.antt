@@ -1,5 +1,5 @@
 -- The reply that is kept under the key is found, or that the key is new.
-use Rattle.std.proofs.Common.{◌≡◌, Some, None, refl, sym, subst}
+use Rattle.std.proofs.Common.{Some, None, refl, sym, subst}
 use Rattle.std.specs.Option.{option_copied}
 use Rattle.sql_reads.proofs.ReadLemmas.{found_rows, no_read, query_fails, read_ok, read_so}
 use Rattle.sql_commands.specs.Answering.{Finds}

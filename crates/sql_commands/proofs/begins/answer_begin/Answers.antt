@@ -1,5 +1,5 @@
 -- The rows of a new journey lead to the outcome of its begin.
-use Rattle.std.proofs.Common.{◌≡◌, ◌<◌, ◌≤◌, ◌∙◌, length, IsTrue, refl, sym, subst, arith, rules}
+use Rattle.std.proofs.Common.{◌<◌, ◌≤◌, ◌∙◌, length, IsTrue, refl, sym, subst, arith, rules}
 use Rattle.std.specs.Option.{option_copied}
 use Rattle.commands.specs.Names.{is_agent}
 use Rattle.ledger.specs.Answer.{most_events}

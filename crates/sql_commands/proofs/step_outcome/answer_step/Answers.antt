@@ -1,5 +1,5 @@
 -- The outcome that the rows of a step give is the reply, and is written.
-use Rattle.std.proofs.Common.{◌≡◌, subst, rules}
+use Rattle.std.proofs.Common.{subst, rules}
 use Rattle.std.specs.Option.{option_copied}
 use Rattle.commands.specs.declared.replies.Refusal.TheVariants.{Finished}
 use Rattle.ledger.specs.Answer.{asker}

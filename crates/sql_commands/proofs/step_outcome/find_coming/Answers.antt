@@ -1,7 +1,7 @@
 -- The outcome that the rows of a step give is the answer of the rules, and the steps that are due have their rows.
 use Rattle.std.proofs.Common.{◌≡◌, rules, arith}
-use Rattle.sql_reads.proofs.ReadLemmas.{no_read, read_both, read_err, read_ok, then_err}
-use Rattle.sql_commands.proofs.ComingLemmas.{up_comes, down_comes, nothing_comes, refused_comes}
+use Rattle.sql_reads.proofs.ReadLemmas.{read_both, read_err, read_ok, then_err}
+use Rattle.sql_commands.proofs.ComingLemmas.{up_comes, down_comes, refused_comes}
 use Rattle.sql_commands.proofs.Reasons.{has_step, takes_last}
 use Rattle.sql_commands.proofs.step_outcome.find_coming.Goals as goal
 
