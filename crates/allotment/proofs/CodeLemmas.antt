@@ -1,6 +1,5 @@
 -- Codes.
-use Rattle.std.proofs.Common.{◌≡◌, ℕ, ◌<◌, Bool, true, false, ◌==◌, ◌||◌, List, length, sym, ap, ◌∙◌, arith, Some, None}
-use Rattle.std.specs.Prelude.{nat_lt, nat_le}
+use Rattle.std.proofs.Common.{◌≡◌, ℕ, ◌<◌, Bool, true, false, ◌==◌, ◌||◌, List, length, sym, ap, ◌∙◌, arith, Some, None, nat_lt, nat_le}
 use Rattle.std.specs.List.{list_all}
 use Rattle.std.proofs.lemmas.Bool.{le-leb, eqb-false}
 use Rattle.std.proofs.lemmas.Bool.Decides.{nat_tests}

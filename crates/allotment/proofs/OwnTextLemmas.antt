@@ -1,6 +1,5 @@
 -- Two different rows have different texts, and so have two different wants. For the laws of the texts.
-use Rattle.std.proofs.Common.{◌≡◌, ℕ, ◌≤◌, ◌<◌, ◌^◌, true, List, [], ◌∷◌, take, refl, sym, ap, ◌∙◌, arith, append_assoc, Some}
-use Rattle.std.specs.Prelude.{decimal, nat_le}
+use Rattle.std.proofs.Common.{◌≡◌, ℕ, ◌≤◌, ◌<◌, ◌^◌, true, List, [], ◌∷◌, take, refl, sym, ap, ◌∙◌, arith, append_assoc, Some, decimal, nat_le}
 use Rattle.std.specs.List.{list_all}
 use Rattle.std.proofs.lemmas.Bool.{leb-true}
 use Rattle.std.proofs.lemmas.Fmt.{decimal_injective}

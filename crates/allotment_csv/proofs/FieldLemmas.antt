@@ -1,6 +1,5 @@
 -- The five fields of a record, by their places. For `fields`.
-use Rattle.std.proofs.Common.{◌≡◌, ◌≢◌, ◌∙◌, ap, sym, subst, refl, ℕ, zero, suc, ◌-◌, ◌<◌, take, drop, List, [], ◌∷◌, Bool, true, false, length, arith, Some, None}
-use Rattle.std.specs.Prelude.{◌==◌, ◌&&◌, bytes_eq, codes}
+use Rattle.std.proofs.Common.{◌≡◌, ◌≢◌, ◌∙◌, ap, sym, subst, refl, ℕ, zero, suc, ◌-◌, ◌<◌, take, drop, List, [], ◌∷◌, Bool, true, false, length, arith, Some, None, ◌==◌, ◌&&◌, bytes_eq, codes}
 use Rattle.std.specs.List.{list_all}
 use Rattle.std.proofs.lemmas.Bool.{and_parts}
 use Rattle.std.specs.Str.{IsAscii, IsUtf8, is_utf8}

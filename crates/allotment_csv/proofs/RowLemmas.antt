@@ -1,6 +1,5 @@
 -- The row of a record, and the first thing that is wrong with one that is none. For `rows`.
-use Rattle.std.proofs.Common.{◌≡◌, ◌∙◌, ap, sym, subst, refl, ℕ, List, [], ◌∷◌, ◌++◌, Bool, true, false, Option, Some, None}
-use Rattle.std.specs.Prelude.{◌&&◌, nat_le, bytes_eq, is_some, option_and_then, if◌then◌else◌, Result, Ok, Err, MatchResult}
+use Rattle.std.proofs.Common.{◌≡◌, ◌∙◌, ap, sym, subst, refl, ℕ, List, [], ◌∷◌, ◌++◌, Bool, true, false, Option, Some, None, ◌&&◌, nat_le, bytes_eq, is_some, option_and_then, if◌then◌else◌, Result, Ok, Err, MatchResult}
 use Rattle.std.specs.Option.{ok_or}
 use Rattle.allotment.specs.Cells.{the_cell}
 use Rattle.allotment.specs.Limits.{is_between, is_code, is_good_cell, is_night, most_places}

@@ -1,6 +1,5 @@
 -- The first field of a record that is not what its column holds. For `wrong_fields`.
-use Rattle.std.proofs.Common.{◌≡◌, ◌∙◌, ap, ℕ, Bool, true, List, [], ◌∷◌, ◌++◌, Option, Some, None}
-use Rattle.std.specs.Prelude.{slice_get, is_some}
+use Rattle.std.proofs.Common.{◌≡◌, ◌∙◌, ap, ℕ, Bool, true, List, [], ◌∷◌, ◌++◌, Option, Some, None, slice_get, is_some}
 use Rattle.allotment.specs.Limits.{is_code}
 use Rattle.allotment.specs.Making.{unless}
 use Rattle.allotment.specs.Nights.{night_in}

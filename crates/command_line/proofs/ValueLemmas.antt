@@ -1,6 +1,5 @@
 -- A value that spells nothing makes the values that ask for cells bad, wherever it stands among them. For cells_in and others.
-use Rattle.std.proofs.Common.{◌≡◌, ◌∙◌, ap, codes, refl, Option, Bool, true, false}
-use Rattle.std.specs.Prelude.{◌||◌, is_none}
+use Rattle.std.proofs.Common.{◌≡◌, ◌∙◌, ap, codes, refl, Option, Bool, true, false, ◌||◌, is_none}
 use Rattle.clap.specs.Words.{Text}
 use Rattle.allotment.specs.Nights.{night_in}
 use Rattle.allotment.specs.Texts.{kind_of_word}

@@ -1,9 +1,8 @@
 -- The words of a reply contain no blank, so cutting its line at blanks gives the words back. For the reader of lines.
-use Rattle.std.specs.Prelude.{◌≡◌, ℕ, ◌<◌, ◌^◌, ◌==◌, ◌&&◌, not, Bool, true, false, List, [], ◌∷◌, ◌++◌, decimal, IsTrue}
 use Rattle.std.specs.List.{list_all, onto_first}
 use Rattle.std.specs.Int.{IsInRange}
 use Rattle.std.specs.Str.Parse.{AllDigits}
-use Rattle.std.proofs.Common.{◌∙◌, ap, refl, arith, eq-eqb}
+use Rattle.std.proofs.Common.{◌∙◌, ap, refl, arith, eq-eqb, ◌≡◌, ℕ, ◌<◌, ◌^◌, ◌==◌, ◌&&◌, not, Bool, true, false, List, [], ◌∷◌, ◌++◌, decimal, IsTrue}
 use Rattle.std.proofs.lemmas.Bool.{and_from, and_parts}
 use Rattle.std.proofs.lemmas.Bool.Decides.{nat_tests}
 use Rattle.std.proofs.lemmas.Fmt.{decimal_is_IsNumeral}

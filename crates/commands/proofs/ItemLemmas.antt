@@ -1,6 +1,5 @@
 -- Texts that are of no item, by their first letter. For the reader of items.
-use Rattle.std.specs.Prelude.{◌≡◌, ◌≢◌, ℕ, ◌==◌, false, List, [], ◌∷◌, ◌++◌, None, decimal, IsTrue}
-use Rattle.std.proofs.Common.{◌∙◌, sym, ap, refl, get_or, arith}
+use Rattle.std.proofs.Common.{◌∙◌, sym, ap, refl, get_or, arith, ◌≡◌, ◌≢◌, ℕ, ◌==◌, false, List, [], ◌∷◌, ◌++◌, None, decimal, IsTrue}
 use Rattle.std.proofs.lemmas.Bool.Decides.{nat_tests}
 use Rattle.commands.specs.declared.items.Item.{Item}
 use Rattle.commands.specs.declared.items.Item.TheVariants.{Transaction, Compensation, Turn, Save}

@@ -1,6 +1,5 @@
 -- A line is the line of the reply whose words it has. For the reader of lines.
-use Rattle.std.specs.Prelude.{◌≡◌, ℕ, List, Option, Some, None, IsTrue}
-use Rattle.std.proofs.Common.{◌∙◌, sym, ap, refl}
+use Rattle.std.proofs.Common.{◌∙◌, sym, ap, refl, ◌≡◌, ℕ, List, Option, Some, None, IsTrue}
 use Rattle.std.proofs.lemmas.List.Splits.{join_with_byte-slice_split}
 use Rattle.allotment.specs.Texts.{parts, joined, blank}
 use Rattle.commands.specs.declared.items.Phase.TheVariants.{Run, Back, Ended, Undone}

@@ -1,7 +1,6 @@
 -- What has the form of a name fits into its inline text. For the readers of names.
-use Rattle.std.specs.Prelude.{◌≡◌, ℕ, Bool, true, List, [], ◌∷◌, nat_lt, nat_le, length}
 use Rattle.std.specs.List.{list_all}
-use Rattle.std.proofs.Common.{arith, refl}
+use Rattle.std.proofs.Common.{arith, refl, ◌≡◌, ℕ, Bool, true, List, [], ◌∷◌, nat_lt, nat_le, length}
 use Rattle.std.proofs.lemmas.Bool.{and_from, and_parts}
 use Rattle.std.proofs.lemmas.Bool.Decides.{nat_tests}
 use Rattle.allotment.specs.Limits.{is_between, is_word}

@@ -1,6 +1,5 @@
 -- No two replies have the same line. For the law of lines, and for the reader of them.
-use Rattle.std.specs.Prelude.{◌≡◌, ℕ, ◌<◌, ◌^◌, ◌==◌, ◌&&◌, not, if◌then◌else◌, true, false, List, [], ◌∷◌, ◌++◌, length, decimal, Option, Some, None, IsTrue}
-use Rattle.std.proofs.Common.{◌∙◌, sym, ap, refl, get_or, drop, arith}
+use Rattle.std.proofs.Common.{◌∙◌, sym, ap, refl, get_or, drop, arith, ◌≡◌, ℕ, ◌<◌, ◌^◌, ◌==◌, ◌&&◌, not, if◌then◌else◌, true, false, List, [], ◌∷◌, ◌++◌, length, decimal, Option, Some, None, IsTrue}
 use Rattle.std.proofs.lemmas.Bool.{and_parts}
 use Rattle.std.proofs.lemmas.Bool.Decides.{nat_tests}
 use Rattle.std.proofs.lemmas.Fmt.{decimal_injective}

@@ -1,8 +1,7 @@
 -- Rows whose cell stands in an earlier row: what the set of the earlier cells answers, and that a list without such a
 -- row has distinct cells. For `first_repeat` and `Batch::new`.
-use Rattle.std.proofs.Common.{◌≡◌, ℕ, ◌+◌, ◌<◌, ◌≤◌, Bool, true, false, cond, List, [], ◌∷◌, ◌++◌, refl, ap, sym, ◌∙◌, subst, take, drop, get_or, arith, length-take-le}
+use Rattle.std.proofs.Common.{◌≡◌, ℕ, ◌+◌, ◌<◌, ◌≤◌, Bool, true, false, cond, List, [], ◌∷◌, ◌++◌, refl, ap, sym, ◌∙◌, subst, take, drop, get_or, arith, length-take-le, ◌&&◌, ◌||◌, not, if◌then◌else◌, length, Option, Some, None, is_none}
 use Rattle.std.proofs.lemmas.List.{take_more, drop_more}
-use Rattle.std.specs.Prelude.{◌&&◌, ◌||◌, not, if◌then◌else◌, length, Option, Some, None, is_none}
 use Rattle.std.specs.List.{list_any, list_all}
 use Rattle.std.specs.BTreeSet as set
 use Rattle.std.specs.Ordering.{is_eq, is_lt}

@@ -1,6 +1,5 @@
 -- Which number within limits a text spells, as the reader of numbers finds it. For number_between.
-use Rattle.std.proofs.Common.{◌≡◌, ◌∙◌, ap, sym, refl, ℕ, ◌<◌, ◌^◌, List, Bool, true, false, arith, Option, Some, None}
-use Rattle.std.specs.Prelude.{bytes_eq, decimal, option_and_then, IsTrue}
+use Rattle.std.proofs.Common.{◌≡◌, ◌∙◌, ap, sym, refl, ℕ, ◌<◌, ◌^◌, List, Bool, true, false, arith, Option, Some, None, bytes_eq, decimal, option_and_then, IsTrue}
 use Rattle.std.specs.Str.Parse.{digits_value}
 use Rattle.allotment.specs.Limits.{is_between}
 use Rattle.allotment.specs.Texts.{keep_if, number_from, number_in}

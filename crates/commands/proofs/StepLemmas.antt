@@ -1,7 +1,6 @@
 -- Where the text of a step and its option is cut. For the reader of steps.
-use Rattle.std.specs.Prelude.{◌≡◌, ℕ, List, decimal, Option, MatchOption, IsTrue}
 use Rattle.std.specs.Borrow.{Bor}
-use Rattle.std.proofs.Common.{arith}
+use Rattle.std.proofs.Common.{arith, ◌≡◌, ℕ, List, decimal, Option, MatchOption, IsTrue}
 use Rattle.std.proofs.lemmas.Bool.{and_parts}
 use Rattle.std.proofs.lemmas.Str.Pattern.{IsSplitOnceResult, split_after}
 use Rattle.allotment.specs.Limits.{is_between}

@@ -1,7 +1,6 @@
 -- The texts of three, five or seven words, one by one. For the readers of replies by their words.
-use Rattle.std.specs.Prelude.{◌≡◌, ◌≢◌, ℕ, suc, true, false, not, List, [], ◌∷◌, codes, length, bytes_eq}
 use Rattle.std.specs.Borrow.{Bor}
-use Rattle.std.proofs.Common.{get_or, refl, sym, ap, ◌∙◌, arith}
+use Rattle.std.proofs.Common.{get_or, refl, sym, ap, ◌∙◌, arith, ◌≡◌, ◌≢◌, ℕ, suc, true, false, not, List, [], ◌∷◌, codes, length, bytes_eq}
 use Rattle.std.proofs.lemmas.Slice.Eq.{bytes_eq-Decides}
 use Rattle.commands.specs.declared.items.Phase.TheVariants.{Run, Back, Ended, Undone}
 use Rattle.commands.specs.declared.replies.Reply.TheVariants.{Loaded, Begun, Moved, Refused}

@@ -1,6 +1,5 @@
 -- The outcome of messages and demands. For the answer to one message.
-use Rattle.std.proofs.Common.{◌≡◌, ◌∙◌, ap, sym, subst, refl, inl, inr, ℕ, List, Bool, true, false, ◌&&◌, ◌||◌}
-use Rattle.std.specs.Prelude.{Option, None, Result, Ok, Err, IfOk, IfErr, is_some, not, codes}
+use Rattle.std.proofs.Common.{◌≡◌, ◌∙◌, ap, sym, subst, refl, inl, inr, ℕ, List, Bool, true, false, ◌&&◌, ◌||◌, Option, None, Result, Ok, Err, IfOk, IfErr, is_some, not, codes}
 use Rattle.ledger.specs.Answer.{State}
 use Rattle.http_messages.specs.Requests.{IsRequest, IsTaken}
 use Rattle.http_messages.specs.Heads.{Parts, asks_to_close, is_method, is_unnamed, parts_of}

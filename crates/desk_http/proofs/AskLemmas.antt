@@ -1,7 +1,6 @@
 -- The text of an ask is the target of its message, a line feed and the body, and a message of a stream has short ones. For the law,
 -- and for that of both ways of HTTP.
-use Rattle.std.proofs.Common.{◌≡◌, ◌≤◌, ◌+◌, ap, sym, refl, ℕ, suc, List, [], ◌∷◌, ◌++◌, Bool, true, false, length, arith, length-append}
-use Rattle.std.specs.Prelude.{Option, Some, None, Result, Ok, Err, codes, if◌then◌else◌, nat_le}
+use Rattle.std.proofs.Common.{◌≡◌, ◌≤◌, ◌+◌, ap, sym, refl, ℕ, suc, List, [], ◌∷◌, ◌++◌, Bool, true, false, length, arith, length-append, Option, Some, None, Result, Ok, Err, codes, if◌then◌else◌, nat_le}
 use Rattle.std.proofs.lemmas.Bool.{leb-true}
 use Rattle.httparse.specs.Grammar.{RequestHead, print_blank, print_end, print_request, print_section, print_version}
 use Rattle.allotment.specs.Making.{unless}

@@ -1,6 +1,5 @@
 -- A body that is refused. For demand_by.
-use Rattle.std.proofs.Common.{◌≡◌, ap}
-use Rattle.std.specs.Prelude.{Result, Ok, Err}
+use Rattle.std.proofs.Common.{◌≡◌, ap, Result, Ok, Err}
 use Rattle.commands.specs.Request.{Request}
 use Rattle.commands.specs.declared.replies.Refusal.{Refusal}
 use Rattle.http_pages.specs.Admitting.{plain}

@@ -1,6 +1,5 @@
 -- The own journeys of who asks, found one after another. For mine_above.
-use Rattle.std.proofs.Common.{◌≡◌, ◌∙◌, ap, sym, refl, ℕ, zero, suc, List, [], ◌∷◌, ◌++◌, take, Bool, Some, None, append_assoc}
-use Rattle.std.specs.Prelude.{bytes_eq}
+use Rattle.std.proofs.Common.{◌≡◌, ◌∙◌, ap, sym, refl, ℕ, zero, suc, List, [], ◌∷◌, ◌++◌, take, Bool, Some, None, append_assoc, bytes_eq}
 use Rattle.ledger.specs.Ledger.{Event}
 use Rattle.saga_core.specs.Views.{first_owned, is_owned_above}
 use Rattle.saga_core.specs.declared.records.Brief.{Brief}

@@ -1,6 +1,5 @@
 -- What is read of a JSON text as a plan is the value of the text. For the readers of plans in texts.
-use Rattle.std.proofs.Common.{◌≡◌, ℕ, ◌+◌, ◌^◌, ◌<◌, Bool, false, List, [], ◌∷◌, ◌++◌, map, length, take, get_or, refl, sym, ap, subst, ◌∙◌, arith, ◌≤◌, Option, Some, None, Ok, Err, Vec, Less, Greater, decimal}
-use Rattle.std.specs.Prelude.{if◌then◌else◌, bytes_eq, codes, nat_le, option_map, option_and_then, IfSome}
+use Rattle.std.proofs.Common.{◌≡◌, ℕ, ◌+◌, ◌^◌, ◌<◌, Bool, false, List, [], ◌∷◌, ◌++◌, map, length, take, get_or, refl, sym, ap, subst, ◌∙◌, arith, ◌≤◌, Option, Some, None, Ok, Err, Vec, Less, Greater, decimal, if◌then◌else◌, bytes_eq, codes, nat_le, option_map, option_and_then, IfSome}
 use Rattle.std.specs.Borrow.{Bor}
 use Rattle.std.specs.Ordering.{nat_cmp}
 use Rattle.std.specs.Cmp.Lexicographic.{slice_cmp}

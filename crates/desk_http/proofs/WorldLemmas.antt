@@ -1,6 +1,5 @@
 -- How an execution continues with the messages of a connection. For serve.
-use Rattle.std.proofs.Common.{◌≡◌, ◌≤◌, ◌∙◌, ap, sym, subst, refl, inl, inr, arith, List, [], ◌∷◌, ◌++◌, ℕ, Bool, true, false, if◌then◌else◌, length, append_assoc, append-nil, IsTrue}
-use Rattle.std.specs.Prelude.{Option, Some, None, Result, Ok, Err, IfOk, IfErr, IfSome, codes}
+use Rattle.std.proofs.Common.{◌≡◌, ◌≤◌, ◌∙◌, ap, sym, subst, refl, inl, inr, arith, List, [], ◌∷◌, ◌++◌, ℕ, Bool, true, false, if◌then◌else◌, length, append_assoc, append-nil, IsTrue, Option, Some, None, Result, Ok, Err, IfOk, IfErr, IfSome, codes}
 use Rattle.serde_json.specs.Data.{Data}
 use Rattle.plan.specs.PlanModel.{Planned}
 use Rattle.plan.specs.PlanJson.{plan_in_json}

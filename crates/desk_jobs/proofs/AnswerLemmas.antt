@@ -1,8 +1,8 @@
 -- A run that ends early wrote a prefix of the answers to all lines. For run_over.
-use Rattle.std.proofs.Common.{◌≡◌, ◌∙◌, ap, sym, subst, refl, min, ◌+◌, List, [], ◌∷◌, ◌++◌, ℕ, length, take, append_assoc, arith, Option}
+use Rattle.std.proofs.Common.{◌≡◌, ◌∙◌, ap, sym, subst, refl, min, ◌+◌, List, [], ◌∷◌, ◌++◌, ℕ, length, take, append_assoc, arith, Option, IfSome, None, Some}
 use Rattle.std.proofs.lemmas.List.{take_min}
 use Rattle.std.proofs.Math.Seq.{take-append-add, take-append-le}
-use Rattle.std.specs.Prelude.{⊤, IfSome, None, Some}
+use Rattle.std.specs.Prelude.{⊤}
 use Rattle.std.specs.Io.KnownBytes.{Appends}
 use Rattle.ledger.specs.Answer.{State}
 use Rattle.streams.specs.Written.{WroteFront}

@@ -1,6 +1,5 @@
 -- How a load ends, from what it came to and what was written. For load_over.
-use Rattle.std.proofs.Common.{subst, inl, inr, ℕ, List, Option, Result}
-use Rattle.std.specs.Prelude.{Ok, Err}
+use Rattle.std.proofs.Common.{subst, inl, inr, ℕ, List, Option, Result, Ok, Err}
 use Rattle.commands.specs.BatchData.{Batched}
 use Rattle.commands.specs.declared.replies.Reply.{Reply}
 use Rattle.commands.specs.declared.replies.Reply.TheVariants as reply

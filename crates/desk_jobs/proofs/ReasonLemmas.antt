@@ -1,6 +1,5 @@
 -- A book over a connection from which a job may start may recover, and what is said of a book is said of its connection. For the jobs.
-use Rattle.std.proofs.Common.{◌≡◌, ◌≢◌, ◌≤◌, ◌+◌, ◌⊎◌, ◌∙◌, inl, inr, ℕ, suc, [], ◌∷◌, ◌++◌, length, take, refl, ap, sym, subst, arith, append-nil, Option, Some, None, Result, Ok, Err}
-use Rattle.std.specs.Prelude.{IfSome}
+use Rattle.std.proofs.Common.{◌≡◌, ◌≢◌, ◌≤◌, ◌+◌, ◌⊎◌, ◌∙◌, inl, inr, ℕ, suc, [], ◌∷◌, ◌++◌, length, take, refl, ap, sym, subst, arith, append-nil, Option, Some, None, Result, Ok, Err, IfSome}
 use Rattle.sqlite.specs.Store.{Ghosts}
 use Rattle.sqlite.specs.Effect.{Database}
 use Rattle.sqlite.specs.Held.{Held, state}

@@ -1,6 +1,5 @@
 -- The answers of a desk that was recovered are those over the recovery of what its connection represented. For run_over.
-use Rattle.std.proofs.Common.{◌≤◌, inl, inr, sym, subst, ℕ, List, Option}
-use Rattle.std.specs.Prelude.{IfSome, None, Some}
+use Rattle.std.proofs.Common.{◌≤◌, inl, inr, sym, subst, ℕ, List, Option, IfSome, None, Some}
 use Rattle.ledger.specs.Answer.{State}
 use Rattle.recovery.specs.Growing.{Grew, room_of, with_events}
 use Rattle.recovery.specs.Recovers.{AreRecovery, HasOneRecovery, IsRecovery}

@@ -1,6 +1,5 @@
 -- The states after a command that failed. For the answer to one line.
-use Rattle.std.proofs.Common.{inl, Global}
-use Rattle.std.specs.Prelude.{None, Err, Ok}
+use Rattle.std.proofs.Common.{inl, Global, None, Err, Ok}
 use Rattle.commands.specs.Request.{Request}
 use Rattle.commands.specs.declared.replies.Fault.{Fault}
 use Rattle.commands.specs.declared.replies.Fault.TheVariants.{Memory, Store}

@@ -1,6 +1,5 @@
 -- Taking one line of the bytes after another. For next_line.
-use Rattle.std.proofs.Common.{◌≡◌, ◌∙◌, ap, sym, refl, ◌||◌, ◌+◌, ◌≤◌, ◌<◌, List, [], ◌∷◌, ◌++◌, ℕ, Bool, true, false, length, append_assoc, append-nil, arith, true≢false, subst, inl, inr, take, drop, take-append-drop, lt-ltb, length-take, drop_of_length-le, ap₂, eqb-true, ◌-◌}
-use Rattle.std.specs.Prelude.{Option, Some, None, nat_lt}
+use Rattle.std.proofs.Common.{◌≡◌, ◌∙◌, ap, sym, refl, ◌||◌, ◌+◌, ◌≤◌, ◌<◌, List, [], ◌∷◌, ◌++◌, ℕ, Bool, true, false, length, append_assoc, append-nil, arith, true≢false, subst, inl, inr, take, drop, take-append-drop, lt-ltb, length-take, drop_of_length-le, ap₂, eqb-true, ◌-◌, Option, Some, None, nat_lt}
 use Rattle.std.specs.List.{position, position_or_len}
 use Rattle.std.proofs.lemmas.Bool.{cases_lt}
 use Rattle.std.proofs.lemmas.List.{drop-drop, drop-take, drop_more, get_or-take}

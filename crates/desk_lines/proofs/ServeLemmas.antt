@@ -1,6 +1,5 @@
 -- A run over lines answers one line after another, until the input ends or a fault comes. For run_lines.
-use Rattle.std.proofs.Common.{◌≡◌, ◌∙◌, ap, sym, subst, refl, inl, ◌+◌, List, [], ◌∷◌, ◌++◌, ℕ, true, false, length, take, append_assoc, append-nil, length-append, Option, String, Global}
-use Rattle.std.specs.Prelude.{Some, None, Ok, Err}
+use Rattle.std.proofs.Common.{◌≡◌, ◌∙◌, ap, sym, subst, refl, inl, ◌+◌, List, [], ◌∷◌, ◌++◌, ℕ, true, false, length, take, append_assoc, append-nil, length-append, Option, String, Global, Some, None, Ok, Err}
 use Rattle.std.specs.String.{string_bytes}
 use Rattle.std.specs.Io.KnownBytes.{Appends}
 use Rattle.ledger.specs.Answer.{State}

@@ -1,6 +1,5 @@
 -- Rows that could not be started: nothing has changed, and the failure has a reason. For the functions of `handing`.
-use Rattle.std.proofs.Common.{ℕ, List, Result, Ok, Err}
-use Rattle.std.specs.Prelude.{OnErr}
+use Rattle.std.proofs.Common.{ℕ, List, Result, Ok, Err, OnErr}
 use Rattle.sqlite.specs.declared.error.Error.{Error}
 use Rattle.sqlite_value.specs.declared.keys.Key.{Key}
 use Rattle.sqlite.specs.Order.{Row}

@@ -1,7 +1,6 @@
 -- Why a read of the desk's tables fails: out of memory, or the disk failed. Each other error that the store names is shut
 -- out, by what the text means under the desk's schema.
-use Rattle.std.proofs.Common.{◌≡◌, ◌≢◌, ◌<◌, ◌≤◌, inl, inr, ℕ, List, [], length, append-nil, Bool, true, false, Ok, Err, Result, sym, ap, subst, ◌∙◌, arith}
-use Rattle.std.specs.Prelude.{nat_le, ◌==◌, ◌&&◌, IsSome}
+use Rattle.std.proofs.Common.{◌≡◌, ◌≢◌, ◌<◌, ◌≤◌, inl, inr, ℕ, List, [], length, append-nil, Bool, true, false, Ok, Err, Result, sym, ap, subst, ◌∙◌, arith, nat_le, ◌==◌, ◌&&◌, IsSome}
 use Rattle.std.proofs.lemmas.Bool.{and_parts}
 use Rattle.std.proofs.lemmas.Bool.Decides.{nat_tests}
 use Rattle.sqlite.specs.declared.types.Value.{Value}

@@ -1,6 +1,5 @@
 -- When the rules of SQL allow an UPDATE that keeps each row's rowid and keys. For the lemmas of each statement that updates.
-use Rattle.std.proofs.Common.{◌≡◌, ◌≢◌, ◌<ℤ◌, inl, inr, ℕ, ℤ, List, [], ◌∷◌, map, filter, drop, length, Bool, true, false, not, ◌&&◌, ◌||◌, ◌==◌, if◌then◌else◌, Less, Equal, Greater, is_eq, refl, sym, ap, subst, ◌∙◌, arith}
-use Rattle.std.specs.Prelude.{nat_lt}
+use Rattle.std.proofs.Common.{◌≡◌, ◌≢◌, ◌<ℤ◌, inl, inr, ℕ, ℤ, List, [], ◌∷◌, map, filter, drop, length, Bool, true, false, not, ◌&&◌, ◌||◌, ◌==◌, if◌then◌else◌, Less, Equal, Greater, is_eq, refl, sym, ap, subst, ◌∙◌, arith, nat_lt}
 use Rattle.std.specs.List.{AllByRecursion, IsDistinct, list_all}
 use Rattle.std.specs.List.Sorted.{IsPermutation}
 use Rattle.std.proofs.lemmas.Bool.{cases_Bool, ne_eqb, or_cases, or_left, or_right, and_from, false_from_ne_true}

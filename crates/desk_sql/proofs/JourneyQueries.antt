@@ -1,6 +1,5 @@
 -- The queries on journeys. For `find_journey`, `first_unfinished` and `first_owned`.
-use Rattle.std.proofs.Common.{◌≡◌, ℕ, Bool, List, [], ◌∷◌, filter, refl, ◌∙◌}
-use Rattle.std.specs.Prelude.{string_bytes, option_map}
+use Rattle.std.proofs.Common.{◌≡◌, ℕ, Bool, List, [], ◌∷◌, filter, refl, ◌∙◌, string_bytes, option_map}
 use Rattle.sqlite.specs.declared.types.Value.TheVariants.{Text}
 use Rattle.sqlite.specs.Order.{Row}
 use Rattle.sqlite.specs.Term.{Term, col}

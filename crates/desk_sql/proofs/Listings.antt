@@ -1,6 +1,6 @@
 -- The queries for the rows of a journey. For `find_items`, `find_marks`, `find_steps` and `find_options`.
-use Rattle.std.proofs.Common.{◌≡◌, ◌⊎◌, inl, inr, ℕ, ℤ, ◌<◌, ◌≤◌, ◌==◌, eqb-true, [], ◌∷◌, map, filter, false, Equal, is_lt, refl, ◌∙◌}
-use Rattle.std.specs.Prelude.{string_bytes, nat_lt, ⊤}
+use Rattle.std.proofs.Common.{◌≡◌, ◌⊎◌, inl, inr, ℕ, ℤ, ◌<◌, ◌≤◌, ◌==◌, eqb-true, [], ◌∷◌, map, filter, false, Equal, is_lt, refl, ◌∙◌, string_bytes, nat_lt}
+use Rattle.std.specs.Prelude.{⊤}
 use Rattle.std.proofs.lemmas.Bool.{and_parts}
 use Rattle.std.specs.Ordering.{ordering_then}
 use Rattle.sqlite.specs.declared.types.Value.TheVariants.{Text}

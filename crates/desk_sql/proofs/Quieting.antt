@@ -1,7 +1,6 @@
 -- Quiet calls, one after another, are quiet, and a transaction that goes on after each of two writes goes on after both. For the
 -- functions that read or write, here and in the crates above.
-use Rattle.std.proofs.Common.{◌≡◌, ◌≤◌, ◌⊎◌, ◌+◌, ℕ, List, inl, inr, true, false, refl, sym, ◌∙◌, IsTrue, Result, Ok, Err, arith}
-use Rattle.std.specs.Prelude.{min, ◌^◌, ◌-◌, OnOk}
+use Rattle.std.proofs.Common.{◌≡◌, ◌≤◌, ◌⊎◌, ◌+◌, ℕ, List, inl, inr, true, false, refl, sym, ◌∙◌, IsTrue, Result, Ok, Err, arith, min, ◌^◌, ◌-◌, OnOk}
 use Rattle.std.specs.Borrow.{MutBor}
 use Rattle.std.proofs.lemmas.Bool.{cases_Bool}
 use Rattle.sqlite.specs.Order.{Row}

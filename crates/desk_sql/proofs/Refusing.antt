@@ -1,7 +1,6 @@
 -- Why a write of the desk's tables fails: out of memory, or the disk failed. Each other error that the store names is shut
 -- out, if the rules of SQL allow the edit.
-use Rattle.std.proofs.Common.{◌≡◌, inl, inr, ℕ, ℤ, zero, suc, ◌/◌, List, [], ◌∷◌, length, length-append, append-nil, slice_get, Bool, true, false, ◌||◌, if◌then◌else◌, Option, None, Some, Ok, Err, Result, IfErr, sym, ap, subst, ◌∙◌, arith}
-use Rattle.std.specs.Prelude.{IsSome}
+use Rattle.std.proofs.Common.{◌≡◌, inl, inr, ℕ, ℤ, zero, suc, ◌/◌, List, [], ◌∷◌, length, length-append, append-nil, slice_get, Bool, true, false, ◌||◌, if◌then◌else◌, Option, None, Some, Ok, Err, Result, IfErr, sym, ap, subst, ◌∙◌, arith, IsSome}
 use Rattle.sqlite.specs.declared.types.Value.TheVariants.{Null}
 use Rattle.sqlite.specs.declared.error.Error.{Error}
 use Rattle.sqlite_trees.specs.declared.error.StoreError.{StoreError}

@@ -1,6 +1,6 @@
 -- The DELETE of a save-point: no rule refuses the removal of a row that no other row refers to. For `delete_mark`.
-use Rattle.std.proofs.Common.{◌≡◌, ◌≢◌, ℕ, ℤ, List, [], ◌∷◌, filter, length, inl, inr, true, false, not, ◌||◌, refl, sym, ap, ◌∙◌, arith}
-use Rattle.std.specs.Prelude.{nat_lt, ⊤}
+use Rattle.std.proofs.Common.{◌≡◌, ◌≢◌, ℕ, ℤ, List, [], ◌∷◌, filter, length, inl, inr, true, false, not, ◌||◌, refl, sym, ap, ◌∙◌, arith, nat_lt}
+use Rattle.std.specs.Prelude.{⊤}
 use Rattle.std.specs.List.{AllByRecursion, list_all, list_any}
 use Rattle.std.proofs.lemmas.Bool.{or_right}
 use Rattle.sqlite.specs.Order.{Row}

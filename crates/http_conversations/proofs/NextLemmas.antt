@@ -1,6 +1,5 @@
 -- What a step of a conversation is for the stream of bytes that is still to come. For answer_next.
-use Rattle.std.proofs.Common.{◌≡◌, ◌∙◌, ap, sym, subst, refl, inl, inr, List, [], ◌∷◌, ◌++◌, ℕ, Bool, true, false, if◌then◌else◌, length, take, drop, append_assoc, append-nil, Option}
-use Rattle.std.specs.Prelude.{Some, None, Ok, Err, option_map}
+use Rattle.std.proofs.Common.{◌≡◌, ◌∙◌, ap, sym, subst, refl, inl, inr, List, [], ◌∷◌, ◌++◌, ℕ, Bool, true, false, if◌then◌else◌, length, take, drop, append_assoc, append-nil, Option, Some, None, Ok, Err, option_map}
 use Rattle.std.specs.Io.KnownBytes.{Consumes, IsAtEnd}
 use Rattle.std.proofs.lemmas.List.{take-append-drop}
 use Rattle.ledger.specs.Answer.{State}

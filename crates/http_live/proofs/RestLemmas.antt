@@ -1,6 +1,5 @@
 -- What a connection waits for, and how serving ends. For Connection::serve and take_turn.
-use Rattle.std.proofs.Common.{◌≡◌, ◌≢◌, Bool, true, false, [], Ok, refl, sym, subst, inl, inr}
-use Rattle.std.specs.Prelude.{IsTrue}
+use Rattle.std.proofs.Common.{◌≡◌, ◌≢◌, Bool, true, false, [], Ok, refl, sym, subst, inl, inr, IsTrue}
 use Rattle.http_conversations.specs.History.{HasNoTurn, History}
 use Rattle.http_conversations.proofs.CallLemmas.{nothing_pending}
 use Rattle.http_live.specs.Endings.{ending_after, ends_stopped, is_stop}

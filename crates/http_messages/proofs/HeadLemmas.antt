@@ -1,6 +1,5 @@
 -- What httparse reads of a decided prefix. For Head::read and next_message.
-use Rattle.std.proofs.Common.{◌≡◌, ◌∙◌, ap, sym, subst, ℕ, ◌≤◌, List, [], ◌++◌, length, take, drop, take-append-drop, append-nil, append_assoc, arith, Some, true, inl, inr, length-append}
-use Rattle.std.specs.Prelude.{◌==◌}
+use Rattle.std.proofs.Common.{◌≡◌, ◌∙◌, ap, sym, subst, ℕ, ◌≤◌, List, [], ◌++◌, length, take, drop, take-append-drop, append-nil, append_assoc, arith, Some, true, inl, inr, length-append, ◌==◌}
 use Rattle.std.proofs.lemmas.Bool.{cases_lt}
 use Rattle.std.proofs.lemmas.List.{length-take-le, take_all, take-take, length-take, length-map}
 use Rattle.httparse.specs.declared.spans.HeaderSpan.{HeaderSpan}

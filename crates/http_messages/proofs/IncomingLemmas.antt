@@ -1,6 +1,5 @@
 -- What is buffered, and what of it is a message. For Incoming.
-use Rattle.std.proofs.Common.{◌≡◌, ◌∙◌, ap, sym, subst, refl, ℕ, suc, ◌+◌, ◌<◌, ◌≤◌, Bool, true, false, List, [], ◌∷◌, ◌++◌, map, length, take, drop, take-append-drop, append-nil, append_assoc, arith, length-append, length-drop}
-use Rattle.std.specs.Prelude.{find, if◌then◌else◌, IsSome, None, OnErr, Option, Some, Result, Ok, Err}
+use Rattle.std.proofs.Common.{◌≡◌, ◌∙◌, ap, sym, subst, refl, ℕ, suc, ◌+◌, ◌<◌, ◌≤◌, Bool, true, false, List, [], ◌∷◌, ◌++◌, map, length, take, drop, take-append-drop, append-nil, append_assoc, arith, length-append, length-drop, find, if◌then◌else◌, IsSome, None, OnErr, Option, Some, Result, Ok, Err}
 use Rattle.std.specs.Io.KnownBytes.{Consumes, IsAtEnd, Keeps}
 use Rattle.std.proofs.lemmas.List.{drop-drop, length-take-le, take-append-le, take_all}
 use Rattle.httparse.specs.Grammar.{RequestHead}

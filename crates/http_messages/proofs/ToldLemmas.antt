@@ -1,6 +1,5 @@
 -- A head is decided where it ends, and not before.
-use Rattle.std.proofs.Common.{◌≡◌, ℕ, zero, suc, ◌-◌, ◌<◌, ◌≤◌, Bool, true, false, not, ◌&&◌, ◌||◌, ◌==◌, List, [], ◌∷◌, ◌++◌, map, length, take, drop, refl, sym, ap, subst, ◌∙◌, arith, append_assoc}
-use Rattle.std.specs.Prelude.{flat_map, find, nat_eq, bytes_eq, if◌then◌else◌, IsTrue, Some, None}
+use Rattle.std.proofs.Common.{◌≡◌, ℕ, zero, suc, ◌-◌, ◌<◌, ◌≤◌, Bool, true, false, not, ◌&&◌, ◌||◌, ◌==◌, List, [], ◌∷◌, ◌++◌, map, length, take, drop, refl, sym, ap, subst, ◌∙◌, arith, append_assoc, flat_map, find, nat_eq, bytes_eq, if◌then◌else◌, IsTrue, Some, None}
 use Rattle.std.proofs.Math.Seq.{drop-append_seam}
 use Rattle.http_messages.specs.Heads.{IsHead, most_head_bytes}
 use Rattle.std.specs.List.{list_any, list_all, ends_with, AllByRecursion}

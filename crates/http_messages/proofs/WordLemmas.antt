@@ -1,6 +1,5 @@
 -- Bytes that are not UTF-8 spell no agent and no key. For agent_in and key_in.
-use Rattle.std.proofs.Common.{◌≡◌, ℕ, zero, suc, ◌<◌, Bool, true, false, List, [], ◌∷◌, refl, arith, Bor}
-use Rattle.std.specs.Prelude.{IsUtf8, MatchResult, None, Result, Ok, Err}
+use Rattle.std.proofs.Common.{◌≡◌, ℕ, zero, suc, ◌<◌, Bool, true, false, List, [], ◌∷◌, refl, arith, Bor, IsUtf8, MatchResult, None, Result, Ok, Err}
 use Rattle.std.specs.List.{list_all}
 use Rattle.std.specs.Result.{result_ok}
 use Rattle.std.specs.Str.{IsAscii}

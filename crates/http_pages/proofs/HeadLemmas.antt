@@ -1,6 +1,5 @@
 -- The lines of a head, one after another. For the head of a page.
-use Rattle.std.specs.Prelude.{◌≡◌, ℕ, List, [], ◌∷◌, ◌++◌, codes}
-use Rattle.std.proofs.Common.{append_assoc}
+use Rattle.std.proofs.Common.{append_assoc, ◌≡◌, ℕ, List, [], ◌∷◌, ◌++◌, codes}
 use Rattle.http_pages.specs.Pages.{line}
 
 -- texts in one piece are these texts in lines, each with the same end

@@ -1,6 +1,5 @@
 -- The JSON value of a plan, step by step and option by option. It contains no float.
-use Rattle.std.specs.Prelude.{◌≡◌, ℕ, ◌+◌, ◌<◌, zero, suc, false, List, [], ◌∷◌, ◌++◌, map, take, length, slice_get, Option, Some, None}
-use Rattle.std.proofs.Common.{refl, ap, sym, ◌∙◌, add-one, arith}
+use Rattle.std.proofs.Common.{refl, ap, sym, ◌∙◌, add-one, arith, ◌≡◌, ℕ, ◌+◌, ◌<◌, zero, suc, false, List, [], ◌∷◌, ◌++◌, map, take, length, slice_get, Option, Some, None}
 use Rattle.serde_json.specs.View.{items_of}
 use Rattle.serde_json.specs.Written.{has_float, items_have_float}
 use Rattle.allotment.specs.Want.{Wanted}

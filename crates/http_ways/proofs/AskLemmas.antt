@@ -1,6 +1,5 @@
 -- The text of an ask that bytes make by a way is no longer than a head and a body. For the law.
-use Rattle.std.proofs.Common.{◌≡◌, ◌≤◌, ◌∙◌, ap, sym, ℕ, List, [], ◌++◌, Bool, true, false, length, arith, inl, inr}
-use Rattle.std.specs.Prelude.{Some, None, drop, take, ◌-◌, if◌then◌else◌}
+use Rattle.std.proofs.Common.{◌≡◌, ◌≤◌, ◌∙◌, ap, sym, ℕ, List, [], ◌++◌, Bool, true, false, length, arith, inl, inr, Some, None, drop, take, ◌-◌, if◌then◌else◌}
 use Rattle.std.proofs.lemmas.List.{length-drop, length-take}
 use Rattle.http_messages.specs.Heads.{Parts, host_of, parts_of}
 use Rattle.http_messages.specs.Messages as sent

@@ -1,6 +1,6 @@
 -- Some head has the parts that the profile would have of a wide request. For first_wide.
-use Rattle.std.proofs.Common.{◌≡◌, ◌∙◌, ap, ap₂, refl, ℕ, Bool, true, false, List, [], ◌∷◌, ◌++◌, map, length, reverse, arith}
-use Rattle.std.specs.Prelude.{◌&&◌, ◌==◌, ⊤, codes, filter, not, if◌then◌else◌, slice_range, slice_index}
+use Rattle.std.proofs.Common.{◌≡◌, ◌∙◌, ap, ap₂, refl, ℕ, Bool, true, false, List, [], ◌∷◌, ◌++◌, map, length, reverse, arith, ◌&&◌, ◌==◌, codes, filter, not, if◌then◌else◌, slice_range, slice_index}
+use Rattle.std.specs.Prelude.{⊤}
 use Rattle.std.specs.Char.{is_ascii_hexdigit}
 use Rattle.std.proofs.lemmas.Bool.Decides.{nat_tests}
 use Rattle.std.proofs.lemmas.List.Elements.{All-head}

@@ -1,6 +1,5 @@
 -- What is shown for the message that is meant, and its page. For shown_for and answer_by.
-use Rattle.std.proofs.Common.{◌≡◌, ◌∙◌, ap, ap₂, sym, subst, refl, inr, ℕ, Bool, List, Option, Result, Ok, Err, IfOk}
-use Rattle.std.specs.Prelude.{IfErr, if◌then◌else◌, is_some}
+use Rattle.std.proofs.Common.{◌≡◌, ◌∙◌, ap, ap₂, sym, subst, refl, inr, ℕ, Bool, List, Option, Result, Ok, Err, IfOk, IfErr, if◌then◌else◌, is_some}
 use Rattle.commands.specs.declared.replies.Refusal.{Refusal}
 use Rattle.ledger.specs.Answer.{State}
 use Rattle.http_messages.specs.Heads.{Parts, parts_of}

@@ -1,6 +1,5 @@
 -- What the profile reads in the fields of a plain request. For Head::request.
-use Rattle.std.proofs.Common.{◌≡◌, ◌∙◌, ap, sym, refl, ℕ, ◌<◌, ◌≤◌, Bool, true, false, ◌&&◌, ◌==◌, List, [], ◌∷◌, ◌++◌, map, length, append-nil, arith, None}
-use Rattle.std.specs.Prelude.{◌^◌, bytes_eq, codes, if◌then◌else◌, not, nat_le, option_and_then}
+use Rattle.std.proofs.Common.{◌≡◌, ◌∙◌, ap, sym, refl, ℕ, ◌<◌, ◌≤◌, Bool, true, false, ◌&&◌, ◌==◌, List, [], ◌∷◌, ◌++◌, map, length, append-nil, arith, None, ◌^◌, bytes_eq, codes, if◌then◌else◌, not, nat_le, option_and_then}
 use Rattle.std.specs.Char.{digit_char, digit_value}
 use Rattle.std.specs.List.{list_all, list_any}
 use Rattle.std.specs.Str.Parse.{AllDigits}

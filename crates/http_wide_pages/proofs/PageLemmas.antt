@@ -1,7 +1,7 @@
 -- The lines of pages, one after another. For the pages of the reader and wide_page.
-use Rattle.std.specs.Prelude.{◌≡◌, ℕ, true, List, [], ◌∷◌, ◌++◌, codes, decimal, length, take, unwrap_or, refl}
+use Rattle.std.specs.Prelude.{unwrap_or, refl}
 use Rattle.std.specs.Fmt.{digits}
-use Rattle.std.proofs.Common.{◌∙◌, ap, append-nil, append_assoc, sym}
+use Rattle.std.proofs.Common.{◌∙◌, ap, append-nil, append_assoc, sym, ◌≡◌, ℕ, true, List, [], ◌∷◌, ◌++◌, codes, decimal, length, take}
 use Rattle.http_messages.specs.Messages.{first_told}
 use Rattle.http_messages.specs.Places.{IsToldAt}
 use Rattle.http_messages.proofs.HeadLemmas.{first_of_told}

@@ -1,9 +1,9 @@
 -- How many places of a cell are allotted, as events come. For the law that no cell is overfull.
-use Rattle.std.proofs.Common.{◌≡◌, ℕ, ◌≤◌, List, [], ◌∷◌, ◌++◌, refl, ap, sym, ◌∙◌, subst, append-nil}
+use Rattle.std.proofs.Common.{◌≡◌, ℕ, ◌≤◌, List, [], ◌∷◌, ◌++◌, refl, ap, sym, ◌∙◌, subst, append-nil, Bool, true, false, nat_le, Option, option_map, filter, flat_map, cond}
 use Rattle.std.proofs.lemmas.Bool.{leb-true, and_parts}
 use Rattle.std.proofs.lemmas.Grind.{flat_map-append}
 use Rattle.std.proofs.lemmas.List.Elements.{filter-append}
-use Rattle.std.specs.Prelude.{Bool, true, false, nat_le, Option, option_map, unwrap_or, filter, flat_map, cond}
+use Rattle.std.specs.Prelude.{unwrap_or}
 use Rattle.std.specs.List.{list_all}
 use Rattle.allotment.specs.Cells.{is_cell}
 use Rattle.allotment.specs.declared.cells.Cell.{Cell}

@@ -1,7 +1,7 @@
 -- The event of an answer is allowed. For worlds, and for each book that answers.
-use Rattle.std.proofs.Common.{◌≡◌, ℕ, List, [], ◌∷◌, length, refl, ap, ◌∙◌}
+use Rattle.std.proofs.Common.{◌≡◌, ℕ, List, [], ◌∷◌, length, refl, ap, ◌∙◌, Bool, true, false, not, ◌&&◌, ◌==◌, nat_le, Option, Some, None, is_some, option_map, option_and_then, find, position, if◌then◌else◌, IsTrue}
 use Rattle.std.proofs.lemmas.Bool.{and_from}
-use Rattle.std.specs.Prelude.{Bool, true, false, not, ◌&&◌, ◌==◌, nat_le, Option, Some, None, is_some, option_map, option_and_then, unwrap_or, find, position, if◌then◌else◌, IsTrue}
+use Rattle.std.specs.Prelude.{unwrap_or}
 use Rattle.allotment.specs.declared.cells.Row.{Row}
 use Rattle.plan.specs.PlanModel.{Planned}
 use Rattle.commands.specs.Request.{Request, Load, Begin, Step, Abort, Stop, Save}

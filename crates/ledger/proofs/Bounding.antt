@@ -1,9 +1,9 @@
 -- The turns of recovery, and the steps that are left after them, are within the bound of the
 -- ledger. For the law of recovery.
-use Rattle.std.proofs.Common.{◌≡◌, ℕ, zero, suc, ◌+◌, ◌*◌, ◌<◌, ◌≤◌, List, ◌∷◌, ◌++◌, length, refl, ap, ◌∙◌, arith}
+use Rattle.std.proofs.Common.{◌≡◌, ℕ, zero, suc, ◌+◌, ◌*◌, ◌<◌, ◌≤◌, List, ◌∷◌, ◌++◌, length, refl, ap, ◌∙◌, arith, Bool, true, false, Option, Some, None, option_map, filter, sum_by, cond, if◌then◌else◌}
 use Rattle.std.proofs.lemmas.List.{length-map}
 use Rattle.std.proofs.lemmas.List.Sums.{sum_by-cons}
-use Rattle.std.specs.Prelude.{Bool, true, false, Option, Some, None, option_map, unwrap_or, filter, sum_by, cond, if◌then◌else◌}
+use Rattle.std.specs.Prelude.{unwrap_or}
 use Rattle.allotment.specs.Cells.{numbers_from}
 use Rattle.plan.specs.PlanModel.{numbered, step_count}
 use Rattle.ledger.specs.History.{phase, is_running, is_open}

@@ -1,7 +1,6 @@
 -- What each item requires to come next, and that it may then come. For journeys, places and steps.
-use Rattle.std.proofs.Common.{◌≡◌, ℕ, ◌+◌, List, refl, ap, ◌∙◌, eqb-true, eq-eqb}
+use Rattle.std.proofs.Common.{◌≡◌, ℕ, ◌+◌, List, refl, ap, ◌∙◌, eqb-true, eq-eqb, Bool, true, false, ◌&&◌, not, ◌==◌, nat_lt, Option, Some, None}
 use Rattle.std.proofs.lemmas.Bool.{and_parts, and_from, not_from_false}
-use Rattle.std.specs.Prelude.{Bool, true, false, ◌&&◌, not, ◌==◌, nat_lt, Option, Some, None}
 use Rattle.plan.specs.PlanModel.{Planned}
 use Rattle.commands.specs.declared.items.Cause.TheVariants.{Stop, Refused}
 use Rattle.commands.specs.declared.items.Item.{Item}

@@ -1,7 +1,7 @@
 -- An open journey has just one step, and a finished one does not go on. For the law of steps.
-use Rattle.std.proofs.Common.{◌≡◌, ℕ, ◌+◌, ◌<◌, ◌⊎◌, List, [], ◌∷◌, length, map, refl, ap, sym, ◌∙◌, arith, inl, inr}
+use Rattle.std.proofs.Common.{◌≡◌, ℕ, ◌+◌, ◌<◌, ◌⊎◌, List, [], ◌∷◌, length, map, refl, ap, sym, ◌∙◌, arith, inl, inr, Bool, true, false, Option, Some, None, option_map, option_to_list, find, cond, if◌then◌else◌, IsTrue}
 use Rattle.std.proofs.lemmas.Bool.{false_from_ne_true}
-use Rattle.std.specs.Prelude.{Bool, true, false, Option, Some, None, option_map, option_to_list, unwrap_or, find, cond, if◌then◌else◌, IsTrue}
+use Rattle.std.specs.Prelude.{unwrap_or}
 use Rattle.plan.specs.PlanModel.{Planned}
 use Rattle.commands.specs.declared.items.Cause.TheVariants.{Stop, Refused, Asked}
 use Rattle.commands.specs.declared.items.Item.{Item}

@@ -1,7 +1,7 @@
 -- How a legal ledger grows by one event, and induction over its events. For what holds of all legal ledgers.
-use Rattle.std.proofs.Common.{◌≡◌, ℕ, List, [], ◌∷◌, ◌++◌, ap, sym, ◌∙◌, append_assoc, subst, append-nil}
+use Rattle.std.proofs.Common.{◌≡◌, ℕ, List, [], ◌∷◌, ◌++◌, ap, sym, ◌∙◌, append_assoc, subst, append-nil, Bool, true, false, ◌==◌, Some, None, option_map, if◌then◌else◌, IsTrue}
 use Rattle.std.proofs.lemmas.List.Elements.{filter_map-append}
-use Rattle.std.specs.Prelude.{Bool, true, false, ◌==◌, Some, None, option_map, unwrap_or, if◌then◌else◌, IsTrue}
+use Rattle.std.specs.Prelude.{unwrap_or}
 use Rattle.std.specs.List.{cons_option}
 use Rattle.commands.specs.declared.items.Item.{Item}
 use Rattle.ledger.specs.Ledger.{Event, Loaded, Began, Did, Journey, journeys, journey_at, begun_by, history, item_of, is_allowed, is_item_allowed, may_do, AreAllowedAfter, IsLegal}

@@ -1,7 +1,7 @@
 -- How many places of a cell are held, as events come. For the law that no cell is overfull.
-use Rattle.std.proofs.Common.{◌≡◌, ℕ, suc, ◌+◌, ◌≤◌, List, [], ◌∷◌, ◌++◌, length, refl, ap, sym, ◌∙◌, arith, subst, eqb-true, length-append}
+use Rattle.std.proofs.Common.{◌≡◌, ℕ, suc, ◌+◌, ◌≤◌, List, [], ◌∷◌, ◌++◌, length, refl, ap, sym, ◌∙◌, arith, subst, eqb-true, length-append, Bool, true, false, not, ◌==◌, Option, Some, None, option_map, sum_by, if◌then◌else◌}
 use Rattle.std.proofs.lemmas.List.Sums.{sum_by-cons, sum_by-append}
-use Rattle.std.specs.Prelude.{Bool, true, false, not, ◌==◌, Option, Some, None, option_map, unwrap_or, sum_by, if◌then◌else◌}
+use Rattle.std.specs.Prelude.{unwrap_or}
 use Rattle.allotment.specs.Cells.{numbers_from}
 use Rattle.allotment.specs.declared.cells.Cell.{Cell}
 use Rattle.plan.specs.PlanModel.{Planned, numbered, want_at}

@@ -1,6 +1,5 @@
 -- In every legal ledger each journey follows an up-and-down word. For the laws of words and steps.
-use Rattle.std.proofs.Common.{◌≡◌, ℕ, zero, suc, ◌⊎◌, List, [], ◌∷◌, ◌++◌, refl, ap, sym, ◌∙◌, subst, eqb-true, inl, inr}
-use Rattle.std.specs.Prelude.{Bool, true, false, ◌==◌, Some, None, IsTrue}
+use Rattle.std.proofs.Common.{◌≡◌, ℕ, zero, suc, ◌⊎◌, List, [], ◌∷◌, ◌++◌, refl, ap, sym, ◌∙◌, subst, eqb-true, inl, inr, Bool, true, false, ◌==◌, Some, None, IsTrue}
 use Rattle.plan.specs.PlanModel.{numbered}
 use Rattle.commands.specs.declared.items.Item.{Item}
 use Rattle.ledger.specs.History.{net, next_want}

@@ -1,8 +1,7 @@
 -- Lists: their last element, the element of a number, and the first that passes a test. For
 -- ledgers, allotments and answers.
-use Rattle.std.proofs.Common.{◌≡◌, ℕ, zero, suc, ◌+◌, ◌≤◌, ◌⊎◌, List, [], ◌∷◌, ◌++◌, length, map, refl, ap, sym, ◌∙◌, arith, inl, inr}
+use Rattle.std.proofs.Common.{◌≡◌, ℕ, zero, suc, ◌+◌, ◌≤◌, ◌⊎◌, List, [], ◌∷◌, ◌++◌, length, map, refl, ap, sym, ◌∙◌, arith, inl, inr, Bool, true, false, ◌&&◌, ◌||◌, not, nat_lt, Some, None, find, position, slice_get, cond}
 use Rattle.std.proofs.lemmas.Bool.{ltb-false, and_parts}
-use Rattle.std.specs.Prelude.{Bool, true, false, ◌&&◌, ◌||◌, not, nat_lt, Some, None, find, position, slice_get, cond}
 use Rattle.std.specs.List.{list_any, list_all, position_or_len}
 use Rattle.plan.specs.PlanModel.{numbered}
 use Rattle.ledger.specs.History.{last_of}

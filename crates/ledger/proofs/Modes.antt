@@ -1,8 +1,7 @@
 -- Where a journey may be in its up-and-down word: on its way up, on its way down, or all the way down. And what its
 -- phase is there. For each item that may come, and for what the word says in the end.
-use Rattle.std.proofs.Common.{◌≡◌, ℕ, ◌<◌, ◌≤◌, ◌⊎◌, List, [], ◌∷◌, ◌++◌, refl, ap, sym, ◌∙◌, arith, append_assoc, eqb-true, eq-eqb}
+use Rattle.std.proofs.Common.{◌≡◌, ℕ, ◌<◌, ◌≤◌, ◌⊎◌, List, [], ◌∷◌, ◌++◌, refl, ap, sym, ◌∙◌, arith, append_assoc, eqb-true, eq-eqb, Bool, true, false, ◌&&◌, ◌==◌, Option, Some, None, if◌then◌else◌, IsTrue}
 use Rattle.std.proofs.lemmas.Bool.{eqb-false, lt-ltb, le-ltb, ne_eqb, and_right}
-use Rattle.std.specs.Prelude.{Bool, true, false, ◌&&◌, ◌==◌, Option, Some, None, if◌then◌else◌, IsTrue}
 use Rattle.allotment.specs.Cells.{numbers_from}
 use Rattle.plan.specs.PlanModel.{Planned, step_count}
 use Rattle.commands.specs.declared.items.Item.{Item}

@@ -1,6 +1,5 @@
 -- What a request changes: a legal ledger grows by its event and stays legal, and kept replies stay kept. For worlds.
-use Rattle.std.proofs.Common.{◌≡◌, ℕ, List, ◌++◌, refl, sym, append-nil}
-use Rattle.std.specs.Prelude.{Bool, true, false, ◌&&◌, Option, Some, None, is_some, option_to_list, if◌then◌else◌, bytes_eq}
+use Rattle.std.proofs.Common.{◌≡◌, ℕ, List, ◌++◌, refl, sym, append-nil, Bool, true, false, ◌&&◌, Option, Some, None, is_some, option_to_list, if◌then◌else◌, bytes_eq}
 use Rattle.commands.specs.Asks.{Asked}
 use Rattle.commands.specs.Request.{Request}
 use Rattle.commands.specs.declared.replies.Reply.{Reply}

@@ -1,9 +1,9 @@
 -- In which phases the journeys of a ledger are: what the items of other journeys leave, and what follows if none is in
 -- such a phase. For the parts that recovery adds.
-use Rattle.std.proofs.Common.{◌≡◌, ℕ, zero, suc, ◌+◌, ◌<◌, ◌≤◌, List, [], ◌∷◌, ◌++◌, length, refl, ap, sym, ◌∙◌, arith, append_assoc, append-nil, eqb-true}
+use Rattle.std.proofs.Common.{◌≡◌, ℕ, zero, suc, ◌+◌, ◌<◌, ◌≤◌, List, [], ◌∷◌, ◌++◌, length, refl, ap, sym, ◌∙◌, arith, append_assoc, append-nil, eqb-true, Bool, true, false, ◌==◌, not, nat_lt, Option, option_map}
 use Rattle.std.proofs.lemmas.Bool.{and_parts, ltb-true, ltb-false, eqb-false, or_parts, ne_eqb}
 use Rattle.std.proofs.lemmas.Option.{slice_get_past}
-use Rattle.std.specs.Prelude.{Bool, true, false, ◌==◌, not, nat_lt, Option, option_map, unwrap_or}
+use Rattle.std.specs.Prelude.{unwrap_or}
 use Rattle.std.specs.List.{list_all, list_any}
 use Rattle.allotment.specs.Cells.{numbers_from}
 use Rattle.plan.specs.PlanModel.{numbered}

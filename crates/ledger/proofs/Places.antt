@@ -1,7 +1,7 @@
 -- In every legal ledger no cell holds more than its allotment. For the law of places.
-use Rattle.std.proofs.Common.{◌≡◌, ℕ, ◌+◌, ◌≤◌, List, [], ◌∷◌, ◌++◌, refl, ap, sym, ◌∙◌, arith, subst}
+use Rattle.std.proofs.Common.{◌≡◌, ℕ, ◌+◌, ◌≤◌, List, [], ◌∷◌, ◌++◌, refl, ap, sym, ◌∙◌, arith, subst, Bool, true, false, ◌&&◌, ◌==◌, nat_le, Option, Some, None, option_map, length, if◌then◌else◌}
 use Rattle.std.proofs.lemmas.Bool.{leb-true, and_parts}
-use Rattle.std.specs.Prelude.{Bool, true, false, ◌&&◌, ◌==◌, nat_le, Option, Some, None, option_map, unwrap_or, length, if◌then◌else◌}
+use Rattle.std.specs.Prelude.{unwrap_or}
 use Rattle.std.specs.List.{list_all}
 use Rattle.allotment.specs.Want.{Wanted}
 use Rattle.allotment.specs.Cells.{is_cell, cells_of, wants_cell}

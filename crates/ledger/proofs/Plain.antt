@@ -1,8 +1,7 @@
 -- A journey without save-points only went up before it went down for good. For the law of words.
-use Rattle.std.proofs.Common.{◌≡◌, ℕ, ◌<◌, ◌⊎◌, List, [], ◌∷◌, ◌++◌, refl, ap, sym, ◌∙◌, arith, append_assoc, append-nil, inl, inr}
+use Rattle.std.proofs.Common.{◌≡◌, ℕ, ◌<◌, ◌⊎◌, List, [], ◌∷◌, ◌++◌, refl, ap, sym, ◌∙◌, arith, append_assoc, append-nil, inl, inr, true, false, nat_le}
 use Rattle.std.proofs.lemmas.Bool.{or_parts, or_from, and_left}
 use Rattle.std.proofs.lemmas.List.Folds.{list_any-append}
-use Rattle.std.specs.Prelude.{true, false, nat_le}
 use Rattle.std.specs.List.{list_any}
 use Rattle.plan.specs.PlanModel.{Planned, step_count, is_marked_at}
 use Rattle.commands.specs.declared.items.Item.{Item}

@@ -1,10 +1,9 @@
 -- How often a journey was refused, as items come: within its tries, unless it has turned to its start. For the modes of
 -- a journey, and for how many steps it may still make.
-use Rattle.std.proofs.Common.{◌≡◌, ℕ, ◌+◌, ◌≤◌, List, [], ◌∷◌, ◌++◌, length, refl, ap, sym, ◌∙◌, arith, length-append, eq-eqb}
+use Rattle.std.proofs.Common.{◌≡◌, ℕ, ◌+◌, ◌≤◌, List, [], ◌∷◌, ◌++◌, length, refl, ap, sym, ◌∙◌, arith, length-append, eq-eqb, Bool, true, false, ◌==◌, nat_lt, filter, if◌then◌else◌}
 use Rattle.std.proofs.lemmas.Bool.{ltb-true, or_parts}
 use Rattle.std.proofs.lemmas.List.Elements.{filter-append}
 use Rattle.std.proofs.lemmas.List.Sums.{length-filter}
-use Rattle.std.specs.Prelude.{Bool, true, false, ◌==◌, nat_lt, filter, if◌then◌else◌}
 use Rattle.plan.specs.PlanModel.{Planned}
 use Rattle.commands.specs.declared.items.Cause.TheVariants.{Refused}
 use Rattle.commands.specs.declared.items.Item.{Item}

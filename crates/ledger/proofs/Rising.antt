@@ -1,7 +1,6 @@
 -- One more item on the way up: a transaction, a save-point, or a turn. For each item that may come.
-use Rattle.std.proofs.Common.{◌≡◌, ℕ, suc, ◌+◌, ◌<◌, ◌≤◌, ◌⊎◌, List, [], ◌∷◌, ◌++◌, refl, ap, sym, ◌∙◌, arith, append-nil, eqb-true}
+use Rattle.std.proofs.Common.{◌≡◌, ℕ, suc, ◌+◌, ◌<◌, ◌≤◌, ◌⊎◌, List, [], ◌∷◌, ◌++◌, refl, ap, sym, ◌∙◌, arith, append-nil, eqb-true, Bool, true, false, ◌==◌, nat_lt, Some, IsTrue}
 use Rattle.std.proofs.lemmas.Bool.{eqb-false, ltb-true, ltb-false, ne_eqb}
-use Rattle.std.specs.Prelude.{Bool, true, false, ◌==◌, nat_lt, Some, IsTrue}
 use Rattle.plan.specs.PlanModel.{Planned, step_count}
 use Rattle.commands.specs.declared.items.Cause.{Cause}
 use Rattle.commands.specs.declared.items.Item.{Item}

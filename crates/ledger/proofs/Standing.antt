@@ -1,11 +1,10 @@
 -- What one more item does to the transactions that stand. For the modes of a journey and for places.
-use Rattle.std.proofs.Common.{◌≡◌, ℕ, zero, suc, ◌+◌, ◌≤◌, List, [], ◌∷◌, ◌++◌, length, map, refl, ap, sym, ◌∙◌, arith, length-append, append-nil, eq-eqb}
+use Rattle.std.proofs.Common.{◌≡◌, ℕ, zero, suc, ◌+◌, ◌≤◌, List, [], ◌∷◌, ◌++◌, length, map, refl, ap, sym, ◌∙◌, arith, length-append, append-nil, eq-eqb, Bool, true, false, ◌||◌, filter, not, ◌==◌, Some, if◌then◌else◌, cond}
 use Rattle.std.proofs.Math.Bool.{or-false}
 use Rattle.std.proofs.lemmas.Bool.{ne_eqb, not_from_false}
 use Rattle.std.proofs.lemmas.List.{map-append}
 use Rattle.std.proofs.lemmas.List.Elements.{filter-append}
 use Rattle.std.proofs.lemmas.List.Folds.{list_any-append}
-use Rattle.std.specs.Prelude.{Bool, true, false, ◌||◌, filter, not, ◌==◌, Some, if◌then◌else◌, cond}
 use Rattle.std.specs.List.{list_any}
 use Rattle.allotment.specs.Cells.{numbers_from}
 use Rattle.commands.specs.declared.items.Cause.{Cause}

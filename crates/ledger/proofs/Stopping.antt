@@ -1,9 +1,9 @@
 -- What the turns of recovery do: each is allowed, each running journey turns once, and after them no journey may need
 -- more than its bound. For the law of recovery.
-use Rattle.std.proofs.Common.{◌≡◌, ℕ, zero, suc, ◌+◌, ◌*◌, ◌<◌, ◌≤◌, List, [], ◌∷◌, ◌++◌, length, map, refl, ap, sym, ◌∙◌, arith, subst, append-nil, eqb-true, eq-eqb}
+use Rattle.std.proofs.Common.{◌≡◌, ℕ, zero, suc, ◌+◌, ◌*◌, ◌<◌, ◌≤◌, List, [], ◌∷◌, ◌++◌, length, map, refl, ap, sym, ◌∙◌, arith, subst, append-nil, eqb-true, eq-eqb, Bool, true, false, ◌==◌, Option, Some, None, option_map, filter, filter_map, cond, if◌then◌else◌, IsTrue}
 use Rattle.std.proofs.lemmas.Bool.{and_from, ne_eqb, eqb-false}
 use Rattle.std.proofs.lemmas.List.Elements.{filter_map-append}
-use Rattle.std.specs.Prelude.{Bool, true, false, ◌==◌, Option, Some, None, option_map, unwrap_or, filter, filter_map, cond, if◌then◌else◌, IsTrue}
+use Rattle.std.specs.Prelude.{unwrap_or}
 use Rattle.std.specs.List.{cons_option}
 use Rattle.allotment.specs.Cells.{numbers_from}
 use Rattle.plan.specs.PlanModel.{Planned, numbered, step_count}

@@ -1,8 +1,7 @@
 -- Sums over lists and over consecutive numbers. For the places that journeys hold.
-use Rattle.std.proofs.Common.{◌≡◌, ℕ, zero, suc, ◌+◌, ◌<◌, ◌≤◌, List, [], ◌∷◌, refl, sym, ◌∙◌, arith, subst, eqb-true}
+use Rattle.std.proofs.Common.{◌≡◌, ℕ, zero, suc, ◌+◌, ◌<◌, ◌≤◌, List, [], ◌∷◌, refl, sym, ◌∙◌, arith, subst, eqb-true, Bool, true, false, ◌==◌, filter, sum_by, if◌then◌else◌, cond}
 use Rattle.std.proofs.lemmas.Bool.{ne_eqb}
 use Rattle.std.proofs.lemmas.List.Sums.{sum_by-cons}
-use Rattle.std.specs.Prelude.{Bool, true, false, ◌==◌, filter, sum_by, if◌then◌else◌, cond}
 use Rattle.allotment.specs.Cells.{numbers_from}
 
 -- where each term is the same, so is the sum

@@ -1,7 +1,6 @@
 -- Where a turn leads: to the start, or to a save-point that stands. Lemmas on the rules by numbers.
-use Rattle.std.proofs.Common.{◌≡◌, ℕ, ◌⊎◌, List, [], ◌∷◌, refl, ap, ◌∙◌, arith, eqb-true, inl, inr}
+use Rattle.std.proofs.Common.{◌≡◌, ℕ, ◌⊎◌, List, [], ◌∷◌, refl, ap, ◌∙◌, arith, eqb-true, inl, inr, Bool, true, false, ◌||◌, filter, ◌==◌, nat_lt, max, Option, if◌then◌else◌, cond, IsTrue}
 use Rattle.std.proofs.lemmas.Bool.{ltb-true, ltb-false, and_parts, or_cases}
-use Rattle.std.specs.Prelude.{Bool, true, false, ◌||◌, filter, ◌==◌, nat_lt, max, Option, if◌then◌else◌, cond, IsTrue}
 use Rattle.allotment.specs.Cells.{numbers_from}
 use Rattle.plan.specs.PlanModel.{Planned, step_count}
 use Rattle.savepoints.specs.Rules.{is_save_point, greatest, last_save, refused_target, is_below_going, may_turn}

@@ -1,9 +1,8 @@
 -- What one more event changes of the allotment of a cell. For each desk that stores how many places are allotted.
-use Rattle.std.proofs.Common.{◌≡◌, ℕ, List, [], ◌∷◌, ◌++◌, length, refl, ap, sym, ◌∙◌, append-nil}
+use Rattle.std.proofs.Common.{◌≡◌, ℕ, List, [], ◌∷◌, ◌++◌, length, refl, ap, sym, ◌∙◌, append-nil, Bool, true, false, not, ◌==◌, ◌&&◌, cond, filter, find, flat_map, Option, Some, None, option_map, option_to_list, IsTrue}
 use Rattle.std.proofs.lemmas.Bool.{and_parts, or_parts}
 use Rattle.std.proofs.lemmas.Grind.{flat_map-append}
 use Rattle.std.proofs.lemmas.List.Elements.{filter-append}
-use Rattle.std.specs.Prelude.{Bool, true, false, not, ◌==◌, ◌&&◌, cond, filter, find, flat_map, Option, Some, None, option_map, option_to_list, IsTrue}
 use Rattle.std.specs.List.{list_any, list_all}
 use Rattle.commands.specs.Limits.{most_rows}
 use Rattle.allotment.specs.Cells.{is_cell}

@@ -1,8 +1,7 @@
 -- The answer to each request about a journey, by its cursor, the save-points that it took, and whether its next want
 -- fits. For each desk that stores these.
-use Rattle.std.proofs.Common.{◌≡◌, ℕ, ◌+◌, List, [], ◌∷◌, refl, ap, sym, ◌∙◌, eq-eqb, map}
+use Rattle.std.proofs.Common.{◌≡◌, ℕ, ◌+◌, List, [], ◌∷◌, refl, ap, sym, ◌∙◌, eq-eqb, map, Bool, true, false, not, ◌==◌, ◌&&◌, nat_lt, if◌then◌else◌, find, Some, option_to_list}
 use Rattle.std.proofs.lemmas.Bool.{false_from_ne_true, not-true}
-use Rattle.std.specs.Prelude.{Bool, true, false, not, ◌==◌, ◌&&◌, nat_lt, if◌then◌else◌, find, Some, option_to_list}
 use Rattle.plan.specs.PlanModel.{Planned}
 use Rattle.savepoints.specs.Marks.{is_taken_in}
 use Rattle.savepoints.specs.Turns.{may_be_made}

@@ -1,8 +1,8 @@
 -- How many places of a cell are allotted and not held: whether a want fits, and what a batch leaves. For each desk that
 -- stores how many are free.
-use Rattle.std.proofs.Common.{◌≡◌, ℕ, ◌+◌, ◌-◌, ◌≤◌, List, refl, ap, sym, arith}
+use Rattle.std.proofs.Common.{◌≡◌, ℕ, ◌+◌, ◌-◌, ◌≤◌, List, refl, ap, sym, arith, Bool, true, false, nat_le, Option, Some, None, option_map}
 use Rattle.std.proofs.lemmas.Bool.{le-leb, lt-leb, leb-true, leb-false}
-use Rattle.std.specs.Prelude.{Bool, true, false, nat_le, Option, Some, None, option_map, unwrap_or}
+use Rattle.std.specs.Prelude.{unwrap_or}
 use Rattle.std.specs.List.{list_all}
 use Rattle.allotment.specs.Cells.{cells_of}
 use Rattle.allotment.specs.Want.{Wanted}

@@ -1,8 +1,7 @@
 -- Invariants of the history of each journey of a legal ledger: it follows the rules. For what an item changes, and for
 -- answers.
-use Rattle.std.proofs.Common.{◌≡◌, ℕ, ◌+◌, ◌<◌, ◌≤◌, List, [], ◌∷◌, ◌++◌, map, refl, ap, sym, ◌∙◌, arith, subst, eqb-true, inl, inr}
+use Rattle.std.proofs.Common.{◌≡◌, ℕ, ◌+◌, ◌<◌, ◌≤◌, List, [], ◌∷◌, ◌++◌, map, refl, ap, sym, ◌∙◌, arith, subst, eqb-true, inl, inr, Bool, true, false, not, ◌==◌, ◌||◌, ◌&&◌, nat_lt, filter, cond, Some, IsTrue}
 use Rattle.std.proofs.lemmas.Bool.{and_parts, or_cases, and_from, eqb-false, ltb-true, le-leb, not-true}
-use Rattle.std.specs.Prelude.{Bool, true, false, not, ◌==◌, ◌||◌, ◌&&◌, nat_lt, filter, cond, Some, IsTrue}
 use Rattle.std.specs.List.{list_all}
 use Rattle.plan.specs.Limits.{most_steps}
 use Rattle.plan.proofs.LimitLemmas.{few_steps}

@@ -1,8 +1,7 @@
 -- Induction over the items of a history: what each item that may come keeps holds of each journey of a legal ledger.
 -- For the facts of histories.
-use Rattle.std.proofs.Common.{◌≡◌, ℕ, zero, suc, ◌⊎◌, List, [], ◌∷◌, ◌++◌, refl, ap, sym, ◌∙◌, subst, eqb-true, inl, inr}
+use Rattle.std.proofs.Common.{◌≡◌, ℕ, zero, suc, ◌⊎◌, List, [], ◌∷◌, ◌++◌, refl, ap, sym, ◌∙◌, subst, eqb-true, inl, inr, Bool, true, false, ◌==◌, Some, None, IsTrue}
 use Rattle.std.proofs.lemmas.Bool.{eqb-false}
-use Rattle.std.specs.Prelude.{Bool, true, false, ◌==◌, Some, None, IsTrue}
 use Rattle.plan.specs.PlanModel.{Planned, is_plan, numbered}
 use Rattle.commands.specs.declared.items.Item.{Item}
 use Rattle.ledger.specs.History.{next_want, may_come}

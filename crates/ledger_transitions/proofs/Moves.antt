@@ -1,6 +1,6 @@
 -- The answer to a request about a journey, by the first of its choices that is allowed. For each such request.
-use Rattle.std.proofs.Common.{◌≡◌, ℕ, List, [], ◌∷◌, ap, ◌∙◌}
-use Rattle.std.specs.Prelude.{Bool, true, false, if◌then◌else◌, cond, find, Option, Some, None, option_map, option_and_then, unwrap_or}
+use Rattle.std.proofs.Common.{◌≡◌, ℕ, List, [], ◌∷◌, ap, ◌∙◌, Bool, true, false, if◌then◌else◌, cond, find, Option, Some, None, option_map, option_and_then}
+use Rattle.std.specs.Prelude.{unwrap_or}
 use Rattle.plan.specs.PlanModel.{Planned}
 use Rattle.commands.specs.declared.items.Cursor.{Cursor}
 use Rattle.commands.specs.declared.items.Item.{Item}

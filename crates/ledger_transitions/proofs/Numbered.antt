@@ -1,8 +1,7 @@
 -- Steps that are numbered consecutively, and those of them that are left. For what stands after a compensation.
-use Rattle.std.proofs.Common.{◌≡◌, ℕ, zero, suc, ◌+◌, ◌≤◌, List, [], ◌∷◌, ◌++◌, length, map, refl, ap, sym, ◌∙◌, arith}
+use Rattle.std.proofs.Common.{◌≡◌, ℕ, zero, suc, ◌+◌, ◌≤◌, List, [], ◌∷◌, ◌++◌, length, map, refl, ap, sym, ◌∙◌, arith, true, not, ◌==◌, filter, cond}
 use Rattle.std.proofs.lemmas.Bool.{ne_eqb, not_from_false}
 use Rattle.std.proofs.lemmas.List.{map-append}
-use Rattle.std.specs.Prelude.{true, not, ◌==◌, filter, cond}
 use Rattle.allotment.specs.Cells.{numbers_from}
 use Rattle.ledger.proofs.Lists.{front_of, front_of-snoc}
 use Rattle.ledger.proofs.Numbers.{numbers_from-append}

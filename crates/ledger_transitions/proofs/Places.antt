@@ -1,8 +1,8 @@
 -- What one more event changes of the places that are held of a cell. For each desk that stores how many are free.
-use Rattle.std.proofs.Common.{◌≡◌, ℕ, zero, suc, ◌+◌, ◌<◌, ◌≤◌, List, [], ◌∷◌, ◌++◌, length, refl, ap, ◌∙◌, arith, subst, eqb-true}
+use Rattle.std.proofs.Common.{◌≡◌, ℕ, zero, suc, ◌+◌, ◌<◌, ◌≤◌, List, [], ◌∷◌, ◌++◌, length, refl, ap, ◌∙◌, arith, subst, eqb-true, Bool, true, false, ◌==◌, if◌then◌else◌, sum_by, Option, Some, None, option_map, slice_get, IsTrue}
 use Rattle.std.proofs.lemmas.Bool.{eqb-false}
 use Rattle.std.proofs.lemmas.List.Sums.{sum_by-cons, sum_by_push}
-use Rattle.std.specs.Prelude.{Bool, true, false, ◌==◌, if◌then◌else◌, sum_by, Option, Some, None, option_map, unwrap_or, slice_get, IsTrue}
+use Rattle.std.specs.Prelude.{unwrap_or}
 use Rattle.allotment.specs.Cells.{wants_cell, numbers_from}
 use Rattle.allotment.specs.Want.{Wanted}
 use Rattle.allotment.specs.declared.cells.Cell.{Cell}

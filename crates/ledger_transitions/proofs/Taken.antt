@@ -1,9 +1,8 @@
 -- The set of the save-points that were taken, as a desk stores it: what it means for a history, and what one more item
 -- changes of it.
-use Rattle.std.proofs.Common.{◌≡◌, ℕ, zero, suc, ◌+◌, ◌-◌, ◌≤◌, List, [], ◌∷◌, ◌++◌, refl, ap, sym, ◌∙◌, arith, eqb-true}
+use Rattle.std.proofs.Common.{◌≡◌, ℕ, zero, suc, ◌+◌, ◌-◌, ◌≤◌, List, [], ◌∷◌, ◌++◌, refl, ap, sym, ◌∙◌, arith, eqb-true, Bool, true, false, not, ◌==◌, ◌||◌, ◌&&◌, cond, filter, nat_le, nat_lt, IsTrue}
 use Rattle.std.proofs.lemmas.Bool.{and_from, eqb-false, lt-ltb, le-leb, lt-leb}
 use Rattle.std.proofs.lemmas.Bool.Decides.{nat_tests}
-use Rattle.std.specs.Prelude.{Bool, true, false, not, ◌==◌, ◌||◌, ◌&&◌, cond, filter, nat_le, nat_lt, IsTrue}
 use Rattle.std.specs.FinSet as set
 use Rattle.std.specs.FinSet.{contains-from_list_nat}
 use Rattle.std.specs.List.{list_any}

@@ -1,6 +1,5 @@
 -- How one more event changes the parts that a book in memory keeps. For each command.
-use Rattle.std.proofs.Common.{◌≡◌, ℕ, ◌-◌, ◌<◌, ◌≤◌, Bool, true, false, List, [], ◌∷◌, ◌++◌, length, map, refl, ap, sym, ◌∙◌, subst, inl, inr}
-use Rattle.std.specs.Prelude.{◌&&◌, ◌↔◌, bytes_eq, nat_le, if◌then◌else◌, slice_get, Option, Some, None, is_some, option_map, Result, Ok, Err, IsTrue}
+use Rattle.std.proofs.Common.{◌≡◌, ℕ, ◌-◌, ◌<◌, ◌≤◌, Bool, true, false, List, [], ◌∷◌, ◌++◌, length, map, refl, ap, sym, ◌∙◌, subst, inl, inr, ◌&&◌, ◌↔◌, bytes_eq, nat_le, if◌then◌else◌, slice_get, Option, Some, None, is_some, option_map, Result, Ok, Err, IsTrue}
 use Rattle.std.specs.declared.alloc.AllocError.{AllocError}
 use Rattle.std.specs.List.{cons_option}
 use Rattle.std.proofs.lemmas.Bool.{lt-leb, le-leb, cases_lt}

@@ -1,6 +1,5 @@
 -- What is kept of a journey beside its items. For the journeys of a book in memory.
-use Rattle.std.proofs.Common.{◌≡◌, false, [], ap, arith}
-use Rattle.std.specs.Prelude.{◌==◌, if◌then◌else◌, IsTrue}
+use Rattle.std.proofs.Common.{◌≡◌, false, [], ap, arith, ◌==◌, if◌then◌else◌, IsTrue}
 use Rattle.std.proofs.lemmas.Grind.{common_steps}
 use Rattle.plan.specs.PlanModel.{Planned, is_plan, step_count}
 use Rattle.commands.specs.declared.items.Phase.TheVariants.{Run, Ended}

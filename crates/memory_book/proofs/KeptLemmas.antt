@@ -1,6 +1,5 @@
 -- Kept replies by agent and key. For the kept replies of a book in memory.
-use Rattle.std.proofs.Common.{◌≡◌, ℕ, Bool, true, false, cond, List, refl, ap, ◌∙◌}
-use Rattle.std.specs.Prelude.{◌&&◌, bytes_eq, if◌then◌else◌, Some, option_map}
+use Rattle.std.proofs.Common.{◌≡◌, ℕ, Bool, true, false, cond, List, refl, ap, ◌∙◌, ◌&&◌, bytes_eq, if◌then◌else◌, Some, option_map}
 use Rattle.std.specs.Ordering.{is_eq, nat_cmp}
 use Rattle.std.specs.Cmp.Lexicographic.{slice_cmp, nat_list_eq_equiv}
 use Rattle.std.specs.BTreeMap as tree

@@ -1,6 +1,5 @@
 -- How one more item changes a book in memory. For `MemBook::make` and `carry_out`.
-use Rattle.std.proofs.Common.{◌≡◌, ℕ, suc, ◌+◌, ◌-◌, ◌≤◌, ◌⊎◌, inl, inr, true, List, [], ◌∷◌, ◌++◌, map, refl, ap, sym, ◌∙◌, subst, arith}
-use Rattle.std.specs.Prelude.{slice_get, slice_set, nat_le, if◌then◌else◌, Option, Some, None, option_map, IsTrue}
+use Rattle.std.proofs.Common.{◌≡◌, ℕ, suc, ◌+◌, ◌-◌, ◌≤◌, ◌⊎◌, inl, inr, true, List, [], ◌∷◌, ◌++◌, map, refl, ap, sym, ◌∙◌, subst, arith, slice_get, slice_set, nat_le, if◌then◌else◌, Option, Some, None, option_map, IsTrue}
 use Rattle.std.proofs.lemmas.Bool.{le-leb}
 use Rattle.allotment.specs.declared.cells.Cell.{Cell}
 use Rattle.plan.specs.PlanModel.{want_at}

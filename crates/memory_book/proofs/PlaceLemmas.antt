@@ -1,6 +1,5 @@
 -- The elements of a list to which one was appended, or of which one was replaced. For a book in memory.
-use Rattle.std.proofs.Common.{◌≡◌, ℕ, zero, suc, ◌⊎◌, inl, inr, List, [], ◌∷◌, ◌++◌, length, map, refl, ap, sym, ◌∙◌, arith}
-use Rattle.std.specs.Prelude.{slice_get, slice_set, Some}
+use Rattle.std.proofs.Common.{◌≡◌, ℕ, zero, suc, ◌⊎◌, inl, inr, List, [], ◌∷◌, ◌++◌, length, map, refl, ap, sym, ◌∙◌, arith, slice_get, slice_set, Some}
 
 -- an element of a list with one appended is one of the others or the last
 pub place_of-push : {X : Type 0} (xs : List X) (x : X) (i : ℕ) (y : X)

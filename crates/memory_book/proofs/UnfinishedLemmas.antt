@@ -1,8 +1,7 @@
 -- The first journey that is not finished, the first of an agent, and how many are unfinished, by what is kept of each.
 -- For `first_unfinished`, `first_owned` and `counts` of `MemBook`.
-use Rattle.std.proofs.Common.{◌≡◌, ℕ, suc, ◌+◌, ◌<◌, Bool, true, false, cond, ◌⊎◌, List, [], ◌∷◌, length, get_or, drop, ◌++◌, append_assoc, refl, ap, sym, ◌∙◌, arith}
+use Rattle.std.proofs.Common.{◌≡◌, ℕ, suc, ◌+◌, ◌<◌, Bool, true, false, cond, ◌⊎◌, List, [], ◌∷◌, length, get_or, drop, ◌++◌, append_assoc, refl, ap, sym, ◌∙◌, arith, not, slice_get, filter, filter_map, find, Some, None, option_map}
 use Rattle.std.proofs.lemmas.List.{at_drop_more}
-use Rattle.std.specs.Prelude.{not, slice_get, filter, filter_map, find, Some, None, option_map}
 use Rattle.std.specs.List.{cons_option}
 use Rattle.allotment.specs.Cells.{numbers_from}
 use Rattle.ledger.specs.Answer.{State}

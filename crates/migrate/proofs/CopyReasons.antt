@@ -1,6 +1,5 @@
 -- Why the statement that copies a range of items fails. For copy_items.
-use Rattle.std.proofs.Common.{◌≡◌, ◌<◌, ◌≤◌, ◌^◌, ◌∙◌, inl, inr, ℕ, List, [], ◌++◌, length, map, filter, drop, true, false, Option, None, Some, Ok, Err, refl, sym, ap, subst, arith}
-use Rattle.std.specs.Prelude.{nat_le, IsSome}
+use Rattle.std.proofs.Common.{◌≡◌, ◌<◌, ◌≤◌, ◌^◌, ◌∙◌, inl, inr, ℕ, List, [], ◌++◌, length, map, filter, drop, true, false, Option, None, Some, Ok, Err, refl, sym, ap, subst, arith, nat_le, IsSome}
 use Rattle.std.proofs.lemmas.Bool.{and_parts}
 use Rattle.std.proofs.lemmas.Bool.Decides.{nat_tests}
 use Rattle.sqlite.specs.declared.types.Value.TheVariants.{Null}

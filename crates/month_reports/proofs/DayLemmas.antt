@@ -1,6 +1,5 @@
 -- The day of a month is counted from 1. For the dates of nights.
-use Rattle.std.proofs.Common.{ℕ, ◌+◌, ◌-◌, ◌≤◌, true, false, Bool, List, [], ◌∷◌, arith}
-use Rattle.std.specs.Prelude.{nat_lt, if◌then◌else◌}
+use Rattle.std.proofs.Common.{ℕ, ◌+◌, ◌-◌, ◌≤◌, true, false, Bool, List, [], ◌∷◌, arith, nat_lt, if◌then◌else◌}
 use Rattle.allotment.specs.Nights.{month_and_day}
 
 pub day_from_one : (month : ℕ) (ms : List ℕ) (over : ℕ) → 1 ≤ (month_and_day month ms over).1

@@ -1,6 +1,5 @@
 -- Rows that are read into a list. For reading the cells of a want.
-use Rattle.std.proofs.Common.{◌≡◌, List, [], ◌∷◌, ◌++◌, refl, ap, sym, ◌∙◌, append-nil, append_assoc}
-use Rattle.std.specs.Prelude.{Some, None}
+use Rattle.std.proofs.Common.{◌≡◌, List, [], ◌∷◌, ◌++◌, refl, ap, sym, ◌∙◌, append-nil, append_assoc, Some, None}
 use Rattle.saga_core.specs.RowSources.{Hands, HandsFirst}
 
 -- these rows were read, and the others remain

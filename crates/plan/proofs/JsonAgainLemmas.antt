@@ -1,6 +1,5 @@
 -- The JSON value of a plan is read as the plan. For the law that says so.
-use Rattle.std.proofs.Common.{◌≡◌, ℕ, Bool, true, List, [], ◌∷◌, map, length, refl, ap, ◌∙◌, arith, Option, Some, Ok}
-use Rattle.std.specs.Prelude.{nat_le}
+use Rattle.std.proofs.Common.{◌≡◌, ℕ, Bool, true, List, [], ◌∷◌, map, length, refl, ap, ◌∙◌, arith, Option, Some, Ok, nat_le}
 use Rattle.std.specs.List.{list_all}
 use Rattle.std.proofs.lemmas.Bool.{le-leb}
 use Rattle.allotment.specs.Want.{Wanted}

@@ -1,6 +1,5 @@
 -- What is read of a JSON option, in the words of a want that is made of its members. For the reader of JSON options.
-use Rattle.std.proofs.Common.{◌≡◌, ℕ, Bool, true, false, ◌&&◌, List, ◌++◌, refl, sym, ap, ◌∙◌, Option, Some, None, Err, codes}
-use Rattle.std.specs.Prelude.{is_some, if◌then◌else◌, Result}
+use Rattle.std.proofs.Common.{◌≡◌, ℕ, Bool, true, false, ◌&&◌, List, ◌++◌, refl, sym, ap, ◌∙◌, Option, Some, None, Err, codes, is_some, if◌then◌else◌, Result}
 use Rattle.serde_json.specs.Data.{Data}
 use Rattle.allotment.specs.Want.{Wanted}
 use Rattle.allotment.specs.Limits.{is_code, is_count, are_nights}

@@ -1,6 +1,5 @@
 -- What is read of a JSON plan, by its tries, the number of its steps and what they are. For the reader of JSON plans.
-use Rattle.std.proofs.Common.{◌≡◌, ℕ, ◌<◌, ◌≤◌, ◌⊎◌, true, List, map, length, refl, sym, ap, subst, ◌∙◌, arith, Option, Some, None, Err}
-use Rattle.std.specs.Prelude.{filter_map, flat_map, option_map, Result}
+use Rattle.std.proofs.Common.{◌≡◌, ℕ, ◌<◌, ◌≤◌, ◌⊎◌, true, List, map, length, refl, sym, ap, subst, ◌∙◌, arith, Option, Some, None, Err, filter_map, flat_map, option_map, Result}
 use Rattle.std.specs.List.{enumerate_from}
 use Rattle.std.proofs.lemmas.Bool.{le-leb}
 use Rattle.std.proofs.lemmas.List.{length-map}

@@ -1,7 +1,6 @@
 -- The drafts of wants, steps and plans: their only faults are the limits that they break. For plans that are made of
 -- steps, and for lines.
-use Rattle.std.proofs.Common.{◌≡◌, ℕ, ◌+◌, ◌<◌, ◌≤◌, ◌^◌, Bool, true, false, not, ◌&&◌, ◌==◌, List, [], ◌∷◌, ◌++◌, map, length, refl, sym, ap, ◌∙◌, arith, eq-eqb, Option, Some, Ok, Err}
-use Rattle.std.specs.Prelude.{flat_map, filter_map, option_map, nat_le}
+use Rattle.std.proofs.Common.{◌≡◌, ℕ, ◌+◌, ◌<◌, ◌≤◌, ◌^◌, Bool, true, false, not, ◌&&◌, ◌==◌, List, [], ◌∷◌, ◌++◌, map, length, refl, sym, ap, ◌∙◌, arith, eq-eqb, Option, Some, Ok, Err, flat_map, filter_map, option_map, nat_le}
 use Rattle.std.specs.List.{AllByRecursion, list_all, enumerate_from}
 use Rattle.std.proofs.lemmas.Bool.{leb-true}
 use Rattle.std.proofs.lemmas.List.{length-map}

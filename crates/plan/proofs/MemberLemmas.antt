@@ -1,6 +1,6 @@
 -- What a JSON value has, by what is found in it. For what is taken out of values.
-use Rattle.std.proofs.Common.{◌≡◌, ℕ, suc, ◌&&◌, ◌==◌, Bool, false, List, [], ◌∷◌, map, length, refl, sym, ap, ◌∙◌, Option, Some, None}
-use Rattle.std.specs.Prelude.{String, option_map, option_and_then, is_some, unwrap_or}
+use Rattle.std.proofs.Common.{◌≡◌, ℕ, suc, ◌&&◌, ◌==◌, Bool, false, List, [], ◌∷◌, map, length, refl, sym, ap, ◌∙◌, Option, Some, None, String, option_map, option_and_then, is_some}
+use Rattle.std.specs.Prelude.{unwrap_or}
 use Rattle.std.specs.List.{list_all}
 use denote.Ref.{Bor}
 use Rattle.std.specs.declared.alloc.Global.{Global}

@@ -1,6 +1,5 @@
 -- Which number from 1 to 255 a text spells. For the reader of numbers, and for an option's nights and count.
-use Rattle.std.proofs.Common.{◌≡◌, ◌≢◌, ℕ, ◌<◌, ◌≤◌, ◌^◌, ◌⊎◌, inl, inr, Bool, true, false, List, length, refl, sym, ap, subst, ◌∙◌, arith, get_or, Option, Some, None, Ok, Err}
-use Rattle.std.specs.Prelude.{bytes_eq, decimal, nat_le, option_and_then, if◌then◌else◌, Result, MatchResult, OkIff}
+use Rattle.std.proofs.Common.{◌≡◌, ◌≢◌, ℕ, ◌<◌, ◌≤◌, ◌^◌, ◌⊎◌, inl, inr, Bool, true, false, List, length, refl, sym, ap, subst, ◌∙◌, arith, get_or, Option, Some, None, Ok, Err, bytes_eq, decimal, nat_le, option_and_then, if◌then◌else◌, Result, MatchResult, OkIff}
 use Rattle.std.specs.List.{slice_get}
 use Rattle.std.specs.Str.Parse.{digits_value, AllDigits, ParsesUnsigned}
 use Rattle.std.proofs.lemmas.Bool.{le-leb, leb-true}

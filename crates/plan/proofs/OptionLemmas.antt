@@ -1,6 +1,5 @@
 -- What is read of an option, in the words of a want that is made of its parts. For the reader of options.
-use Rattle.std.proofs.Common.{◌≡◌, ℕ, ◌≤◌, Bool, true, false, ◌&&◌, List, [], ◌∷◌, ◌++◌, refl, sym, ap, ◌∙◌, arith, Option, Some, None, Ok, Err}
-use Rattle.std.specs.Prelude.{is_some, nat_le, option_and_then, if◌then◌else◌, Result}
+use Rattle.std.proofs.Common.{◌≡◌, ℕ, ◌≤◌, Bool, true, false, ◌&&◌, List, [], ◌∷◌, ◌++◌, refl, sym, ap, ◌∙◌, arith, Option, Some, None, Ok, Err, is_some, nat_le, option_and_then, if◌then◌else◌, Result}
 use Rattle.std.proofs.lemmas.Bool.{le-leb, leb-true}
 use Rattle.allotment.specs.Want.{Wanted}
 use Rattle.allotment.specs.Limits.{is_between, is_code, is_count, are_nights, most_nights}

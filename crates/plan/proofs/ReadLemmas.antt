@@ -1,6 +1,5 @@
 -- What is read as a plan is spelled as its line. For the law that a plan has one spelling.
-use Rattle.std.proofs.Common.{◌≡◌, ℕ, zero, suc, ◌+◌, ◌-◌, ◌<◌, ◌≤◌, Bool, true, false, not, ◌&&◌, ◌==◌, List, [], ◌∷◌, ◌++◌, map, length, take, drop, refl, sym, ap, subst, ◌∙◌, arith, eq-eqb, Option, Some, Ok}
-use Rattle.std.specs.Prelude.{find, filter_map, option_map, is_some, bytes_eq, decimal, if◌then◌else◌}
+use Rattle.std.proofs.Common.{◌≡◌, ℕ, zero, suc, ◌+◌, ◌-◌, ◌<◌, ◌≤◌, Bool, true, false, not, ◌&&◌, ◌==◌, List, [], ◌∷◌, ◌++◌, map, length, take, drop, refl, sym, ap, subst, ◌∙◌, arith, eq-eqb, Option, Some, Ok, find, filter_map, option_map, is_some, bytes_eq, decimal, if◌then◌else◌}
 use Rattle.std.specs.List.{AllByRecursion, list_all, enumerate_from}
 use Rattle.std.specs.Str.Parse.{digits_value}
 use Rattle.std.proofs.lemmas.List.Splits.{join_with_byte-slice_split}

@@ -1,7 +1,6 @@
 -- What the fields of a plan say of its steps. For the readers of a plan and its copy.
-use Rattle.std.proofs.Common.{◌≡◌, ℕ, zero, suc, ◌-◌, ◌≤◌, List, map, length, refl, sym, ap, ◌∙◌, arith, get_or, Some}
+use Rattle.std.proofs.Common.{◌≡◌, ℕ, zero, suc, ◌-◌, ◌≤◌, List, map, length, refl, sym, ap, ◌∙◌, arith, get_or, Some, option_map}
 use Rattle.std.proofs.lemmas.List.{length-map}
-use Rattle.std.specs.Prelude.{option_map}
 use Rattle.std.proofs.lemmas.Option.{slice_get_read, slice_get-map}
 use Rattle.plan.specs.declared.steps.PlanStep.{PlanStep}
 use Rattle.plan.specs.PlanModel.{Planned, step_said, plan_said, numbered, step_count}

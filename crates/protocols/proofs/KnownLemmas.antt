@@ -1,6 +1,5 @@
 -- Facts on bytes that may be known. For the runs of both protocols.
-use Rattle.std.proofs.Common.{◌≡◌, refl, List, ℕ, Option}
-use Rattle.std.specs.Prelude.{Some, None, IfSome}
+use Rattle.std.proofs.Common.{◌≡◌, refl, List, ℕ, Option, Some, None, IfSome}
 
 -- a fact of known bytes may be proved for the bytes that they equal
 pub for_known : (known : Option (List ℕ)) (So : List ℕ → Type 0)

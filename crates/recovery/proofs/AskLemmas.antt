@@ -1,7 +1,6 @@
 -- What a command of recovery does, by how the rules answer it. For `stop` and `step`.
-use Rattle.std.proofs.Common.{◌≡◌, ℕ, ◌<◌, ◌≤◌, List, [], ◌∷◌, ◌++◌, length, refl, ap, sym, ◌∙◌, subst, arith, append-nil, eq-eqb}
+use Rattle.std.proofs.Common.{◌≡◌, ℕ, ◌<◌, ◌≤◌, List, [], ◌∷◌, ◌++◌, length, refl, ap, sym, ◌∙◌, subst, arith, append-nil, eq-eqb, Bool, true, false, nat_le, Some, None, is_some, option_map, IsTrue, if◌then◌else◌, ◌&&◌}
 use Rattle.std.proofs.lemmas.Bool.{leb-true, leb-false, le-leb, lt-leb}
-use Rattle.std.specs.Prelude.{Bool, true, false, nat_le, Some, None, is_some, option_map, IsTrue, if◌then◌else◌, ◌&&◌}
 use Rattle.commands.specs.Request.{Request}
 use Rattle.commands.specs.declared.replies.Fault.{Fault}
 use Rattle.commands.specs.declared.replies.Fault.TheVariants.{Store}

@@ -1,7 +1,6 @@
 -- A pass over one journey after another. For `carry`.
-use Rattle.std.proofs.Common.{◌≡◌, ℕ, suc, ◌+◌, ◌≤◌, List, ◌++◌, length, refl, ap, sym, ◌∙◌, arith, append_assoc, length-append}
+use Rattle.std.proofs.Common.{◌≡◌, ℕ, suc, ◌+◌, ◌≤◌, List, ◌++◌, length, refl, ap, sym, ◌∙◌, arith, append_assoc, length-append, Bool, true, false, nat_lt, Some, None}
 use Rattle.std.proofs.lemmas.Bool.{false_from_ne_true, not_from_false, ltb-true, ltb-false}
-use Rattle.std.specs.Prelude.{Bool, true, false, nat_lt, Some, None}
 use Rattle.commands.specs.declared.replies.Fault.{Fault}
 use Rattle.ledger.specs.Answer.{State, most_events}
 use Rattle.ledger.specs.History.{is_open}

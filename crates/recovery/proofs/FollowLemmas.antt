@@ -1,6 +1,5 @@
 -- What a call of a book leaves of recovery and of what follows it. For `stop`, `step` and the passes.
-use Rattle.std.proofs.Common.{◌≡◌, ◌+◌, ◌≤◌, ◌<◌, ℕ, List, [], ◌∷◌, ◌++◌, length, refl, subst, arith, length-append}
-use Rattle.std.specs.Prelude.{Bool, Option, Some, None, is_some, Ok, Err, IsTrue}
+use Rattle.std.proofs.Common.{◌≡◌, ◌+◌, ◌≤◌, ◌<◌, ℕ, List, [], ◌∷◌, ◌++◌, length, refl, subst, arith, length-append, Bool, Option, Some, None, is_some, Ok, Err, IsTrue}
 use Rattle.commands.specs.Request.{Request}
 use Rattle.commands.specs.declared.items.Item.{Item}
 use Rattle.commands.specs.declared.replies.Fault.{Fault}

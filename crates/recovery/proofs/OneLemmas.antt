@@ -1,9 +1,8 @@
 -- A state has one recovery, which is one list of events. For `one_recovery`, and for the executions of `recover`.
-use Rattle.std.proofs.Common.{◌≡◌, ◌+◌, ◌-◌, ◌≤◌, List, [], ◌∷◌, ◌++◌, length, take, drop, refl, ap, sym, ◌∙◌, subst, arith, append_assoc, append-nil, length-append}
+use Rattle.std.proofs.Common.{◌≡◌, ◌+◌, ◌-◌, ◌≤◌, List, [], ◌∷◌, ◌++◌, length, take, drop, refl, ap, sym, ◌∙◌, subst, arith, append_assoc, append-nil, length-append, Bool, true, false, nat_le}
 use Rattle.std.proofs.Math.Seq.{take-append-add}
 use Rattle.std.proofs.lemmas.Bool.{leb-true, leb-false}
 use Rattle.std.proofs.lemmas.List.{append_cancel_left, length-take, take-append-drop, take_all}
-use Rattle.std.specs.Prelude.{Bool, true, false, nat_le}
 use Rattle.ledger.specs.Answer.{State, most_events}
 use Rattle.ledger.specs.Laws.{IsRecoverable}
 use Rattle.ledger.specs.Ledger.{Event, IsLegal}

@@ -1,6 +1,5 @@
 -- How the state of a book is extended by a pass. For the passes.
-use Rattle.std.proofs.Common.{◌≡◌, ℕ, ◌+◌, ◌^◌, ◌<◌, ◌≤◌, List, [], ◌∷◌, suc, ◌++◌, length, ap, ◌∙◌, arith, append_assoc, append-nil, length-append, sym, subst}
-use Rattle.std.specs.Prelude.{Option, Some, None}
+use Rattle.std.proofs.Common.{◌≡◌, ℕ, ◌+◌, ◌^◌, ◌<◌, ◌≤◌, List, [], ◌∷◌, suc, ◌++◌, length, ap, ◌∙◌, arith, append_assoc, append-nil, length-append, sym, subst, Option, Some, None}
 use Rattle.std.specs.List.{cons_option}
 use Rattle.commands.specs.declared.replies.Fault.{Fault}
 use Rattle.ledger.specs.Answer.{State, most_events}

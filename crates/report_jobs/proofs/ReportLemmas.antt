@@ -1,6 +1,5 @@
 -- What was written of a report, and how its job ends. For the job of a report.
-use Rattle.std.proofs.Common.{◌≡◌, false, refl, sym, subst, true, ℕ, List, Option, Result}
-use Rattle.std.specs.Prelude.{None, Some, Ok, Err, IsErr, OnOk}
+use Rattle.std.proofs.Common.{◌≡◌, false, refl, sym, subst, true, ℕ, List, Option, Result, None, Some, Ok, Err, IsErr, OnOk}
 use Rattle.std.specs.Io.KnownBytes.{Appends, Keeps}
 use Rattle.sqlite.specs.Store.{Ghosts}
 use Rattle.sqlite.specs.Held.{state}

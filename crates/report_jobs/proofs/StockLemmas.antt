@@ -1,7 +1,6 @@
 -- The cells that are asked for, kind after kind, are those that are asked for; and their report in its parts. For `write_stock`
 -- and `write_kinds`.
-use Rattle.std.proofs.Common.{◌≡◌, ℕ, suc, ◌+◌, ◌<◌, ◌≤◌, ◌==◌, ◌&&◌, List, [], ◌∷◌, ◌++◌, filter, cond, length, Bool, true, false, Option, Ordering, Less, Equal, Greater, is_lt, nat_cmp, refl, sym, ap, ap₂, subst, ◌∙◌, arith, append_assoc, eqb-true}
-use Rattle.std.specs.Prelude.{codes, nat_le, IsErr, Result, Ok, Err}
+use Rattle.std.proofs.Common.{◌≡◌, ℕ, suc, ◌+◌, ◌<◌, ◌≤◌, ◌==◌, ◌&&◌, List, [], ◌∷◌, ◌++◌, filter, cond, length, Bool, true, false, Option, Ordering, Less, Equal, Greater, is_lt, nat_cmp, refl, sym, ap, ap₂, subst, ◌∙◌, arith, append_assoc, eqb-true, codes, nat_le, IsErr, Result, Ok, Err}
 use Rattle.std.specs.List.{AllByRecursion, flat_map}
 use Rattle.std.specs.Ordering.{ordering_then}
 use Rattle.std.specs.Io.KnownBytes.{Appends}

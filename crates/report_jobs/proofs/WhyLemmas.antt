@@ -1,9 +1,8 @@
 -- The nights of a want by the cells that a filter lets through. For the report of why a journey goes on or does not.
-use Rattle.std.proofs.Common.{◌≡◌, ℕ, zero, suc, ◌+◌, ◌-◌, ◌<◌, ◌≤◌, List, [], ◌∷◌, map, filter, find, cond, refl, ap, ap₂, sym, ◌∙◌, arith, eq-eqb, true, false, Bool}
+use Rattle.std.proofs.Common.{◌≡◌, ℕ, zero, suc, ◌+◌, ◌-◌, ◌<◌, ◌≤◌, List, [], ◌∷◌, map, filter, find, cond, refl, ap, ap₂, sym, ◌∙◌, arith, eq-eqb, true, false, Bool, Some, None, if◌then◌else◌, option_map}
 use Rattle.std.proofs.lemmas.Bool.{and_from, and_parts, le-leb}
 use Rattle.std.proofs.lemmas.List.Folds.{list_all-map}
 use Rattle.std.proofs.lemmas.Slice.Eq.{bytes_eq-Decides}
-use Rattle.std.specs.Prelude.{Some, None, if◌then◌else◌, option_map}
 use Rattle.std.specs.List.{list_all}
 use Rattle.allotment.specs.Cells.{cell_at, cells_of, is_cell, kind_number, numbers_from}
 use Rattle.allotment.specs.Limits.{is_night}

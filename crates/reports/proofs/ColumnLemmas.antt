@@ -1,6 +1,5 @@
 -- A line whose columns are written over its blanks, one after another. For the line of a cell.
-use Rattle.std.proofs.Common.{◌≡◌, ◌∙◌, ℕ, ◌+◌, ◌-◌, ◌≤◌, List, [], ◌∷◌, ◌++◌, length, replicate, take, drop, refl, sym, ap, append-nil, append_assoc, length-append, take-append-drop, suc, lit<, lit≤, leb-true, arith}
-use Rattle.std.specs.Prelude.{◌||◌, decimal, nat_le, IsTrue}
+use Rattle.std.proofs.Common.{◌≡◌, ◌∙◌, ℕ, ◌+◌, ◌-◌, ◌≤◌, List, [], ◌∷◌, ◌++◌, length, replicate, take, drop, refl, sym, ap, append-nil, append_assoc, length-append, take-append-drop, suc, lit<, lit≤, leb-true, arith, ◌||◌, decimal, nat_le, IsTrue}
 use Rattle.std.specs.List.{list_all}
 use Rattle.std.proofs.lemmas.Bool.{and_parts}
 use Rattle.std.proofs.lemmas.Fmt.{length-decimal-le}

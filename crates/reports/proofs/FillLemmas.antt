@@ -1,6 +1,5 @@
 -- What a format writes for a number or a text that it pads with blanks. For the lines of reports.
-use Rattle.std.proofs.Common.{◌≡◌, ◌∙◌, ℕ, ◌^◌, ◌-◌, ◌≤◌, Bool, cond, List, [], ◌∷◌, true, false, refl, arith, length, zero, suc, replicate, append-nil, ap, lit<, lit≤, leb-true}
-use Rattle.std.specs.Prelude.{encode_utf8, ◌==◌, ◌||◌, nat_le, IsTrue}
+use Rattle.std.proofs.Common.{◌≡◌, ◌∙◌, ℕ, ◌^◌, ◌-◌, ◌≤◌, Bool, cond, List, [], ◌∷◌, true, false, refl, arith, length, zero, suc, replicate, append-nil, ap, lit<, lit≤, leb-true, encode_utf8, ◌==◌, ◌||◌, nat_le, IsTrue}
 use Rattle.std.specs.Fmt.{padded_integral, padded, take_chars, char_count, format_spec, is_char_start}
 use Rattle.std.specs.List.{repeat, list_all}
 use Rattle.std.proofs.lemmas.Bool.{and_parts}

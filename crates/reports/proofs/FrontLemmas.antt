@@ -1,6 +1,5 @@
 -- Prefixes of what was written. For reports in their parts.
-use Rattle.std.proofs.Common.{◌≡◌, ◌∙◌, append-nil, sym, subst, min, List, [], ◌++◌, ℕ, ◌+◌, length, take, arith}
-use Rattle.std.specs.Prelude.{Option, Some, None}
+use Rattle.std.proofs.Common.{◌≡◌, ◌∙◌, append-nil, sym, subst, min, List, [], ◌++◌, ℕ, ◌+◌, length, take, arith, Option, Some, None}
 use Rattle.std.proofs.lemmas.List.{take_min}
 use Rattle.std.proofs.Math.Seq.{take-append-add, take-append-le, take-length}
 use Rattle.std.specs.Io.KnownBytes.{Appends}

@@ -1,6 +1,5 @@
 -- The history of a journey in the parts in which it is written. For writing it.
-use Rattle.std.proofs.Common.{◌≡◌, ◌∙◌, ap, sym, ℕ, List, [], ◌∷◌, ◌++◌, append-nil, append_assoc, map}
-use Rattle.std.specs.Prelude.{codes}
+use Rattle.std.proofs.Common.{◌≡◌, ◌∙◌, ap, sym, ℕ, List, [], ◌∷◌, ◌++◌, append-nil, append_assoc, map, codes}
 use Rattle.std.specs.List.{flat_map}
 use Rattle.commands.specs.Texts.{item_text, sentence}
 use Rattle.commands.specs.declared.items.Item.{Item}

@@ -1,6 +1,5 @@
 -- A report is written in its parts: its head, its rows and its ending. For sending a report.
-use Rattle.std.proofs.Common.{List, ◌++◌, ℕ}
-use Rattle.std.specs.Prelude.{Option}
+use Rattle.std.proofs.Common.{List, ◌++◌, ℕ, Option}
 use Rattle.std.specs.Io.KnownBytes.{Appends}
 use Rattle.streams.specs.Written.{WroteFront}
 use Rattle.streams.proofs.ByteLemmas.{appends_more}

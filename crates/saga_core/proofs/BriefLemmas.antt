@@ -1,7 +1,6 @@
 -- Journeys of a ledger, found one after another by rising number. For calls that walk over a book's journeys, whichever of
 -- them they look for.
-use Rattle.std.proofs.Common.{◌≡◌, ◌∙◌, ap, sym, subst, refl, ℕ, zero, suc, ◌<◌, ◌≤◌, List, [], ◌∷◌, cond, length, Bool, true, false, Option, Some, None, arith}
-use Rattle.std.specs.Prelude.{filter, filter_map, find, option_map, nat_lt, ◌&&◌}
+use Rattle.std.proofs.Common.{◌≡◌, ◌∙◌, ap, sym, subst, refl, ℕ, zero, suc, ◌<◌, ◌≤◌, List, [], ◌∷◌, cond, length, Bool, true, false, Option, Some, None, arith, filter, filter_map, find, option_map, nat_lt, ◌&&◌}
 use Rattle.std.specs.List.{cons_option}
 use Rattle.std.proofs.lemmas.Bool.{le-ltb, lt-ltb, ltb-true}
 use Rattle.allotment.specs.Cells.{numbers_from}

@@ -1,9 +1,9 @@
 -- The first unfinished journey, and what it implies for the others. For recovery, and for books that remember
 -- finished journeys.
-use Rattle.std.proofs.Common.{◌≡◌, ℕ, zero, suc, ◌+◌, ◌<◌, ◌≤◌, List, length, cond, refl, ap, sym, ◌∙◌, arith, eqb-true, subst}
+use Rattle.std.proofs.Common.{◌≡◌, ℕ, zero, suc, ◌+◌, ◌<◌, ◌≤◌, List, length, cond, refl, ap, sym, ◌∙◌, arith, eqb-true, subst, Bool, true, false, ◌==◌, ◌&&◌, not, nat_lt, Option, Some, None, find, filter_map, option_map}
 use Rattle.std.proofs.lemmas.Bool.{and_parts, eqb-false, ltb-true, ltb-false}
 use Rattle.std.proofs.lemmas.Option.{slice_get_past}
-use Rattle.std.specs.Prelude.{Bool, true, false, ◌==◌, ◌&&◌, not, nat_lt, Option, Some, None, find, filter_map, option_map, unwrap_or}
+use Rattle.std.specs.Prelude.{unwrap_or}
 use Rattle.std.specs.List.{cons_option}
 use Rattle.allotment.specs.Cells.{numbers_from}
 use Rattle.ledger.specs.History.{phase, is_finished, is_open}

@@ -1,6 +1,5 @@
 -- A book that may act for some asks, one ask after another. For run, and for runs over lines, messages and journeys.
-use Rattle.std.proofs.Common.{◌≡◌, ◌≤◌, ◌+◌, ℕ, suc, [], ◌∷◌, ◌++◌, length, length-append, take, ap, sym, ◌∙◌, subst, arith}
-use Rattle.std.specs.Prelude.{drop, Option, Ok, Err}
+use Rattle.std.proofs.Common.{◌≡◌, ◌≤◌, ◌+◌, ℕ, suc, [], ◌∷◌, ◌++◌, length, length-append, take, ap, sym, ◌∙◌, subst, arith, drop, Option, Ok, Err}
 use Rattle.std.proofs.lemmas.List.{drop_all, drop_more, take_all, take-append-le}
 use Rattle.commands.specs.Asks.{Asked}
 use Rattle.commands.specs.Request.{Request}

@@ -1,6 +1,5 @@
 -- The answers of the rules to turns and save-points are the rulings on them. For who executes them.
-use Rattle.std.proofs.Common.{◌≡◌, ℕ, Bool, true, false, List, Some, refl, ap, ◌∙◌}
-use Rattle.std.specs.Prelude.{◌&&◌, not, nat_lt, if◌then◌else◌, Ok, Err}
+use Rattle.std.proofs.Common.{◌≡◌, ℕ, Bool, true, false, List, Some, refl, ap, ◌∙◌, ◌&&◌, not, nat_lt, if◌then◌else◌, Ok, Err}
 use Rattle.plan.specs.PlanModel.{Planned}
 use Rattle.savepoints.specs.Marks.{is_taken_in}
 use Rattle.savepoints.specs.Turns.{may_be_made}

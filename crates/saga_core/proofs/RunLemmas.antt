@@ -1,7 +1,6 @@
 -- The effect of one more command on a run. For run.
-use Rattle.std.proofs.Common.{◌≡◌, ℕ, ◌+◌, ◌<◌, List, [], ◌∷◌, ◌++◌, length, take, get_or, refl, ap, sym, ◌∙◌, subst, arith}
+use Rattle.std.proofs.Common.{◌≡◌, ℕ, ◌+◌, ◌<◌, List, [], ◌∷◌, ◌++◌, length, take, get_or, refl, ap, sym, ◌∙◌, subst, arith, Option, Err}
 use Rattle.std.proofs.lemmas.List.{take_more, get_or-map, length-map}
-use Rattle.std.specs.Prelude.{Option, Err}
 use Rattle.commands.specs.Asks.{Asked}
 use Rattle.commands.specs.Orders.{request_of}
 use Rattle.commands.specs.Request.{Request}

@@ -1,6 +1,5 @@
 -- How an execution goes on with asks. For run, and for all other continuations: recovery, lines and messages.
-use Rattle.std.proofs.Common.{◌≡◌, ◌≤◌, true, false, List, [], ◌∷◌, ◌++◌, length, refl, ap, sym, ◌∙◌, subst, arith, append-nil, IsTrue}
-use Rattle.std.specs.Prelude.{Bool}
+use Rattle.std.proofs.Common.{◌≡◌, ◌≤◌, true, false, List, [], ◌∷◌, ◌++◌, length, refl, ap, sym, ◌∙◌, subst, arith, append-nil, IsTrue, Bool}
 use Rattle.ledger.specs.Answer.{State, start, outcome}
 use Rattle.ledger.specs.World.{Moment, Done, Cut, Reopened, after, GoesOn, IsWorld}
 use Rattle.saga_core.specs.Runs.{Asks, state_after, outcome_of}

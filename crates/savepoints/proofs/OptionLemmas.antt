@@ -1,6 +1,6 @@
 -- Each step of a plan has an option. For option_at.
-use Rattle.std.proofs.Common.{◌≡◌, ℕ, zero, suc, ◌≤◌, ◌<◌, true, List, [], ◌∷◌, length, IsTrue, arith}
-use Rattle.std.specs.Prelude.{slice_get, unwrap_or, option_map}
+use Rattle.std.proofs.Common.{◌≡◌, ℕ, zero, suc, ◌≤◌, ◌<◌, true, List, [], ◌∷◌, length, IsTrue, arith, slice_get, option_map}
+use Rattle.std.specs.Prelude.{unwrap_or}
 use Rattle.std.specs.List.{list_all}
 use Rattle.std.proofs.lemmas.Bool.{and_parts, leb-true}
 use Rattle.plan.specs.PlanModel.{Planned, StepPlan, is_plan, is_step, step_count, option_count}

@@ -1,6 +1,5 @@
 -- What holds of bytes where they are known.
-use Rattle.std.proofs.Common.{◌≡◌, ℕ, List, subst}
-use Rattle.std.specs.Prelude.{Option, None, Some, IfSome, Result, Ok, Err, IfOk, IfErr}
+use Rattle.std.proofs.Common.{◌≡◌, ℕ, List, subst, Option, None, Some, IfSome, Result, Ok, Err, IfOk, IfErr}
 
 -- what holds of known bytes, and leads to more
 pub if_some_more : (known : Option (List ℕ)) (P Q : List ℕ → Type 0) → ((bytes : List ℕ) → P bytes → Q bytes)

@@ -1,6 +1,6 @@
 -- What is promised of the ledger after a world, by the laws of the ledger. For `run_sessions`.
-use Rattle.std.proofs.Common.{◌≡◌, ◌⊎◌, ℕ, zero, suc, ◌+◌, ◌-◌, ◌<◌, ◌≤◌, ◌==◌, Bool, true, false, not, List, length, refl, sym, ap, subst, ◌∙◌, arith, inl, inr, eqb-true, ltb-true, ltb-false}
-use Rattle.std.specs.Prelude.{Option, Some, None, option_map, unwrap_or, nat_lt, slice_get, ◌||◌}
+use Rattle.std.proofs.Common.{◌≡◌, ◌⊎◌, ℕ, zero, suc, ◌+◌, ◌-◌, ◌<◌, ◌≤◌, ◌==◌, Bool, true, false, not, List, length, refl, sym, ap, subst, ◌∙◌, arith, inl, inr, eqb-true, ltb-true, ltb-false, Option, Some, None, option_map, nat_lt, slice_get, ◌||◌}
+use Rattle.std.specs.Prelude.{unwrap_or}
 use Rattle.std.specs.List.{list_any}
 use Rattle.std.proofs.lemmas.Bool.{eqb-false}
 use Rattle.std.proofs.lemmas.Option.{slice_get_past}

@@ -1,6 +1,5 @@
 -- The outcome of a begin, and the rows that represent it. For the functions that answer.
-use Rattle.std.specs.Prelude.{is_some, IsUtf8}
-use Rattle.std.proofs.Common.{◌≡◌, ◌+◌, ◌<◌, ◌≤◌, ℕ, List, length, Option, Some, None, IsTrue, refl, sym, ap, subst, ◌∙◌}
+use Rattle.std.proofs.Common.{◌≡◌, ◌+◌, ◌<◌, ◌≤◌, ℕ, List, length, Option, Some, None, IsTrue, refl, sym, ap, subst, ◌∙◌, is_some, IsUtf8}
 use Rattle.commands.specs.Asks.{Asked}
 use Rattle.commands.specs.Request as request
 use Rattle.commands.specs.declared.replies.Refusal.TheVariants.{Limit}

@@ -1,6 +1,5 @@
 -- The outcome of a move of a journey, by the answer of the rules. For `make_event`, `carry_out` and `answer_move`.
-use Rattle.std.proofs.Common.{◌≡◌, ℕ, ◌+◌, ◌<◌, ◌≤◌, length, Option, Some, None, IsTrue, refl, sym, ap, subst, ◌∙◌}
-use Rattle.std.specs.Prelude.{Ok, Err}
+use Rattle.std.proofs.Common.{◌≡◌, ℕ, ◌+◌, ◌<◌, ◌≤◌, length, Option, Some, None, IsTrue, refl, sym, ap, subst, ◌∙◌, Ok, Err}
 use Rattle.commands.specs.Asks.{Asked}
 use Rattle.commands.specs.declared.items.Cursor.{Cursor}
 use Rattle.commands.specs.declared.items.Item.{Item}

@@ -1,6 +1,5 @@
 -- The rows of a desk permit the item that the rules answer, with its reply. For `make_event`.
-use Rattle.std.proofs.Common.{◌≡◌, ◌+◌, ◌<◌, ℕ, length, ◌++◌, [], ◌∷◌, Option, IsTrue, sym, ap, subst, ◌∙◌}
-use Rattle.std.specs.Prelude.{Ok}
+use Rattle.std.proofs.Common.{◌≡◌, ◌+◌, ◌<◌, ℕ, length, ◌++◌, [], ◌∷◌, Option, IsTrue, sym, ap, subst, ◌∙◌, Ok}
 use Rattle.commands.specs.Asks.{Asked}
 use Rattle.commands.specs.Texts.{is_accepted}
 use Rattle.commands.specs.declared.items.Cursor.{Cursor}

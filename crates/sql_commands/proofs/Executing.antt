@@ -1,6 +1,6 @@
 -- A request that is executed after reads, that is refused, that fails, and whose rows are committed. For the functions that answer.
-use Rattle.std.proofs.Common.{◌≡◌, ◌⊎◌, ◌+◌, ◌≤◌, ℕ, inl, inr, false, Option, refl, sym, ap, subst, ◌∙◌, arith}
-use Rattle.std.specs.Prelude.{Result, Ok, Err, IsErrOf, IfErr, IfOk, OnOk, ⊤}
+use Rattle.std.proofs.Common.{◌≡◌, ◌⊎◌, ◌+◌, ◌≤◌, ℕ, inl, inr, false, Option, refl, sym, ap, subst, ◌∙◌, arith, Result, Ok, Err, IsErrOf, IfErr, IfOk, OnOk}
+use Rattle.std.specs.Prelude.{⊤}
 use Rattle.sqlite.specs.Store.{Ghosts}
 use Rattle.sqlite.specs.Held.{Held, state}
 use Rattle.sqlite.specs.State.{HasCleanDisk}

@@ -1,6 +1,5 @@
 -- The line of an accepted reply is ASCII, so that it can be read from its row. For `find_reply`.
-use Rattle.std.proofs.Common.{◌≡◌, ℕ, ◌≤◌, ◌++◌, List, [], ◌∷◌, length, true, IsTrue, refl, ◌∙◌, arith}
-use Rattle.std.specs.Prelude.{decimal, nat_le, nat_lt, ◌&&◌, IsUtf8}
+use Rattle.std.proofs.Common.{◌≡◌, ℕ, ◌≤◌, ◌++◌, List, [], ◌∷◌, length, true, IsTrue, refl, ◌∙◌, arith, decimal, nat_le, nat_lt, ◌&&◌, IsUtf8}
 use Rattle.std.proofs.lemmas.Bool.{and_parts}
 use Rattle.std.proofs.lemmas.Fmt.{IsAscii-decimal}
 use Rattle.std.proofs.lemmas.List.Folds.{list_all-append}

@@ -1,6 +1,5 @@
 -- The outcome of a load, and the rows that represent it. For the functions of `loading` that answer.
-use Rattle.std.proofs.Common.{◌≡◌, ℕ, ◌+◌, ◌<◌, ◌≤◌, List, length, Bool, true, false, if◌then◌else◌, Option, Some, None, IsTrue, inl, refl, sym, ap, subst, ◌∙◌}
-use Rattle.std.specs.Prelude.{position, not, bytes_eq, ◌&&◌}
+use Rattle.std.proofs.Common.{◌≡◌, ℕ, ◌+◌, ◌<◌, ◌≤◌, List, length, Bool, true, false, if◌then◌else◌, Option, Some, None, IsTrue, inl, refl, sym, ap, subst, ◌∙◌, position, not, bytes_eq, ◌&&◌}
 use Rattle.std.specs.List.{list_all}
 use Rattle.std.proofs.lemmas.Bool.{and_parts}
 use Rattle.commands.specs.Limits.{most_rows}

@@ -1,6 +1,5 @@
 -- What a record implies for its journey, and the answers of the rules to its moves. For `moves` and `step_outcome`.
-use Rattle.std.proofs.Common.{◌≡◌, ℕ, true, false, List, Option, Some, None, refl, ap, sym, ◌∙◌, subst}
-use Rattle.std.specs.Prelude.{option_map, Result}
+use Rattle.std.proofs.Common.{◌≡◌, ℕ, true, false, List, Option, Some, None, refl, ap, sym, ◌∙◌, subst, option_map, Result}
 use Rattle.plan.specs.PlanModel.{Planned}
 use Rattle.savepoints.specs.declared.turns.Turn.{Turn}
 use Rattle.savepoints.specs.declared.turns.Turn.TheVariants as turn

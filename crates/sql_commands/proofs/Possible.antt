@@ -1,7 +1,7 @@
 -- An item that the rules answer is allowed, and may be made at the cursor of its journey as far as numbers show. For `make`
 -- and `make_event`.
-use Rattle.std.proofs.Common.{◌≡◌, ◌+◌, ◌≤◌, ◌==◌, ℕ, List, [], ◌∷◌, Bool, true, false, if◌then◌else◌, Option, Some, None, inl, inr, refl, sym, ap, subst, ◌∙◌, arith, eqb-true, leb-true}
-use Rattle.std.specs.Prelude.{◌&&◌, find, min, nat_le, nat_lt, not, option_map, unwrap_or, Ok}
+use Rattle.std.proofs.Common.{◌≡◌, ◌+◌, ◌≤◌, ◌==◌, ℕ, List, [], ◌∷◌, Bool, true, false, if◌then◌else◌, Option, Some, None, inl, inr, refl, sym, ap, subst, ◌∙◌, arith, eqb-true, leb-true, ◌&&◌, find, min, nat_le, nat_lt, not, option_map, Ok}
+use Rattle.std.specs.Prelude.{unwrap_or}
 use Rattle.std.proofs.lemmas.Bool.{and_parts, or_cases}
 use Rattle.sqlite_rules.specs.Lists.{Has}
 use Rattle.sqlite_rules.proofs.ListLemmas.{has_right, test_has}

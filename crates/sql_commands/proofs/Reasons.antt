@@ -1,7 +1,6 @@
 -- The rows of a desk never are a fault of the store: a journey is where one may be, and each number is in range. For the
 -- functions that read.
-use Rattle.std.proofs.Common.{◌≡◌, ◌==◌, ℕ, ◌+◌, ◌<◌, ◌≤◌, List, [], ◌∷◌, length, Some, None, true, false, Bool, IsTrue, if◌then◌else◌, refl, sym, ap, subst, ◌∙◌, arith}
-use Rattle.std.specs.Prelude.{option_map}
+use Rattle.std.proofs.Common.{◌≡◌, ◌==◌, ℕ, ◌+◌, ◌<◌, ◌≤◌, List, [], ◌∷◌, length, Some, None, true, false, Bool, IsTrue, if◌then◌else◌, refl, sym, ap, subst, ◌∙◌, arith, option_map}
 use Rattle.std.specs.List.{cons_option}
 use Rattle.std.proofs.lemmas.List.Sums.{count_by-le-length}
 use Rattle.plan.specs.Limits.{most_steps}

@@ -1,7 +1,6 @@
 -- The rows of a desk keep the limits of what a write asks of them: each journey has its row, texts are short, and no row has
 -- the number of the next event or of the next journey. For the events that a desk permits.
-use Rattle.std.proofs.Common.{◌≡◌, ◌==◌, ◌+◌, ◌<◌, ◌≤◌, ℕ, suc, List, length, true, false, Bool, IsTrue, inl, inr, [], ◌∷◌, ◌∙◌, sym, ap, subst, arith, eqb-true, leb-true}
-use Rattle.std.specs.Prelude.{◌&&◌, nat_le, filter_map, IfSome, Some}
+use Rattle.std.proofs.Common.{◌≡◌, ◌==◌, ◌+◌, ◌<◌, ◌≤◌, ℕ, suc, List, length, true, false, Bool, IsTrue, inl, inr, [], ◌∷◌, ◌∙◌, sym, ap, subst, arith, eqb-true, leb-true, ◌&&◌, nat_le, filter_map, IfSome, Some}
 use Rattle.std.specs.List.{AllByRecursion, list_all}
 use Rattle.std.proofs.lemmas.Bool.{and_parts, false_from_ne_true}
 use Rattle.sqlite_trees.proofs.ListLemmas.{all-flat_map, all-permutation}

@@ -1,6 +1,5 @@
 -- The numbers of an event of a journey fit the store's integers. For `event_of`, `step_up` and `step_down`.
-use Rattle.std.proofs.Common.{◌≡◌, ℕ, ◌+◌, ◌-◌, ◌<◌, ◌≤◌, ◌^◌, Bool, true, false, if◌then◌else◌, IsTrue, refl, sym, subst, arith}
-use Rattle.std.specs.Prelude.{◌==◌, nat_lt}
+use Rattle.std.proofs.Common.{◌≡◌, ℕ, ◌+◌, ◌-◌, ◌<◌, ◌≤◌, ◌^◌, Bool, true, false, if◌then◌else◌, IsTrue, refl, sym, subst, arith, ◌==◌, nat_lt}
 use Rattle.plan.specs.Limits.{most_steps}
 use Rattle.plan.specs.PlanModel.{Planned, step_count, is_plan}
 use Rattle.commands.specs.declared.items.Cause.{Cause}

@@ -1,6 +1,5 @@
 -- The decision on a step of a journey is the answer of the rules. For `refused`.
-use Rattle.std.proofs.Common.{◌≡◌, ℕ, ◌==◌, Bool, true, false, List, Option, Some, IsTrue, refl, ap, ap₂, sym, ◌∙◌, subst, eqb-true}
-use Rattle.std.specs.Prelude.{◌↔◌, Result, Ok, Err}
+use Rattle.std.proofs.Common.{◌≡◌, ℕ, ◌==◌, Bool, true, false, List, Option, Some, IsTrue, refl, ap, ap₂, sym, ◌∙◌, subst, eqb-true, ◌↔◌, Result, Ok, Err}
 use Rattle.std.proofs.lemmas.Bool.{and_parts}
 use Rattle.plan.specs.PlanModel.{Planned}
 use Rattle.savepoints.specs.Rules as rules

@@ -1,6 +1,5 @@
 -- How long the text of a batch and the line of an accepted reply are at most. For the rows that are written with an event.
-use Rattle.std.proofs.Common.{◌≡◌, ◌+◌, ◌*◌, ◌≤◌, ℕ, List, [], ◌∷◌, ◌++◌, length, true, IsTrue, refl, arith, leb-true}
-use Rattle.std.specs.Prelude.{◌&&◌, decimal, nat_le}
+use Rattle.std.proofs.Common.{◌≡◌, ◌+◌, ◌*◌, ◌≤◌, ℕ, List, [], ◌∷◌, ◌++◌, length, true, IsTrue, refl, arith, leb-true, ◌&&◌, decimal, nat_le}
 use Rattle.std.specs.List.{list_all}
 use Rattle.std.proofs.lemmas.Bool.{and_parts}
 use Rattle.std.proofs.lemmas.Fmt.{length-decimal-le}

@@ -1,7 +1,6 @@
 -- The rows of a desk permit a begin, a load of a new batch, and the reply that is kept with an event. For the functions that
 -- commit.
-use Rattle.std.proofs.Common.{◌≡◌, ◌==◌, ◌+◌, ◌≤◌, ◌^◌, ℕ, List, length, false, IsTrue, sym, ap, subst, arith, leb-true}
-use Rattle.std.specs.Prelude.{◌&&◌, [], Option, None, Some, nat_le}
+use Rattle.std.proofs.Common.{◌≡◌, ◌==◌, ◌+◌, ◌≤◌, ◌^◌, ℕ, List, length, false, IsTrue, sym, ap, subst, arith, leb-true, ◌&&◌, [], Option, None, Some, nat_le}
 use Rattle.std.specs.List.{AllByRecursion, list_all}
 use Rattle.std.proofs.lemmas.Bool.{and_parts, false_from_ne_true}
 use Rattle.sqlite_rules.proofs.ListLemmas.{all_from, has_kept}

@@ -1,6 +1,6 @@
 -- The first item of a journey after an event. For `next_item` and `next_old_item`.
-use Rattle.std.proofs.Common.{◌≡◌, inl, inr, ℕ, ◌≤◌, ◌==◌, List, [], ◌∷◌, filter, Some, None, IsTrue, refl, sym, ap, subst, ◌∙◌, arith, eqb-true}
-use Rattle.std.specs.Prelude.{nat_lt, ⊤}
+use Rattle.std.proofs.Common.{◌≡◌, inl, inr, ℕ, ◌≤◌, ◌==◌, List, [], ◌∷◌, filter, Some, None, IsTrue, refl, sym, ap, subst, ◌∙◌, arith, eqb-true, nat_lt}
+use Rattle.std.specs.Prelude.{⊤}
 use Rattle.std.proofs.lemmas.Bool.{and_parts}
 use Rattle.sqlite.specs.Order.{Row}
 use Rattle.sqlite.specs.Query.{IsAnswer}

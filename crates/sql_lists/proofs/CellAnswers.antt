@@ -1,6 +1,5 @@
 -- The cells that are asked for, in their only order, are the answer of their query. For `hand_cells`.
-use Rattle.std.proofs.Common.{◌≡◌, inl, ℕ, ℤ, ◌<◌, ◌^◌, ◌==◌, ◌&&◌, List, [], ◌∷◌, ◌++◌, map, filter, Bool, true, false, is_lt, Option, None, Some, refl, sym, ap, subst, ◌∙◌, arith}
-use Rattle.std.specs.Prelude.{is_some, nat_le}
+use Rattle.std.proofs.Common.{◌≡◌, inl, ℕ, ℤ, ◌<◌, ◌^◌, ◌==◌, ◌&&◌, List, [], ◌∷◌, ◌++◌, map, filter, Bool, true, false, is_lt, Option, None, Some, refl, sym, ap, subst, ◌∙◌, arith, is_some, nat_le}
 use Rattle.std.proofs.lemmas.Bool.Decides.{nat_tests}
 use Rattle.sqlite.specs.Order.{Row}
 use Rattle.sqlite.specs.Query.{IsAnswer, output_cmp}

@@ -1,6 +1,5 @@
 -- The cells in their only order are the answer of their query. For `hand_stock`.
-use Rattle.std.proofs.Common.{◌≡◌, ℕ, pos, List, [], ◌∷◌, map, filter, true, false, is_lt, nat_cmp, Some, refl, ap, subst, ◌∙◌, arith}
-use Rattle.std.specs.Prelude.{string_bytes}
+use Rattle.std.proofs.Common.{◌≡◌, ℕ, pos, List, [], ◌∷◌, map, filter, true, false, is_lt, nat_cmp, Some, refl, ap, subst, ◌∙◌, arith, string_bytes}
 use Rattle.std.specs.Ordering.{int_cmp}
 use Rattle.std.specs.List.Sorted.{IsPermutation}
 use Rattle.std.proofs.lemmas.Int.{ints}

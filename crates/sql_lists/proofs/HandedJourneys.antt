@@ -1,6 +1,5 @@
 -- The unfinished journeys are the only answer of their query. For `hand_unfinished`.
-use Rattle.std.proofs.Common.{◌≡◌, ℕ, ◌<◌, List, [], ◌∷◌, map, filter, Some, refl, sym, ap, ◌∙◌}
-use Rattle.std.specs.Prelude.{string_bytes}
+use Rattle.std.proofs.Common.{◌≡◌, ℕ, ◌<◌, List, [], ◌∷◌, map, filter, Some, refl, sym, ap, ◌∙◌, string_bytes}
 use Rattle.sqlite.specs.Order.{Row}
 use Rattle.sqlite.specs.Term.{col}
 use Rattle.sqlite.specs.Query.{IsAnswer}

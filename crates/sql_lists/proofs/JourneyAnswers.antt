@@ -1,6 +1,5 @@
 -- The journeys that are asked for are the only answer of their query. For `hand_journeys`.
-use Rattle.std.proofs.Common.{◌≡◌, inl, ℕ, ◌<◌, ◌^◌, ◌&&◌, List, [], ◌∷◌, ◌++◌, map, filter, Bool, false, Option, None, Some, refl, sym, ap, subst, ◌∙◌, arith}
-use Rattle.std.specs.Prelude.{is_some, nat_le}
+use Rattle.std.proofs.Common.{◌≡◌, inl, ℕ, ◌<◌, ◌^◌, ◌&&◌, List, [], ◌∷◌, ◌++◌, map, filter, Bool, false, Option, None, Some, refl, sym, ap, subst, ◌∙◌, arith, is_some, nat_le}
 use Rattle.sqlite.specs.Order.{Row}
 use Rattle.sqlite.specs.Term.{col}
 use Rattle.sqlite.specs.Query.{IsAnswer}

@@ -1,6 +1,5 @@
 -- The writes of a load: one more cell, and the places of the nights of a range. For `insert_cell` and `set_nights`.
-use Rattle.std.proofs.Common.{◌≡◌, ◌+◌, ℕ, ℤ, suc, List, [], ◌∷◌, ◌++◌, filter, length, map, drop, cond, slice_get, unwrap_or, inl, inr, Some, None, Ok, Err, Result, OnOk, IfOk, Bool, true, false, refl, sym, ap, subst, ◌∙◌, arith}
-use Rattle.std.specs.Prelude.{not}
+use Rattle.std.proofs.Common.{◌≡◌, ◌+◌, ℕ, ℤ, suc, List, [], ◌∷◌, ◌++◌, filter, length, map, drop, cond, slice_get, unwrap_or, inl, inr, Some, None, Ok, Err, Result, OnOk, IfOk, Bool, true, false, refl, sym, ap, subst, ◌∙◌, arith, not}
 use Rattle.std.specs.List.{AllByRecursion, list_any}
 use Rattle.std.proofs.lemmas.Bool.{false_from_ne_true}
 use Rattle.std.proofs.lemmas.List.{length-map}

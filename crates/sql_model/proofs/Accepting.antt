@@ -1,7 +1,7 @@
 -- Each reply to an event accepts, and its parts keep the limits; so each request within the limits
 -- takes a desk's state to a desk's state. For Worlds, and for books over tables.
-use Rattle.std.proofs.Common.{◌≡◌, inl, inr, ℕ, zero, suc, ◌+◌, ◌<◌, ◌≤◌, ◌==◌, List, [], ◌∷◌, ◌++◌, length, Bool, true, false, if◌then◌else◌, Option, Some, None, IsTrue, refl, sym, ap, subst, ◌∙◌, arith, eqb-true, eq-eqb, add-one}
-use Rattle.std.specs.Prelude.{slice_get, find, position, option_map, option_and_then, unwrap_or, is_some, nat_lt, nat_le, ◌&&◌, not}
+use Rattle.std.proofs.Common.{◌≡◌, inl, inr, ℕ, zero, suc, ◌+◌, ◌<◌, ◌≤◌, ◌==◌, List, [], ◌∷◌, ◌++◌, length, Bool, true, false, if◌then◌else◌, Option, Some, None, IsTrue, refl, sym, ap, subst, ◌∙◌, arith, eqb-true, eq-eqb, add-one, slice_get, find, position, option_map, option_and_then, is_some, nat_lt, nat_le, ◌&&◌, not}
+use Rattle.std.specs.Prelude.{unwrap_or}
 use Rattle.std.specs.List.{AllByRecursion, list_any, list_all}
 use Rattle.std.proofs.lemmas.Bool.{and_parts, and_from, or_cases, leb-true, le-leb, ltb-true, leb-false, eqb-false}
 use Rattle.plan.specs.Limits.{most_options, most_steps}

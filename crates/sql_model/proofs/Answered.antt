@@ -1,6 +1,5 @@
 -- The row found under an agent's key is the reply that is kept there. For Readings, and for commands.
-use Rattle.std.proofs.Common.{◌≡◌, ℕ, List, true, filter, find, Option, Some, None, IsTrue, refl, sym, ap, ◌∙◌}
-use Rattle.std.specs.Prelude.{option_map, IfSome}
+use Rattle.std.proofs.Common.{◌≡◌, ℕ, List, true, filter, find, Option, Some, None, IsTrue, refl, sym, ap, ◌∙◌, option_map, IfSome}
 use Rattle.std.proofs.lemmas.Bool.{and_parts, and_from}
 use Rattle.std.proofs.lemmas.Slice.Eq.{bytes_eq-Decides}
 use Rattle.commands.specs.Asks.{Asked}

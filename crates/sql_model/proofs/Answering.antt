@@ -1,6 +1,5 @@
 -- A reply that is kept adds its row. For the lemmas of each event.
-use Rattle.std.proofs.Common.{◌≡◌, ℕ, List, [], ◌∷◌, ◌++◌, Bool, true, false, cond, if◌then◌else◌, Option, Some, None, find, refl, sym, ap, ◌∙◌}
-use Rattle.std.specs.Prelude.{option_map, bytes_eq, ◌&&◌, IfSome, IsTrue}
+use Rattle.std.proofs.Common.{◌≡◌, ℕ, List, [], ◌∷◌, ◌++◌, Bool, true, false, cond, if◌then◌else◌, Option, Some, None, find, refl, sym, ap, ◌∙◌, option_map, bytes_eq, ◌&&◌, IfSome, IsTrue}
 use Rattle.std.proofs.lemmas.Bool.{and_parts, and_from}
 use Rattle.std.proofs.lemmas.Slice.Eq.{bytes_eq-Decides}
 use Rattle.sqlite_trees.proofs.ListLemmas.{all_weaker}

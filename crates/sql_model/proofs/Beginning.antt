@@ -1,6 +1,6 @@
 -- The rows that the begin of a journey writes represent its outcome. For the begin of a journey over tables.
-use Rattle.std.proofs.Common.{◌≡◌, ℕ, suc, ◌+◌, ◌-◌, ◌<◌, ◌≤◌, List, [], ◌∷◌, ◌++◌, length, map, false, if◌then◌else◌, Option, None, IsTrue, refl, sym, ap, subst, ◌∙◌, arith, append-nil, length-append}
-use Rattle.std.specs.Prelude.{option_map, unwrap_or, nat_le, ◌==◌, flat_map}
+use Rattle.std.proofs.Common.{◌≡◌, ℕ, suc, ◌+◌, ◌-◌, ◌<◌, ◌≤◌, List, [], ◌∷◌, ◌++◌, length, map, false, if◌then◌else◌, Option, None, IsTrue, refl, sym, ap, subst, ◌∙◌, arith, append-nil, length-append, option_map, nat_le, ◌==◌, flat_map}
+use Rattle.std.specs.Prelude.{unwrap_or}
 use Rattle.std.specs.List.Sorted.{IsPermutation}
 use Rattle.std.proofs.lemmas.Bool.Decides.{nat_tests}
 use Rattle.std.proofs.lemmas.List.{map-append}

@@ -1,8 +1,7 @@
 -- What one more event adds to the rows that are expected of a ledger. For the lemmas of each event.
-use Rattle.std.proofs.Common.{◌≡◌, ℕ, suc, ◌+◌, List, [], ◌∷◌, ◌++◌, length, map, refl, ap, sym, ◌∙◌, arith}
+use Rattle.std.proofs.Common.{◌≡◌, ℕ, suc, ◌+◌, List, [], ◌∷◌, ◌++◌, length, map, refl, ap, sym, ◌∙◌, arith, filter_map, Option}
 use Rattle.std.proofs.lemmas.List.{length-map}
 use Rattle.std.proofs.lemmas.List.Elements.{filter_map-append}
-use Rattle.std.specs.Prelude.{filter_map, Option}
 use Rattle.std.specs.List.{cons_option}
 use Rattle.ledger.specs.Ledger.{Event, Loaded, Began, Did, journeys}
 use Rattle.sql_model.specs.ExpectedRows.{counted_from, batch_row_of, batches_called, Begun, begun_of, begun, entry_row_if, entries_called}

@@ -1,7 +1,6 @@
 -- The items of a journey come after the event that began it. For the reads of its items.
-use Rattle.std.proofs.Common.{◌≡◌, ◌⊎◌, inl, inr, ℕ, zero, suc, ◌+◌, ◌≤◌, List, [], ◌∷◌, ◌++◌, length, take, Some, None, refl, sym, ap, subst, ◌∙◌, arith, append-nil, length-append}
+use Rattle.std.proofs.Common.{◌≡◌, ◌⊎◌, inl, inr, ℕ, zero, suc, ◌+◌, ◌≤◌, List, [], ◌∷◌, ◌++◌, length, take, Some, None, refl, sym, ap, subst, ◌∙◌, arith, append-nil, length-append, slice_get, option_map}
 use Rattle.std.proofs.lemmas.List.{take_all, take-append-le}
-use Rattle.std.specs.Prelude.{slice_get, option_map}
 use Rattle.plan.specs.PlanModel.{numbered}
 use Rattle.ledger.specs.Ledger.{Event, Loaded, Began, Did, journey_at, history, IsLegal}
 use Rattle.ledger.proofs.Growing.{Keeps, induct, history-began}

@@ -1,6 +1,5 @@
 -- Lists whose elements have numbers, and maps of functions that agree. For the lemmas on plans and events.
-use Rattle.std.proofs.Common.{◌≡◌, ℕ, suc, ◌+◌, List, [], ◌∷◌, ◌++◌, length, map, refl, ap, ap₂, ◌∙◌, arith}
-use Rattle.std.specs.Prelude.{flat_map}
+use Rattle.std.proofs.Common.{◌≡◌, ℕ, suc, ◌+◌, List, [], ◌∷◌, ◌++◌, length, map, refl, ap, ap₂, ◌∙◌, arith, flat_map}
 use Rattle.sql_model.specs.ExpectedRows.{counted_from}
 
 -- the suffix has the numbers after those of the prefix

@@ -1,6 +1,5 @@
 -- The elements of a list with their numbers, and the place of each. For the lemmas on numbered rows.
-use Rattle.std.proofs.Common.{◌≡◌, inl, inr, ℕ, zero, suc, ◌+◌, ◌<◌, List, [], ◌∷◌, map, Some, refl, sym, ap, subst, ◌∙◌, arith}
-use Rattle.std.specs.Prelude.{slice_get, option_map}
+use Rattle.std.proofs.Common.{◌≡◌, inl, inr, ℕ, zero, suc, ◌+◌, ◌<◌, List, [], ◌∷◌, map, Some, refl, sym, ap, subst, ◌∙◌, arith, slice_get, option_map}
 use Rattle.std.specs.List.{AllByRecursion}
 use Rattle.sqlite_rules.specs.Lists.{Has}
 use Rattle.sql_model.specs.ExpectedRows.{counted_from}

@@ -1,6 +1,6 @@
 -- The rows of a plan, step by step and option by option, and their number. For readers and writers of plans.
-use Rattle.std.proofs.Common.{◌≡◌, ℕ, zero, suc, ◌+◌, ◌<◌, List, [], ◌∷◌, ◌++◌, length, false, refl, sym, ap, ◌∙◌, arith, add-one}
-use Rattle.std.specs.Prelude.{Option, Some, None, option_map, option_and_then, unwrap_or, slice_get}
+use Rattle.std.proofs.Common.{◌≡◌, ℕ, zero, suc, ◌+◌, ◌<◌, List, [], ◌∷◌, ◌++◌, length, false, refl, sym, ap, ◌∙◌, arith, add-one, Option, Some, None, option_map, option_and_then, slice_get}
+use Rattle.std.specs.Prelude.{unwrap_or}
 use Rattle.allotment.specs.Want.{Wanted}
 use Rattle.plan.specs.PlanModel.{Planned, StepPlan, numbered, option_count, step_count}
 use Rattle.sql_model.specs.ExpectedRows.{option_row, option_rows, step_rows_of, none_taken}

@@ -1,6 +1,5 @@
 -- A plan is read back from its rows, and written row by row. For RecordRows, and for reads of plans.
-use Rattle.std.proofs.Common.{◌≡◌, ℕ, zero, suc, ◌<◌, ◌≤◌, ◌==◌, List, [], ◌∷◌, ◌++◌, map, filter, length, Bool, true, false, IsTrue, refl, sym, ap, ap₂, ◌∙◌, arith, append-nil, eq-eqb}
-use Rattle.std.specs.Prelude.{flat_map, not}
+use Rattle.std.proofs.Common.{◌≡◌, ℕ, zero, suc, ◌<◌, ◌≤◌, ◌==◌, List, [], ◌∷◌, ◌++◌, map, filter, length, Bool, true, false, IsTrue, refl, sym, ap, ap₂, ◌∙◌, arith, append-nil, eq-eqb, flat_map, not}
 use Rattle.std.specs.List.{AllByRecursion}
 use Rattle.std.proofs.lemmas.Bool.Decides.{nat_tests}
 use Rattle.std.proofs.lemmas.List.{map-append}

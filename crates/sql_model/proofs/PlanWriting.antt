@@ -1,6 +1,5 @@
 -- The rows of a plan, written one at a time. For PlanParts.
-use Rattle.std.proofs.Common.{◌≡◌, ℕ, zero, suc, ◌+◌, List, [], ◌∷◌, ◌++◌, map, take, length, Bool, Some, refl, ap, ◌∙◌, arith, append-nil, add-one}
-use Rattle.std.specs.Prelude.{flat_map, slice_get}
+use Rattle.std.proofs.Common.{◌≡◌, ℕ, zero, suc, ◌+◌, List, [], ◌∷◌, ◌++◌, map, take, length, Bool, Some, refl, ap, ◌∙◌, arith, append-nil, add-one, flat_map, slice_get}
 use Rattle.std.proofs.lemmas.List.{map-append}
 use Rattle.std.proofs.lemmas.Grind.{flat_map-append}
 use Rattle.allotment.specs.Want.{Wanted}

@@ -1,6 +1,5 @@
 -- What each read of the tables says of the state that they represent. For the functions that read.
-use Rattle.std.proofs.Common.{◌≡◌, ℕ, ◌+◌, ◌≤◌, ◌==◌, List, [], ◌∷◌, map, filter, length, take, Option, Some, IsTrue, refl, sym, ap, subst, ◌∙◌}
-use Rattle.std.specs.Prelude.{option_map, bytes_eq, nat_le, ◌&&◌}
+use Rattle.std.proofs.Common.{◌≡◌, ℕ, ◌+◌, ◌≤◌, ◌==◌, List, [], ◌∷◌, map, filter, length, take, Option, Some, IsTrue, refl, sym, ap, subst, ◌∙◌, option_map, bytes_eq, nat_le, ◌&&◌}
 use Rattle.std.specs.List.{list_any}
 use Rattle.std.specs.List.Sorted.{IsPermutation}
 use Rattle.sqlite_trees.proofs.ListLemmas.{filter_same, all_of}

@@ -1,7 +1,6 @@
 -- A store that stays up and sees what it saw, and the fault that a failed call is. For the functions of `sql_reads`,
 -- `sql_writes` and above.
-use Rattle.std.proofs.Common.{◌≡◌, ◌⊎◌, ℕ, inl, inr, true, false, sym, subst, IsTrue, ◌∙◌, arith}
-use Rattle.std.specs.Prelude.{◌↔◌}
+use Rattle.std.proofs.Common.{◌≡◌, ◌⊎◌, ℕ, inl, inr, true, false, sym, subst, IsTrue, ◌∙◌, arith, ◌↔◌}
 use Rattle.sqlite.specs.Store.{Ghosts}
 use Rattle.sqlite.specs.State.{State as Connected, HasCleanDisk, Survives}
 use Rattle.sqlite.specs.Effect.{Database}

@@ -1,7 +1,6 @@
 -- The first row of an unfinished journey is that of the first unfinished journey, and the first row of an agent that of the
 -- first journey of the agent. For Readings.
-use Rattle.std.proofs.Common.{◌≡◌, ℕ, suc, ◌+◌, List, [], ◌∷◌, map, find, cond, length, Bool, true, false, Option, Some, refl, sym, ap, subst, ◌∙◌, arith}
-use Rattle.std.specs.Prelude.{slice_get, filter_map, option_map, nat_lt, not, ◌&&◌}
+use Rattle.std.proofs.Common.{◌≡◌, ℕ, suc, ◌+◌, List, [], ◌∷◌, map, find, cond, length, Bool, true, false, Option, Some, refl, sym, ap, subst, ◌∙◌, arith, slice_get, filter_map, option_map, nat_lt, not, ◌&&◌, nat_le, filter}
 use Rattle.std.specs.List.{cons_option}
 use Rattle.std.specs.List.Sorted.{IsPermutation}
 use Rattle.allotment.specs.Cells.{numbers_from}
@@ -15,7 +14,6 @@ use Rattle.desk_sql.specs.Rows.{JourneyRow}
 use Rattle.sql_model.specs.ExpectedRows.{counted_from, Begun, begun, phase_number, journeys_called}
 use Rattle.desk_sql.specs.FoundRows.{is_owned_after, is_unfinished_after}
 use Rattle.desk_sql.specs.Lists.{IsLeastOf}
-use Rattle.std.specs.Prelude.{nat_le, filter}
 use Rattle.sql_model.specs.Reading.{Tells, IsBriefOf}
 use Rattle.sql_model.proofs.Events.{length-begun}
 use Rattle.sql_model.proofs.JourneyRows.{row_in, begun_there, called_rises}

@@ -1,6 +1,6 @@
 -- What the rows of a step imply for its options. For `options`.
-use Rattle.std.proofs.Common.{◌≡◌, ℕ, ◌+◌, ◌-◌, ◌<◌, ◌≤◌, ◌==◌, zero, suc, List, [], ◌∷◌, length, get_or, min, Some, refl, sym, ap, subst, ◌∙◌, arith, eqb-true}
-use Rattle.std.specs.Prelude.{slice_get, option_map, option_and_then, unwrap_or}
+use Rattle.std.proofs.Common.{◌≡◌, ℕ, ◌+◌, ◌-◌, ◌<◌, ◌≤◌, ◌==◌, zero, suc, List, [], ◌∷◌, length, get_or, min, Some, refl, sym, ap, subst, ◌∙◌, arith, eqb-true, slice_get, option_map, option_and_then}
+use Rattle.std.specs.Prelude.{unwrap_or}
 use Rattle.plan.specs.PlanModel.{StepPlan, numbered, option_count, want_at}
 use Rattle.ledger.specs.Answer.{State}
 use Rattle.ledger.specs.Ledger.{history}

@@ -1,6 +1,5 @@
 -- A save-point that was taken is in range. For `reads::read_marks`.
-use Rattle.std.proofs.Common.{◌≡◌, inl, inr, ℕ, List, [], ◌∷◌, Option, Some, None, IsTrue, true, false, refl, sym, ap, ◌∙◌, arith, eq-eqb}
-use Rattle.std.specs.Prelude.{◌==◌, nat_le}
+use Rattle.std.proofs.Common.{◌≡◌, inl, inr, ℕ, List, [], ◌∷◌, Option, Some, None, IsTrue, true, false, refl, sym, ap, ◌∙◌, arith, eq-eqb, ◌==◌, nat_le}
 use Rattle.std.specs.List.{AllByRecursion, list_any}
 use Rattle.std.proofs.lemmas.Bool.{and_from, le-leb, or_left, or_right}
 use Rattle.sqlite_rules.specs.Lists.{Has}

@@ -1,6 +1,6 @@
 -- The rows of a plan that keeps its limits give that plan. For the functions of `plan_rows`.
-use Rattle.std.proofs.Common.{◌≡◌, ℕ, zero, suc, ◌+◌, ◌<◌, ◌≤◌, ◌⊎◌, inl, inr, List, [], ◌∷◌, ◌++◌, map, drop, length, get_or, Bool, true, false, IsTrue, Option, Some, None, Ok, refl, sym, ap, ◌∙◌, arith, add-one}
-use Rattle.std.specs.Prelude.{◌&&◌, if◌then◌else◌, flat_map, slice_get, option_map, option_and_then, unwrap_or, string_bytes}
+use Rattle.std.proofs.Common.{◌≡◌, ℕ, zero, suc, ◌+◌, ◌<◌, ◌≤◌, ◌⊎◌, inl, inr, List, [], ◌∷◌, ◌++◌, map, drop, length, get_or, Bool, true, false, IsTrue, Option, Some, None, Ok, refl, sym, ap, ◌∙◌, arith, add-one, ◌&&◌, if◌then◌else◌, flat_map, slice_get, option_map, option_and_then, string_bytes}
+use Rattle.std.specs.Prelude.{unwrap_or}
 use Rattle.std.proofs.Math.Seq.{drop-cons, drop-append_seam, drop-nil}
 use Rattle.std.proofs.Math.ListN.{drop_of_length-le}
 use Rattle.std.proofs.lemmas.Bool.{and_parts}

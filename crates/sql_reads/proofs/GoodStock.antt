@@ -1,6 +1,5 @@
 -- A legal ledger calls for rows of cells that keep their limits alone. For the reads of places.
-use Rattle.std.proofs.Common.{◌≡◌, inl, inr, ℕ, ◌≤◌, List, [], ◌∷◌, map, filter, Option, Some, None, IsTrue, true, refl, sym, ap, subst, ◌∙◌, arith, eqb-true}
-use Rattle.std.specs.Prelude.{◌-◌, ◌==◌, ◌&&◌, length, nat_le, flat_map, filter_map, option_map, IsUtf8}
+use Rattle.std.proofs.Common.{◌≡◌, inl, inr, ℕ, ◌≤◌, List, [], ◌∷◌, map, filter, Option, Some, None, IsTrue, true, refl, sym, ap, subst, ◌∙◌, arith, eqb-true, ◌-◌, ◌==◌, ◌&&◌, length, nat_le, flat_map, filter_map, option_map, IsUtf8}
 use Rattle.std.specs.List.{AllByRecursion, list_all}
 use Rattle.std.proofs.lemmas.Bool.{and_parts, leb-true}
 use Rattle.std.proofs.lemmas.Slice.Eq.{bytes_eq-Decides}

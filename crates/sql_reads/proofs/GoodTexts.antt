@@ -1,6 +1,5 @@
 -- The texts in the rows of a plan that keeps its limits can be read. For `reads::read_plan`.
-use Rattle.std.proofs.Common.{◌≡◌, ℕ, suc, List, [], ◌∷◌, map, filter, Bool, true, Some, IsTrue, sym, ap, ◌∙◌}
-use Rattle.std.specs.Prelude.{◌&&◌, flat_map}
+use Rattle.std.proofs.Common.{◌≡◌, ℕ, suc, List, [], ◌∷◌, map, filter, Bool, true, Some, IsTrue, sym, ap, ◌∙◌, ◌&&◌, flat_map}
 use Rattle.std.specs.List.{AllByRecursion, list_all}
 use Rattle.std.proofs.lemmas.Bool.{and_parts}
 use Rattle.sqlite_trees.proofs.ListLemmas.{all-append}

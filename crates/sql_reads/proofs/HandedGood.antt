@@ -1,7 +1,6 @@
 -- Rows that are handed out of cells and journeys which keep their limits tell something, and can be read. For `cell_rows` and
 -- `brief_rows`.
-use Rattle.std.proofs.Common.{◌≡◌, inl, inr, List, [], ◌∷◌, map, Some, IsTrue, refl, sym, ap, subst, ◌∙◌}
-use Rattle.std.specs.Prelude.{◌&&◌, IsSome}
+use Rattle.std.proofs.Common.{◌≡◌, inl, inr, List, [], ◌∷◌, map, Some, IsTrue, refl, sym, ap, subst, ◌∙◌, ◌&&◌, IsSome}
 use Rattle.std.specs.List.{AllByRecursion}
 use Rattle.std.proofs.lemmas.Bool.{and_parts}
 use Rattle.allotment.specs.Limits.{is_code, is_good_cell, is_night}

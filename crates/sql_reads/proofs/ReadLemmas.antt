@@ -1,6 +1,6 @@
 -- A read of the desk is made of queries of rows, one after another. For the functions of `sql_reads` and of the crates above.
-use Rattle.std.proofs.Common.{◌≡◌, ap, subst, sym, ◌∙◌, Result, Ok, Err}
-use Rattle.std.specs.Prelude.{◌↔◌, IfOk, IfErr, IsErrOf, ⊤}
+use Rattle.std.proofs.Common.{◌≡◌, ap, subst, sym, ◌∙◌, Result, Ok, Err, ◌↔◌, IfOk, IfErr, IsErrOf}
+use Rattle.std.specs.Prelude.{⊤}
 use Rattle.sqlite.specs.Store.{Ghosts}
 use Rattle.sqlite.specs.State.{HasCleanDisk, IsUnchanged}
 use Rattle.sqlite.specs.Held.{Held, state}

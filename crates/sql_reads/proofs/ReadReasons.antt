@@ -1,6 +1,5 @@
 -- The rows of a desk that fits can be read. For the functions of `sql_reads`.
-use Rattle.std.proofs.Common.{◌≡◌, ◌≤◌, ◌<◌, inl, inr, ℕ, zero, suc, List, [], ◌∷◌, Option, Some, None, IsTrue, true, false, length, filter, map, refl, sym, ap, subst, ◌∙◌, arith}
-use Rattle.std.specs.Prelude.{bytes_eq, IsUtf8, IsSome, IfSome, ◌+◌, slice_get, filter_map, nat_le, nat_lt}
+use Rattle.std.proofs.Common.{◌≡◌, ◌≤◌, ◌<◌, inl, inr, ℕ, zero, suc, List, [], ◌∷◌, Option, Some, None, IsTrue, true, false, length, filter, map, refl, sym, ap, subst, ◌∙◌, arith, bytes_eq, IsUtf8, IsSome, IfSome, ◌+◌, slice_get, filter_map, nat_le, nat_lt}
 use Rattle.std.specs.List.{AllByRecursion}
 use Rattle.std.proofs.lemmas.Bool.{and_parts, ltb-true}
 use Rattle.sqlite_rules.specs.Lists.{Has}

@@ -1,6 +1,5 @@
 -- What the rows of stock need of a want. For the functions of `sql_reads`.
-use Rattle.std.proofs.Common.{◌≤◌, ◌+◌, ◌-◌, IsTrue}
-use Rattle.std.specs.Prelude.{nat_le, ◌&&◌}
+use Rattle.std.proofs.Common.{◌≤◌, ◌+◌, ◌-◌, IsTrue, nat_le, ◌&&◌}
 use Rattle.std.proofs.lemmas.Bool.{and_parts, leb-true}
 use Rattle.allotment.specs.Want.{Wanted}
 use Rattle.allotment.specs.Limits.{is_want, is_code, is_night, is_between, are_nights, is_count, most_nights}

@@ -1,6 +1,5 @@
 -- Rows of stock after a change of some of them that leaves each row to its cell. For Puts and Wants.
-use Rattle.std.proofs.Common.{◌≡◌, List, [], ◌∷◌, find, cond, Bool, true, false, if◌then◌else◌, Some, refl, ap₂, ◌∙◌}
-use Rattle.std.specs.Prelude.{option_map}
+use Rattle.std.proofs.Common.{◌≡◌, List, [], ◌∷◌, find, cond, Bool, true, false, if◌then◌else◌, Some, refl, ap₂, ◌∙◌, option_map}
 use Rattle.std.specs.List.{AllByRecursion}
 use Rattle.sqlite_trees.proofs.ListLemmas.{ascending-map, all-map, all_weaker}
 use Rattle.allotment.specs.declared.cells.Cell.{Cell}

@@ -1,6 +1,5 @@
 -- What an item of a journey changes in the rows that are expected of a ledger. For the lemmas of each item.
-use Rattle.std.proofs.Common.{◌≡◌, ℕ, suc, ◌+◌, ◌==◌, List, [], ◌∷◌, ◌++◌, length, map, Bool, true, false, if◌then◌else◌, Some, refl, sym, ap, ap₂, ◌∙◌, arith, append-nil, length-append, eqb-true, inl, inr}
-use Rattle.std.specs.Prelude.{flat_map, ◌&&◌}
+use Rattle.std.proofs.Common.{◌≡◌, ℕ, suc, ◌+◌, ◌==◌, List, [], ◌∷◌, ◌++◌, length, map, Bool, true, false, if◌then◌else◌, Some, refl, sym, ap, ap₂, ◌∙◌, arith, append-nil, length-append, eqb-true, inl, inr, flat_map, ◌&&◌}
 use Rattle.std.specs.List.Sorted.{IsPermutation}
 use Rattle.std.proofs.lemmas.List.Sorted.{IsPermutation-map}
 use Rattle.sqlite_trees.proofs.ListLemmas.{map-map, map-flat_map}

@@ -1,6 +1,5 @@
 -- An allowed event whose reply accepts leaves a desk's state; the outcome of a request, by its answer. For commands.
-use Rattle.std.proofs.Common.{◌≡◌, ◌<◌, ◌≤◌, length, Bool, true, false, if◌then◌else◌, Option, Some, None, IsTrue, refl, ap, subst, ◌∙◌, arith}
-use Rattle.std.specs.Prelude.{◌&&◌, nat_le, is_some}
+use Rattle.std.proofs.Common.{◌≡◌, ◌<◌, ◌≤◌, length, Bool, true, false, if◌then◌else◌, Option, Some, None, IsTrue, refl, ap, subst, ◌∙◌, arith, ◌&&◌, nat_le, is_some}
 use Rattle.std.proofs.lemmas.Bool.{and_from, le-leb}
 use Rattle.std.proofs.lemmas.Bool.Decides.{nat_tests}
 use Rattle.commands.specs.Asks.{Asked}

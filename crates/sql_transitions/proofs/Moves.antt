@@ -1,6 +1,5 @@
 -- What an item leaves unchanged, and the rows that each item writes. For the lemmas of each item.
-use Rattle.std.proofs.Common.{◌≡◌, ℕ, ◌+◌, ◌-◌, ◌==◌, List, [], ◌∷◌, ◌++◌, length, map, Bool, true, false, eqb-true, Option, Some, None, IsTrue, refl, sym, ap, subst, ◌∙◌}
-use Rattle.std.specs.Prelude.{option_map, ◌&&◌}
+use Rattle.std.proofs.Common.{◌≡◌, ℕ, ◌+◌, ◌-◌, ◌==◌, List, [], ◌∷◌, ◌++◌, length, map, Bool, true, false, eqb-true, Option, Some, None, IsTrue, refl, sym, ap, subst, ◌∙◌, option_map, ◌&&◌}
 use Rattle.std.specs.List.{list_any}
 use Rattle.std.specs.List.Sorted.{IsPermutation}
 use Rattle.std.proofs.lemmas.List.Sorted.{IsPermutation-append_left}

@@ -1,6 +1,5 @@
 -- The rows of stock after cells got other places, each in its own row or in a new one. For Loading.
-use Rattle.std.proofs.Common.{◌≡◌, ℕ, ◌-◌, ◌==◌, List, [], ◌∷◌, ◌++◌, find, cond, Bool, true, false, if◌then◌else◌, Option, Some, None, refl, sym, ap, ◌∙◌}
-use Rattle.std.specs.Prelude.{option_map, bytes_eq, ◌&&◌, not}
+use Rattle.std.proofs.Common.{◌≡◌, ℕ, ◌-◌, ◌==◌, List, [], ◌∷◌, ◌++◌, find, cond, Bool, true, false, if◌then◌else◌, Option, Some, None, refl, sym, ap, ◌∙◌, option_map, bytes_eq, ◌&&◌, not}
 use Rattle.std.specs.List.{AllByRecursion, list_any}
 use Rattle.std.proofs.lemmas.Bool.{and_parts, false_from_ne_true}
 use Rattle.sqlite_trees.proofs.ListLemmas.{all-append}

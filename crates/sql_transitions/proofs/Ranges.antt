@@ -1,6 +1,5 @@
 -- The range of nights that a statement takes is that of a want. For the functions that write a want.
-use Rattle.std.proofs.Common.{◌≡◌, ◌==◌, map, if◌then◌else◌}
-use Rattle.std.specs.Prelude.{bytes_eq, nat_le, ◌&&◌}
+use Rattle.std.proofs.Common.{◌≡◌, ◌==◌, map, if◌then◌else◌, bytes_eq, nat_le, ◌&&◌}
 use Rattle.allotment.specs.Want.{Wanted}
 use Rattle.desk_sql.specs.Rows.{Tables, StockRow}
 use Rattle.desk_sql.specs.Stock.{is_within, with_fewer, with_more, takes_nights, gives_nights}

@@ -1,6 +1,5 @@
 -- The rows of stock have one order, and in it they tell the stock. For `start_stock`.
-use Rattle.std.proofs.Common.{◌≡◌, ℕ, ◌+◌, List, [], ◌∷◌, cond, Bool, true, false, Ordering, Less, Equal, Greater, is_gt, is_lt, is_eq, IsSorted, refl, sym, ap, subst, ◌∙◌, arith}
-use Rattle.std.specs.Prelude.{bytes_eq, ◌==◌}
+use Rattle.std.proofs.Common.{◌≡◌, ℕ, ◌+◌, List, [], ◌∷◌, cond, Bool, true, false, Ordering, Less, Equal, Greater, is_gt, is_lt, is_eq, IsSorted, refl, sym, ap, subst, ◌∙◌, arith, bytes_eq, ◌==◌}
 use Rattle.std.specs.Cmp.{IsTotalOrder}
 use Rattle.std.specs.Cmp.Lexicographic.{slice_cmp}
 use Rattle.std.specs.List.{AllByRecursion}

@@ -1,7 +1,6 @@
 -- What was taken of a list, and what remains; and the read of a list by rows that are started, and then taken. For `brief_lists` and
 -- `stock_lists`.
-use Rattle.std.proofs.Common.{◌≡◌, List, ◌++◌, Result, sym, subst}
-use Rattle.std.specs.Prelude.{IfOk, IsErrOf}
+use Rattle.std.proofs.Common.{◌≡◌, List, ◌++◌, Result, sym, subst, IfOk, IsErrOf}
 use Rattle.sqlite.specs.Store.{Ghosts}
 use Rattle.sqlite.specs.Held.{Held, state}
 use Rattle.sqlite.specs.State.{HasCleanDisk}

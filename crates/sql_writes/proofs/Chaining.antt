@@ -1,6 +1,5 @@
 -- Two consecutive writes, state by state. For `Doing`.
-use Rattle.std.proofs.Common.{◌∙◌, inl, inr}
-use Rattle.std.specs.Prelude.{Result, Ok, Err, OnOk, IfErr}
+use Rattle.std.proofs.Common.{◌∙◌, inl, inr, Result, Ok, Err, OnOk, IfErr}
 use Rattle.sqlite.specs.State.{State, KeepsCommit, Survives}
 use Rattle.sqlite.specs.declared.error.Error.{Error}
 use Rattle.desk_sql.specs.Calls.{MayRun, Makes}

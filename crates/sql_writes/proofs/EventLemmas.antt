@@ -1,6 +1,5 @@
 -- Where the rows permit an event, they fit it, and permit its reply after it. For the functions of `writes` and `committing`.
-use Rattle.std.proofs.Common.{◌≡◌, refl}
-use Rattle.std.specs.Prelude.{Option, Some, None}
+use Rattle.std.proofs.Common.{◌≡◌, refl, Option, Some, None}
 use Rattle.desk_sql.specs.Rows.{Tables}
 use Rattle.sql_writes.specs.declared.events.Numbers.{Numbers}
 use Rattle.sql_writes.specs.declared.events.Keeping.{Keeping}

@@ -1,6 +1,5 @@
 -- Rows of cells: those of one cell, the nights of a run, and how many of its cells have a row. For RunPuts and RunLemmas.
-use Rattle.std.proofs.Common.{◌≡◌, ◌≤◌, ◌<◌, ◌+◌, ◌==◌, inl, inr, ℕ, zero, suc, List, [], ◌∷◌, ◌++◌, filter, length, cond, Bool, true, false, if◌then◌else◌, refl, sym, ap, ap₂, ◌∙◌, arith, eqb-true, eq-eqb, add-one}
-use Rattle.std.specs.Prelude.{bytes_eq, nat_le, ◌&&◌, ◌||◌}
+use Rattle.std.proofs.Common.{◌≡◌, ◌≤◌, ◌<◌, ◌+◌, ◌==◌, inl, inr, ℕ, zero, suc, List, [], ◌∷◌, ◌++◌, filter, length, cond, Bool, true, false, if◌then◌else◌, refl, sym, ap, ap₂, ◌∙◌, arith, eqb-true, eq-eqb, add-one, bytes_eq, nat_le, ◌&&◌, ◌||◌}
 use Rattle.std.specs.List.{AllByRecursion, list_any}
 use Rattle.std.proofs.lemmas.Bool.{and_parts, and_from, cases_Bool, false_from_ne_true}
 use Rattle.std.proofs.lemmas.Bool.Decides.{nat_tests}

@@ -1,6 +1,5 @@
 -- What readers and writers hold, over several calls.
-use Rattle.std.proofs.Common.{◌≡◌, ◌∙◌, ap, sym, List, [], ◌++◌, ℕ, append-nil, append_assoc, refl, ◌+◌, ◌-◌, ◌≤◌, length, take, drop, arith, length-drop}
-use Rattle.std.specs.Prelude.{Option, Some, None}
+use Rattle.std.proofs.Common.{◌≡◌, ◌∙◌, ap, sym, List, [], ◌++◌, ℕ, append-nil, append_assoc, refl, ◌+◌, ◌-◌, ◌≤◌, length, take, drop, arith, length-drop, Option, Some, None}
 use Rattle.std.proofs.lemmas.List.{take_rest}
 use Rattle.std.proofs.Math.Seq.{take-add}
 use Rattle.std.specs.Io.KnownBytes.{Appends, Consumes, Keeps}

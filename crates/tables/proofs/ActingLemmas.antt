@@ -1,6 +1,5 @@
 -- What a command leaves of a book that may act. For carry_out.
-use Rattle.std.proofs.Common.{◌⊎◌, ◌+◌, ℕ, inl, inr}
-use Rattle.std.specs.Prelude.{Option}
+use Rattle.std.proofs.Common.{◌⊎◌, ◌+◌, ℕ, inl, inr, Option}
 use Rattle.std.specs.Borrow.{Bor}
 use Rattle.std.specs.Option.{option_copied}
 use Rattle.sqlite.specs.Store.{Ghosts}

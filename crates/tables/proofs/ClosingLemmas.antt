@@ -1,6 +1,5 @@
 -- The state that a connection represents when it is let go: its limit of steps does not count. For both `into_store`.
-use Rattle.std.proofs.Common.{inl, refl}
-use Rattle.std.specs.Prelude.{None}
+use Rattle.std.proofs.Common.{inl, refl, None}
 use Rattle.sqlite.specs.Store.{Ghosts}
 use Rattle.sqlite.specs.Held.{Held, state}
 use Rattle.desk_sql.specs.declared.versions.Version.{Version}

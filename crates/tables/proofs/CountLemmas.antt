@@ -1,6 +1,6 @@
 -- How many journeys are unfinished after an answer. For `TableBook`.
-use Rattle.std.proofs.Common.{◌≡◌, ℕ, ◌+◌, List, [], ◌∷◌, ◌++◌, refl, ap, sym, subst, ◌∙◌, arith, IsTrue}
-use Rattle.std.specs.Prelude.{Bool, true, false, not, length, nat_le, ◌&&◌, if◌then◌else◌, Option, Some, None, is_some, find, option_map, option_and_then, position, unwrap_or, IfSome}
+use Rattle.std.proofs.Common.{◌≡◌, ℕ, ◌+◌, List, [], ◌∷◌, ◌++◌, refl, ap, sym, subst, ◌∙◌, arith, IsTrue, Bool, true, false, not, length, nat_le, ◌&&◌, if◌then◌else◌, Option, Some, None, is_some, find, option_map, option_and_then, position, IfSome}
+use Rattle.std.specs.Prelude.{unwrap_or}
 use Rattle.allotment.specs.declared.cells.Row.{Row}
 use Rattle.commands.specs.Asks.{Asked}
 use Rattle.commands.specs.Names.{house}

@@ -1,7 +1,7 @@
 -- Journeys that have finished stay finished, and need not be read again. For `TableBook`.
-use Rattle.std.proofs.Common.{◌≡◌, ℕ, ◌<◌, ◌≤◌, List, [], ◌∷◌, ◌++◌, length, ◌-◌, cond, refl, ap, sym, ◌∙◌, arith, eqb-true, lt-ltb, IsTrue}
+use Rattle.std.proofs.Common.{◌≡◌, ℕ, ◌<◌, ◌≤◌, List, [], ◌∷◌, ◌++◌, length, ◌-◌, cond, refl, ap, sym, ◌∙◌, arith, eqb-true, lt-ltb, IsTrue, Bool, true, false, ◌==◌, ◌&&◌, not, nat_lt, nat_le, Option, Some, None, find, filter_map, option_map}
 use Rattle.std.proofs.lemmas.Bool.{eqb-false, ltb-true, ltb-false, leb-true, leb-false}
-use Rattle.std.specs.Prelude.{Bool, true, false, ◌==◌, ◌&&◌, not, nat_lt, nat_le, Option, Some, None, find, filter_map, option_map, unwrap_or}
+use Rattle.std.specs.Prelude.{unwrap_or}
 use Rattle.std.specs.List.{cons_option}
 use Rattle.commands.specs.declared.items.Item.{Item}
 use Rattle.commands.specs.declared.items.Phase.{Phase}

@@ -1,6 +1,5 @@
 -- The list of the unfinished journeys above a number. For `TableBook::look_at_all`.
-use Rattle.std.proofs.Common.{◌≡◌, ℕ, ◌≤◌, List, [], ◌∷◌, cond, refl, ap, ◌∙◌, arith}
-use Rattle.std.specs.Prelude.{Bool, true, false, Some, filter, find, slice_get}
+use Rattle.std.proofs.Common.{◌≡◌, ℕ, ◌≤◌, List, [], ◌∷◌, cond, refl, ap, ◌∙◌, arith, Bool, true, false, Some, filter, find, slice_get}
 use Rattle.ledger.specs.Ledger.{Event}
 use Rattle.saga_core.specs.Views.{first_unfinished, is_unfinished_above}
 use Rattle.saga_core.specs.declared.records.Brief.{Brief}

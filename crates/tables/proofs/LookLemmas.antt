@@ -1,6 +1,5 @@
 -- What reads of its connection leave of a book. For its looks.
-use Rattle.std.proofs.Common.{◌≡◌, ℕ, Bool, refl, sym, subst}
-use Rattle.std.specs.Prelude.{Option, Result, Ok, Err}
+use Rattle.std.proofs.Common.{◌≡◌, ℕ, Bool, refl, sym, subst, Option, Result, Ok, Err}
 use Rattle.sqlite.specs.State.{State as Connected}
 use Rattle.commands.specs.declared.replies.Fault.{Fault}
 use Rattle.commands.specs.declared.replies.Fault.TheVariants.{Memory, Store}

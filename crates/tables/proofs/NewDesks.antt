@@ -1,6 +1,5 @@
 -- The tables of a new desk have no row but that of meta, so all rowids are left. For the law.
-use Rattle.std.proofs.Common.{◌≡◌, ◌<◌, ◌^◌, ℕ, suc, ℤ, List, [], ◌∷◌, true, false, length, map, refl, sym, subst, ap, ◌∙◌, cond, eq-eqb, arith}
-use Rattle.std.specs.Prelude.{◌==◌, ◌||◌, bytes_eq, find, Some, None, option_map}
+use Rattle.std.proofs.Common.{◌≡◌, ◌<◌, ◌^◌, ℕ, suc, ℤ, List, [], ◌∷◌, true, false, length, map, refl, sym, subst, ap, ◌∙◌, cond, eq-eqb, arith, ◌==◌, ◌||◌, bytes_eq, find, Some, None, option_map}
 use Rattle.std.specs.List.{list_any}
 use Rattle.std.specs.List.Sorted.{IsPermutation}
 use Rattle.std.proofs.lemmas.Bool.{and_from}

@@ -1,9 +1,9 @@
 -- How many journeys are unfinished after one more event. For CountLemmas.
-use Rattle.std.proofs.Common.{◌≡◌, ℕ, zero, suc, ◌+◌, ◌<◌, ◌≤◌, List, [], ◌∷◌, ◌++◌, length, cond, refl, ap, sym, ◌∙◌, arith, eqb-true, length-append, IsTrue}
+use Rattle.std.proofs.Common.{◌≡◌, ℕ, zero, suc, ◌+◌, ◌<◌, ◌≤◌, List, [], ◌∷◌, ◌++◌, length, cond, refl, ap, sym, ◌∙◌, arith, eqb-true, length-append, IsTrue, Bool, true, false, ◌==◌, not, nat_lt, if◌then◌else◌, Option, Some, None, filter, filter_map, option_map}
 use Rattle.std.proofs.lemmas.Bool.{eqb-false, ltb-true, ltb-false}
 use Rattle.std.proofs.lemmas.List.Elements.{filter-append}
 use Rattle.std.proofs.lemmas.Option.{slice_get_past}
-use Rattle.std.specs.Prelude.{Bool, true, false, ◌==◌, not, nat_lt, if◌then◌else◌, Option, Some, None, filter, filter_map, option_map, unwrap_or}
+use Rattle.std.specs.Prelude.{unwrap_or}
 use Rattle.std.specs.List.{cons_option}
 use Rattle.allotment.specs.Cells.{numbers_from}
 use Rattle.allotment.specs.declared.cells.Row.{Row}

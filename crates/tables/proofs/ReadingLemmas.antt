@@ -1,6 +1,6 @@
 -- A look at the tables of a book, from a read of its connection.
-use Rattle.std.proofs.Common.{◌≡◌, false, refl}
-use Rattle.std.specs.Prelude.{Result, Ok, Err, ⊤}
+use Rattle.std.proofs.Common.{◌≡◌, false, refl, Result, Ok, Err}
+use Rattle.std.specs.Prelude.{⊤}
 use Rattle.sqlite.specs.Store.{Ghosts}
 use Rattle.sqlite.specs.Held.{Held, state}
 use Rattle.commands.specs.declared.replies.Fault.{Fault}

@@ -1,6 +1,5 @@
 -- What each call leaves of a book that may act, as the contract of every book says it. For the book over tables.
-use Rattle.std.proofs.Common.{◌≡◌, ◌≤◌, ◌⊎◌, ◌∙◌, ◌+◌, ◌∷◌, inl, inr, true, false, refl, sym, arith}
-use Rattle.std.specs.Prelude.{◌↔◌, Option, Result, Ok, Err, IsErrOf, IsTrue}
+use Rattle.std.proofs.Common.{◌≡◌, ◌≤◌, ◌⊎◌, ◌∙◌, ◌+◌, ◌∷◌, inl, inr, true, false, refl, sym, arith, ◌↔◌, Option, Result, Ok, Err, IsErrOf, IsTrue}
 use Rattle.std.specs.Borrow.{Bor}
 use Rattle.std.specs.Option.{option_copied}
 use Rattle.sqlite.specs.Store.{Ghosts}

@@ -1,6 +1,6 @@
 -- A command leaves what the rules of a legal ledger leave open: agents in their form, and few events. For carry_out.
-use Rattle.std.proofs.Common.{◌≡◌, ◌<◌, ◌+◌, ℕ, zero, suc, List, [], ◌∷◌, ◌++◌, Bool, true, false, length, refl, sym, subst, ap, ◌∙◌, arith, IsTrue, length-append, eqb-true}
-use Rattle.std.specs.Prelude.{◌==◌, ◌&&◌, nat_le, ⊤, Option, Some, None, IfSome, is_some, find, position, option_map, unwrap_or, if◌then◌else◌, not}
+use Rattle.std.proofs.Common.{◌≡◌, ◌<◌, ◌+◌, ℕ, zero, suc, List, [], ◌∷◌, ◌++◌, Bool, true, false, length, refl, sym, subst, ap, ◌∙◌, arith, IsTrue, length-append, eqb-true, ◌==◌, ◌&&◌, nat_le, Option, Some, None, IfSome, is_some, find, position, option_map, if◌then◌else◌, not}
+use Rattle.std.specs.Prelude.{⊤, unwrap_or}
 use Rattle.std.proofs.lemmas.Bool.{eqb-false, leb-false}
 use Rattle.plan.specs.PlanModel.{Planned}
 use Rattle.allotment.specs.declared.cells.Row.{Row}

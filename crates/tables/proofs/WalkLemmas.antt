@@ -1,10 +1,10 @@
 -- The unfinished journeys above a number, counted one after another. For `count_unfinished` and `TableBook`.
-use Rattle.std.proofs.Common.{◌≡◌, ℕ, zero, suc, ◌≤◌, List, [], ◌∷◌, length, cond, refl, ap, sym, ◌∙◌, arith}
+use Rattle.std.proofs.Common.{◌≡◌, ℕ, zero, suc, ◌≤◌, List, [], ◌∷◌, length, cond, refl, ap, sym, ◌∙◌, arith, Bool, true, false, ◌&&◌, not, nat_lt, Option, Some, None, filter, filter_map, option_map}
 use Rattle.std.proofs.lemmas.Bool.{ltb-false}
 use Rattle.std.proofs.lemmas.List.Sums.{count_by-le-length, length-filter}
 use Rattle.sql_reads.proofs.ReadReasons.{few_journeys}
 use Rattle.allotment.specs.Cells.{numbers_from}
-use Rattle.std.specs.Prelude.{Bool, true, false, ◌&&◌, not, nat_lt, Option, Some, None, filter, filter_map, option_map, unwrap_or}
+use Rattle.std.specs.Prelude.{unwrap_or}
 use Rattle.std.specs.List.{cons_option}
 use Rattle.ledger.specs.History.{is_finished, is_open}
 use Rattle.ledger.specs.Ledger.{Event, journeys, numbers}

@@ -1,6 +1,5 @@
 -- Each law is used as it stands.
-use Rattle.std.proofs.Common.{◌∙◌, refl, sym}
-use Rattle.std.specs.Prelude.{codes}
+use Rattle.std.proofs.Common.{◌∙◌, refl, sym, codes}
 use Rattle.allotment.specs.declared.codes.Kind.TheVariants.{Room}
 use Rattle.allotment.specs.Examples
 use Rattle.allotment.proofs.laws.texts_of_a_room.Goals as goal

@@ -1,5 +1,4 @@
-use Rattle.std.proofs.Common.{◌∙◌, sym, ap, Option, Some, List, ℕ}
-use Rattle.std.specs.Prelude.{option_and_then}
+use Rattle.std.proofs.Common.{◌∙◌, sym, ap, Option, Some, List, ℕ, option_and_then}
 use Rattle.std.specs.Str.{is_utf8}
 use Rattle.allotment.specs.Texts.{keep_if}
 use Rattle.allotment_csv.proofs.FieldLemmas.{text_of_ascii, text_there, text_gone}

@@ -1,5 +1,4 @@
-use Rattle.std.proofs.Common.{◌∙◌, sym, ap, arith}
-use Rattle.std.specs.Prelude.{option_map}
+use Rattle.std.proofs.Common.{◌∙◌, sym, ap, arith, option_map}
 use Rattle.csv.specs.Records.{fields_of}
 use Rattle.allotment_csv.specs.Fields.{texts}
 use Rattle.allotment_csv.proofs.FieldLemmas.{no_shape_at, has_texts}

@@ -1,5 +1,4 @@
-use Rattle.std.proofs.Common.{◌≡◌, sym, ap, subst, ◌∙◌, Some, None, length, ◌+◌}
-use Rattle.std.specs.Prelude.{Err}
+use Rattle.std.proofs.Common.{◌≡◌, sym, ap, subst, ◌∙◌, Some, None, length, ◌+◌, Err}
 use Rattle.allotment.specs.Making.{first_fault}
 use Rattle.commands.specs.Batches.{repeat_among}
 use Rattle.allotment_csv.specs.Files.{in_csv, rows_of, rows_faults}

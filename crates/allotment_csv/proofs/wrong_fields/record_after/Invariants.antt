@@ -1,5 +1,4 @@
-use Rattle.std.proofs.Common.{◌≡◌}
-use Rattle.std.specs.Prelude.{slice_get}
+use Rattle.std.proofs.Common.{◌≡◌, slice_get}
 use Rattle.allotment_csv.specs.Reading.{IsReading, records_left}
 use Rattle.allotment_csv.proofs.wrong_fields.record_after.Given as goal
 

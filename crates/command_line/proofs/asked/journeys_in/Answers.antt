@@ -1,6 +1,5 @@
 -- The filter has the values that were read, and one that spells nothing is the only bad one.
-use Rattle.std.proofs.Common.{◌∙◌, ap, subst}
-use Rattle.std.specs.Prelude.{Err, is_none}
+use Rattle.std.proofs.Common.{◌∙◌, ap, subst, Err, is_none}
 use Rattle.std.proofs.lemmas.Result.{err_from_is_err_and}
 use Rattle.command_line.specs.Jobs.{IsUsage}
 use Rattle.command_line.proofs.ValueLemmas.{first_bad, later_bad, none_bad}

@@ -1,5 +1,4 @@
-use Rattle.std.proofs.Common.{◌≡◌, true, ◌+◌, ap, sym, ◌∙◌, drop, Some}
-use Rattle.std.specs.Prelude.{◌&&◌}
+use Rattle.std.proofs.Common.{◌≡◌, true, ◌+◌, ap, sym, ◌∙◌, drop, Some, ◌&&◌}
 use Rattle.commands.specs.CellKeys.{row_key, is_above, rises_above}
 use Rattle.commands.proofs.RepeatLemmas.{rises_at}
 use Rattle.commands.proofs.batches.are_rising.Goals as goal

@@ -1,5 +1,4 @@
-use Rattle.std.proofs.Common.{◌≡◌, Bool, true, false, sym, ap, ◌∙◌, take, subst}
-use Rattle.std.specs.Prelude.{not}
+use Rattle.std.proofs.Common.{◌≡◌, Bool, true, false, sym, ap, ◌∙◌, take, subst, not}
 use Rattle.std.specs.BTreeSet as set
 use Rattle.commands.specs.CellKeys.{cell_key_cmp}
 use Rattle.commands.proofs.RepeatLemmas.{has_row_of, repeat_among-rising, repeat_at-new, repeat_at-old, has_cells_of-next}

@@ -1,5 +1,4 @@
-use Rattle.std.proofs.Common.{take}
-use Rattle.std.specs.Prelude.{IsTrue}
+use Rattle.std.proofs.Common.{take, IsTrue}
 use Rattle.std.specs.List.{list_all}
 use Rattle.commands.specs.Batches.{is_good_row}
 use Rattle.commands.proofs.batches.know_limits.Given as goal

@@ -1,6 +1,5 @@
 -- The number that is found is the one that the word spells, and it is within the limits.
-use Rattle.std.proofs.Common.{arith, Option, Some, None, ℕ, ◌≤◌, List}
-use Rattle.std.specs.Prelude.{decimal, IfSome}
+use Rattle.std.proofs.Common.{arith, Option, Some, None, ℕ, ◌≤◌, List, decimal, IfSome}
 use Rattle.allotment.specs.Limits.{is_between}
 use Rattle.commands.specs.Readings.{Finds}
 use Rattle.commands.proofs.NumberLemmas.{between_parts}

@@ -1,6 +1,5 @@
 -- The text of a number within the limits begins as numbers do, and is read as it. So the result is right on each path.
-use Rattle.std.specs.Prelude.{◌≡◌}
-use Rattle.std.proofs.Common.{sym, arith}
+use Rattle.std.proofs.Common.{sym, arith, ◌≡◌}
 use Rattle.commands.proofs.NumberLemmas.{between_parts, between_from, plain_parsed, spelled_plain, spelled_parsed}
 use Rattle.commands.proofs.readings.number_in.Goals as goal
 

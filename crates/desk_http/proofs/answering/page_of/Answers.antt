@@ -1,6 +1,5 @@
 -- A denied request changes nothing.
-use Rattle.std.proofs.Common.{◌∙◌, sym, subst}
-use Rattle.std.specs.Prelude.{Err}
+use Rattle.std.proofs.Common.{◌∙◌, sym, subst, Err}
 use Rattle.desk_http.specs.Demands.{demand_of}
 use Rattle.desk_http.specs.DemandValues.{Demands}
 use Rattle.desk_http.proofs.AnswerLemmas.{denied_says}

@@ -1,6 +1,5 @@
 -- A body that is refused makes no demand.
-use Rattle.std.proofs.Common.{subst, sym}
-use Rattle.std.specs.Prelude.{Err}
+use Rattle.std.proofs.Common.{subst, sym, Err}
 use Rattle.std.proofs.lemmas.Result.{err_from_is_err_and}
 use Rattle.desk_http.specs.Demands.{denied_by, demanded}
 use Rattle.desk_http.specs.DemandValues.{Demands, sender_said}

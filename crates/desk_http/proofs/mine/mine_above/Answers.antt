@@ -1,6 +1,5 @@
 -- The own journeys of who asks are found one after another, until none is left or the page is full.
-use Rattle.std.proofs.Common.{◌∙◌, ◌≡◌, ◌++◌, ◌+◌, ◌-◌, sym, ap, take, append-nil, arith, suc}
-use Rattle.std.specs.Prelude.{Some, None}
+use Rattle.std.proofs.Common.{◌∙◌, ◌≡◌, ◌++◌, ◌+◌, ◌-◌, sym, ap, take, append-nil, arith, suc, Some, None}
 use Rattle.saga_core.specs.Views.{first_owned}
 use Rattle.saga_core.proofs.CallLemmas.{stays_alone, stays_read, stays_twice}
 use Rattle.desk_http.specs.Pages.{owned_above}

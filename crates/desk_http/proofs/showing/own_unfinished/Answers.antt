@@ -1,6 +1,5 @@
 -- The journeys that who asks does not see are left out.
-use Rattle.std.proofs.Common.{◌∙◌, ap, rules}
-use Rattle.std.specs.Prelude.{filter}
+use Rattle.std.proofs.Common.{◌∙◌, ap, rules, filter}
 use Rattle.std.proofs.lemmas.Fn.{filter_same}
 use Rattle.saga_core.specs.declared.records.Brief.{Brief}
 use Rattle.desk_http.specs.Pages.{sees}

@@ -1,6 +1,5 @@
 -- The order of a line has the meaning of its text.
-use Rattle.std.proofs.Common.{subst}
-use Rattle.std.specs.Prelude.{OnOk}
+use Rattle.std.proofs.Common.{subst, OnOk}
 use Rattle.saga_core.specs.Reasons.{ActsOnAfter, FailsAmong}
 use Rattle.desk_lines.specs.Worlds.{asks_meant}
 use Rattle.desk_lines.proofs.runs.answer.Goals as goal

@@ -1,6 +1,5 @@
 -- A run over lines answers one line after another, until the input ends or a fault comes.
-use Rattle.std.proofs.Common.{ap, sym, subst, refl, []}
-use Rattle.std.specs.Prelude.{Err}
+use Rattle.std.proofs.Common.{ap, sym, subst, refl, [], Err}
 use Rattle.std.specs.Io.KnownBytes.{Appends}
 use Rattle.std.proofs.lemmas.Result.{err_from_is_err_and}
 use Rattle.desk_lines.specs.Reading.{TakesLine, to_come}

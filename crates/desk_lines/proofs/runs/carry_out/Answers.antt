@@ -1,6 +1,5 @@
 -- A command that failed leaves the states that the book's contract names.
-use Rattle.std.proofs.Common.{◌≡◌, ◌∙◌, ap, sym, subst, Global}
-use Rattle.std.specs.Prelude.{Err}
+use Rattle.std.proofs.Common.{◌≡◌, ◌∙◌, ap, sym, subst, Global, Err}
 use Rattle.std.proofs.lemmas.Result.{err_from_is_err_and}
 use Rattle.commands.specs.Orders.{request_of}
 use Rattle.desk_lines.specs.Answering.{AnswersOrder}

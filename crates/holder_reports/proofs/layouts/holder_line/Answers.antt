@@ -1,6 +1,5 @@
 -- The format writes the columns.
-use Rattle.std.proofs.Common.{◌≡◌, ◌∙◌, ◌++◌, ◌∷◌, [], append_assoc}
-use Rattle.std.specs.Prelude.{decimal, string_bytes}
+use Rattle.std.proofs.Common.{◌≡◌, ◌∙◌, ◌++◌, ◌∷◌, [], append_assoc, decimal, string_bytes}
 use Rattle.std.specs.Fmt.{styled_decimal}
 use Rattle.std.proofs.lemmas.Result.{IfOk-weaker}
 use Rattle.reports.proofs.FillLemmas.{number_right}

@@ -1,11 +1,10 @@
 -- The report is written in its parts: its head, its holders and its ending.
-use Rattle.std.proofs.Common.{◌≡◌, ◌∙◌, ap, length, subst}
+use Rattle.std.proofs.Common.{◌≡◌, ◌∙◌, ap, length, subst, codes}
 use Rattle.std.specs.Io.KnownBytes.{Appends}
 use Rattle.std.specs.List.{flat_map}
 use Rattle.streams.specs.Written.{WroteFront}
 use Rattle.reports.proofs.FrontLemmas.{front_whole}
 use Rattle.reports.proofs.PartLemmas.{all_written, ending_begun, head_begun, rows_begun}
-use Rattle.std.specs.Prelude.{codes}
 use Rattle.reports.specs.Formats.{last_line}
 use Rattle.holder_reports.specs.Layouts.{holder_row, holders_head, holders_in}
 use Rattle.holder_reports.proofs.writing.holders_text.Goals as goal

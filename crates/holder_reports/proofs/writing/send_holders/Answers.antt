@@ -1,6 +1,5 @@
 -- The rows are written one after another, until the source has none left or a fault comes.
-use Rattle.std.proofs.Common.{◌≡◌, ◌+◌, arith, rules, subst}
-use Rattle.std.specs.Prelude.{Option}
+use Rattle.std.proofs.Common.{◌≡◌, ◌+◌, arith, rules, subst, Option}
 use Rattle.std.specs.Io.KnownBytes.{Appends}
 use Rattle.saga_core.specs.RowSources.{count_of, Hands}
 use Rattle.streams.specs.Written.{WroteFront}

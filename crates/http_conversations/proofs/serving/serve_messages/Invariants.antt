@@ -1,5 +1,4 @@
-use Rattle.std.proofs.Common.{◌≡◌, List, ℕ}
-use Rattle.std.specs.Prelude.{Some}
+use Rattle.std.proofs.Common.{◌≡◌, List, ℕ, Some}
 use Rattle.ledger.specs.Answer.{State}
 use Rattle.saga_core.specs.Calls.{Stays}
 use Rattle.protocols.specs.Scenes.{scene}

@@ -1,6 +1,5 @@
 -- What was served is how each world goes on.
-use Rattle.std.proofs.Common.{◌≡◌, Result, Ok, Err, false, refl}
-use Rattle.std.specs.Prelude.{IfErr}
+use Rattle.std.proofs.Common.{◌≡◌, Result, Ok, Err, false, refl, IfErr}
 use Rattle.commands.specs.declared.replies.Fault.{Fault}
 use Rattle.commands.specs.declared.replies.Fault.TheVariants.{Memory, Store}
 use Rattle.http_conversations.specs.Leading.{has_broken}

@@ -1,6 +1,5 @@
 -- One more byte is shown after the others.
-use Rattle.std.proofs.Common.{◌≡◌, ◌∙◌, ◌<◌, ◌++◌, length, get_or, ap, subst, sym, true, arith}
-use Rattle.std.specs.Prelude.{string_bytes}
+use Rattle.std.proofs.Common.{◌≡◌, ◌∙◌, ◌<◌, ◌++◌, length, get_or, ap, subst, sym, true, arith, string_bytes}
 use Rattle.http_log.specs.Shown.{shown_byte}
 use Rattle.http_log.proofs.PrintableLemmas.{both_print, prints, shown_more}
 use Rattle.http_log.proofs.escaping.shown_whole.Goals as goal

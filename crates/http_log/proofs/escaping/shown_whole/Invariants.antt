@@ -1,5 +1,4 @@
-use Rattle.std.proofs.Common.{◌≡◌, take, true}
-use Rattle.std.specs.Prelude.{string_bytes}
+use Rattle.std.proofs.Common.{◌≡◌, take, true, string_bytes}
 use Rattle.http_log.specs.Shown.{shown_bytes}
 use Rattle.http_log.proofs.PrintableLemmas.{prints}
 use Rattle.http_log.proofs.escaping.shown_whole.Given as goal

@@ -1,6 +1,5 @@
 -- The head is printed in one piece, which is its lines.
-use Rattle.std.specs.Prelude.{decimal, length}
-use Rattle.std.proofs.Common.{◌∙◌}
+use Rattle.std.proofs.Common.{◌∙◌, decimal, length}
 use Rattle.std.proofs.lemmas.Result.{IfOk-weaker}
 use Rattle.http_pages.specs.Pages.{body_bytes, close_line, media_of, media_type}
 use Rattle.http_pages.specs.Statuses.{phrase, status_code}

@@ -1,6 +1,5 @@
 -- The page is printed in one piece, which is its lines.
-use Rattle.std.proofs.Common.{◌∙◌}
-use Rattle.std.specs.Prelude.{Some}
+use Rattle.std.proofs.Common.{◌∙◌, Some}
 use Rattle.std.proofs.lemmas.Result.{IfOk-weaker}
 use Rattle.commands.specs.declared.replies.Refusal.TheVariants as refusal
 use Rattle.http_pages.specs.Pages.{close_line}

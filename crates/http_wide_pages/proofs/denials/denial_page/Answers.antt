@@ -1,6 +1,5 @@
 -- The page is printed in one piece, which is its lines.
-use Rattle.std.proofs.Common.{◌∙◌}
-use Rattle.std.specs.Prelude.{decimal}
+use Rattle.std.proofs.Common.{◌∙◌, decimal}
 use Rattle.std.proofs.lemmas.Result.{IfOk-weaker}
 use Rattle.http_wide.specs.Framing.{code_of}
 use Rattle.http_wide_pages.specs.Pages.{phrase_of, refusal_of, text_of}

@@ -1,5 +1,4 @@
-use Rattle.std.proofs.Common.{sym, subst}
-use Rattle.std.specs.Prelude.{IfOk}
+use Rattle.std.proofs.Common.{sym, subst, IfOk}
 use Rattle.memory_book.specs.MemoryJourneys.{IsNext}
 use Rattle.plan.proofs.LimitLemmas.{few_steps}
 use Rattle.memory_book.proofs.ReadyLemmas.{save_said-next}

@@ -1,6 +1,5 @@
 -- The months are written one after another, until no cell that is asked for is left or a fault comes.
-use Rattle.std.proofs.Common.{◌∙◌, ◌+◌, ◌≤◌, ap, arith, refl, subst}
-use Rattle.std.specs.Prelude.{Option, Some}
+use Rattle.std.proofs.Common.{◌∙◌, ◌+◌, ◌≤◌, ap, arith, refl, subst, Option, Some}
 use Rattle.std.specs.Io.KnownBytes.{Appends}
 use Rattle.saga_core.specs.RowSources.{count_of}
 use Rattle.streams.specs.Written.{WroteFront}

@@ -1,6 +1,5 @@
 -- The nights are gone through from the last one on, and each sets the mark on its day.
-use Rattle.std.proofs.Common.{◌≡◌, ◌∙◌, ◌+◌, ◌-◌, ◌<◌, ◌∷◌, ap, arith, map, refl, rules, subst, sym}
-use Rattle.std.specs.Prelude.{reverse, set}
+use Rattle.std.proofs.Common.{◌≡◌, ◌∙◌, ◌+◌, ◌-◌, ◌<◌, ◌∷◌, ap, arith, map, refl, rules, subst, sym, reverse, set}
 use Rattle.std.proofs.lemmas.Iterator.Adapters.{YieldsList-from_rev_slice}
 use Rattle.std.proofs.lemmas.Iterator.Consumers.{YieldsList-at, YieldsList-end}
 use Rattle.std.proofs.lemmas.List.{length-set, reverse-reverse}

@@ -1,6 +1,5 @@
 -- Each day has the mark of the nights that were gone through, which are the last ones.
-use Rattle.std.proofs.Common.{◌≡◌, length, map}
-use Rattle.std.specs.Prelude.{reverse}
+use Rattle.std.proofs.Common.{◌≡◌, length, map, reverse}
 use Rattle.month_reports.proofs.CalendarLemmas.{Shows}
 use Rattle.month_reports.proofs.calendars.marks_of.Given as goal
 

@@ -1,6 +1,5 @@
 -- Cells are passed over until one is asked for, or the source has none left.
-use Rattle.std.proofs.Common.{◌≡◌, ◌∙◌, ◌+◌, arith, rules, subst, sym, false}
-use Rattle.std.specs.Prelude.{Option}
+use Rattle.std.proofs.Common.{◌≡◌, ◌∙◌, ◌+◌, arith, rules, subst, sym, false, Option}
 use Rattle.filters.specs.CellFilters.{is_cell_asked}
 use Rattle.saga_core.specs.RowSources.{count_of, Hands}
 use Rattle.month_reports.specs.Months.{Places}

@@ -1,6 +1,5 @@
 -- The format writes the columns.
-use Rattle.std.proofs.Common.{◌≡◌, ◌∙◌, ◌++◌, ◌∷◌, append_assoc}
-use Rattle.std.specs.Prelude.{string_bytes}
+use Rattle.std.proofs.Common.{◌≡◌, ◌∙◌, ◌++◌, ◌∷◌, append_assoc, string_bytes}
 use Rattle.std.specs.Fmt.{styled_text}
 use Rattle.std.proofs.lemmas.Result.{IfOk-weaker}
 use Rattle.reports.proofs.FillLemmas.{code_left, kind_left}

@@ -1,6 +1,5 @@
 -- The format writes the line.
-use Rattle.std.proofs.Common.{◌≡◌, ◌∙◌, ◌++◌, ◌∷◌, [], ap₂, append_assoc, List, ℕ}
-use Rattle.std.specs.Prelude.{codes, string_bytes}
+use Rattle.std.proofs.Common.{◌≡◌, ◌∙◌, ◌++◌, ◌∷◌, [], ap₂, append_assoc, List, ℕ, codes, string_bytes}
 use Rattle.std.proofs.lemmas.Result.{IfOk-weaker}
 use Rattle.allotment.specs.Texts.{want_text}
 use Rattle.commands.specs.Texts.{item_text}

@@ -1,6 +1,5 @@
 -- The cells are read to the last one.
-use Rattle.std.proofs.Common.{◌≡◌, ◌∙◌, ◌+◌, [], arith, rules, subst, sym}
-use Rattle.std.specs.Prelude.{Option}
+use Rattle.std.proofs.Common.{◌≡◌, ◌∙◌, ◌+◌, [], arith, rules, subst, sym, Option}
 use Rattle.std.proofs.lemmas.Result.{err_from_is_err_and}
 use Rattle.allotment.specs.declared.cells.Cell.{Cell}
 use Rattle.allotment.specs.declared.places.Held.{Held}

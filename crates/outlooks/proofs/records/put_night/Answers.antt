@@ -1,6 +1,5 @@
 -- The two fields are those of the night.
-use Rattle.std.proofs.Common.{◌≡◌, ◌∙◌, ◌∷◌, ◌++◌, [], ap, ap₂, sym, subst, List, ℕ}
-use Rattle.std.specs.Prelude.{OnOk}
+use Rattle.std.proofs.Common.{◌≡◌, ◌∙◌, ◌∷◌, ◌++◌, [], ap, ap₂, sym, subst, List, ℕ, OnOk}
 use Rattle.csv.specs.Records.{fields_of}
 use Rattle.outlooks.specs.Layouts.{night_fields}
 use Rattle.outlooks.proofs.records.put_night.Goals as goal

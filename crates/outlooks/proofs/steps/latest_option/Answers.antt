@@ -1,6 +1,5 @@
 -- The items are read to the last one.
-use Rattle.std.proofs.Common.{◌≡◌, ◌∙◌, ◌+◌, ap, arith, rules, subst}
-use Rattle.std.specs.Prelude.{Option}
+use Rattle.std.proofs.Common.{◌≡◌, ◌∙◌, ◌+◌, ap, arith, rules, subst, Option}
 use Rattle.commands.specs.declared.items.Item.{Item}
 use Rattle.ledger_transitions.specs.JourneyChanges.{newer}
 use Rattle.saga_core.specs.RowSources.{count_of, Hands}

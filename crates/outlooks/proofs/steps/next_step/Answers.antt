@@ -1,6 +1,5 @@
 -- The next step of a running journey, and of one that goes back.
-use Rattle.std.proofs.Common.{◌≡◌, ◌∙◌, refl, sym, subst, true, false}
-use Rattle.std.specs.Prelude.{IfSome, IsSome, Some}
+use Rattle.std.proofs.Common.{◌≡◌, ◌∙◌, refl, sym, subst, true, false, IfSome, IsSome, Some}
 use Rattle.outlooks.specs.Outlooks.{HasOption, IsStepDown}
 use Rattle.outlooks.proofs.OutlookLemmas.{down_is_next, goes_back, runs_below, up_is_next}
 use Rattle.outlooks.proofs.steps.next_step.Goals as goal

@@ -1,5 +1,4 @@
-use Rattle.std.proofs.Common.{◌≡◌, ◌+◌, map, length, take, drop}
-use Rattle.std.specs.Prelude.{IsTrue}
+use Rattle.std.proofs.Common.{◌≡◌, ◌+◌, map, length, take, drop, IsTrue}
 use Rattle.std.specs.List.{list_all}
 use Rattle.plan.specs.PlanModel.{step_said, is_step}
 use Rattle.plan.specs.Levels.{step_kept, steps_kept}

@@ -1,5 +1,4 @@
-use Rattle.std.proofs.Common.{take}
-use Rattle.std.specs.Prelude.{IsTrue}
+use Rattle.std.proofs.Common.{take, IsTrue}
 use Rattle.std.specs.List.{list_all}
 use Rattle.allotment.specs.Limits.{is_want}
 use Rattle.plan.proofs.limits.know_limits.Given as goal

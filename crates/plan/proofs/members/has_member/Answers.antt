@@ -1,5 +1,4 @@
-use Rattle.std.proofs.Common.{ap, sym, ◌∙◌}
-use Rattle.std.specs.Prelude.{is_some}
+use Rattle.std.proofs.Common.{ap, sym, ◌∙◌, is_some}
 use Rattle.plan.proofs.MemberLemmas.{is_some-option_map}
 use Rattle.plan.proofs.members.has_member.Goals as goal
 

@@ -1,5 +1,4 @@
-use Rattle.std.proofs.Common.{◌≡◌, ◌<◌, ◌≤◌, ◌⊎◌, inl, inr, [], ◌∷◌, ◌++◌, map, length, take, sym, ap, ◌∙◌, arith}
-use Rattle.std.specs.Prelude.{string_bytes}
+use Rattle.std.proofs.Common.{◌≡◌, ◌<◌, ◌≤◌, ◌⊎◌, inl, inr, [], ◌∷◌, ◌++◌, map, length, take, sym, ap, ◌∙◌, arith, string_bytes}
 use Rattle.allotment.specs.Texts.{joined, want_text, bar}
 use Rattle.plan.proofs.PrintLemmas.{printed_more, texts_more, texts_many}
 use Rattle.plan.proofs.printing.push_options.Goals as goal

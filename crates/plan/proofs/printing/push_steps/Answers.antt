@@ -1,5 +1,4 @@
-use Rattle.std.proofs.Common.{◌≡◌, ◌<◌, ◌≤◌, ◌⊎◌, inl, inr, [], ◌∷◌, ◌++◌, map, length, take, sym, ap, ◌∙◌, arith, length-take-le}
-use Rattle.std.specs.Prelude.{string_bytes}
+use Rattle.std.proofs.Common.{◌≡◌, ◌<◌, ◌≤◌, ◌⊎◌, inl, inr, [], ◌∷◌, ◌++◌, map, length, take, sym, ap, ◌∙◌, arith, length-take-le, string_bytes}
 use Rattle.std.proofs.lemmas.List.{length-map, map-append}
 use Rattle.allotment.specs.Texts.{joined, semicolon}
 use Rattle.plan.specs.PlanModel.{step_said}

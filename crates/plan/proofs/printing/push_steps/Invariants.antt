@@ -1,5 +1,4 @@
-use Rattle.std.proofs.Common.{◌≡◌, ◌++◌, map, take}
-use Rattle.std.specs.Prelude.{string_bytes}
+use Rattle.std.proofs.Common.{◌≡◌, ◌++◌, map, take, string_bytes}
 use Rattle.allotment.specs.Texts.{joined, semicolon}
 use Rattle.plan.specs.PlanModel.{step_said}
 use Rattle.plan.specs.PlanLine.{step_text}

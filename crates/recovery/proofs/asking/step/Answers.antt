@@ -1,5 +1,4 @@
-use Rattle.std.proofs.Common.{sym, subst}
-use Rattle.std.specs.Prelude.{is_some}
+use Rattle.std.proofs.Common.{sym, subst, is_some}
 use Rattle.commands.specs.Request as request
 use Rattle.ledger.proofs.Deciding.{each_open_has_one}
 use Rattle.recovery.specs.Asking.{SteppedTo, stays, goes}

@@ -1,5 +1,4 @@
-use Rattle.std.proofs.Common.{ap, sym, ◌∙◌, subst}
-use Rattle.std.specs.Prelude.{is_some}
+use Rattle.std.proofs.Common.{ap, sym, ◌∙◌, subst, is_some}
 use Rattle.commands.specs.Request as request
 use Rattle.recovery.specs.Asking.{stop_of, Adds, none, one}
 use Rattle.recovery.specs.Following.{AfterMove}

@@ -1,5 +1,4 @@
-use Rattle.std.proofs.Common.{sym, ◌∙◌, subst, arith}
-use Rattle.std.specs.Prelude.{is_some}
+use Rattle.std.proofs.Common.{sym, ◌∙◌, subst, arith, is_some}
 use Rattle.saga_core.proofs.CallLemmas.{stays_served, stays_twice}
 use Rattle.recovery.specs.Asking.{Steps}
 use Rattle.recovery.specs.Following.{AfterMove, MayGoOn}

@@ -1,6 +1,5 @@
 -- The book has made so many steps of the journey, and the pass goes on with it.
-use Rattle.std.proofs.Common.{◌≡◌}
-use Rattle.std.specs.Prelude.{true}
+use Rattle.std.proofs.Common.{◌≡◌, true}
 use Rattle.ledger.specs.Answer.{State}
 use Rattle.ledger.specs.Ledger.{is_in}
 use Rattle.saga_core.specs.Calls.{Stays}

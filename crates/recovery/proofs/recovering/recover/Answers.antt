@@ -1,5 +1,4 @@
-use Rattle.std.proofs.Common.{arith, subst, sym}
-use Rattle.std.specs.Prelude.{Some, None}
+use Rattle.std.proofs.Common.{arith, subst, sym, Some, None}
 use Rattle.ledger.specs.Answer.{start}
 use Rattle.ledger.specs.World.{after}
 use Rattle.recovery.specs.Following.{LeftAt}

@@ -1,6 +1,5 @@
 -- The lines of the cells of a kind, or none where it is not asked for.
-use Rattle.std.specs.Prelude.{Ok}
-use Rattle.std.proofs.Common.{◌≡◌, ◌+◌, arith, false, refl, rules, subst, sym, true}
+use Rattle.std.proofs.Common.{◌≡◌, ◌+◌, arith, false, refl, rules, subst, sym, true, Ok}
 use Rattle.allotment.specs.Cells.{kind_number}
 use Rattle.desk_sql.proofs.Quieting.{quiet_alone}
 use Rattle.filters.specs.CellFilters.{is_kind_asked}

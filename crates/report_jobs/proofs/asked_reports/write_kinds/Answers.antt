@@ -1,6 +1,5 @@
 -- The report is written in its parts: its head, the lines of its cells, and its ending.
-use Rattle.std.proofs.Common.{◌≡◌, ◌+◌, arith, length, subst}
-use Rattle.std.specs.Prelude.{codes}
+use Rattle.std.proofs.Common.{◌≡◌, ◌+◌, arith, length, subst, codes}
 use Rattle.std.specs.Io.KnownBytes.{Appends}
 use Rattle.reports.proofs.FrontLemmas.{front_whole}
 use Rattle.reports.specs.Formats.{last_line}

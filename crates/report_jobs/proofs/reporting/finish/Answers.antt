@@ -1,6 +1,5 @@
 -- What was written whole is flushed, or not.
-use Rattle.std.proofs.Common.{sym, subst}
-use Rattle.std.specs.Prelude.{OnOk}
+use Rattle.std.proofs.Common.{sym, subst, OnOk}
 use Rattle.std.specs.Io.KnownBytes.{Appends}
 use Rattle.report_jobs.specs.Reporting.{ReportsText}
 use Rattle.report_jobs.proofs.ReportLemmas.{reported, wrote_whole}

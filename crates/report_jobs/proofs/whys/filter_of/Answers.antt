@@ -1,6 +1,5 @@
 -- The filter names what each cell of the want has.
-use Rattle.std.proofs.Common.{◌≡◌, ◌∙◌, ◌+◌, ◌-◌, ap, ap₂, ℕ}
-use Rattle.std.specs.Prelude.{None, Some}
+use Rattle.std.proofs.Common.{◌≡◌, ◌∙◌, ◌+◌, ◌-◌, ap, ap₂, ℕ, None, Some}
 use Rattle.allotment.specs.Limits.{is_night}
 use Rattle.allotment.specs.Texts.{keep_if}
 use Rattle.filters.specs.declared.cells.CellFilter.{CellFilter}

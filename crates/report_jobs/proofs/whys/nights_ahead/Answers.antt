@@ -1,6 +1,5 @@
 -- The nights of the want, if there is a next step.
-use Rattle.std.proofs.Common.{◌≡◌, sym, subst}
-use Rattle.std.specs.Prelude.{IfOk}
+use Rattle.std.proofs.Common.{◌≡◌, sym, subst, IfOk}
 use Rattle.outlooks.specs.Outlooks.{nights_ahead}
 use Rattle.report_jobs.proofs.whys.nights_ahead.Goals as goal
 

@@ -1,6 +1,5 @@
 -- The cells that are read are those that the filter lets through.
-use Rattle.std.proofs.Common.{◌≡◌, ap, filter, rules, sym, subst}
-use Rattle.std.specs.Prelude.{IfOk}
+use Rattle.std.proofs.Common.{◌≡◌, ap, filter, rules, sym, subst, IfOk}
 use Rattle.sqlite.specs.Held.{state}
 use Rattle.sqlite.specs.State.{HasCleanDisk}
 use Rattle.allotment.specs.declared.cells.Cell.{Cell}

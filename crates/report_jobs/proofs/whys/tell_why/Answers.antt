@@ -1,6 +1,5 @@
 -- A journey that is there is reported, and one that is absent is refused.
-use Rattle.std.proofs.Common.{◌≡◌, ◌∙◌, sym, subst}
-use Rattle.std.specs.Prelude.{Some}
+use Rattle.std.proofs.Common.{◌≡◌, ◌∙◌, sym, subst, Some}
 use Rattle.sql_model.proofs.Quieting.{quiet_clean}
 use Rattle.outlooks.specs.Layouts.{why_of}
 use Rattle.outlooks.specs.Outlooks.{begun_as}

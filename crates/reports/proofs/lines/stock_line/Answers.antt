@@ -1,6 +1,5 @@
 -- The columns, one after another, make the line.
-use Rattle.std.proofs.Common.{◌∙◌, ◌≤◌, ℕ, List, refl, subst, arith, replicate}
-use Rattle.std.specs.Prelude.{decimal}
+use Rattle.std.proofs.Common.{◌∙◌, ◌≤◌, ℕ, List, refl, subst, arith, replicate, decimal}
 use Rattle.allotment.specs.Nights.{night_text}
 use Rattle.allotment.specs.Places.{held_of}
 use Rattle.allotment.specs.Texts.{kind_word}

@@ -1,6 +1,5 @@
 -- The ending is that of the format, for this count.
-use Rattle.std.proofs.Common.{◌≡◌, ◌∙◌, subst}
-use Rattle.std.specs.Prelude.{codes, OnOk}
+use Rattle.std.proofs.Common.{◌≡◌, ◌∙◌, subst, codes, OnOk}
 use Rattle.std.specs.Io.KnownBytes.{Appends}
 use Rattle.streams.specs.Written.{WroteFront}
 use Rattle.reports.specs.Formats.{last_line}

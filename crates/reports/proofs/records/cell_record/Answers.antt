@@ -1,6 +1,5 @@
 -- The fields were added one after another.
-use Rattle.std.proofs.Common.{◌≡◌, ◌∙◌, ◌++◌, ◌∷◌, ap, [], List, ℕ}
-use Rattle.std.specs.Prelude.{decimal}
+use Rattle.std.proofs.Common.{◌≡◌, ◌∙◌, ◌++◌, ◌∷◌, ap, [], List, ℕ, decimal}
 use Rattle.std.proofs.lemmas.Result.{IfOk-weaker}
 use Rattle.allotment.specs.Places.{held_of}
 use Rattle.allotment.specs.Texts.{kind_word}

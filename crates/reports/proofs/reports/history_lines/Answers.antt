@@ -1,6 +1,5 @@
 -- The parts that are written are the history.
-use Rattle.std.proofs.Common.{◌∙◌, ℕ, List, subst}
-use Rattle.std.specs.Prelude.{OnOk}
+use Rattle.std.proofs.Common.{◌∙◌, ℕ, List, subst, OnOk}
 use Rattle.std.specs.Io.KnownBytes.{Appends}
 use Rattle.streams.specs.Written.{WroteFront}
 use Rattle.reports.proofs.HistoryLemmas.{history_in_parts}

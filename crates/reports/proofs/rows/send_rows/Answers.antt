@@ -1,6 +1,5 @@
 -- The rows are written one after another, until the source has none left or a fault comes.
-use Rattle.std.proofs.Common.{◌≡◌, ◌+◌, arith, refl, rules, subst}
-use Rattle.std.specs.Prelude.{Option}
+use Rattle.std.proofs.Common.{◌≡◌, ◌+◌, arith, refl, rules, subst, Option}
 use Rattle.saga_core.specs.RowSources.{count_of, Hands}
 use Rattle.reports.proofs.RowLemmas.{front_of, front_with, goes_on}
 use Rattle.reports.proofs.rows.send_rows.Goals as goal

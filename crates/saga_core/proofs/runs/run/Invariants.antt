@@ -1,6 +1,5 @@
 -- The replies so far, and the state of the book, are those of the commands so far.
-use Rattle.std.proofs.Common.{◌≡◌, ◌++◌, length, take}
-use Rattle.std.specs.Prelude.{drop, vec_len, vec_capacity}
+use Rattle.std.proofs.Common.{◌≡◌, ◌++◌, length, take, drop, vec_len, vec_capacity}
 use Rattle.ledger.specs.Answer.{State}
 use Rattle.saga_core.specs.Calls.{Stays}
 use Rattle.saga_core.specs.Runs.{Asks, asks_of, replies_to, state_after}

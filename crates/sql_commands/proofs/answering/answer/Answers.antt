@@ -1,6 +1,5 @@
 -- A known key gets its reply, and a new one that of the request's outcome.
-use Rattle.std.proofs.Common.{◌≡◌, None, ap, refl, rules, sym}
-use Rattle.std.specs.Prelude.{is_some, not}
+use Rattle.std.proofs.Common.{◌≡◌, None, ap, refl, rules, sym, is_some, not}
 use Rattle.commands.specs.Orders.{request_of}
 use Rattle.sql_commands.proofs.Executing.{fails_as, reads_alone, reads_fail, reads_then, says_as}
 use Rattle.sql_commands.proofs.answering.answer.Goals as goal

@@ -1,6 +1,5 @@
 -- The batch has the known rows exactly if its text is the kept one.
-use Rattle.std.proofs.Common.{◌≡◌, ◌∙◌, true, false, sym, ap}
-use Rattle.std.specs.Prelude.{bytes_eq}
+use Rattle.std.proofs.Common.{◌≡◌, ◌∙◌, true, false, sym, ap, bytes_eq}
 use Rattle.sql_model.specs.ExpectedRows.{batch_text}
 use Rattle.sql_commands.proofs.LoadComes.{known_answer}
 use Rattle.sql_commands.proofs.loading.answer_known.Goals as goal

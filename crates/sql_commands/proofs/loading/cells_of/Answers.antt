@@ -1,6 +1,5 @@
 -- One more row is examined: its cell has its places, or it is the first row below what is held.
-use Rattle.std.proofs.Common.{◌≡◌, ◌+◌, ◌<◌, ◌++◌, ◌∷◌, [], ◌∙◌, Bool, true, if◌then◌else◌, take, length, refl, sym, ap, subst, arith, rules}
-use Rattle.std.specs.Prelude.{is_ok, not}
+use Rattle.std.proofs.Common.{◌≡◌, ◌+◌, ◌<◌, ◌++◌, ◌∷◌, [], ◌∙◌, Bool, true, if◌then◌else◌, take, length, refl, sym, ap, subst, arith, rules, is_ok, not}
 use Rattle.allotment.specs.declared.cells.Cell.{Cell}
 use Rattle.ledger.specs.Ledger.{held, is_not_below_held}
 use Rattle.sql_reads.specs.NightsRead.{IsAmong, held_at}

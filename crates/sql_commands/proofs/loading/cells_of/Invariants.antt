@@ -1,6 +1,6 @@
 -- The cells of the first rows have their places so far, and the nights read are those of the kept desk.
-use Rattle.std.proofs.Common.{Ok, take}
-use Rattle.std.specs.Prelude.{IfSome, ⊤}
+use Rattle.std.proofs.Common.{Ok, take, IfSome}
+use Rattle.std.specs.Prelude.{⊤}
 use Rattle.ledger.specs.Answer.{State}
 use Rattle.desk_sql.specs.declared.versions.Version.TheVariants.{Two}
 use Rattle.sql_reads.specs.NightsRead.{AreRead}

@@ -1,6 +1,5 @@
 -- The text so far is that of the first rows.
-use Rattle.std.proofs.Common.{◌≡◌, take}
-use Rattle.std.specs.Prelude.{string_bytes}
+use Rattle.std.proofs.Common.{◌≡◌, take, string_bytes}
 use Rattle.sql_model.specs.ExpectedRows.{batch_text}
 use Rattle.sql_commands.proofs.loading.content_of.Given as goal
 

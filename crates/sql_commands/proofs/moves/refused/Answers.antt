@@ -1,6 +1,5 @@
 -- The turn of a step whose want does not fit is the answer of the rules.
-use Rattle.std.proofs.Common.{refl, sym, subst}
-use Rattle.std.specs.Prelude.{Ok, false}
+use Rattle.std.proofs.Common.{refl, sym, subst, Ok, false}
 use Rattle.commands.specs.declared.items.Cause.TheVariants.{Refused}
 use Rattle.commands.specs.declared.items.Item.TheVariants.{Turn}
 use Rattle.sql_commands.proofs.StepLemmas.{IsSaid, step_next}

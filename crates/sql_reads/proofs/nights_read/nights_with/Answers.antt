@@ -1,6 +1,5 @@
 -- The cell is the first of the nights that are read from it on.
-use Rattle.std.proofs.Common.{◌≡◌, ◌<◌, ◌≤◌, refl, sym, subst, arith, rules}
-use Rattle.std.specs.Prelude.{IfSome}
+use Rattle.std.proofs.Common.{◌≡◌, ◌<◌, ◌≤◌, refl, sym, subst, arith, rules, IfSome}
 use Rattle.sql_reads.specs.NightsRead.{AreFew, AreRead, IsAmong, IsLater}
 use Rattle.sql_reads.specs.declared.nights_read.NightsRead.{NightsRead}
 use Rattle.sql_reads.proofs.ReadLemmas.{also_ok, both_ok, no_read, read_ok}

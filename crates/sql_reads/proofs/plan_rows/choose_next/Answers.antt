@@ -1,6 +1,5 @@
 -- The row with that number is chosen.
-use Rattle.std.proofs.Common.{◌≡◌, ◌+◌, ◌≤◌, min, length, sym, subst, rules}
-use Rattle.std.specs.Prelude.{IfOk}
+use Rattle.std.proofs.Common.{◌≡◌, ◌+◌, ◌≤◌, min, length, sym, subst, rules, IfOk}
 use Rattle.sql_reads.proofs.ReadLemmas.{also_ok}
 use Rattle.std.proofs.lemmas.Bool.{ltb-true}
 use Rattle.sql_reads.specs.OptionChoice.{IsOfRow, IsRowChosen}

@@ -1,6 +1,5 @@
 -- Each row gives the next option of the plan.
-use Rattle.std.proofs.Common.{◌≡◌, ◌<◌, ◌≤◌, ◌+◌, ◌++◌, ◌∷◌, [], ◌∙◌, inl, inr, length, get_or, rules, sym, ap, subst, refl}
-use Rattle.std.specs.Prelude.{◌==◌}
+use Rattle.std.proofs.Common.{◌≡◌, ◌<◌, ◌≤◌, ◌+◌, ◌++◌, ◌∷◌, [], ◌∙◌, inl, inr, length, get_or, rules, sym, ap, subst, refl, ◌==◌}
 use Rattle.allotment.specs.Want.{Wanted}
 use Rattle.plan.specs.declared.steps.PlanStep.{PlanStep}
 use Rattle.sql_reads.specs.GoodRows.{IsMemory}

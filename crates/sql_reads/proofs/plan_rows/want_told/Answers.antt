@@ -1,6 +1,5 @@
 -- The row of a want that keeps its limits gives that want.
-use Rattle.std.proofs.Common.{◌≡◌, sym, rules, Ok, true, subst}
-use Rattle.std.specs.Prelude.{string_bytes, Some}
+use Rattle.std.proofs.Common.{◌≡◌, sym, rules, Ok, true, subst, string_bytes, Some}
 use Rattle.allotment.specs.Limits.{is_night}
 use Rattle.allotment.specs.Texts.{kind_of_number}
 use Rattle.allotment.proofs.LawLemmas.{number_read}

@@ -1,6 +1,5 @@
 -- The briefs are taken one after another, until no row is left or a fault comes.
-use Rattle.std.proofs.Common.{◌≡◌, rules, subst, true, false}
-use Rattle.std.specs.Prelude.{option_map}
+use Rattle.std.proofs.Common.{◌≡◌, rules, subst, true, false, option_map}
 use Rattle.sqlite.specs.Held.{state}
 use Rattle.commands.specs.declared.replies.Fault.TheVariants.{Store}
 use Rattle.desk_sql.specs.FoundRows.{journey_of}

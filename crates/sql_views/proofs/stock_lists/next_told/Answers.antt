@@ -1,6 +1,5 @@
 -- The cell that is returned is that of the first remaining row, and nothing changes.
-use Rattle.std.proofs.Common.{◌≡◌, sym, subst, true, false, Some}
-use Rattle.std.specs.Prelude.{option_map}
+use Rattle.std.proofs.Common.{◌≡◌, sym, subst, true, false, Some, option_map}
 use Rattle.sqlite.specs.Held.{state}
 use Rattle.commands.specs.declared.replies.Fault.TheVariants.{Store}
 use Rattle.desk_sql.specs.RemainingRows.{Hands}

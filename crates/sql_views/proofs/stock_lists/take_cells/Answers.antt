@@ -1,6 +1,5 @@
 -- The cells are taken one after another, until no row is left or a fault comes.
-use Rattle.std.proofs.Common.{◌≡◌, subst, rules}
-use Rattle.std.specs.Prelude.{Err, option_map}
+use Rattle.std.proofs.Common.{◌≡◌, subst, rules, Err, option_map}
 use Rattle.commands.specs.declared.replies.Fault.TheVariants.{Store}
 use Rattle.desk_sql.specs.RemainingRows.{Hands}
 use Rattle.sql_lists.specs.CellLists.{CellsRest}

@@ -1,6 +1,5 @@
 -- The nights of the range are those of the product, up to the last one.
-use Rattle.std.proofs.Common.{IsTrue, ◌≡◌, subst, arith, rules}
-use Rattle.std.specs.Prelude.{IfOk, OnOk}
+use Rattle.std.proofs.Common.{IsTrue, ◌≡◌, subst, arith, rules, IfOk, OnOk}
 use Rattle.sqlite.specs.Held.{state}
 use Rattle.allotment.specs.Cells.{kind_number}
 use Rattle.allotment.specs.Limits.{is_code}

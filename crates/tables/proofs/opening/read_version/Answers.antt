@@ -1,6 +1,5 @@
 -- The version that is read is that of the tables, and a desk's tables have the number of their version.
-use Rattle.std.proofs.Common.{◌≡◌, refl, sym, subst, ◌∙◌}
-use Rattle.std.specs.Prelude.{Some, None, Option, ◌↔◌}
+use Rattle.std.proofs.Common.{◌≡◌, refl, sym, subst, ◌∙◌, Some, None, Option, ◌↔◌}
 use Rattle.sqlite.specs.Held.{state}
 use Rattle.commands.specs.declared.replies.Fault.TheVariants as fault
 use Rattle.desk_sql.specs.declared.versions.Version.{Version}

@@ -1,5 +1,4 @@
-use Rattle.std.proofs.Common.{◌≡◌, ap, ◌∙◌, rules, None}
-use Rattle.std.specs.Prelude.{codes}
+use Rattle.std.proofs.Common.{◌≡◌, ap, ◌∙◌, rules, None, codes}
 use Rattle.json.specs.Value.{value_view}
 use Rattle.serde_json.specs.Data.{put, string}
 use Rattle.desk_http.specs.PlanTexts.{number_part, text_part, parts_data}

@@ -1,5 +1,4 @@
-use Rattle.std.proofs.Common.{◌≡◌, take}
-use Rattle.std.specs.Prelude.{IsSome}
+use Rattle.std.proofs.Common.{◌≡◌, take, IsSome}
 use Rattle.http_messages.specs.Messages.{first_told}
 use Rattle.http_messages.specs.Places.{WentThrough}
 use Rattle.http_messages.specs.Reading.{ReadsOn}

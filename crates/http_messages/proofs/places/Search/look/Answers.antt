@@ -1,6 +1,5 @@
 -- One more byte, one more step of the walk.
-use Rattle.std.proofs.Common.{◌∙◌, ap, sym, refl, ◌||◌, ◌+◌}
-use Rattle.std.specs.Prelude.{◌==◌}
+use Rattle.std.proofs.Common.{◌∙◌, ap, sym, refl, ◌||◌, ◌+◌, ◌==◌}
 use Rattle.http_messages.specs.Heads.{most_head_bytes}
 use Rattle.http_messages.proofs.ToldLemmas.{or_left}
 use Rattle.http_messages.proofs.PlaceLemmas.{looks_more}

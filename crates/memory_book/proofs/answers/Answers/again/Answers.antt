@@ -1,5 +1,4 @@
-use Rattle.std.proofs.Common.{ap, sym, ◌∙◌}
-use Rattle.std.specs.Prelude.{option_map}
+use Rattle.std.proofs.Common.{ap, sym, ◌∙◌, option_map}
 use Rattle.std.specs.Option.{option_copied}
 use Rattle.ledger.specs.Answer.{answered_again, text_of}
 use Rattle.memory_book.specs.MemoryAnswers.{kept_in, found_for}

@@ -1,5 +1,4 @@
-use Rattle.std.proofs.Common.{◌≡◌, ap, ◌∙◌}
-use Rattle.std.specs.Prelude.{Some, option_map}
+use Rattle.std.proofs.Common.{◌≡◌, ap, ◌∙◌, Some, option_map}
 use Rattle.std.specs.BTreeMap as tree
 use Rattle.ledger.specs.Answer.{answered_again}
 use Rattle.memory_book.specs.MemoryAnswers.{ask_key_cmp, kept_said, kept_in}

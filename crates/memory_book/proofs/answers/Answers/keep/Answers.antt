@@ -1,5 +1,4 @@
-use Rattle.std.proofs.Common.{ap, sym, ◌∙◌}
-use Rattle.std.specs.Prelude.{◌&&◌, bytes_eq, if◌then◌else◌, Some}
+use Rattle.std.proofs.Common.{ap, sym, ◌∙◌, ◌&&◌, bytes_eq, if◌then◌else◌, Some}
 use Rattle.std.specs.Option.{option_copied}
 use Rattle.ledger.specs.Answer.{kept_after}
 use Rattle.memory_book.specs.MemoryAnswers.{kept_in}

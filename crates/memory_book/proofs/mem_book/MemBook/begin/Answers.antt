@@ -1,5 +1,4 @@
-use Rattle.std.proofs.Common.{◌≡◌, ◌+◌, ◌<◌, ◌++◌, ◌∷◌, [], length, refl, ap, sym, ◌∙◌, subst, arith}
-use Rattle.std.specs.Prelude.{IsTrue}
+use Rattle.std.proofs.Common.{◌≡◌, ◌+◌, ◌<◌, ◌++◌, ◌∷◌, [], length, refl, ap, sym, ◌∙◌, subst, arith, IsTrue}
 use Rattle.std.specs.Option.{option_copied}
 use Rattle.plan.specs.PlanModel.{is_plan}
 use Rattle.commands.specs.declared.replies.Reply.TheVariants as reply

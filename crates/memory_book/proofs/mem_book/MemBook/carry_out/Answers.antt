@@ -1,5 +1,4 @@
-use Rattle.std.proofs.Common.{◌≡◌, ◌<◌, ◌≤◌, refl, length, ap, sym, subst, ◌∙◌, arith}
-use Rattle.std.specs.Prelude.{suc, is_some, IfOk, MatchResult}
+use Rattle.std.proofs.Common.{◌≡◌, ◌<◌, ◌≤◌, refl, length, ap, sym, subst, ◌∙◌, arith, suc, is_some, IfOk, MatchResult}
 use Rattle.std.specs.Option.{option_copied}
 use Rattle.commands.specs.declared.replies.Refusal.TheVariants.{Limit}
 use Rattle.ledger.specs.Answer.{asker, answer, answer_within, limited, most_events}

@@ -1,5 +1,4 @@
-use Rattle.std.proofs.Common.{ap, sym, ◌∙◌}
-use Rattle.std.specs.Prelude.{find}
+use Rattle.std.proofs.Common.{ap, sym, ◌∙◌, find}
 use Rattle.std.specs.Option.{option_copied}
 use Rattle.memory_book.proofs.LoadLemmas.{has_name, known-none, known-some, carried_out-known}
 use Rattle.memory_book.proofs.mem_book.MemBook.load.Goals as goal

@@ -1,5 +1,4 @@
-use Rattle.std.proofs.Common.{refl, ap, sym, ◌∙◌}
-use Rattle.std.specs.Prelude.{position}
+use Rattle.std.proofs.Common.{refl, ap, sym, ◌∙◌, position}
 use Rattle.std.specs.Option.{option_copied}
 use Rattle.memory_book.specs.MemoryStock.{is_below_in}
 use Rattle.memory_book.proofs.LoadLemmas.{none_at, due, carried_out-below}

@@ -1,5 +1,4 @@
-use Rattle.std.proofs.Common.{◌≡◌, ◌+◌, ◌<◌, ◌≤◌, suc, drop, true, false, cond, length, ap, sym, ◌∙◌, arith}
-use Rattle.std.specs.Prelude.{find, Some}
+use Rattle.std.proofs.Common.{◌≡◌, ◌+◌, ◌<◌, ◌≤◌, suc, drop, true, false, cond, length, ap, sym, ◌∙◌, arith, find, Some}
 use Rattle.std.proofs.lemmas.List.{at_drop_all}
 use Rattle.saga_core.specs.Views.{is_owned_above}
 use Rattle.memory_book.proofs.UnfinishedLemmas.{brief_at, briefs_from, brief_is, found_from, first_owned-kept}

@@ -1,5 +1,4 @@
-use Rattle.std.proofs.Common.{ap, sym, ◌∙◌}
-use Rattle.std.specs.Prelude.{Some}
+use Rattle.std.proofs.Common.{ap, sym, ◌∙◌, Some}
 use Rattle.std.proofs.lemmas.Option.{slice_get-get_or}
 use Rattle.memory_book.proofs.StandLemmas.{record_of-past, record_of-kept}
 use Rattle.memory_book.proofs.mem_book.MemBookBook.journey.Goals as goal

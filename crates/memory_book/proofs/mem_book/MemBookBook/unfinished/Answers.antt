@@ -1,5 +1,4 @@
-use Rattle.std.proofs.Common.{◌≡◌, ◌≤◌, ◌<◌, ◌+◌, [], ◌∷◌, ◌++◌, true, false, rules, suc, length, drop, append-nil, ap, sym, ◌∙◌, arith}
-use Rattle.std.specs.Prelude.{filter}
+use Rattle.std.proofs.Common.{◌≡◌, ◌≤◌, ◌<◌, ◌+◌, [], ◌∷◌, ◌++◌, true, false, rules, suc, length, drop, append-nil, ap, sym, ◌∙◌, arith, filter}
 use Rattle.std.proofs.lemmas.List.{at_drop_all}
 use Rattle.saga_core.specs.Views.{is_unfinished_above}
 use Rattle.memory_book.proofs.UnfinishedLemmas.{brief_at, brief_is, briefs_from, passed_from, passed_with, passed_without, unfinished-kept}

@@ -1,5 +1,4 @@
-use Rattle.std.proofs.Common.{◌≡◌, ◌++◌, suc, drop}
-use Rattle.std.specs.Prelude.{filter}
+use Rattle.std.proofs.Common.{◌≡◌, ◌++◌, suc, drop, filter}
 use Rattle.saga_core.specs.Views.{is_unfinished_above}
 use Rattle.memory_book.proofs.UnfinishedLemmas.{briefs_from}
 use Rattle.memory_book.proofs.mem_book.MemBookBook.unfinished.Given as goal

@@ -1,5 +1,4 @@
-use Rattle.std.proofs.Common.{◌++◌, ◌∷◌, [], take, ap, sym, ◌∙◌}
-use Rattle.std.specs.Prelude.{if◌then◌else◌, Some}
+use Rattle.std.proofs.Common.{◌++◌, ◌∷◌, [], take, ap, sym, ◌∙◌, if◌then◌else◌, Some}
 use Rattle.std.proofs.lemmas.List.{take_more}
 use Rattle.allotment.specs.Cells.{is_cell}
 use Rattle.saga_core.specs.Views.{places_said}

@@ -1,5 +1,4 @@
-use Rattle.std.proofs.Common.{◌≡◌, ◌++◌, map}
-use Rattle.std.specs.Prelude.{filter_map}
+use Rattle.std.proofs.Common.{◌≡◌, ◌++◌, map, filter_map}
 use Rattle.allotment.specs.Cells.{cells_of}
 use Rattle.saga_core.specs.Views.{night_said}
 use Rattle.memory_book.specs.MemoryStock.{stock_at}

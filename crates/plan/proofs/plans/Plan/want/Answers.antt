@@ -1,5 +1,5 @@
-use Rattle.std.proofs.Common.{◌≤◌, ap, ◌∙◌, length, arith}
-use Rattle.std.specs.Prelude.{option_map, option_and_then, unwrap_or}
+use Rattle.std.proofs.Common.{◌≤◌, ap, ◌∙◌, length, arith, option_map, option_and_then}
+use Rattle.std.specs.Prelude.{unwrap_or}
 use Rattle.plan.specs.PlanModel.{StepPlan, numbered}
 use Rattle.plan.proofs.StepLemmas.{step_read, numbered_read}
 use Rattle.plan.proofs.plans.Plan.want.Goals as goal

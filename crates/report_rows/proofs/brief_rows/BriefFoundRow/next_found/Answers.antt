@@ -1,6 +1,5 @@
 -- The row that is returned is that of the first remaining journey.
-use Rattle.std.proofs.Common.{subst, ◌≡◌, true, false}
-use Rattle.std.specs.Prelude.{option_map}
+use Rattle.std.proofs.Common.{subst, ◌≡◌, true, false, option_map}
 use Rattle.commands.specs.declared.replies.Fault.TheVariants.{Store}
 use Rattle.sqlite.specs.Held.{state}
 use Rattle.desk_sql.specs.FoundRows.{journey_of}

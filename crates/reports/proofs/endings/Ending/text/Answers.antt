@@ -1,6 +1,5 @@
 -- The format writes the ending.
-use Rattle.std.proofs.Common.{◌≡◌, ◌∙◌, ◌++◌, ◌∷◌, [], append_assoc}
-use Rattle.std.specs.Prelude.{decimal, string_bytes}
+use Rattle.std.proofs.Common.{◌≡◌, ◌∙◌, ◌++◌, ◌∷◌, [], append_assoc, decimal, string_bytes}
 use Rattle.std.proofs.lemmas.Result.{IfOk-weaker}
 use Rattle.reports.proofs.endings.Ending.text.Goals as goal
 

@@ -1,5 +1,4 @@
-use Rattle.std.proofs.Common.{◌≡◌, rules}
-use Rattle.std.specs.Prelude.{Err}
+use Rattle.std.proofs.Common.{◌≡◌, rules, Err}
 use Rattle.std.specs.Option.{option_copied}
 use Rattle.commands.specs.Orders.{request_of}
 use Rattle.commands.specs.declared.replies.Fault.TheVariants.{Memory, Store}

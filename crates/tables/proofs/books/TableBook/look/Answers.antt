@@ -1,5 +1,4 @@
-use Rattle.std.proofs.Common.{◌≡◌, subst}
-use Rattle.std.specs.Prelude.{IfOk}
+use Rattle.std.proofs.Common.{◌≡◌, subst, IfOk}
 use Rattle.tables.proofs.FinishedLemmas.{first-from}
 use Rattle.tables.proofs.ReadingLemmas.{looks_at}
 use Rattle.tables.proofs.books.TableBook.look.Goals as goal

@@ -1,6 +1,5 @@
 -- The list that was read is that of the unfinished journeys, and the journeys before its first have finished, or all have.
-use Rattle.std.proofs.Common.{◌≡◌, ◌≤◌, Some, None, refl, sym, subst, ◌∙◌, rules}
-use Rattle.std.specs.Prelude.{slice_get}
+use Rattle.std.proofs.Common.{◌≡◌, ◌≤◌, Some, None, refl, sym, subst, ◌∙◌, rules, slice_get}
 use Rattle.desk_sql.specs.declared.versions.Version.TheVariants.{Two}
 use Rattle.desk_sql.proofs.Quieting.{quiet_twice}
 use Rattle.sql_model.proofs.Quieting.{quiet_clean, quiet_keeps}

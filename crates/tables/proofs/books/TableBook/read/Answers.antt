@@ -1,6 +1,5 @@
 -- A read leaves a book as a look does, which may then act as before, or has failed for a reason.
-use Rattle.std.proofs.Common.{◌≡◌, ◌∙◌, true, false, rules, subst, sym}
-use Rattle.std.specs.Prelude.{Err}
+use Rattle.std.proofs.Common.{◌≡◌, ◌∙◌, true, false, rules, subst, sym, Err}
 use Rattle.commands.specs.declared.replies.Fault.TheVariants.{Memory, Store}
 use Rattle.sql_model.specs.Staying.{sees_alone}
 use Rattle.sql_model.proofs.Quieting.{quiet_clean, quiet_leaves, quiet_sees, quiet_up}

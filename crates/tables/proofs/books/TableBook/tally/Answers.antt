@@ -1,6 +1,5 @@
 -- The unfinished journeys were counted, and the other numbers were read, or could not be.
-use Rattle.std.proofs.Common.{◌≡◌, rules}
-use Rattle.std.specs.Prelude.{Err}
+use Rattle.std.proofs.Common.{◌≡◌, rules, Err}
 use Rattle.sqlite.specs.Held.{state}
 use Rattle.commands.specs.declared.replies.Fault.TheVariants.{Store}
 use Rattle.desk_sql.specs.declared.versions.Version.TheVariants.{Two}
