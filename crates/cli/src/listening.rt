@@ -1,5 +1,6 @@
 //! Connections to a port of this host, and to a Unix socket, served over the database in a file.
-ghost use Rattle.std.specs.Prelude.{◌≡◌, ◌≢◌, false, None, IfErr, OnOk};
+ghost use Rattle.std.specs.Prelude.{◌≢◌, false, None, IfErr, OnOk};
+ghost use Rattle.desk_sql.specs.Calls.{Idle};
 ghost use Rattle.saga_core.specs.Calls.{Serves};
 ghost use Rattle.http_sockets.specs.Going.{GoOnBySome};
 ghost use Rattle.program_ends.specs.Ends.{EndsJob, IfDone};
@@ -83,8 +84,7 @@ fn serve_over<'a, S: Alter + Drop, O: Write, N: Write>(
     out: &mut O,
     notes: &mut N,
 ) -> (Connection<S>, Option<Sockets<'a>>, End)
-    requires outside { conn.in_transaction ≡ false }
-    requires unlimited { conn.step_limit ≡ None }
+    requires idle { Idle conn }
 
     ensures job { EndsJob result.2 }
     ensures told { IfDone result.2

@@ -1,5 +1,5 @@
 //! Loads of allotment files.
-ghost use Rattle.std.specs.Prelude.{◌≡◌, false, None};
+ghost use Rattle.desk_sql.specs.Calls.{Idle};
 ghost use Rattle.program_ends.specs.Ends.{EndsJob, IfDone};
 ghost use Rattle.desk_jobs.specs.Ends.{TellsAccepted};
 ghost use Rattle.desk_jobs.specs.Notes.{MayNoteAll, NotesSome};
@@ -56,8 +56,7 @@ fn load_on<S: Alter + Drop, R: Read, O: Write, N: Write>(
     out: &mut O,
     notes: &mut N,
 ) -> (Connection<S>, End)
-    requires outside { conn.in_transaction ≡ false }
-    requires unlimited { conn.step_limit ≡ None }
+    requires idle { Idle conn }
 
     ensures job { EndsJob result.1 }
     ensures unread { ReadsOnlyInput csv.now (R.remaining reader.old) (R.remaining reader.new) }

@@ -1,6 +1,7 @@
 //! Reports of the desk over a file, which is opened without recovery.
-ghost use Rattle.std.specs.Prelude.{◌≡◌, false, None};
+ghost use Rattle.std.specs.Prelude.{◌≡◌, None};
 ghost use Rattle.std.specs.Io.KnownBytes.{Keeps};
+ghost use Rattle.desk_sql.specs.Calls.{Idle};
 ghost use Rattle.desk_lines.specs.Lines.{journey_in as journey_of};
 ghost use Rattle.program_ends.specs.Ends.{EndsJob};
 
@@ -71,8 +72,7 @@ fn print_report<S: Alter + Drop, O: Write>(
     conn: Connection<S>,
     out: &mut O,
 ) -> (Connection<S>, End)
-    requires outside { conn.in_transaction ≡ false }
-    requires unlimited { conn.step_limit ≡ None }
+    requires idle { Idle conn }
 
     ensures job { EndsJob result.1 }
 {

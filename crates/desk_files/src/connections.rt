@@ -1,5 +1,6 @@
 //! Connections to the database in a file, and how they are closed.
 ghost use Rattle.std.specs.Prelude.{◌≡◌, ◌≢◌, ◌↔◌, false, None, IfErr, IfOk};
+ghost use Rattle.desk_sql.specs.Calls.{Idle};
 ghost use Rattle.program_ends.specs.Ends.{EndsBadly, EndsJob};
 
 use crate::files::{NewLog, cause_of_kind, cause_of_path, is_no_database};
@@ -16,8 +17,7 @@ pub type FileConnection = Connection<FileStore<File>>;
 /// A connection to the database in a file, of any contents, and the log that this made beside it. An absent file is a
 /// fault, and is not made.
 pub fn connect_there(rt: &HostRuntime, file: &str) -> Result<(FileConnection, NewLog), Ended>
-    ensures outside { IfOk result (λ opened. opened.0.in_transaction ≡ false) }
-    ensures unlimited { IfOk result (λ opened. opened.0.step_limit ≡ None) }
+    ensures idle { IfOk result (λ opened. Idle opened.0) }
     ensures end { IfErr result (λ ended. EndsBadly ended.end) }
 {
     check_there(rt, file)?;
@@ -42,8 +42,7 @@ fn check_there(rt: &HostRuntime, file: &str) -> Result<(), Ended>
 /// A connection to the database in a file, of any contents, and the log that this made beside it. An absent file is made.
 /// A file that is no database is left as it was, without a log.
 pub fn connect(rt: &HostRuntime, file: &str) -> Result<(FileConnection, NewLog), Ended>
-    ensures outside { IfOk result (λ opened. opened.0.in_transaction ≡ false) }
-    ensures unlimited { IfOk result (λ opened. opened.0.step_limit ≡ None) }
+    ensures idle { IfOk result (λ opened. Idle opened.0) }
     ensures end { IfErr result (λ ended. EndsBadly ended.end) }
 {
     let log = NewLog::beside(rt, file);

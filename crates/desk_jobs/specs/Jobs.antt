@@ -19,7 +19,8 @@ use Rattle.saga_core.specs.Runs.{Asks}
 use Rattle.sql_model.specs.Keeping.{WasClean}
 use Rattle.sql_model.specs.Staying.{StaysUp}
 use Rattle.tables.specs.BookTerms.{StandsBook}
-use Rattle.tables.specs.Opening.{FailsToFound, FailsToOpen, Idle}
+use Rattle.desk_sql.specs.Calls.{Idle}
+use Rattle.tables.specs.Opening.{FailsToFound, FailsToOpen}
 use Rattle.tables.specs.declared.books.TableBook.{TableBook}
 use Rattle.tables.specs.declared.faults.OpenFault.TheVariants.{Store}
 use Rattle.desk_jobs.specs.Ends.{IsFaultOfRecovery, IsFaultOfRun}

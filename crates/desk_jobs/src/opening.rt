@@ -1,6 +1,6 @@
 //! The desk over a connection, opened and recovered.
 ghost use Rattle.std.specs.Prelude.{IfErr, IfOk};
-ghost use Rattle.tables.specs.Opening.{Idle};
+ghost use Rattle.desk_sql.specs.Calls.{Idle};
 ghost use Rattle.desk_jobs.specs.Jobs.{NotReady, OpensBook, Readies};
 
 use openings::end_of_opening;

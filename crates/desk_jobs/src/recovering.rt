@@ -7,7 +7,7 @@ ghost use Rattle.streams.specs.Written.{WroteFront};
 ghost use Rattle.recovery.specs.Recovers.{Recovers};
 ghost use Rattle.program_ends.specs.Ends.{EndsJob, IfDone};
 ghost use Rattle.openings.specs.Connections.{Represents};
-ghost use Rattle.tables.specs.Opening.{Idle};
+ghost use Rattle.desk_sql.specs.Calls.{Idle};
 ghost use Rattle.desk_jobs.specs.Ends.{EndsWriting, IsOfWriting, recovered_line};
 ghost use Rattle.desk_jobs.specs.Jobs.{Leaves, NotReady};
 

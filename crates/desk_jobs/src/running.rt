@@ -1,7 +1,7 @@
 //! The answers to the lines of a reader, over a recovered desk.
 ghost use Rattle.std.specs.Io.KnownBytes.{IsAtEnd};
 ghost use Rattle.program_ends.specs.Ends.{IfDone, IsNotRefused};
-ghost use Rattle.tables.specs.Opening.{Idle};
+ghost use Rattle.desk_sql.specs.Calls.{Idle};
 ghost use Rattle.desk_jobs.specs.Ends.{IsFaultOfRun};
 ghost use Rattle.desk_jobs.specs.Jobs.{EndsOpened, EndsRun, Leaves, LeavesDesk, NotesRun, RunsDesk, RunsOver};
 

@@ -1,5 +1,5 @@
 -- What the contract of a statement may say of the connection that it ran on.
-use Rattle.std.specs.Prelude.{◌≡◌, ◌⊎◌, ℕ, false, [], Result, OnOk, IfOk, IsTrue, ⊤}
+use Rattle.std.specs.Prelude.{◌≡◌, ◌⊎◌, ℕ, false, [], None, Result, OnOk, IfOk, IsTrue, ⊤}
 use Rattle.std.specs.Borrow.{MutBor}
 use Rattle.std.specs.List.{AllByRecursion}
 use Rattle.sqlite_schema.specs.declared.schema.Schema.{Schema}
@@ -47,6 +47,11 @@ pub record Makes (old new : State) (after : Tables) : Type 0 where
   pub inside : IsTrue new.in_transaction
   pub sees : Sees new after
   pub committed : new.committed ≡ old.committed
+
+-- the connection is in no transaction, and has no limit of steps
+pub record Idle {S : Type 0} (h : Held S) : Type 0 where
+  pub outside : h.in_transaction ≡ false
+  pub unlimited : h.step_limit ≡ None
 
 -- the database has these tables, and none of them has a row
 pub record IsEmptyWith (schema : Schema) (s : State) : Type 0 where

@@ -1,7 +1,8 @@
 -- What a migration, and each part of it, comes to.
-use Rattle.std.specs.Prelude.{◌≡◌, ℕ, false, None}
+use Rattle.std.specs.Prelude.{◌≡◌, ℕ}
 use Rattle.sqlite.specs.Store.{Ghosts}
 use Rattle.sqlite.specs.Held.{Held}
+use Rattle.desk_sql.specs.Calls.{Idle}
 use Rattle.desk_sql.specs.Versions.{SawVersion}
 use Rattle.desk_sql.specs.declared.meta.Meta.{Meta}
 use Rattle.sql_model.specs.Keeping.{WasClean}
@@ -32,10 +33,9 @@ module _ {S : Type 0} (g : Ghosts S) (old new : Held S) where
     pub shows : ShowsAsBefore g old new
     pub stop : LeavesEither g old new
 
-  -- the connection is in no transaction and has no limit of steps, and its disk is clean only if it was clean before
+  -- the connection is idle, and its disk is clean only if it was clean before
   pub record StaysIdle : Type 0 where
-    pub outside : new.in_transaction ≡ false
-    pub unlimited : new.step_limit ≡ None
+    pub idle : Idle new
     pub sound : WasClean g old new
 
   -- The numbers of tables of version 1 were read.

@@ -3,9 +3,9 @@
 //! Every refusal comes before the transaction begins. Until the commit, which is the last call of the store, the disk
 //! has only the old tables.
 
-ghost use Rattle.std.specs.Prelude.{◌≡◌, false, None, Err, IfOk, IfErr, OnOk};
+ghost use Rattle.std.specs.Prelude.{◌≡◌, false, Err, IfOk, IfErr, OnOk};
 ghost use Rattle.desk_sql.specs.Schema.{no_schema};
-ghost use Rattle.desk_sql.specs.Calls.{GoesOn, Quiet};
+ghost use Rattle.desk_sql.specs.Calls.{GoesOn, Quiet, Idle};
 ghost use Rattle.migrate.specs.Migrating.{HasFew, RefusesNumbers, Tells, WritesNew};
 ghost use Rattle.migrate.specs.Outcomes.{Brings, FailsToBring, FailsToMigrate, Migrates, ReadsOld, StaysIdle};
 ghost use Rattle.migrate.specs.Reasons.{FailsOnOld, FailsToRead};
@@ -77,8 +77,7 @@ fn write_new<S: Alter>(tx: &mut Transaction<'_, S>, meta: Meta) -> Result<(), Er
 
 /// Migrates the tables in one commit, which is the last call of the store.
 fn bring_over<S: Alter>(conn: &mut Connection<S>, meta: Meta) -> Result<(), MigrateFault>
-    requires outside { conn.old.in_transaction ≡ false }
-    requires unlimited { conn.old.step_limit ≡ None }
+    requires idle { Idle conn.old }
     requires few { HasFew meta }
 
     ensures brings { OnOk result (Brings S.Store conn.old conn.new meta) }
@@ -104,8 +103,7 @@ fn bring_over<S: Alter>(conn: &mut Connection<S>, meta: Meta) -> Result<(), Migr
 /// up, whose tables of version 1 represent a state, `Store` has a reason: the disk failed or refused, the commit ran out
 /// of memory, or the ledger has 2^62 or more events.
 pub fn migrate<S: Alter>(conn: &mut Connection<S>) -> Result<Migrated, MigrateFault>
-    requires outside { conn.old.in_transaction ≡ false }
-    requires unlimited { conn.old.step_limit ≡ None }
+    requires idle { Idle conn.old }
 
     ensures migrates { IfOk result (λ m. Migrates S.Store conn.old conn.new m.events) }
 

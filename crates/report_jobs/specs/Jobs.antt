@@ -1,9 +1,10 @@
 -- What the job of a report promises: what it writes, how it ends, and what it leaves of its connection.
-use Rattle.std.specs.Prelude.{◌≡◌, ◌⊎◌, ℕ, false, List, Option, None}
+use Rattle.std.specs.Prelude.{◌⊎◌, ℕ, List, Option}
 use Rattle.sqlite.specs.Store.{Ghosts}
 use Rattle.sqlite.specs.Held.{Held, state}
 use Rattle.sqlite.specs.State.{HasCleanDisk}
 use Rattle.commands.specs.declared.replies.Refusal.{Refusal}
+use Rattle.desk_sql.specs.Calls.{Idle}
 use Rattle.desk_sql.specs.declared.versions.Version.{Version}
 use Rattle.ledger.specs.Answer.{State}
 use Rattle.openings.specs.Connections.{RepresentsIn, StillRepresents}
@@ -41,9 +42,8 @@ module _ {S : Type 0} (g : Ghosts S) (old new : Held S) where
   abbrev pub RefusesToShow : Report → Refusal → Type 0
   RefusesToShow shown why = RefusesAbsent shown why ⊎ RefusesVersion g old new why
 
-  -- what a report leaves of its connection: it represents what it represented, outside of a transaction and without a limit
+  -- what a report leaves of its connection: it represents what it represented, and is idle
   pub record KeepsDesk : Type 0 where
     pub same : HasCleanDisk (state g new) → (v : Version) (s : State) → RepresentsIn g old v s → StillRepresents g new s
-    pub outside : new.in_transaction ≡ false
-    pub unlimited : new.step_limit ≡ None
+    pub idle : Idle new
     pub sound : WasClean g old new

@@ -1,9 +1,9 @@
 //! The job of a report, of a desk that is not recovered.
-ghost use Rattle.std.specs.Prelude.{◌≡◌, ℕ, true, false, None, List, Option, IsTrue};
+ghost use Rattle.std.specs.Prelude.{◌≡◌, ℕ, true, None, List, Option, IsTrue};
 ghost use Rattle.std.specs.Io.KnownBytes.{Keeps};
 ghost use Rattle.sqlite.specs.Held.{state};
 ghost use Rattle.sqlite.specs.State.{HasCleanDisk};
-ghost use Rattle.desk_sql.specs.Calls.{Quiet};
+ghost use Rattle.desk_sql.specs.Calls.{Quiet, Idle};
 ghost use Rattle.desk_sql.specs.declared.versions.Version.{Version};
 ghost use Rattle.ledger.specs.Answer.{State};
 ghost use Rattle.ledger.specs.Ledger.{Event, history};
@@ -45,8 +45,7 @@ pub fn report_over<S: Alter + Drop, O: Write>(
     report: &Report,
     out: &mut O,
 ) -> (Connection<S>, End)
-    requires outside { conn.in_transaction ≡ false }
-    requires unlimited { conn.step_limit ≡ None }
+    requires idle { Idle conn }
 
     ensures told { HasCleanDisk (state S.Store result.0) → (v : Version) (s : State) →
         RepresentsIn S.Store conn v s →

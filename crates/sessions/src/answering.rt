@@ -1,12 +1,12 @@
 //! What a recovered desk answers, and the connection to its store that it leaves: `Ok` where all was answered.
-ghost use Rattle.std.specs.Prelude.{◌≡◌, ℕ, false, None, List, Option, IfOk, IfErr, IfSome};
+ghost use Rattle.std.specs.Prelude.{ℕ, List, Option, IfOk, IfErr, IfSome};
 ghost use Rattle.sqlite.specs.Held.{state};
 ghost use Rattle.sqlite.specs.State.{HasCleanDisk};
-ghost use Rattle.desk_sql.specs.declared.versions.Version.{Version};
+ghost use Rattle.desk_sql.specs.Calls.{Idle};
 ghost use Rattle.ledger.specs.Answer.{State};
 ghost use Rattle.ledger.specs.World.{Moment};
 ghost use Rattle.saga_core.specs.Worlds.{StandsAtEnd};
-ghost use Rattle.sql_model.specs.Keeping.{MayLeave, StoodFor};
+ghost use Rattle.sql_model.specs.Keeping.{MayLeave};
 ghost use Rattle.tables.specs.BookTerms.{StandsBook, LeavesBook};
 ghost use Rattle.sessions.specs.Accounts.{Exchanged};
 ghost use Rattle.sessions.specs.Openings.{Connections, Lines, Messages};
@@ -28,8 +28,7 @@ fn let_go<S: Alter>(ready: Ready<TableBook<S>>) -> Connection<S>
     ensures found { (s : State) → StandsBook S.Store ready s → Stood (state S.Store result) s }
     ensures left { (s t : State) → LeavesBook S.Store ready s t →
         MayLeave (state S.Store result) s t }
-    ensures outside { result.in_transaction ≡ false }
-    ensures unlimited { result.step_limit ≡ None }
+    ensures idle { Idle result }
     ensures sound { HasCleanDisk (state S.Store result) → ⟦<TableBook<S> as Book>⟧.is_sound ready }
 {
     ready.into_inner().into_store()
@@ -47,8 +46,7 @@ pub(crate) fn answer_lines<S: Alter, P: Power, R: Read, W: Write>(
         (λ text. (w : List Moment) → StandsAtEnd (StandsBook S.Store ready) w
         → Answering (W.contents writer.old) (W.contents writer.new) w (Lines text)
         (Stood (state S.Store c)))) }
-    ensures outside { IfOk result (λ c. c.in_transaction ≡ false) }
-    ensures unlimited { IfOk result (λ c. c.step_limit ≡ None) }
+    ensures idle { IfOk result Idle }
     ensures sound { IfOk result (λ c. HasCleanDisk (state S.Store c)
         → ⟦<TableBook<S> as Book>⟧.is_sound ready) }
 
@@ -83,8 +81,7 @@ pub(crate) fn answer_messages<S: Alter, P: Power, R: Read, W: Write>(
         (λ bytes. (w : List Moment) → StandsAtEnd (StandsBook S.Store ready) w
         → Answering (W.contents writer.old) (W.contents writer.new) w (Messages bytes)
         (Stood (state S.Store c)))) }
-    ensures outside { IfOk result (λ c. c.in_transaction ≡ false) }
-    ensures unlimited { IfOk result (λ c. c.step_limit ≡ None) }
+    ensures idle { IfOk result Idle }
     ensures sound { IfOk result (λ c. HasCleanDisk (state S.Store c)
         → ⟦<TableBook<S> as Book>⟧.is_sound ready) }
 

@@ -1,7 +1,8 @@
 //! From a connection to a desk that is recovered. Where a stage ends early it gives the connection back.
-ghost use Rattle.std.specs.Prelude.{◌≡◌, false, None, List, IfOk, IfErr};
+ghost use Rattle.std.specs.Prelude.{List, IfOk, IfErr};
 ghost use Rattle.sqlite.specs.Held.{state};
 ghost use Rattle.sqlite.specs.State.{HasCleanDisk};
+ghost use Rattle.desk_sql.specs.Calls.{Idle};
 ghost use Rattle.ledger.specs.Answer.{State, start};
 ghost use Rattle.ledger.specs.World.{Moment, after, IsWorld};
 ghost use Rattle.saga_core.specs.Chains.{reopened};
@@ -50,8 +51,7 @@ fn open_book<S: Alter, P: Power>(
     conn: Connection<S>,
     power: &mut P,
 ) -> Result<TableBook<S>, Connection<S>>
-    requires outside { conn.in_transaction ≡ false }
-    requires unlimited { conn.step_limit ≡ None }
+    requires idle { Idle conn }
 
     ensures stands { IfOk result (λ b. (s : State) → IsDesk s → Stood (state S.Store conn) s
         → StandsBook S.Store b s) }
@@ -105,8 +105,7 @@ pub(crate) fn open_recovered<S: Alter, P: Power>(
     conn: Connection<S>,
     power: &mut P,
 ) -> Result<Ready<TableBook<S>>, Connection<S>>
-    requires outside { conn.in_transaction ≡ false }
-    requires unlimited { conn.step_limit ≡ None }
+    requires idle { Idle conn }
 
     ensures recovered { IfOk result (λ r. ⟦<TableBook<S> as Book>⟧.is_sound r
         → (w : List Moment) → IsWorld w → Stood (state S.Store conn) (after start w)

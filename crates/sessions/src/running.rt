@@ -1,7 +1,8 @@
 //! Sessions, one after another, each after a crash of the computer.
-ghost use Rattle.std.specs.Prelude.{◌≡◌, ◌∷◌, [], false, None, IfOk, IfErr};
+ghost use Rattle.std.specs.Prelude.{◌∷◌, [], IfOk, IfErr};
 ghost use Rattle.sqlite.specs.Held.{state};
 ghost use Rattle.sqlite.specs.State.{HasCleanDisk};
+ghost use Rattle.desk_sql.specs.Calls.{Idle};
 ghost use Rattle.sql_restart.specs.Restarts.{LeavesNoMore};
 ghost use Rattle.sessions.specs.Accounts.{AreSentTheirPages};
 ghost use Rattle.sessions.specs.Chains.{AreKnown, Came, Comes, Headline, IsNewDesk, IsSoundDisk, MayBeFound};
@@ -39,8 +40,7 @@ fn come_up<S: Alter + Reopen + Drop>(alloc: Global, conn: Connection<S>) -> Resu
         → ComesUp (state S.Store conn) (state S.Store c)) }
     ensures sound { IfOk result
         (λ c. HasCleanDisk (state S.Store c) → HasCleanDisk (state S.Store conn)) }
-    ensures outside { IfOk result (λ c. c.in_transaction ≡ false) }
-    ensures unlimited { IfOk result (λ c. c.step_limit ≡ None) }
+    ensures idle { IfOk result Idle }
 
     ensures left { IfErr result
         (λ s. LeavesNoMore (state S.Store conn) (S.Store.view s) (S.Store.recovers s)) }

@@ -1,8 +1,9 @@
 //! One session: an opening that answers lines, one that serves the messages of a connection, and one that serves many
 //! connections.
-ghost use Rattle.std.specs.Prelude.{◌≡◌, ◌∷◌, [], ℕ, false, None, List, Option, IfOk, IfErr, IfSome};
+ghost use Rattle.std.specs.Prelude.{◌∷◌, [], ℕ, List, Option, IfOk, IfErr, IfSome};
 ghost use Rattle.sqlite.specs.Held.{state};
 ghost use Rattle.sqlite.specs.State.{HasCleanDisk};
+ghost use Rattle.desk_sql.specs.Calls.{Idle};
 ghost use Rattle.ledger.specs.Answer.{start};
 ghost use Rattle.ledger.specs.World.{Moment, after, IsWorld};
 ghost use Rattle.sessions.specs.Accounts.{Exchanged};
@@ -29,15 +30,13 @@ fn open_for_lines<S: Alter, P: Power, R: Read, W: Write>(
     lines: &mut R,
     writer: &mut W,
 ) -> Result<Connection<S>, Connection<S>>
-    requires outside { conn.in_transaction ≡ false }
-    requires unlimited { conn.step_limit ≡ None }
+    requires idle { Idle conn }
 
     ensures all { IfOk result (λ c. HasCleanDisk (state S.Store c) → IfSome (R.remaining lines.old)
         (λ text. (w : List Moment) → IsWorld w → Stood (state S.Store conn) (after start w)
         → HasOpened (W.contents writer.old) (W.contents writer.new) w (Lines text)
         (Stood (state S.Store c)))) }
-    ensures outside { IfOk result (λ c. c.in_transaction ≡ false) }
-    ensures unlimited { IfOk result (λ c. c.step_limit ≡ None) }
+    ensures idle { IfOk result Idle }
     ensures sound { IfOk result
         (λ c. HasCleanDisk (state S.Store c) → HasCleanDisk (state S.Store conn)) }
 
@@ -64,16 +63,14 @@ fn open_for_messages<S: Alter, P: Power, R: Read, W: Write>(
     messages: &mut R,
     writer: &mut W,
 ) -> Result<Connection<S>, Connection<S>>
-    requires outside { conn.in_transaction ≡ false }
-    requires unlimited { conn.step_limit ≡ None }
+    requires idle { Idle conn }
 
     ensures all { IfOk result
         (λ c. HasCleanDisk (state S.Store c) → IfSome (R.remaining messages.old)
         (λ bytes. (w : List Moment) → IsWorld w → Stood (state S.Store conn) (after start w)
         → HasOpened (W.contents writer.old) (W.contents writer.new) w (Messages bytes)
         (Stood (state S.Store c)))) }
-    ensures outside { IfOk result (λ c. c.in_transaction ≡ false) }
-    ensures unlimited { IfOk result (λ c. c.step_limit ≡ None) }
+    ensures idle { IfOk result Idle }
     ensures sound { IfOk result
         (λ c. HasCleanDisk (state S.Store c) → HasCleanDisk (state S.Store conn)) }
 
@@ -100,8 +97,7 @@ fn open_for_connections<S: Alter, P: Power, T: Turns>(
     seats: &mut Vec<Seat<T::Reader, T::Writer>>,
     turns: &mut T,
 ) -> Connection<S>
-    requires outside { conn.in_transaction ≡ false }
-    requires unlimited { conn.step_limit ≡ None }
+    requires idle { Idle conn }
 
     ensures opening { Exchanged seats.old.items seats.new.items
         (λ exchanges. HasCleanDisk (state S.Store result)
@@ -127,8 +123,7 @@ fn open_for_http<S: Alter, P: Power, M: Read, W: Write, T: Turns>(
     seats: &mut Vec<Seat<T::Reader, T::Writer>>,
     turns: &mut T,
 ) -> Connection<S>
-    requires outside { conn.in_transaction ≡ false }
-    requires unlimited { conn.step_limit ≡ None }
+    requires idle { Idle conn }
 
     ensures openings { Exchanged seats.old.items seats.new.items
         (λ exchanges. HasCleanDisk (state S.Store result)
@@ -162,8 +157,7 @@ pub fn run_session<S: Alter, P: Power, L: Read, M: Read, W: Write, T: Turns>(
     seats: &mut Vec<Seat<T::Reader, T::Writer>>,
     turns: &mut T,
 ) -> Connection<S>
-    requires outside { conn.in_transaction ≡ false }
-    requires unlimited { conn.step_limit ≡ None }
+    requires idle { Idle conn }
 
     ensures session { Exchanged seats.old.items seats.new.items
         (λ exchanges. HasCleanDisk (state S.Store result)

@@ -23,7 +23,8 @@ use Rattle.sql_model.specs.Keeping.{Sees as SeesFound, WasClean}
 use Rattle.sql_model.proofs.Staying.{stays_begun, stays_committing, stays_twice, stays_up}
 use Rattle.sql_writes.proofs.CommitLemmas.{KeepsOne}
 use Rattle.tables.specs.Keeping.{IsFound, IsKept}
-use Rattle.tables.specs.Opening.{FailsOpening, FailsToOpen, Idle, Opens}
+use Rattle.desk_sql.specs.Calls.{Idle}
+use Rattle.tables.specs.Opening.{FailsOpening, FailsToOpen, Opens}
 use Rattle.tables.specs.declared.faults.OpenFault.{OpenFault}
 use Rattle.tables.specs.declared.faults.OpenFault.TheVariants.{Memory, Store}
 use Rattle.tables.proofs.FoundingReasons.{not_committed, not_created}

@@ -31,7 +31,8 @@ use Rattle.tables.specs.declared.faults.OpenFault.{OpenFault}
 use Rattle.tables.specs.declared.faults.OpenFault.TheVariants.{Store, Memory}
 use Rattle.sql_model.specs.Keeping.{MeansIn}
 use Rattle.tables.specs.Keeping.{MeansOf, SeesOf, IsKept, IsKeptIn, IsFound}
-use Rattle.tables.specs.Opening.{FailsOpening, FailsToOpen, Idle, Tells}
+use Rattle.desk_sql.specs.Calls.{Idle}
+use Rattle.tables.specs.Opening.{FailsOpening, FailsToOpen, Tells}
 use Rattle.sql_writes.proofs.CommitLemmas.{KeepsOne}
 
 -- the schema of the desk has tables, in each version

@@ -9,7 +9,7 @@ use Rattle.sql_model.specs.Standing.{IsDesk}
 use Rattle.tables.specs.BookTerms.{LeavesBook, StandsBook}
 use Rattle.tables.specs.Keeping.{MayLeave, StoodFor}
 use Rattle.tables.specs.Lending.{OpenedKeeps}
-use Rattle.tables.specs.Opening.{Idle}
+use Rattle.desk_sql.specs.Calls.{Idle}
 use Rattle.tables.specs.declared.books.TableBook.{TableBook}
 use Rattle.tables.specs.declared.faults.OpenFault.{OpenFault}
 use Rattle.tables.specs.declared.faults.OpenFault.TheVariants.{UnknownSchema, Store}

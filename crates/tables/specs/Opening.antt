@@ -1,5 +1,5 @@
 -- What the opening of a store finds.
-use Rattle.std.specs.Prelude.{◌≡◌, ◌≢◌, ⊤, ℕ, ◌⊎◌, true, false, None}
+use Rattle.std.specs.Prelude.{◌≡◌, ◌≢◌, ⊤, ℕ, ◌⊎◌, true}
 use Rattle.sqlite.specs.Store.{Ghosts}
 use Rattle.sqlite.specs.Held.{Held, state}
 use Rattle.sqlite.specs.State.{HasCleanDisk}
@@ -19,11 +19,6 @@ use Rattle.sql_model.specs.Staying.{SeesAsBefore, StaysUp}
 use Rattle.tables.specs.declared.faults.OpenFault.{OpenFault}
 use Rattle.tables.specs.declared.faults.OpenFault.TheVariants.{UnknownSchema, Store, Memory}
 use Rattle.tables.specs.Keeping.{IsKeptIn, KeepsIn, StoodFor}
-
--- the connection is in no transaction, and has no limit of steps
-pub record Idle {S : Type 0} (h : Held S) : Type 0 where
-  pub outside : h.in_transaction ≡ false
-  pub unlimited : h.step_limit ≡ None
 
 module _ {S : Type 0} (g : Ghosts S) (old new : Held S) where
   -- the connection keeps the state that it represented, in tables of this version

@@ -8,7 +8,8 @@
 
 ghost use Rattle.std.specs.Prelude.{◌≡◌, ◌≢◌, ◌↔◌, false, None, IsTrue, IfOk, IfErr, OnOk};
 ghost use Rattle.desk_sql.specs.Schema.{no_schema};
-ghost use Rattle.tables.specs.Opening.{FailsOpening, Idle, Opens};
+ghost use Rattle.desk_sql.specs.Calls.{Idle};
+ghost use Rattle.tables.specs.Opening.{FailsOpening, Opens};
 
 use crate::faults::OpenFault;
 use commands::Fault;

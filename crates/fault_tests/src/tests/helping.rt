@@ -1,5 +1,6 @@
 //! What the tests share: checks, commands from lines, and what a book shows.
-ghost use Rattle.std.specs.Prelude.{◌≡◌, false, None, IsTrue, IfOk};
+ghost use Rattle.std.specs.Prelude.{false, None, IsTrue, IfOk};
+ghost use Rattle.desk_sql.specs.Calls.{Idle};
 
 use allotment::{Cell, Row};
 use commands::{Agent, Ask, Batch, Command, Item, Key, Name};
@@ -102,11 +103,9 @@ pub fn book_over<S: Alter + Drop>(
     alloc: Global,
     conn: Connection<S>,
 ) -> Result<TableBook<S>, OpenFault>
-    requires outside { conn.in_transaction ≡ false }
-    requires unlimited { conn.step_limit ≡ None }
+    requires idle { Idle conn }
 
-    ensures outside { IfOk result (λ b. b.conn.in_transaction ≡ false) }
-    ensures unlimited { IfOk result (λ b. b.conn.step_limit ≡ None) }
+    ensures idle { IfOk result (λ b. Idle b.conn) }
 {
     match open_from(conn) {
         Ok(opened) => match opened.into_book(alloc) {

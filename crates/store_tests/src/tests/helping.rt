@@ -1,5 +1,6 @@
 //! What the tests share: a plan, requests, and checks.
 ghost use Rattle.std.specs.Prelude.{◌≡◌, false, None, IsTrue, IfOk, OnOk};
+ghost use Rattle.desk_sql.specs.Calls.{Idle};
 
 use commands::{Agent, Ask, Command, Fault, Key, Reply};
 use plan::{Plan, PlanFault};
@@ -56,11 +57,9 @@ pub fn book_over<S: Alter + Drop>(
     alloc: Global,
     conn: Connection<S>,
 ) -> Result<TableBook<S>, OpenFault>
-    requires outside { conn.in_transaction ≡ false }
-    requires unlimited { conn.step_limit ≡ None }
+    requires idle { Idle conn }
 
-    ensures outside { IfOk result (λ b. b.conn.in_transaction ≡ false) }
-    ensures unlimited { IfOk result (λ b. b.conn.step_limit ≡ None) }
+    ensures idle { IfOk result (λ b. Idle b.conn) }
 {
     match open_from(conn) {
         Ok(opened) => match opened.into_book(alloc) {
@@ -76,11 +75,9 @@ pub fn opened<S: Alter + Drop>(
     alloc: Global,
     conn: Connection<S>,
 ) -> Result<Connection<S>, OpenFault>
-    requires outside { conn.in_transaction ≡ false }
-    requires unlimited { conn.step_limit ≡ None }
+    requires idle { Idle conn }
 
-    ensures outside { IfOk result (λ c. c.in_transaction ≡ false) }
-    ensures unlimited { IfOk result (λ c. c.step_limit ≡ None) }
+    ensures idle { IfOk result Idle }
 {
     match book_over(alloc, conn) {
         Ok(book) => Ok(book.into_store()),
@@ -107,8 +104,7 @@ pub fn told<S: Alter>(
 
 /// Runs the texts in one transaction.
 pub fn run<S: Alter>(conn: &mut Connection<S>, texts: &str) -> Result<(), Error>
-    requires outside { conn.old.in_transaction ≡ false }
-    requires unlimited { conn.old.step_limit ≡ None }
+    requires idle { Idle conn.old }
 
     ensures outside { OnOk result (conn.new.in_transaction ≡ false) }
     ensures unlimited { conn.new.step_limit ≡ None }

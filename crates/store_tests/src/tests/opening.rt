@@ -1,5 +1,6 @@
 //! What opening finds and makes, and that a store which it refuses is unchanged.
-ghost use Rattle.std.specs.Prelude.{◌≡◌, false, None};
+
+ghost use Rattle.desk_sql.specs.Calls.{Idle};
 
 use crate::tests::helping::{counts, holds, opened, run};
 use memory_files::{ClosedFile, Session};
@@ -84,8 +85,7 @@ fn a_desk_that_is_opened_again_has_its_replies(rt: HostRuntime) -> Result<(), Fa
 
 /// The fault of an opening that is refused, and the connection that it returns.
 fn refused<S: Alter + Drop>(conn: Connection<S>) -> Option<(Connection<S>, OpenFault)>
-    requires outside { conn.in_transaction ≡ false }
-    requires unlimited { conn.step_limit ≡ None }
+    requires idle { Idle conn }
 {
     open_from(conn).err()
 }

@@ -38,7 +38,9 @@ returns-clause-keeps g c =
             c.tell_report-end.new.opened.version,
             record { desk = was.desk; stood = c.into_store.ensures.found s (still_in g.S.Store _ _ s read is).keeps },
           ));
-      outside = c.into_store.ensures.outside (read.quiet.mode c.in-Ok.ensures.opens.idle.outside);
-      unlimited = c.into_store.ensures.unlimited;
+      idle = record {
+        outside = c.into_store.ensures.outside (read.quiet.mode c.in-Ok.ensures.opens.idle.outside);
+        unlimited = c.into_store.ensures.unlimited;
+      };
       sound = λ clean. c.in-Ok.ensures.opens.sound (quiet_clean _ _ _ read.quiet (c.into_store.ensures.sound clean));
     }
