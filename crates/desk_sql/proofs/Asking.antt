@@ -1,5 +1,5 @@
 -- What a query on one table finds whenever it is run, and what its contract says of one run. For each statement that reads.
-use Rattle.std.proofs.Common.{◌≡◌, ◌≤◌, ◌⊎◌, inl, inr, ℕ, ℤ, List, [], ◌∷◌, map, filter, Bool, Option, Some, None, refl, sym, ap, subst, ◌∙◌, arith, option_map}
+use Rattle.std.proofs.Common.{◌≡◌, ◌≤◌, ◌⊎◌, inl, inr, ℕ, ℤ, List, [], ◌∷◌, map, filter, Bool, Option, Some, None, Result, Ok, Err, refl, sym, ap, subst, ◌∙◌, arith, option_map}
 use Rattle.std.specs.List.{AllByRecursion}
 use Rattle.sqlite.specs.declared.error.Error.{Error}
 use Rattle.sqlite.specs.declared.error.Error.TheVariants.{QueryReturnedNoRows}
@@ -10,15 +10,16 @@ use Rattle.sqlite.specs.Query.{Query, Output, IsAnswer, output, output_cmp}
 use Rattle.sqlite.specs.Program.{overlay}
 use Rattle.sqlite.specs.Store.{Ghosts}
 use Rattle.sqlite.specs.Held.{Held, state}
-use Rattle.sqlite.specs.State.{State, HasCleanDisk, IsUnchanged, FailsToQuery}
+use Rattle.sqlite.specs.State.{State, HasCleanDisk, FailsToQuery}
 use Rattle.sqlite_trees.specs.Tree.{Trees}
 use Rattle.sqlite_rules.specs.Lists.{Has}
 use Rattle.desk_sql.specs.declared.versions.Version.{Version}
 use Rattle.desk_sql.specs.Lists.{numbered_row, IsTableOf, IsNumbered, IsListed, IsOneOf, IsLeastOf}
 use Rattle.desk_sql.specs.Rows.{Tables, ShowsIn}
-use Rattle.desk_sql.specs.Calls.{MaySeeIn}
+use Rattle.desk_sql.specs.Calls.{MaySeeIn, Quiet}
 use Rattle.desk_sql.specs.Causes.{IsUp, IsMemory, HasReason}
 use Rattle.desk_sql.specs.Queries.{IsSelect, GivesRow, GivesRows}
+use Rattle.desk_sql.specs.Statements.{QueriesIn}
 use Rattle.desk_sql.specs.Meanings.{sorted_rows}
 use Rattle.desk_sql.proofs.Answering.{Answers, numbered_answers, table_answers, all_shown, first_of, none_of, listed}
 use Rattle.desk_sql.proofs.Ascending.{IsUpTo, output_total}
@@ -163,45 +164,77 @@ module _ {X V C : Type 0} {v : Version} {text : List ℕ} {params : Row} {q : Qu
 -- One run, as contracts say it.
 module _ {v : Version} {text : List ℕ} {params : Row} {V C : Type 0} {show : V → C} {read : Row → C} {Found : Tables → Option V → Type 0}
     {Fits : Tables → Type 0} {Good : Row → Type 0} (it : FindsOne v text params show read Found Fits Good)
-    {S : Type 0} (g : Ghosts S) (old new : Held S) where
-  pub found_some : (f : V) {given : Option Row} {row : Row} → (HasCleanDisk (state g new) → GivesRow text params (state g old) (state g new) given)
-      → given ≡ Some row → show f ≡ read row → HasCleanDisk (state g new) → (t : Tables) → MaySeeIn v (state g old) t
-      → IsUnchanged (state g old) (state g new) × Found t (Some f)
-  found_some f {row = row} gives is shown clean t sees =
-      let given = subst (GivesRow text params (state g old) (state g new)) is (gives clean) in
-      (given.0, it.some (state g old) (state g new) t sees row f shown given)
+    {S : Type 0} {g : Ghosts S} {old new : Held S} (quiet : Quiet g old new) where
+  -- the first row is read
+  pub one_found : (f : V) {given : Option Row} {row : Row} → (HasCleanDisk (state g new) → GivesRow text params (state g old) (state g new) given)
+      → given ≡ Some row → show f ≡ read row → QueriesIn g old new v (Ok (Some f)) Found Fits
+  one_found f {row = row} gives is shown = record {
+    found = λ clean t sees. (
+        let given = subst (GivesRow text params (state g old) (state g new)) is (gives clean) in
+        (given.0, it.some (state g old) (state g new) t sees row f shown given));
+    reason = λ _ _ _ _ _. tt;
+    quiet = quiet;
+  }
 
-  pub found_none : {given : Option Row} → (HasCleanDisk (state g new) → GivesRow text params (state g old) (state g new) given)
-      → given ≡ None → HasCleanDisk (state g new) → (t : Tables) → MaySeeIn v (state g old) t
-      → IsUnchanged (state g old) (state g new) × Found t None
-  found_none gives is clean t sees =
-      let given = subst (GivesRow text params (state g old) (state g new)) is (gives clean) in
-      (given.0, it.none (state g old) (state g new) t sees given)
+  -- there is none
+  pub one_absent : {given : Option Row} → (HasCleanDisk (state g new) → GivesRow text params (state g old) (state g new) given)
+      → given ≡ None → QueriesIn g old new v (Ok None) Found Fits
+  one_absent gives is = record {
+    found = λ clean t sees. (
+        let given = subst (GivesRow text params (state g old) (state g new)) is (gives clean) in
+        (given.0, it.none (state g old) (state g new) t sees given));
+    reason = λ _ _ _ _ _. tt;
+    quiet = quiet;
+  }
 
-  pub one_unasked : (e : Error) → (HasCleanDisk (state g new) → FailsToQuery text params (state g old) (state g new) e)
-      → HasCleanDisk (state g new) → (t : Tables) → MaySeeIn v (state g old) t → IsUp (state g old) → HasReason (state g old) (state g new) e
-  one_unasked e fails clean t sees up = it.reason (state g old) (state g new) t sees up e (fails clean)
+  -- the query fails
+  pub one_unasked : {result : Result (Option V) Error} {e : Error} → (HasCleanDisk (state g new) → FailsToQuery text params (state g old) (state g new) e)
+      → result ≡ Err e → QueriesIn g old new v result Found Fits
+  one_unasked {e = e} fails is = subst (λ r. QueriesIn g old new v r Found Fits) (sym is) (record {
+    found = λ _ _ _. tt;
+    reason = λ clean t sees fits up. it.reason (state g old) (state g new) t sees up e (fails clean);
+    quiet = quiet;
+  })
 
-  pub one_unread : (e : Error) {given : Option Row} {row : Row}
+  -- the row cannot be read
+  pub one_unread : {result : Result (Option V) Error} {e : Error} {given : Option Row} {row : Row}
       → (HasCleanDisk (state g new) → GivesRow text params (state g old) (state g new) given) → given ≡ Some row → (Good row → IsMemory e)
-      → HasCleanDisk (state g new) → (t : Tables) → MaySeeIn v (state g old) t → Fits t → HasReason (state g old) (state g new) e
-  one_unread e {row = row} gives is memory clean t sees fits =
-      let given = subst (GivesRow text params (state g old) (state g new)) is (gives clean) in
-      inl (memory (it.good (state g old) (state g new) t sees fits row given))
+      → result ≡ Err e → QueriesIn g old new v result Found Fits
+  one_unread {row = row} gives some memory is = subst (λ r. QueriesIn g old new v r Found Fits) (sym is) (record {
+    found = λ _ _ _. tt;
+    reason = λ clean t sees fits up. (
+        let given = subst (GivesRow text params (state g old) (state g new)) some (gives clean) in
+        inl (memory (it.good (state g old) (state g new) t sees fits row given)));
+    quiet = quiet;
+  })
 
-module _ {v : Version} {text : List ℕ} {params : Row} {V C : Type 0} {show : V → C} {read : Row → C} {Found : Tables → List V → Type 0}
-    {Fits : Tables → Type 0} {Good : Row → Type 0} (it : FindsList v text params show read Found Fits Good)
-    {S : Type 0} (g : Ghosts S) (old new : Held S) where
-  pub found_all : (rows : List Row) (found : List V) → (HasCleanDisk (state g new) → GivesRows text params (state g old) (state g new) rows)
-      → map show found ≡ map read rows → HasCleanDisk (state g new) → (t : Tables) → MaySeeIn v (state g old) t
-      → IsUnchanged (state g old) (state g new) × Found t found
-  found_all rows found gives was clean t sees = ((gives clean).0, it.all (state g old) (state g new) t sees rows found was (gives clean))
+module _ {v : Version} {text : List ℕ} {params : Row} {V W C : Type 0} {show : V → C} {read : Row → C} {Found : Tables → List V → Type 0}
+    {Fits : Tables → Type 0} {Good : Row → Type 0} (it : FindsList v text params show read Found Fits Good) (items : W → List V)
+    {S : Type 0} {g : Ghosts S} {old new : Held S} (quiet : Quiet g old new) where
+  -- all rows are read
+  pub all_found : (rows : List Row) (found : W) → (HasCleanDisk (state g new) → GivesRows text params (state g old) (state g new) rows)
+      → map show (items found) ≡ map read rows → QueriesIn g old new v (Ok found) (λ t all. Found t (items all)) Fits
+  all_found rows found gives was = record {
+    found = λ clean t sees. ((gives clean).0, it.all (state g old) (state g new) t sees rows (items found) was (gives clean));
+    reason = λ _ _ _ _ _. tt;
+    quiet = quiet;
+  }
 
-  pub all_unasked : (e : Error) → (HasCleanDisk (state g new) → FailsToQuery text params (state g old) (state g new) e)
-      → HasCleanDisk (state g new) → (t : Tables) → MaySeeIn v (state g old) t → IsUp (state g old) → HasReason (state g old) (state g new) e
-  all_unasked e fails clean t sees up = it.reason (state g old) (state g new) t sees up e (fails clean)
+  -- the query fails
+  pub all_unasked : {result : Result W Error} {e : Error} → (HasCleanDisk (state g new) → FailsToQuery text params (state g old) (state g new) e)
+      → result ≡ Err e → QueriesIn g old new v result (λ t all. Found t (items all)) Fits
+  all_unasked {e = e} fails is = subst (λ r. QueriesIn g old new v r (λ t all. Found t (items all)) Fits) (sym is) (record {
+    found = λ _ _ _. tt;
+    reason = λ clean t sees fits up. it.reason (state g old) (state g new) t sees up e (fails clean);
+    quiet = quiet;
+  })
 
-  pub all_unread : (rows : List Row) (e : Error) → (HasCleanDisk (state g new) → GivesRows text params (state g old) (state g new) rows)
-      → (AllByRecursion Good rows → IsMemory e) → HasCleanDisk (state g new) → (t : Tables) → MaySeeIn v (state g old) t → Fits t
-      → HasReason (state g old) (state g new) e
-  all_unread rows e gives memory clean t sees fits = inl (memory (it.good (state g old) (state g new) t sees fits rows (gives clean)))
+  -- a row cannot be read
+  pub all_unread : (rows : List Row) {result : Result W Error} {e : Error}
+      → (HasCleanDisk (state g new) → GivesRows text params (state g old) (state g new) rows) → (AllByRecursion Good rows → IsMemory e)
+      → result ≡ Err e → QueriesIn g old new v result (λ t all. Found t (items all)) Fits
+  all_unread rows gives memory is = subst (λ r. QueriesIn g old new v r (λ t all. Found t (items all)) Fits) (sym is) (record {
+    found = λ _ _ _. tt;
+    reason = λ clean t sees fits up. inl (memory (it.good (state g old) (state g new) t sees fits rows (gives clean)));
+    quiet = quiet;
+  })

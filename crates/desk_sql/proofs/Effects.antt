@@ -1,5 +1,7 @@
 -- What a statement that writes does whenever it is run, and what its contract says of one run. For each statement that writes.
-use Rattle.std.proofs.Common.{◌≡◌, ℕ, List, length, Bool, true, Ok, Err, Result, OnOk, IsTrue}
+use Rattle.std.proofs.Common.{◌+◌, subst, ◌≡◌, ℕ, List, length, Bool, true, Ok, Err, Result, OnOk, IsTrue}
+use Rattle.std.specs.Borrow.{MutBor}
+use Rattle.std.specs.Prelude.{⊤}
 use Rattle.sqlite.specs.declared.error.Error.{Error}
 use Rattle.sqlite.specs.Command.{Command}
 use Rattle.sqlite.specs.Order.{Row}
@@ -10,8 +12,9 @@ use Rattle.sqlite.specs.Listing.{understood}
 use Rattle.sqlite.specs.State.{State, HasCleanDisk, ExecutesInside}
 use Rattle.desk_sql.specs.Schema.{desk_schema}
 use Rattle.desk_sql.specs.Rows.{Tables}
-use Rattle.desk_sql.specs.Calls.{MayRun, Makes, WritesWhere}
-use Rattle.desk_sql.specs.Causes.{IsUp, HasReason, FailsToWrite}
+use Rattle.desk_sql.specs.Calls.{GoesOn, MayRun, Makes}
+use Rattle.desk_sql.specs.Statements.{WritesKeyed, WritesNumbered}
+use Rattle.desk_sql.specs.Causes.{IsUp, HasReason}
 use Rattle.desk_sql.specs.Writable.{HasRowids}
 use Rattle.desk_sql.proofs.Causing.{takes}
 use Rattle.desk_sql.proofs.Meaning.{Means}
@@ -34,31 +37,43 @@ pub record Effect (text : List ℕ) (params : Row) (Seen : Tables → Type 0) (a
   pub rowids : (old new : State) (t : Tables) (count : ℕ) → MayRun old t → Left t → ExecutesInside 0 text params old new (Ok count)
       → (n : ℕ) → HasRowids (taken n) old.now.trees → HasRowids n new.now.trees
 
--- the same of one run, as contracts say it
-pub record Done {S : Type 0} (g : Ghosts S) (old new : Held S) (result : Result ℕ Error) (Seen : Tables → Type 0)
-    (after : Tables → Tables) (Room : Trees → Type 0) (Fits Left : Tables → Type 0) (taken : ℕ → ℕ) : Type 0 where
-  pub made : WritesWhere g old new Seen result after
-  pub reason : Room (state g old).now.trees → FailsToWrite g old new result Fits
-  pub rowids : HasCleanDisk (state g new) → (t : Tables) → MayRun (state g old) t → Left t → (n : ℕ)
-      → HasRowids (taken n) (state g old).now.trees → OnOk result (HasRowids n (state g new).now.trees)
-
 if_done : (P : Type 0) (Ran : Result ℕ Error → Type 0) (r : Result ℕ Error) → Ran r → ((count : ℕ) → Ran (Ok count) → P) → OnOk r P
 if_done P Ran (Ok count) ran so = so count ran
 if_done P Ran (Err e) ran so = tt
 
-pub done : {S : Type 0} (g : Ghosts S) (old new : Held S) (result : Result ℕ Error) {text : List ℕ} {params : Row}
-    {Seen : Tables → Type 0} {after : Tables → Tables} {Room : Trees → Type 0} {Fits Left : Tables → Type 0} {taken : ℕ → ℕ}
-    → Effect text params Seen after Room Fits Left taken
-    → (HasCleanDisk (state g new) → IsTrue (state g old).in_transaction → ExecutesInside 0 text params (state g old) (state g new) result)
-    → Done g old new result Seen after Room Fits Left taken
-done g old new result {text = text} {params = params} {after = after} it runs =
-    let a = state g old in
-    let b = state g new in
-    record {
-      made = λ clean t may seen. if_done (Makes a b (after t)) (ExecutesInside 0 text params a b) result (runs clean may.inside)
-          (λ count ran. it.made a b t count may seen ran);
-      reason = λ room clean t may fits up. if_failed (HasReason a b) (ExecutesInside 0 text params a b) result (runs clean may.inside)
-          (λ e ran. it.reason a b t e room may fits up ran);
-      rowids = λ clean t may left n has. if_done (HasRowids n b.now.trees) (ExecutesInside 0 text params a b) result (runs clean may.inside)
-          (λ count ran. it.rowids a b t count may left ran n has);
-    }
+-- One run, as contracts say it: of a write that needs no rowid, and of one that takes so many.
+
+module _ {S : Type 0} {g : Ghosts S} {old new : MutBor (Held S)} {result : Result ℕ Error} {text : List ℕ} {params : Row}
+    {Seen Fits : Tables → Type 0} {after : Tables → Tables} where
+  pub keyed : Effect text params Seen after (λ _. ⊤) Fits (λ _. ⊤) (λ n. n)
+      → (HasCleanDisk (state g new.now) → IsTrue (state g old.now).in_transaction
+      → ExecutesInside 0 text params (state g old.now) (state g new.now) result)
+      → GoesOn g old new result → WritesKeyed g old new result Seen Fits after
+  keyed it runs goes =
+      let a = state g old.now in
+      let b = state g new.now in
+      let Ran = ExecutesInside 0 text params a b in
+      record {
+        goes = goes;
+        made = λ clean t may seen. if_done (Makes a b (after t)) Ran result (runs clean may.inside) (λ count ran. it.made a b t count may seen ran);
+        reason = λ clean t may fits up. if_failed (HasReason a b) Ran result (runs clean may.inside) (λ e ran. it.reason a b t e tt may fits up ran);
+        rowids = λ clean t may n has. if_done (HasRowids n b.now.trees) Ran result (runs clean may.inside)
+            (λ count ran. it.rowids a b t count may tt ran n has);
+      }
+
+  pub numbered : {Left : Tables → Type 0} {taken : ℕ → ℕ} {added : ℕ} → Effect text params Seen after (HasRowids added) Fits Left taken
+      → ((n : ℕ) → added + n ≡ taken n)
+      → (HasCleanDisk (state g new.now) → IsTrue (state g old.now).in_transaction
+      → ExecutesInside 0 text params (state g old.now) (state g new.now) result)
+      → GoesOn g old new result → WritesNumbered g old new result Seen Fits Left added after
+  numbered it counted runs goes =
+      let a = state g old.now in
+      let b = state g new.now in
+      let Ran = ExecutesInside 0 text params a b in
+      record {
+        goes = goes;
+        made = λ clean t may seen. if_done (Makes a b (after t)) Ran result (runs clean may.inside) (λ count ran. it.made a b t count may seen ran);
+        reason = λ room clean t may fits up. if_failed (HasReason a b) Ran result (runs clean may.inside) (λ e ran. it.reason a b t e room may fits up ran);
+        rowids = λ clean t may left n has. if_done (HasRowids n b.now.trees) Ran result (runs clean may.inside)
+            (λ count ran. it.rowids a b t count may left ran n (subst (λ k. HasRowids k a.now.trees) (counted n) has));
+      }

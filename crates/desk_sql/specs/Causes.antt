@@ -12,7 +12,6 @@ use Rattle.desk_sql.specs.declared.versions.Version.{Version}
 use Rattle.desk_sql.specs.declared.versions.Version.TheVariants.{Two}
 use Rattle.sqlite_schema.specs.declared.schema.Schema.{Schema}
 use Rattle.desk_sql.specs.Calls.{MaySeeIn, MayRun, MayBuild}
-use Rattle.desk_sql.specs.Writable.{HasRowids}
 use Rattle.desk_sql.specs.Rows.{Tables}
 
 -- the connection is open, and no limit is set on the steps of a query
@@ -53,14 +52,6 @@ module _ {S : Type 0} (g : Ghosts S) (old new : Held S) where
   FailsToWrite result Fits =
       HasCleanDisk (state g new) → (t : Tables) → MayRun (state g old) t → Fits t → IsUp (state g old)
       → IfErr result (HasReason (state g old) (state g new))
-
-  -- the same, for rows whose rowids the store chose
-  abbrev pub FailsToChange : {V : Type 0} → Result V Error → (Tables → Type 0) → Type 0
-  FailsToChange result Fits = HasRowids 0 (state g old).now.trees → FailsToWrite result Fits
-
-  -- the same, for a row whose rowid the store chooses
-  abbrev pub FailsToAdd : {V : Type 0} → Result V Error → (Tables → Type 0) → Type 0
-  FailsToAdd result Fits = HasRowids 1 (state g old).now.trees → FailsToWrite result Fits
 
   -- Texts that create tables, in a transaction of a store that is up: beside these tables, without rows, they fail only out of
   -- memory, or where the disk failed or refused.

@@ -14,3 +14,4 @@ pub mod Stock
 pub mod Texts
 pub mod Versions
 pub mod Writable
+pub mod Statements

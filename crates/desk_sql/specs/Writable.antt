@@ -1,6 +1,6 @@
 -- What each write asks of the rows, so that no rule of the tables refuses it: keys that are new, a parent for each reference,
 -- numbers in range, and texts that a row can hold. A row may have a billion bytes.
-use Rattle.std.specs.Prelude.{◌≡◌, ◌≤◌, ◌<◌, ◌+◌, ◌^◌, ◌==◌, ◌+ℤ◌, ◌<ℤ◌, ℕ, suc, pos, List, length, true, false, Result, OnOk}
+use Rattle.std.specs.Prelude.{◌≡◌, ◌≤◌, ◌<◌, ◌+◌, ◌^◌, ◌==◌, ◌+ℤ◌, ◌<ℤ◌, ℕ, pos, List, length, true, false, Result, OnOk}
 use Rattle.std.specs.List.{AllByRecursion}
 use Rattle.sqlite.specs.Order.{Row}
 use Rattle.sqlite.specs.Store.{Ghosts}
@@ -110,14 +110,14 @@ pub record MayPut (s : StockRow) (t : Tables) : Type 0 where
   pub others : AllByRecursion (λ (x : StockRow). IsShort (length x.supplier + length x.product)) t.stock
 
 module _ {S : Type 0} (g : Ghosts S) (old new : Held S) where
-  -- a success leaves the rowids that there were, if the rows fit
-  abbrev pub KeepsRowids : {V : Type 0} → Result V Error → (Tables → Type 0) → Type 0
-  KeepsRowids result Fits =
-      HasCleanDisk (state g new) → (t : Tables) → MayRun (state g old) t → Fits t → (n : ℕ) → HasRowids n (state g old).now.trees
+  -- in a transaction a success leaves the rowids that there were
+  abbrev pub KeepsRowids : {V : Type 0} → Result V Error → Type 0
+  KeepsRowids result =
+      HasCleanDisk (state g new) → (t : Tables) → MayRun (state g old) t → (n : ℕ) → HasRowids n (state g old).now.trees
       → OnOk result (HasRowids n (state g new).now.trees)
 
-  -- a success takes at most one
-  abbrev pub TakesRowid : {V : Type 0} → Result V Error → (Tables → Type 0) → Type 0
-  TakesRowid result Fits =
-      HasCleanDisk (state g new) → (t : Tables) → MayRun (state g old) t → Fits t → (n : ℕ) → HasRowids (suc n) (state g old).now.trees
-      → OnOk result (HasRowids n (state g new).now.trees)
+  -- in a transaction, if the rows fit, a success takes so many of the rowids that are left
+  abbrev pub TakesRowids : {V : Type 0} → Result V Error → ℕ → (Tables → Type 0) → Type 0
+  TakesRowids result taken Fits =
+      HasCleanDisk (state g new) → (t : Tables) → MayRun (state g old) t → Fits t
+      → (n : ℕ) → HasRowids (taken + n) (state g old).now.trees → OnOk result (HasRowids n (state g new).now.trees)

@@ -1,13 +1,13 @@
 //! Replies that are kept under an agent's key.
 
-ghost use Rattle.std.specs.Prelude.{◌≡◌, IfOk, IfErr, ⊤};
-ghost use Rattle.desk_sql.specs.Calls.{Writes, Reads, Quiet, GoesOn};
+ghost use Rattle.std.specs.Prelude.{◌≡◌, IfOk, IfErr};
 ghost use Rattle.desk_sql.specs.Changes.{adds_answer, kept};
 ghost use Rattle.desk_sql.specs.FoundRows.{FindsAnswer, shows_answer, two_of};
-ghost use Rattle.desk_sql.specs.Causes.{FailsForReason, FailsToAdd, IsMemory};
-ghost use Rattle.desk_sql.specs.Readable.{HasReplyText, IsReplyText, answer_shown};
+ghost use Rattle.desk_sql.specs.Causes.{IsMemory};
+ghost use Rattle.desk_sql.specs.Readable.{HasReplyText, IsReplyText, answer_shown, Any};
 ghost use Rattle.desk_sql.specs.Rows.{AnswerRow};
-ghost use Rattle.desk_sql.specs.Writable.{MayKeep, TakesRowid};
+ghost use Rattle.desk_sql.specs.Writable.{MayKeep};
+ghost use Rattle.desk_sql.specs.Statements.{Queries, WritesNumbered};
 
 use crate::queries::first_row;
 use sqlite::types::ValueRef;
@@ -39,10 +39,8 @@ pub fn find_answer<'x, S: Alter>(
     agent: &'x str,
     mark: &'x str,
 ) -> Result<Option<KeptAnswer>, Error>
-    ensures found { Reads S.Store conn.old conn.new result (FindsAnswer agent.now mark.now) }
-    ensures reason { FailsForReason S.Store conn.old conn.new result
-        (HasReplyText agent.now mark.now) }
-    ensures quiet { Quiet S.Store conn.old conn.new }
+    ensures queries { Queries S.Store conn.old conn.new result
+        (FindsAnswer agent.now mark.now) (HasReplyText agent.now mark.now) }
 {
     match first_row(
         conn,
@@ -68,12 +66,8 @@ pub fn insert_answer<'x, S: Alter>(
     ask: &'x [u8],
     reply: &'x str,
 ) -> Result<usize, Error>
-    ensures goes { GoesOn S.Store tx.old.conn tx.new.conn result }
-    ensures made { Writes S.Store tx.old.conn.now tx.new.conn.now result
-        (adds_answer (kept agent.now mark.now ask.now reply.now)) }
-    ensures reason { FailsToAdd S.Store tx.old.conn.now tx.new.conn.now result
-        (MayKeep (kept agent.now mark.now ask.now reply.now)) }
-    ensures rowids { TakesRowid S.Store tx.old.conn.now tx.new.conn.now result (λ _. ⊤) }
+    ensures writes { WritesNumbered S.Store tx.old.conn tx.new.conn result
+        Any (MayKeep (kept agent.now mark.now ask.now reply.now)) Any 1 (adds_answer (kept agent.now mark.now ask.now reply.now)) }
 {
     tx.execute(
         "INSERT INTO answer VALUES (?1, ?2, ?3, ?4)",

@@ -1,13 +1,13 @@
 //! Loaded batches.
 
-ghost use Rattle.std.specs.Prelude.{◌≡◌, ◌<◌, ◌^◌, IfOk, IfErr, ⊤};
-ghost use Rattle.desk_sql.specs.Calls.{Writes, Reads, Quiet, GoesOn};
+ghost use Rattle.std.specs.Prelude.{◌≡◌, ◌<◌, ◌^◌, IfOk, IfErr};
 ghost use Rattle.desk_sql.specs.Changes.{adds_batch};
 ghost use Rattle.desk_sql.specs.FoundRows.{FindsBatch, shows_batch, two_of};
-ghost use Rattle.desk_sql.specs.Causes.{FailsForReason, IsMemory, FailsToAdd};
-ghost use Rattle.desk_sql.specs.Writable.{MayAddBatch, TakesRowid};
+ghost use Rattle.desk_sql.specs.Causes.{IsMemory};
+ghost use Rattle.desk_sql.specs.Writable.{MayAddBatch};
 ghost use Rattle.desk_sql.specs.Readable.{Any, batch_shown};
 ghost use Rattle.desk_sql.specs.Rows.{BatchRow};
+ghost use Rattle.desk_sql.specs.Statements.{Queries, WritesNumbered};
 
 use crate::queries::first_row;
 use sqlite::types::ValueRef;
@@ -37,9 +37,7 @@ pub fn find_batch<S: Alter>(
     conn: &mut Connection<S>,
     name: &str,
 ) -> Result<Option<BatchFound>, Error>
-    ensures found { Reads S.Store conn.old conn.new result (FindsBatch name.now) }
-    ensures reason { FailsForReason S.Store conn.old conn.new result Any }
-    ensures quiet { Quiet S.Store conn.old conn.new }
+    ensures queries { Queries S.Store conn.old conn.new result (FindsBatch name.now) Any }
 {
     match first_row(
         conn,
@@ -63,12 +61,8 @@ pub fn insert_batch<'x, S: Alter>(
 ) -> Result<usize, Error>
     requires { num < 2 ^ 63 }
 
-    ensures goes { GoesOn S.Store tx.old.conn tx.new.conn result }
-    ensures made { Writes S.Store tx.old.conn.now tx.new.conn.now result
-        (adds_batch (record { name = name.now; num = num; content = content.now })) }
-    ensures reason { FailsToAdd S.Store tx.old.conn.now tx.new.conn.now result
-        (MayAddBatch (record { name = name.now; num = num; content = content.now })) }
-    ensures rowids { TakesRowid S.Store tx.old.conn.now tx.new.conn.now result (λ _. ⊤) }
+    ensures writes { WritesNumbered S.Store tx.old.conn tx.new.conn result
+        Any (MayAddBatch (record { name = name.now; num = num; content = content.now })) Any 1 (adds_batch (record { name = name.now; num = num; content = content.now })) }
 {
     tx.execute(
         "INSERT INTO batch VALUES (?1, ?2, ?3)",

@@ -1,14 +1,14 @@
 //! Journeys, each with its cursor.
 
 ghost use Rattle.std.specs.Prelude.{◌≡◌, ◌<◌, ◌^◌, IfOk, IfErr, ⊤, map};
-ghost use Rattle.desk_sql.specs.Calls.{Writes, WritesWhere, Reads, ReadsEach, Quiet, GoesOn};
 ghost use Rattle.desk_sql.specs.Changes.{AreJourneysBelow, adds_journey, begun, IsSmallCursor, moves_journey, IsSmallItem, AreItemsBelow, adds_item};
 ghost use Rattle.desk_sql.specs.FoundRows.{FindsJourney, FindsOwned, FindsUnfinished, shows_cursor, cursor_of, shows_journey, nine_of, FindsItems, shows_item, four_of};
-ghost use Rattle.desk_sql.specs.Causes.{FailsForReason, FailsForReasonEach, IsMemory, FailsToWrite};
-ghost use Rattle.desk_sql.specs.Writable.{MayAddJourney, MayMove, KeepsRowids, MayAddItem};
+ghost use Rattle.desk_sql.specs.Causes.{IsMemory};
+ghost use Rattle.desk_sql.specs.Writable.{MayAddJourney, MayMove, MayAddItem};
 ghost use Rattle.desk_sql.specs.Readable.{IsAgentText, HasAgentText, HaveAgentTexts, HaveOwnedTexts, Any, ShowsOne, item_shown};
 ghost use Rattle.desk_sql.specs.RemainingRows.{journey_shown};
 ghost use Rattle.desk_sql.specs.Rows.{JourneyRow, EntryRow};
+ghost use Rattle.desk_sql.specs.Statements.{Queries, QueriesEach, WritesKeyed};
 ghost use Rattle.std.specs.List.{AllByRecursion};
 
 use crate::queries::{all_rows, first_row};
@@ -91,9 +91,7 @@ pub fn find_journey<S: Alter>(
 ) -> Result<Option<JourneyFound>, Error>
     requires { id < 2 ^ 63 }
 
-    ensures found { ReadsEach S.Store conn.old conn.new result (FindsJourney id) }
-    ensures reason { FailsForReasonEach S.Store conn.old conn.new result (HasAgentText id) }
-    ensures quiet { Quiet S.Store conn.old conn.new }
+    ensures queries { QueriesEach S.Store conn.old conn.new result (FindsJourney id) (HasAgentText id) }
 {
     match first_row(
         conn,
@@ -115,9 +113,8 @@ pub fn first_unfinished<S: Alter>(
 ) -> Result<Option<JourneyFound>, Error>
     requires { after < 2 ^ 63 }
 
-    ensures found { Reads S.Store conn.old conn.new result (FindsUnfinished after) }
-    ensures reason { FailsForReason S.Store conn.old conn.new result (HaveAgentTexts after) }
-    ensures quiet { Quiet S.Store conn.old conn.new }
+    ensures queries { Queries S.Store conn.old conn.new result
+        (FindsUnfinished after) (HaveAgentTexts after) }
 {
     match first_row(
         conn,
@@ -141,10 +138,8 @@ pub fn first_owned<'x, S: Alter>(
 ) -> Result<Option<JourneyFound>, Error>
     requires { after < 2 ^ 63 }
 
-    ensures found { Reads S.Store conn.old conn.new result (FindsOwned agent.now after) }
-    ensures reason { FailsForReason S.Store conn.old conn.new result
-        (HaveOwnedTexts agent.now after) }
-    ensures quiet { Quiet S.Store conn.old conn.new }
+    ensures queries { Queries S.Store conn.old conn.new result
+        (FindsOwned agent.now after) (HaveOwnedTexts agent.now after) }
 {
     match first_row(
         conn,
@@ -176,12 +171,8 @@ pub fn insert_journey<S: Alter>(
     requires steps { steps < 2 ^ 63 }
     requires tries { tries < 2 ^ 63 }
 
-    ensures goes { GoesOn S.Store tx.old.conn tx.new.conn result }
-    ensures made { WritesWhere S.Store tx.old.conn.now tx.new.conn.now (AreJourneysBelow id) result
-        (adds_journey (begun id num agent.now steps tries)) }
-    ensures reason { FailsToWrite S.Store tx.old.conn.now tx.new.conn.now result
-        (MayAddJourney (begun id num agent.now steps tries)) }
-    ensures rowids { KeepsRowids S.Store tx.old.conn.now tx.new.conn.now result (λ _. ⊤) }
+    ensures writes { WritesKeyed S.Store tx.old.conn tx.new.conn result
+        (AreJourneysBelow id) (MayAddJourney (begun id num agent.now steps tries)) (adds_journey (begun id num agent.now steps tries)) }
 {
     tx.execute(
         "INSERT INTO journey VALUES (?1, ?2, ?3, ?4, ?5, ?6, ?7, ?8, ?9)",
@@ -208,11 +199,8 @@ pub fn move_journey<S: Alter>(
     requires id { id < 2 ^ 63 }
     requires cursor { IsSmallCursor cursor }
 
-    ensures goes { GoesOn S.Store tx.old.conn tx.new.conn result }
-    ensures made { Writes S.Store tx.old.conn.now tx.new.conn.now result (moves_journey id cursor) }
-    ensures reason { FailsToWrite S.Store tx.old.conn.now tx.new.conn.now result
-        (MayMove id cursor) }
-    ensures rowids { KeepsRowids S.Store tx.old.conn.now tx.new.conn.now result (λ _. ⊤) }
+    ensures writes { WritesKeyed S.Store tx.old.conn tx.new.conn result
+        Any (MayMove id cursor) (moves_journey id cursor) }
 {
     tx.execute(
         "UPDATE journey SET pos = ?2, phase = ?3, target = ?4, used = ?5 WHERE id = ?1",
@@ -276,10 +264,8 @@ pub fn find_items<S: Alter>(
     requires journey { journey < 2 ^ 63 }
     requires after { after < 2 ^ 63 }
 
-    ensures found { Reads S.Store conn.old conn.new result
-        (λ t found. FindsItems journey after t found.items) }
-    ensures reason { FailsForReason S.Store conn.old conn.new result Any }
-    ensures quiet { Quiet S.Store conn.old conn.new }
+    ensures queries { Queries S.Store conn.old conn.new result
+        (λ t found. FindsItems journey after t found.items) Any }
 {
     let rows = all_rows(
         conn,
@@ -299,13 +285,8 @@ pub fn insert_item<S: Alter>(
     requires journey { journey < 2 ^ 63 }
     requires item { IsSmallItem item }
 
-    ensures goes { GoesOn S.Store tx.old.conn tx.new.conn result }
-    ensures made { WritesWhere S.Store tx.old.conn.now tx.new.conn.now
-        (AreItemsBelow item.num) result
-        (adds_item journey item) }
-    ensures reason { FailsToWrite S.Store tx.old.conn.now tx.new.conn.now result
-        (MayAddItem journey item) }
-    ensures rowids { KeepsRowids S.Store tx.old.conn.now tx.new.conn.now result (λ _. ⊤) }
+    ensures writes { WritesKeyed S.Store tx.old.conn tx.new.conn result
+        (AreItemsBelow item.num) (MayAddItem journey item) (adds_item journey item) }
 {
     tx.execute(
         "INSERT INTO entry2 VALUES (?1, ?2, ?3, ?4, ?5)",

@@ -1,15 +1,15 @@
 //! Save-points that were taken at run time and still stand.
 
-ghost use Rattle.std.specs.Prelude.{◌≡◌, ◌<◌, ◌^◌, map, IfOk, [], IfErr, ⊤};
+ghost use Rattle.std.specs.Prelude.{◌≡◌, ◌<◌, ◌^◌, map, IfOk, IfErr, ⊤};
 ghost use Rattle.sqlite.specs.Order.{column};
-ghost use Rattle.desk_sql.specs.Calls.{Writes, Reads, Quiet, GoesOn};
 ghost use Rattle.desk_sql.specs.Changes.{adds_mark, drops_mark};
 ghost use Rattle.desk_sql.specs.FoundRows.{FindsMarks};
 ghost use Rattle.desk_sql.specs.Rows.{whole};
 ghost use Rattle.std.specs.List.{AllByRecursion};
-ghost use Rattle.desk_sql.specs.Causes.{FailsForReason, IsMemory, FailsToAdd, FailsToWrite};
-ghost use Rattle.desk_sql.specs.Writable.{MayAddMark, KeepsRowids, TakesRowid};
+ghost use Rattle.desk_sql.specs.Causes.{IsMemory};
+ghost use Rattle.desk_sql.specs.Writable.{MayAddMark};
 ghost use Rattle.desk_sql.specs.Readable.{Any, ShowsOne, mark_shown};
+ghost use Rattle.desk_sql.specs.Statements.{Queries, WritesKeyed, WritesNumbered};
 
 use crate::queries::all_rows;
 use sqlite::types::ValueRef;
@@ -38,10 +38,8 @@ pub fn find_marks<S: Alter>(
 ) -> Result<Vec<u64>, Error>
     requires { journey < 2 ^ 63 }
 
-    ensures found { Reads S.Store conn.old conn.new result
-        (λ t found. FindsMarks journey t found.items) }
-    ensures reason { FailsForReason S.Store conn.old conn.new result Any }
-    ensures quiet { Quiet S.Store conn.old conn.new }
+    ensures queries { Queries S.Store conn.old conn.new result
+        (λ t found. FindsMarks journey t found.items) Any }
 {
     let rows = all_rows(
         conn,
@@ -61,11 +59,8 @@ pub fn insert_mark<S: Alter>(
     requires journey { journey < 2 ^ 63 }
     requires pos { pos < 2 ^ 63 }
 
-    ensures goes { GoesOn S.Store tx.old.conn tx.new.conn result }
-    ensures made { Writes S.Store tx.old.conn.now tx.new.conn.now result (adds_mark journey pos) }
-    ensures reason { FailsToAdd S.Store tx.old.conn.now tx.new.conn.now result
-        (MayAddMark journey pos) }
-    ensures rowids { TakesRowid S.Store tx.old.conn.now tx.new.conn.now result (λ _. ⊤) }
+    ensures writes { WritesNumbered S.Store tx.old.conn tx.new.conn result
+        Any (MayAddMark journey pos) Any 1 (adds_mark journey pos) }
 {
     tx.execute(
         "INSERT INTO mark VALUES (?1, ?2)",
@@ -82,10 +77,7 @@ pub fn delete_mark<S: Alter>(
     requires journey { journey < 2 ^ 63 }
     requires pos { pos < 2 ^ 63 }
 
-    ensures goes { GoesOn S.Store tx.old.conn tx.new.conn result }
-    ensures made { Writes S.Store tx.old.conn.now tx.new.conn.now result (drops_mark journey pos) }
-    ensures reason { FailsToWrite S.Store tx.old.conn.now tx.new.conn.now result (λ _. ⊤) }
-    ensures rowids { KeepsRowids S.Store tx.old.conn.now tx.new.conn.now result (λ _. ⊤) }
+    ensures writes { WritesKeyed S.Store tx.old.conn tx.new.conn result Any Any (drops_mark journey pos) }
 {
     tx.execute(
         "DELETE FROM mark WHERE journey = ?1 AND pos = ?2",

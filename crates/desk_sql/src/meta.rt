@@ -1,13 +1,13 @@
 //! The one row of `meta`: the version of the schema, the number of events, and the number of the last journey.
 
-ghost use Rattle.std.specs.Prelude.{◌≡◌, ◌<◌, ◌^◌, IfOk, IfErr, ⊤};
-ghost use Rattle.desk_sql.specs.Calls.{Writes, WritesWhere, ReadsEach, Quiet, GoesOn};
+ghost use Rattle.std.specs.Prelude.{◌≡◌, ◌<◌, ◌^◌, IfOk, IfErr};
+ghost use Rattle.desk_sql.specs.Calls.{WritesWhere, GoesOn};
 ghost use Rattle.desk_sql.specs.Changes.{LacksMeta, adds_meta, at_first, counts};
 ghost use Rattle.desk_sql.specs.FoundRows.{IsMeta, shows_meta, three_of};
-ghost use Rattle.desk_sql.specs.Causes.{FailsForReasonEach, IsMemory, FailsToWrite};
-ghost use Rattle.desk_sql.specs.Writable.{KeepsRowids};
-ghost use Rattle.desk_sql.specs.Readable.{meta_shown, HasMeta};
+ghost use Rattle.desk_sql.specs.Causes.{IsMemory, FailsToWrite};
+ghost use Rattle.desk_sql.specs.Readable.{meta_shown, HasMeta, Any};
 ghost use Rattle.desk_sql.specs.Rows.{MetaRow};
+ghost use Rattle.desk_sql.specs.Statements.{QueriesEach, WritesKeyed};
 
 use crate::queries::first_row;
 use sqlite::types::ValueRef;
@@ -41,9 +41,7 @@ fn meta_of(row: &Row) -> Result<Meta, Error>
 
 /// Returns the numbers of the one row. A `meta` without a row is an error.
 pub fn read_meta<S: Alter>(conn: &mut Connection<S>) -> Result<Meta, Error>
-    ensures found { ReadsEach S.Store conn.old conn.new result IsMeta }
-    ensures reason { FailsForReasonEach S.Store conn.old conn.new result HasMeta }
-    ensures quiet { Quiet S.Store conn.old conn.new }
+    ensures queries { QueriesEach S.Store conn.old conn.new result IsMeta HasMeta }
 {
     match first_row(
         conn,
@@ -84,12 +82,8 @@ pub fn update_meta<S: Alter>(
     requires events { events < 2 ^ 63 }
     requires journeys { journeys < 2 ^ 63 }
 
-    ensures goes { GoesOn S.Store tx.old.conn tx.new.conn result }
-    ensures made { Writes S.Store tx.old.conn.now tx.new.conn.now result
-        (counts (record { version = version; events = events; journeys = journeys })) }
-    ensures reason { FailsToWrite S.Store tx.old.conn.now tx.new.conn.now result
-        (λ _. ⊤) }
-    ensures rowids { KeepsRowids S.Store tx.old.conn.now tx.new.conn.now result (λ _. ⊤) }
+    ensures writes { WritesKeyed S.Store tx.old.conn tx.new.conn result
+        Any Any (counts (record { version = version; events = events; journeys = journeys })) }
 {
     tx.execute(
         "UPDATE meta SET version = ?1, events = ?2, journeys = ?3 WHERE one = 1",

@@ -1,14 +1,14 @@
 //! The options of the steps of each plan.
 
-ghost use Rattle.std.specs.Prelude.{◌≡◌, ◌<◌, ◌^◌, map, IfOk, IfErr, ⊤};
-ghost use Rattle.desk_sql.specs.Calls.{Writes, Reads, ReadsEach, Quiet, GoesOn};
+ghost use Rattle.std.specs.Prelude.{◌≡◌, ◌<◌, ◌^◌, map, IfOk, IfErr};
 ghost use Rattle.desk_sql.specs.Changes.{IsSmallOption, adds_step, untaken, marks_step};
 ghost use Rattle.desk_sql.specs.FoundRows.{FindsSteps, FindsOptions, shows_step, ten_of};
 ghost use Rattle.std.specs.List.{AllByRecursion};
-ghost use Rattle.desk_sql.specs.Causes.{FailsForReason, FailsForReasonEach, IsMemory, FailsToAdd, FailsToChange};
-ghost use Rattle.desk_sql.specs.Writable.{MayAddStep, MayMarkStep, KeepsRowids, TakesRowid};
-ghost use Rattle.desk_sql.specs.Readable.{AreWantTexts, HaveOptionTexts, HaveWantTexts, ShowsOne, step_shown};
+ghost use Rattle.desk_sql.specs.Causes.{IsMemory};
+ghost use Rattle.desk_sql.specs.Writable.{MayAddStep, MayMarkStep};
+ghost use Rattle.desk_sql.specs.Readable.{AreWantTexts, HaveOptionTexts, HaveWantTexts, ShowsOne, step_shown, Any};
 ghost use Rattle.desk_sql.specs.Rows.{StepRow};
+ghost use Rattle.desk_sql.specs.Statements.{Queries, QueriesEach, WritesNumbered};
 
 use crate::queries::all_rows;
 use sqlite::types::ValueRef;
@@ -43,12 +43,8 @@ pub fn insert_step<S: Alter>(
 ) -> Result<usize, Error>
     requires { IsSmallOption option }
 
-    ensures goes { GoesOn S.Store tx.old.conn tx.new.conn result }
-    ensures made { Writes S.Store tx.old.conn.now tx.new.conn.now result
-        (adds_step (untaken option.entry)) }
-    ensures reason { FailsToAdd S.Store tx.old.conn.now tx.new.conn.now result
-        (MayAddStep (untaken option.entry)) }
-    ensures rowids { TakesRowid S.Store tx.old.conn.now tx.new.conn.now result (λ _. ⊤) }
+    ensures writes { WritesNumbered S.Store tx.old.conn tx.new.conn result
+        Any (MayAddStep (untaken option.entry)) Any 1 (adds_step (untaken option.entry)) }
 {
     tx.execute(
         "INSERT INTO step VALUES (?1, ?2, ?3, ?4, 0, ?5, ?6, ?7, ?8, ?9, ?10)",
@@ -140,10 +136,8 @@ pub fn find_steps<S: Alter>(
 ) -> Result<Vec<StepFound>, Error>
     requires { journey < 2 ^ 63 }
 
-    ensures found { ReadsEach S.Store conn.old conn.new result
-        (λ t found. FindsSteps journey t found.items) }
-    ensures reason { FailsForReasonEach S.Store conn.old conn.new result (HaveWantTexts journey) }
-    ensures quiet { Quiet S.Store conn.old conn.new }
+    ensures queries { QueriesEach S.Store conn.old conn.new result
+        (λ t found. FindsSteps journey t found.items) (HaveWantTexts journey) }
 {
     let rows = all_rows(
         conn,
@@ -164,11 +158,8 @@ pub fn find_options<S: Alter>(
     requires journey { journey < 2 ^ 63 }
     requires place { place < 2 ^ 63 }
 
-    ensures found { Reads S.Store conn.old conn.new result
-        (λ t found. FindsOptions journey place t found.items) }
-    ensures reason { FailsForReason S.Store conn.old conn.new result
-        (HaveOptionTexts journey place) }
-    ensures quiet { Quiet S.Store conn.old conn.new }
+    ensures queries { Queries S.Store conn.old conn.new result
+        (λ t found. FindsOptions journey place t found.items) (HaveOptionTexts journey place) }
 {
     let rows = all_rows(
         conn,
@@ -192,12 +183,8 @@ pub fn mark_step<S: Alter>(
     requires opt { opt < 2 ^ 63 }
     requires taken { taken < 2 ^ 63 }
 
-    ensures goes { GoesOn S.Store tx.old.conn tx.new.conn result }
-    ensures made { Writes S.Store tx.old.conn.now tx.new.conn.now result
-        (marks_step journey place opt taken) }
-    ensures reason { FailsToChange S.Store tx.old.conn.now tx.new.conn.now result
-        (MayMarkStep journey place opt taken) }
-    ensures rowids { KeepsRowids S.Store tx.old.conn.now tx.new.conn.now result (λ _. ⊤) }
+    ensures writes { WritesNumbered S.Store tx.old.conn tx.new.conn result
+        Any (MayMarkStep journey place opt taken) Any 0 (marks_step journey place opt taken) }
 {
     tx.execute(
         "UPDATE step SET taken = ?4 WHERE journey = ?1 AND place = ?2 AND opt = ?3",

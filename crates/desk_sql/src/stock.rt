@@ -1,15 +1,15 @@
 //! The places of each cell.
 
 ghost use Rattle.std.specs.Prelude.{◌≡◌, ◌<◌, ◌^◌, map, pos, neg_ℤ, IfOk, IfErr, ⊤};
-ghost use Rattle.desk_sql.specs.Calls.{WritesWhere, Reads, Quiet, GoesOn};
 ghost use Rattle.desk_sql.specs.Stock.{IsSmallRange, FindsNights, shows_night, shows_cell, HaveFree, HaveRoom, takes_nights, gives_nights, IsSmallCell, AreApart, placed, puts_cell};
 ghost use Rattle.desk_sql.specs.FoundRows.{three_of, six_of};
 ghost use Rattle.std.specs.List.{AllByRecursion};
-ghost use Rattle.desk_sql.specs.Causes.{FailsForReason, IsMemory, FailsToChange, FailsToAdd};
-ghost use Rattle.desk_sql.specs.Writable.{MayPut, MayTakeNights, MayGiveNights, KeepsRowids, TakesRowid};
+ghost use Rattle.desk_sql.specs.Causes.{IsMemory};
+ghost use Rattle.desk_sql.specs.Writable.{MayPut, MayTakeNights, MayGiveNights};
 ghost use Rattle.desk_sql.specs.Readable.{Any, AreCellTexts, ShowsOne, night_shown};
 ghost use Rattle.desk_sql.specs.RemainingRows.{stock_shown};
 ghost use Rattle.desk_sql.specs.Rows.{StockRow};
+ghost use Rattle.desk_sql.specs.Statements.{Queries, WritesNumbered};
 
 use crate::queries::all_rows;
 use sqlite::types::ValueRef;
@@ -69,10 +69,8 @@ pub fn find_nights<S: Alter>(
 ) -> Result<Vec<NightFound>, Error>
     requires { IsSmallRange range }
 
-    ensures found { Reads S.Store conn.old conn.new result
-        (λ t found. FindsNights range.entry t found.items) }
-    ensures reason { FailsForReason S.Store conn.old conn.new result Any }
-    ensures quiet { Quiet S.Store conn.old conn.new }
+    ensures queries { Queries S.Store conn.old conn.new result
+        (λ t found. FindsNights range.entry t found.items) Any }
 {
     let rows = all_rows(
         conn,
@@ -134,14 +132,8 @@ pub fn take_nights<S: Alter>(
     requires range { IsSmallRange range }
     requires count { count < 2 ^ 63 }
 
-    ensures goes { GoesOn S.Store tx.old.conn tx.new.conn result }
-    ensures made { WritesWhere S.Store tx.old.conn.now tx.new.conn.now
-        (HaveFree range.entry count) result
-        (takes_nights range.entry count) }
-    ensures reason { FailsToChange S.Store tx.old.conn.now tx.new.conn.now result
-        (MayTakeNights range.entry count) }
-    ensures rowids { KeepsRowids S.Store tx.old.conn.now tx.new.conn.now result
-        (HaveFree range.entry count) }
+    ensures writes { WritesNumbered S.Store tx.old.conn tx.new.conn result
+        (HaveFree range.entry count) (MayTakeNights range.entry count) (HaveFree range.entry count) 0 (takes_nights range.entry count) }
 {
     tx.execute(
         "UPDATE stock SET free = free - ?4 WHERE kind = ?1 AND supplier = ?2 AND product = ?3 AND night BETWEEN ?5 AND ?6",
@@ -174,14 +166,8 @@ pub fn give_nights<S: Alter>(
     requires range { IsSmallRange range }
     requires count { count < 2 ^ 63 }
 
-    ensures goes { GoesOn S.Store tx.old.conn tx.new.conn result }
-    ensures made { WritesWhere S.Store tx.old.conn.now tx.new.conn.now
-        (HaveRoom range.entry count) result
-        (gives_nights range.entry count) }
-    ensures reason { FailsToChange S.Store tx.old.conn.now tx.new.conn.now result
-        (MayGiveNights range.entry count) }
-    ensures rowids { KeepsRowids S.Store tx.old.conn.now tx.new.conn.now result
-        (HaveRoom range.entry count) }
+    ensures writes { WritesNumbered S.Store tx.old.conn tx.new.conn result
+        (HaveRoom range.entry count) (MayGiveNights range.entry count) (HaveRoom range.entry count) 0 (gives_nights range.entry count) }
 {
     tx.execute(
         "UPDATE stock SET free = free - ?4 WHERE kind = ?1 AND supplier = ?2 AND product = ?3 AND night BETWEEN ?5 AND ?6",
@@ -213,12 +199,8 @@ pub struct CellPlaces<'x> {
 pub fn put_cell<S: Alter>(tx: &mut Transaction<'_, S>, cell: CellPlaces<'_>) -> Result<usize, Error>
     requires { IsSmallCell cell }
 
-    ensures goes { GoesOn S.Store tx.old.conn tx.new.conn result }
-    ensures made { WritesWhere S.Store tx.old.conn.now tx.new.conn.now AreApart result
-        (puts_cell (placed cell.entry)) }
-    ensures reason { FailsToAdd S.Store tx.old.conn.now tx.new.conn.now result
-        (MayPut (placed cell.entry)) }
-    ensures rowids { TakesRowid S.Store tx.old.conn.now tx.new.conn.now result (λ _. ⊤) }
+    ensures writes { WritesNumbered S.Store tx.old.conn tx.new.conn result
+        AreApart (MayPut (placed cell.entry)) Any 1 (puts_cell (placed cell.entry)) }
 {
     tx.execute(
         "INSERT INTO stock VALUES (?1, ?2, ?3, ?4, ?5, ?6) ON CONFLICT(kind, supplier, product, night) DO UPDATE SET allot = excluded.allot, free = excluded.free",

@@ -1,2 +1,1 @@
-pub mod ItemMeanings
 pub mod NextItems

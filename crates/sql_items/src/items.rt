@@ -3,10 +3,9 @@
 //! The store reads no further than the item that is found.
 
 ghost use Rattle.std.specs.Prelude.{◌<◌, ◌^◌};
-ghost use Rattle.desk_sql.specs.Calls.{Reads, Quiet};
 ghost use Rattle.desk_sql.specs.FoundRows.{FindsNextItem};
-ghost use Rattle.desk_sql.specs.Causes.{FailsForReason};
 ghost use Rattle.desk_sql.specs.Readable.{Any};
+ghost use Rattle.desk_sql.specs.Statements.{Queries};
 
 use desk_sql::{ItemFound, first_row, read_item};
 use sqlite::types::ValueRef;
@@ -21,9 +20,7 @@ pub fn next_item<S: Alter>(
     requires journey { journey < 2 ^ 63 }
     requires after { after < 2 ^ 63 }
 
-    ensures found { Reads S.Store conn.old conn.new result (FindsNextItem journey after) }
-    ensures reason { FailsForReason S.Store conn.old conn.new result Any }
-    ensures quiet { Quiet S.Store conn.old conn.new }
+    ensures queries { Queries S.Store conn.old conn.new result (FindsNextItem journey after) Any }
 {
     match first_row(
         conn,

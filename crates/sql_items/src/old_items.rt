@@ -3,10 +3,9 @@
 //! The store reads no further than the item that is found.
 
 ghost use Rattle.std.specs.Prelude.{◌<◌, ◌^◌};
-ghost use Rattle.desk_sql.specs.Calls.{ReadsIn, Quiet};
 ghost use Rattle.desk_sql.specs.FoundRows.{FindsNextItem};
-ghost use Rattle.desk_sql.specs.Causes.{FailsForReasonIn};
 ghost use Rattle.desk_sql.specs.Readable.{Any};
+ghost use Rattle.desk_sql.specs.Statements.{QueriesIn};
 
 use desk_sql::{ItemFound, Version, first_row, read_item};
 use sqlite::types::ValueRef;
@@ -21,10 +20,8 @@ pub fn next_old_item<S: Alter>(
     requires journey { journey < 2 ^ 63 }
     requires after { after < 2 ^ 63 }
 
-    ensures found { ReadsIn S.Store conn.old conn.new Version.One result
-        (FindsNextItem journey after) }
-    ensures reason { FailsForReasonIn S.Store conn.old conn.new Version.One result Any }
-    ensures quiet { Quiet S.Store conn.old conn.new }
+    ensures queries { QueriesIn S.Store conn.old conn.new Version.One result
+        (FindsNextItem journey after) Any }
 {
     match first_row(
         conn,

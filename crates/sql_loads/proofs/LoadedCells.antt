@@ -1,5 +1,5 @@
 -- The writes of a load: one more cell, and the places of the nights of a range. For `insert_cell` and `set_nights`.
-use Rattle.std.proofs.Common.{◌≡◌, ◌+◌, ℕ, ℤ, suc, List, [], ◌∷◌, ◌++◌, filter, length, map, drop, cond, slice_get, unwrap_or, inl, inr, Some, None, Ok, Err, Result, OnOk, IfOk, Bool, true, false, refl, sym, ap, subst, ◌∙◌, arith, not}
+use Rattle.std.proofs.Common.{◌≡◌, ◌+◌, ℕ, ℤ, suc, List, [], ◌∷◌, filter, length, map, drop, cond, slice_get, unwrap_or, inl, Some, None, Ok, Err, Result, IfOk, Bool, true, false, refl, sym, ap, subst, ◌∙◌, arith, not}
 use Rattle.std.specs.List.{AllByRecursion, list_any}
 use Rattle.std.proofs.lemmas.Bool.{false_from_ne_true}
 use Rattle.std.proofs.lemmas.List.{length-map}
@@ -7,7 +7,7 @@ use Rattle.std.proofs.lemmas.List.Sorted.{length_permutation}
 use Rattle.sqlite.specs.declared.types.Value.TheVariants.{Null, Text}
 use Rattle.sqlite.specs.declared.error.Error.{Error}
 use Rattle.sqlite.specs.Order.{Row}
-use Rattle.sqlite.specs.Tree.{Trees, put_row}
+use Rattle.sqlite.specs.Tree.{Trees}
 use Rattle.sqlite.specs.Program.{overlay}
 use Rattle.sqlite.specs.Query.{Query, IsAnswer}
 use Rattle.sqlite.specs.Table.{Table}
@@ -17,7 +17,7 @@ use Rattle.sqlite.specs.Command.TheVariants.{Update}
 use Rattle.sqlite.specs.Does.{Tally, Does, OnRows}
 use Rattle.sqlite.specs.Effect.{Database}
 use Rattle.sqlite.specs.Rows.{Written}
-use Rattle.sqlite.specs.Edit.{edit_of, edited, next_rowid}
+use Rattle.sqlite.specs.Edit.{edit_of, next_rowid}
 use Rattle.sqlite.specs.Rowids.TheVariants.{Given}
 use Rattle.sqlite.specs.Listing.{understood}
 use Rattle.sqlite.specs.State.{State, mode_of, Executes, ExecutesInside}
@@ -27,90 +27,41 @@ use Rattle.sqlite_rules.specs.Edit.{without_all}
 use Rattle.sqlite_rules.proofs.PlaceLemmas.{given}
 use Rattle.sqlite_rules.proofs.ListLemmas.{all_has, all_from, some_from}
 use Rattle.sqlite_schema.specs.Rules.{agree}
-use Rattle.sqlite_typing.specs.Types.{accepts_terms, accepts_program}
 use Rattle.sqlite_tied.specs.Compute.{everything}
 use Rattle.desk_sql.specs.Schema.{stock_at, desk_schema}
-use Rattle.desk_sql.specs.Lists.{numbered_row, IsTableOf, changed}
+use Rattle.desk_sql.specs.Lists.{numbered_row, IsTableOf}
 use Rattle.desk_sql.specs.Rows.{whole, Tables, StockRow, stock_columns}
-use Rattle.desk_sql.specs.Calls.{IsReady, MayRun, Makes}
-use Rattle.desk_sql.specs.Causes.{IsUp, HasReason}
+use Rattle.desk_sql.specs.Calls.{IsReady, MayRun}
 use Rattle.desk_sql.specs.Stock.{is_cell, is_within}
 use Rattle.sql_loads.specs.Loads.{insert_cell_text, set_nights_text, insert_cell_terms, set_nights_query}
 use Rattle.sql_loads.specs.Loads.{with_both, adds_cell, sets_nights, nights_in, MayAddCell, MaySetNights}
-use Rattle.desk_sql.specs.Writable.{AreLow, HasRowids, IsShort}
+use Rattle.desk_sql.specs.Writable.{HasRowids, IsShort}
 use Rattle.desk_sql.specs.Meanings.{update}
 use Rattle.desk_sql.specs.declared.stock.NightRange.{NightRange}
-use Rattle.desk_sql.proofs.Meaning.{Means, insert}
-use Rattle.desk_sql.proofs.Causing.{takes}
-use Rattle.desk_sql.proofs.Writing.{went, same_value, task_for, inserts, updates, source_edit, cast_null}
+use Rattle.desk_sql.proofs.Meaning.{Means}
+use Rattle.desk_sql.proofs.Writing.{went, same_value, task_for, cast_null}
 use Rattle.desk_sql.proofs.Inserting.{cast_int}
 use Rattle.desk_sql.proofs.Reading.{passes, shown_of, lists, lists_any}
 use Rattle.desk_sql.proofs.Testing.{eq_whole, eq_text, ge_whole, le_whole, and_true}
-use Rattle.desk_sql.proofs.Framing.{ready_of, makes_at, with_stock}
-use Rattle.desk_sql.proofs.Tables.{id_of, value_of, appended}
-use Rattle.desk_sql.proofs.Updating.{updated, table_updated}
+use Rattle.desk_sql.proofs.Framing.{ready_of}
+use Rattle.desk_sql.proofs.Tables.{value_of}
 use Rattle.desk_sql.proofs.Putting.{put_params}
 use Rattle.desk_sql.proofs.Upserting.{target}
-use Rattle.desk_sql.proofs.Refusing.{write_reason, insert_goes, update_goes, IsSafe}
-use Rattle.desk_sql.proofs.InsertReasons.{obeys_desk}
-use Rattle.desk_sql.proofs.UpdateReasons.{stock_fit, kept_kind, stock_serves, twin_four, value_there, low_fits}
-use Rattle.desk_sql.proofs.NewRow.{put_edit, put_safe}
-use Rattle.desk_sql.proofs.ChangedRows.{update_safe}
-use Rattle.desk_sql.proofs.Storing.{range_holds, next_fits, chosen_free, table_of, rows_all}
-use Rattle.desk_sql.proofs.Rowids.{low_put, low_changed, rowids_fewer, rowids_kept}
+use Rattle.desk_sql.proofs.UpdateReasons.{stock_fit, kept_kind, twin_four, low_fits}
+use Rattle.desk_sql.proofs.Storing.{range_holds, rows_all}
 use Rattle.sqlite_value.proofs.KeyLemmas.{first_key-plain}
-
-insert_cell_means : Means insert_cell_text (insert 1 insert_cell_terms 7)
-unfolding understood everything
-insert_cell_means = record { is = refl; plain = (refl, refl) }
+use Rattle.std.specs.Prelude.{⊤, ◌&&◌}
+use Rattle.std.proofs.lemmas.Bool.{and_from}
+use Rattle.desk_sql.proofs.Effects.{Effect}
+use Rattle.desk_sql.proofs.InsertReasons.{SaysInsert, adds_next}
+use Rattle.desk_sql.proofs.UpdateReasons.{SaysUpdate, changes_rows}
+use Rattle.desk_sql.proofs.Places.{chosen}
+use Rattle.desk_sql.proofs.Places
+use Rattle.desk_sql.proofs.Storing.{storable, held_from, is_between}
 
 set_nights_means : Means set_nights_text (update 1 set_nights_query)
 unfolding understood everything
 set_nights_means = record { is = refl; plain = (refl, refl) }
-
--- One more cell.
-
-abbrev cell_row : Trees → StockRow → Row
-cell_row db s = numbered_row stock_columns (next_rowid (db 1), s)
-
-cell_put : (db : Trees) (s : StockRow)
-    → edited db (source_edit (stock_at 1) insert_cell_terms 7 (put_params s) db) ≡ put_row (cell_row db s) (db 1)
-cell_put db s = simp (cast_int, cast_null)
-
--- the cell is appended, since its rowid is the next
-pub inserts_cell : (old new : State) (t : Tables) (s : StockRow) (r : Result ℕ Error) → MayRun old t
-    → ExecutesInside 0 insert_cell_text (put_params s) old new r → OnOk r (Makes old new (adds_cell s t))
-inserts_cell old new t s (Err e) may ran = tt
-inserts_cell old new t s (Ok count) may ran =
-    let here = ran.1.was_open in
-    let db = old.now.trees in
-    let shown = (may.sees here).rows in
-    makes_at old new (source_edit (stock_at 1) insert_cell_terms 7 (put_params s) db)
-    (inserts insert_cell_text (put_params s) old new 1 (stock_at 1) insert_cell_terms 7 count insert_cell_means.is
-    insert_cell_means.plain refl refl refl refl (ready_of old t may here) ran.0)
-    1 _ (adds_cell s t) refl (cell_put db s)
-    (with_stock db t shown _ (t.stock ++ s ∷ []) (appended stock_columns (db 1) t.stock s shown.stock))
-
-pub cell_added_rowids : (old new : State) (t : Tables) (s : StockRow) (r : Result ℕ Error) → MayRun old t
-    → ExecutesInside 0 insert_cell_text (put_params s) old new r → (n : ℕ) → HasRowids (suc n) old.now.trees → OnOk r (HasRowids n new.now.trees)
-cell_added_rowids old new t s (Err e) may ran n has = tt
-cell_added_rowids old new t s (Ok count) may ran n has =
-    let db = old.now.trees in
-    rowids_kept old new (source_edit (stock_at 1) insert_cell_terms 7 (put_params s) db)
-    (inserts insert_cell_text (put_params s) old new 1 (stock_at 1) insert_cell_terms 7 count insert_cell_means.is
-    insert_cell_means.plain refl refl refl refl (ready_of old t may ran.1.was_open) ran.0) n (rowids_fewer n (suc n) db (omega arith) has)
-    (subst (AreLow n) (sym (cell_put db s)) (low_put n (db 1) (cell_row db s) refl has.few has.stock))
-
-cell_takes : (s : StockRow) → takes (length insert_cell_text) (length (put_params s)) (understood desk_schema insert_cell_text) ≡ true
-unfolding understood everything
-cell_takes s = refl
-
-cell_typed : (s : StockRow) → accepts_terms insert_cell_terms (put_params s) ≡ true
-unfolding everything
-cell_typed s = refl
-
-cell_edit : (db : Trees) (s : StockRow) → source_edit (stock_at 1) insert_cell_terms 7 (put_params s) db ≡ put_edit (stock_at 1) (cell_row db s)
-cell_edit db s = simp (cast_int, cast_null)
 
 -- no row is of the cell
 pub each_other : (s : StockRow) (cells : List StockRow) → list_any (is_cell s) cells ≡ false → AllByRecursion (λ x. is_cell s x ≡ false) cells
@@ -122,25 +73,26 @@ pub agree_new : (id : ℤ) (s : StockRow) (p : ℤ × StockRow)
     → agree (record { digits = 0 }) target (numbered_row stock_columns p) target (numbered_row stock_columns (id, s)) ≡ is_cell s p.1
 agree_new id s p = rw first_key-plain (simp (eq_whole, eq_text) (simp and_true))
 
--- no rule of the tables refuses it
-pub insert_cell_reason : (old new : State) (t : Tables) (s : StockRow) (e : Error) → HasRowids 1 old.now.trees → MayRun old t → MayAddCell s t
-    → IsUp old → ExecutesInside 0 insert_cell_text (put_params s) old new (Err e) → HasReason old new e
-insert_cell_reason old new t s e rowids may fits up =
-    let sees = may.sees up.is_open in
-    let db = old.now.trees in
-    let shown = sees.rows.stock in
-    let safe : IsSafe db (put_edit (stock_at 1) (cell_row db s)) =
-    put_safe db (stock_at 1) (cell_row db s) (inr (inl refl))
-    (table_of stock_columns (db 1) t.stock shown) (obeys_desk old t sees)
-    (stock_fit db (next_rowid (db 1)) s (next_fits (db 1) rowids.stock) (ap not (range_holds s.kind 0 3 (omega arith) fits.kind)) fits.free fits.short)
-    (chosen_free stock_columns (db 1) t.stock s shown) (
-      rows_all stock_columns (db 1) t.stock _ (λ x. is_cell s x ≡ false) shown
-          (λ p apart. agree_new (next_rowid (db 1)) s p ∙ apart) (each_other s t.stock fits.lacks),
-      tt,
-    ) refl tt in
-    write_reason insert_cell_text (insert 1 insert_cell_terms 7) (put_params s) insert_cell_means (cell_takes s) refl refl old new up sees.schema
-    (insert_goes old (put_params s) 1 (stock_at 1) insert_cell_terms 7 refl refl refl (cell_typed s) up.unlimited
-    (subst (IsSafe db) (sym (cell_edit db s)) safe)) e
+cell_says : (s : StockRow) → SaysInsert insert_cell_text 1 insert_cell_terms 7 (put_params s)
+unfolding understood everything
+cell_says s = record { means = record { is = refl; plain = (refl, refl) }; whole = refl; types = refl }
+
+-- One more cell: it is appended, since its rowid is the next.
+pub loads_cell : (s : StockRow) → Effect insert_cell_text (put_params s) (λ _. ⊤) (adds_cell s) (HasRowids 1) (MayAddCell s) (λ _. ⊤) suc
+loads_cell s =
+    adds_next Places.stock (λ n db has. has.stock) (cell_says s) s (λ db. simp (cast_int, cast_null)) (MayAddCell s) (λ db t fits shown. (
+    let kind : is_between s.kind 0 3 ≡ true = ap not (range_holds s.kind 0 3 (omega arith) fits.kind) in
+    let free : (is_between s.free 0 s.allot && true) ≡ true = rw (range_holds s.free 0 s.allot (omega arith) fits.free) refl in
+    record {
+      alone = (refl, refl, and_from (is_between s.kind 0 3) (is_between s.free 0 s.allot && true) kind free);
+      storable = held_from (stock_at 1) _ (storable _ _ refl refl (omega (arith, fits.short)), omega arith) (storable _ _ refl refl (omega (arith, fits.short)), tt);
+      single = (
+        rows_all stock_columns (db 1) t.stock _ (λ x. is_cell s x ≡ false) shown.stock
+            (λ p apart. agree_new (next_rowid (db 1)) s p ∙ apart) (each_other s t.stock fits.lacks),
+        tt,
+      );
+      parents = tt;
+    }))
 
 -- The places of a range of nights.
 
@@ -184,25 +136,25 @@ set_test : (r : NightRange) (allot free : ℕ) (p : ℤ × StockRow)
     → passes set_nights_query.filter (set_params r allot free) (numbered_row stock_columns p) ≡ is_within r p.1
 set_test r allot free p = simp (eq_whole, eq_text, ge_whole, le_whole) (simp and_true)
 
+set_says : (r : NightRange) (allot free : ℕ)
+    → SaysUpdate set_nights_text 1 1 set_nights_query.filter set_nights_query.project (set_params r allot free)
+unfolding understood everything
+set_says r allot free = record { means = record { is = refl; plain = (refl, refl) }; whole = refl; types = refl }
+
+pub sets_places : (w : NightRange) (allot free : ℕ) → Effect set_nights_text (set_params w allot free) (λ _. ⊤) (sets_nights w allot free)
+    (HasRowids 0) (MaySetNights w allot free) (λ _. ⊤) (λ n. n)
+sets_places w allot free =
+    changes_rows (chosen stock_columns) Places.stock (inl (λ n db has. has.stock)) set_nights_query.filter set_nights_query.project
+    (set_says w allot free) (is_within w) (with_both allot free) (set_test w allot free) (λ _. refl) (λ _. refl)
+    (λ _. ⊤) (MaySetNights w allot free) (HasRowids 0) (λ t fits. tt) (λ t any p there is. simp cast_int)
+    (λ db t room fits obeys p there row is.
+    stock_fit db p.0 (with_both allot free p.1) (low_fits (db 1) (numbered_row stock_columns p) p.0 room.stock row refl) (kept_kind db p.0 p.1 obeys row)
+    fits.free_is (all_has (λ (s : StockRow). is_within w s ≡ true → IsShort (length s.supplier + length s.product)) t.stock p.1 fits.short there is))
+    (λ p. twin_four (stock_at 1) (numbered_row stock_columns p) (numbered_row stock_columns (p.0, with_both allot free p.1)) refl refl refl refl refl tt)
+
 module _ (old new : State) (t : Tables) (w : NightRange) (allot free : ℕ) where
   abbrev params : Row
   params = set_params w allot free
-
-  pub sets_places : (r : Result ℕ Error) → MayRun old t → ExecutesInside 0 set_nights_text params old new r
-      → OnOk r (Makes old new (sets_nights w allot free t))
-  sets_places (Err e) may ran = tt
-  sets_places (Ok n) may ran =
-      let here = ran.1.was_open in
-      let db = old.now.trees in
-      let shown = (may.sees here).rows in
-      let it = updates set_nights_text params old new 1 (stock_at 1) set_nights_query n set_nights_means.is set_nights_means.plain refl
-      (ready_of old t may here) ran.0 in
-      let edit = edit_of db (stock_at 1) (ids_of it.0) Given 1 it.0 in
-      makes_at old new edit it.2 1 (edited db edit) (sets_nights w allot free t) refl refl
-      (with_stock db t shown _ (changed (is_within w) (with_both allot free) t.stock)
-      (table_updated stock_columns db (stock_at 1) t.stock shown.stock refl set_nights_query.filter set_nights_query.project params it.0
-      (is_within w) (with_both allot free) (set_test w allot free) (λ _. refl) (λ p _ _. simp cast_int)
-      it.1 it.2.applies.fresh))
 
   -- as many rows pass as nights of the range have one
   passing : (ps : List (ℤ × StockRow))
@@ -239,49 +191,3 @@ module _ (old new : State) (t : Tables) (w : NightRange) (allot free : ℕ) wher
       let it = updates_many old params 1 (stock_at 1) set_nights_query set_nights_text new n set_nights_means.is set_nights_means.plain refl
       (ready_of old t may here) ran.0 in
       it.2 ∙ rows_shown db shown it.0 it.1
-
-  pub set_rowids : (r : Result ℕ Error) → MayRun old t → ExecutesInside 0 set_nights_text params old new r
-      → (n : ℕ) → HasRowids n old.now.trees → OnOk r (HasRowids n new.now.trees)
-  set_rowids (Err e) may ran n has = tt
-  set_rowids (Ok count) may ran n has =
-      let here = ran.1.was_open in
-      let db = old.now.trees in
-      let shown = (may.sees here).rows.stock in
-      let it = updates set_nights_text params old new 1 (stock_at 1) set_nights_query count set_nights_means.is set_nights_means.plain refl
-      (ready_of old t may here) ran.0 in
-      let edit = edit_of db (stock_at 1) (ids_of it.0) Given 1 it.0 in
-      let test : ℤ × StockRow → Bool = λ p. is_within w p.1 in
-      let moved : ℤ × StockRow → ℤ × StockRow = λ p. (p.0, with_both allot free p.1) in
-      let rows = updated (numbered_row stock_columns) id_of (λ _. refl) db (stock_at 1) shown.numbered shown.rise shown.rows_are refl
-      set_nights_query.filter set_nights_query.project params it.0 test moved (set_test w allot free) (λ _. refl) (λ _. refl)
-      (λ p _ _. simp cast_int) it.1 it.2.applies.fresh in
-      rowids_kept old new edit it.2 n has (subst (AreLow n) (sym rows)
-      (low_changed (numbered_row stock_columns) n test moved (λ _. refl) shown.numbered (subst (AreLow n) shown.rows_are has.stock)))
-
-  set_takes : takes (length set_nights_text) (length params) (understood desk_schema set_nights_text) ≡ true
-  unfolding understood everything
-  set_takes = refl
-
-  set_typed : accepts_program desk_schema [] set_nights_query params ≡ true
-  unfolding everything
-  set_typed = refl
-
-  -- no rule of the tables refuses them
-  pub set_reason : (e : Error) → HasRowids 0 old.now.trees → MayRun old t → MaySetNights w allot free t → IsUp old
-      → ExecutesInside 0 set_nights_text params old new (Err e) → HasReason old new e
-  set_reason e rowids may fits up =
-      let sees = may.sees up.is_open in
-      let db = old.now.trees in
-      let shown = sees.rows.stock in
-      let obeys = obeys_desk old t sees in
-      write_reason set_nights_text (update 1 set_nights_query) params set_nights_means set_takes refl refl old new up sees.schema
-      (update_goes old params (stock_at 1) 1 set_nights_query.filter set_nights_query.project up.unlimited set_typed 1 refl
-      (λ rows asked. update_safe (numbered_row stock_columns) id_of (λ _. refl) db (stock_at 1) shown.numbered shown.rise
-      shown.rows_are refl set_nights_query.filter set_nights_query.project params rows (λ p. is_within w p.1) (λ p. (p.0, with_both allot free p.1))
-      (set_test w allot free) (λ _. refl) (λ _. refl) (λ p _ _. simp cast_int) (inr (inl refl)) obeys
-      (λ p there is.
-      let at = value_there stock_columns (db 1) t.stock shown p there in
-      stock_fit db p.0 (with_both allot free p.1) (low_fits (db 1) (numbered_row stock_columns p) p.0 rowids.stock at.1 refl) (kept_kind db p.0 p.1 obeys at.1) fits.free_is
-      (all_has (λ (s : StockRow). is_within w s ≡ true → IsShort (length s.supplier + length s.product)) t.stock p.1 fits.short at.0 is))
-      (λ p. twin_four (stock_at 1) (numbered_row stock_columns p) (numbered_row stock_columns (p.0, with_both allot free p.1)) refl refl refl refl refl tt)
-      refl stock_serves asked)) e

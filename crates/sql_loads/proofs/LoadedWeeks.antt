@@ -1,5 +1,6 @@
 -- A week of cells is added. For `insert_week`.
-use Rattle.std.proofs.Common.{◌≡◌, ◌<◌, ◌≤◌, ◌^◌, ◌+◌, ◌/◌, ◌⊎◌, ℕ, ℤ, zero, suc, List, [], ◌∷◌, ◌++◌, map, drop, length, inl, inr, Ok, Err, Result, OnOk, true, false, not, ◌==◌, ◌&&◌, bytes_eq, refl, sym, ap, subst, ◌∙◌, arith, append-nil, append_assoc, eqb-true}
+use Rattle.std.proofs.Common.{◌≡◌, ◌<◌, ◌≤◌, ◌^◌, ◌+◌, ◌/◌, ◌⊎◌, ℕ, ℤ, zero, suc, List, [], ◌∷◌, ◌++◌, map, drop, length, inl, inr, Ok, Err, true, false, not, ◌==◌, ◌&&◌, bytes_eq, refl, sym, ap, subst, ◌∙◌, arith, append-nil, append_assoc, eqb-true}
+use Rattle.std.specs.Prelude.{⊤}
 use Rattle.std.proofs.lemmas.Bool.{and_parts, and_from, false_from_ne_true}
 use Rattle.sqlite.specs.declared.types.Value.TheVariants.{Null, Text}
 use Rattle.sqlite.specs.declared.error.Error.{Error}
@@ -20,13 +21,14 @@ use Rattle.sqlite_tied.specs.Compute.{everything}
 use Rattle.desk_sql.specs.Schema.{stock_at, desk_schema}
 use Rattle.desk_sql.specs.Lists.{numbered_row, IsTableOf}
 use Rattle.desk_sql.specs.Rows.{whole, Tables, StockRow, stock_columns}
-use Rattle.desk_sql.specs.Calls.{MayRun, Makes}
+use Rattle.desk_sql.specs.Calls.{MayRun}
 use Rattle.desk_sql.specs.Causes.{IsUp, HasReason}
 use Rattle.desk_sql.specs.Stock.{is_cell}
 use Rattle.desk_sql.specs.Writable.{AreLow, HasRowids}
 use Rattle.desk_sql.proofs.Meaning.{Means, insert}
 use Rattle.desk_sql.proofs.Causing.{takes}
-use Rattle.desk_sql.proofs.Writing.{inserts, source_edit, cast_null}
+use Rattle.desk_sql.proofs.Effects.{Effect}
+use Rattle.desk_sql.proofs.Writing.{inserts, source_edit, cast_null, Edits}
 use Rattle.desk_sql.proofs.Inserting.{cast_int}
 use Rattle.desk_sql.proofs.Framing.{ready_of, makes_at, with_stock}
 use Rattle.desk_sql.proofs.Tables.{appended}
@@ -203,30 +205,6 @@ week_values s = simp (cast_int, cast_null, one_more, two_more, three_more, four_
 week_news : (db : Trees) (s : StockRow) → (week_edit db s).news ≡ next_rows (db 1) (week_from s)
 week_news db s = ap (numbered Chosen (db 1)) (week_values s) ∙ numbered_next (db 1) (week_from s)
 
--- its rows are appended, since each has the next rowid
-pub inserts_week : (old new : State) (t : Tables) (s : StockRow) (r : Result ℕ Error) → MayRun old t
-    → ExecutesInside 0 insert_week_text (week_params s) old new r → OnOk r (Makes old new (adds_cells (week_from s) t))
-inserts_week old new t s (Err e) may ran = tt
-inserts_week old new t s (Ok count) may ran =
-    let here = ran.1.was_open in
-    let db = old.now.trees in
-    let shown = (may.sees here).rows in
-    makes_at old new (week_edit db s)
-    (inserts insert_week_text (week_params s) old new 1 (stock_at 1) insert_week_terms 7 count insert_week_means.is
-    insert_week_means.plain refl refl refl refl (ready_of old t may here) ran.0)
-    1 (put_all (db 1) (next_rows (db 1) (week_from s))) (adds_cells (week_from s) t) refl (ap (put_all (db 1)) (week_news db s))
-    (with_stock db t shown _ (t.stock ++ week_from s) (appended_all (week_from s) (db 1) t.stock shown.stock))
-
-pub week_rowids : (old new : State) (t : Tables) (s : StockRow) (r : Result ℕ Error) → MayRun old t
-    → ExecutesInside 0 insert_week_text (week_params s) old new r → (n : ℕ) → HasRowids (7 + n) old.now.trees → OnOk r (HasRowids n new.now.trees)
-week_rowids old new t s (Err e) may ran n has = tt
-week_rowids old new t s (Ok count) may ran n has =
-    let db = old.now.trees in
-    rowids_kept old new (week_edit db s)
-    (inserts insert_week_text (week_params s) old new 1 (stock_at 1) insert_week_terms 7 count insert_week_means.is
-    insert_week_means.plain refl refl refl refl (ready_of old t may ran.1.was_open) ran.0) n (rowids_fewer n (7 + n) db (omega arith) has)
-    (subst (AreLow n) (sym (ap (put_all (db 1)) (week_news db s))) (low_all (week_from s) (db 1) n has.few has.stock))
-
 week_takes : (s : StockRow) → takes (length insert_week_text) (length (week_params s)) (understood desk_schema insert_week_text) ≡ true
 unfolding understood everything
 week_takes s = refl
@@ -235,28 +213,49 @@ week_typed : (s : StockRow) → accepts_terms insert_week_terms (week_params s) 
 unfolding everything
 week_typed s = refl
 
--- no rule of the tables refuses it
-pub insert_week_reason : (old new : State) (t : Tables) (s : StockRow) (e : Error) → HasRowids 7 old.now.trees → MayRun old t → MayAddWeek s t
-    → IsUp old → ExecutesInside 0 insert_week_text (week_params s) old new (Err e) → HasReason old new e
-insert_week_reason old new t s e rowids may fits up =
-    let sees = may.sees up.is_open in
-    let db = old.now.trees in
-    let shown = sees.rows.stock in
-    let news = next_rows (db 1) (week_from s) in
-    let fit : (row : Row) → Has news row → IsFit (stock_at 1) db row = λ row.
-    next_fit db (week_from s) (db 1) row rowids.few rowids.stock (λ c there id in_range.
-    let on = on_night 7 s c there in
-    stock_fit db id c in_range (ap not (range_holds c.kind 0 3 (omega arith) (omega (arith, on.kind, fits.kind))))
-    (omega (arith, on.allot, on.free, fits.free)) (rw (on.supplier, on.product) (fits.short))) in
-    let single : (row new : Row) → Has (db 1) row → Has news new → agrees row new ≡ false = λ row new was added.
-    let it = next_is (week_from s) (db 1) new added in
-    let none = all_has (λ x. LacksCell x t) (week_from s) it.cell fits.lacks it.among in
-    let off = rows_all stock_columns (db 1) t.stock (λ r. agrees r (numbered_row stock_columns (it.id, it.cell)) ≡ false) (λ x. is_cell it.cell x ≡ false) shown
-    (λ p other. agree_new it.id it.cell p ∙ other) (each_other it.cell t.stock none) in
-    subst (λ r. agrees row r ≡ false) (sym it.is) (all_has (λ r. agrees r (numbered_row stock_columns (it.id, it.cell)) ≡ false) (db 1) row off was) in
-    let safe : IsSafe db (stock_edit news) =
-    rows_safe db news (table_of stock_columns (db 1) t.stock shown) (obeys_desk old t sees) fit (fresh_next (week_from s) (db 1) t.stock shown)
-    single (next_apart 7 s (db 1)) refl in
-    write_reason insert_week_text (insert 1 insert_week_terms 7) (week_params s) insert_week_means (week_takes s) refl refl old new up sees.schema
-    (insert_goes old (week_params s) 1 (stock_at 1) insert_week_terms 7 refl refl refl (week_typed s) up.unlimited
-    (subst (λ rows. IsSafe db (stock_edit rows)) (sym (week_news db s)) safe)) e
+-- its rows are appended, since each has the next rowid, and no rule of the tables refuses them
+pub loads_week : (s : StockRow) → Effect insert_week_text (week_params s) (λ _. ⊤) (adds_cells (week_from s)) (HasRowids 7) (MayAddWeek s) (λ _. ⊤) (λ n. 7 + n)
+loads_week s = record {
+  made = λ old new t count may any ran. (
+      let db = old.now.trees in
+      let shown = (may.sees ran.1.was_open).rows in
+      makes_at old new (week_edit db s) (edits old new t count may ran) 1 (put_all (db 1) (next_rows (db 1) (week_from s)))
+      (adds_cells (week_from s) t) refl (ap (put_all (db 1)) (week_news db s))
+      (with_stock db t shown _ (t.stock ++ week_from s) (appended_all (week_from s) (db 1) t.stock shown.stock)));
+  reason = λ old new t e rowids may fits up. reason old new t e rowids may fits up;
+  rowids = λ old new t count may any ran n has. (
+      let db = old.now.trees in
+      rowids_kept old new (week_edit db s) (edits old new t count may ran) n (rowids_fewer n (7 + n) db (omega arith) has)
+      (subst (AreLow n) (sym (ap (put_all (db 1)) (week_news db s))) (low_all (week_from s) (db 1) n has.few has.stock)));
+}
+  where
+    edits : (old new : State) (t : Tables) (count : ℕ) → MayRun old t → ExecutesInside 0 insert_week_text (week_params s) old new (Ok count)
+        → Edits old new (week_edit old.now.trees s)
+    edits old new t count may ran =
+        inserts insert_week_text (week_params s) old new 1 (stock_at 1) insert_week_terms 7 count insert_week_means.is
+        insert_week_means.plain refl refl refl refl (ready_of old t may ran.1.was_open) ran.0
+
+    reason : (old new : State) (t : Tables) (e : Error) → HasRowids 7 old.now.trees → MayRun old t → MayAddWeek s t → IsUp old
+        → ExecutesInside 0 insert_week_text (week_params s) old new (Err e) → HasReason old new e
+    reason old new t e rowids may fits up =
+        let sees = may.sees up.is_open in
+        let db = old.now.trees in
+        let shown = sees.rows.stock in
+        let news = next_rows (db 1) (week_from s) in
+        let fit : (row : Row) → Has news row → IsFit (stock_at 1) db row = λ row.
+        next_fit db (week_from s) (db 1) row rowids.few rowids.stock (λ c there id in_range.
+        let on = on_night 7 s c there in
+        stock_fit db id c in_range (ap not (range_holds c.kind 0 3 (omega arith) (omega (arith, on.kind, fits.kind))))
+        (omega (arith, on.allot, on.free, fits.free)) (rw (on.supplier, on.product) (fits.short))) in
+        let single : (row new : Row) → Has (db 1) row → Has news new → agrees row new ≡ false = λ row new was added.
+        let it = next_is (week_from s) (db 1) new added in
+        let none = all_has (λ x. LacksCell x t) (week_from s) it.cell fits.lacks it.among in
+        let off = rows_all stock_columns (db 1) t.stock (λ r. agrees r (numbered_row stock_columns (it.id, it.cell)) ≡ false) (λ x. is_cell it.cell x ≡ false) shown
+        (λ p other. agree_new it.id it.cell p ∙ other) (each_other it.cell t.stock none) in
+        subst (λ r. agrees row r ≡ false) (sym it.is) (all_has (λ r. agrees r (numbered_row stock_columns (it.id, it.cell)) ≡ false) (db 1) row off was) in
+        let safe : IsSafe db (stock_edit news) =
+        rows_safe db news (table_of stock_columns (db 1) t.stock shown) (obeys_desk old t sees) fit (fresh_next (week_from s) (db 1) t.stock shown)
+        single (next_apart 7 s (db 1)) refl in
+        write_reason insert_week_text (insert 1 insert_week_terms 7) (week_params s) insert_week_means (week_takes s) refl refl old new up sees.schema
+        (insert_goes old (week_params s) 1 (stock_at 1) insert_week_terms 7 refl refl refl (week_typed s) up.unlimited
+        (subst (λ rows. IsSafe db (stock_edit rows)) (sym (week_news db s)) safe)) e

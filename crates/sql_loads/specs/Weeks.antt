@@ -1,16 +1,10 @@
 -- The insertion of a week: its text and meaning, the change of the rows by it, and what it asks of them.
-use Rattle.std.specs.Prelude.{◌≤◌, ◌+◌, ℕ, zero, suc, List, [], ◌∷◌, ◌++◌, length, codes, Result, OnOk}
+use Rattle.std.specs.Prelude.{◌≤◌, ◌+◌, ℕ, zero, suc, List, [], ◌∷◌, ◌++◌, length, codes}
 use Rattle.std.specs.List.{AllByRecursion}
 use Rattle.sqlite.specs.declared.types.Value.TheVariants.{Null}
 use Rattle.sqlite.specs.Term.{Term, lit, col}
-use Rattle.sqlite.specs.Store.{Ghosts}
-use Rattle.sqlite.specs.Held.{Held, state}
-use Rattle.sqlite.specs.State.{HasCleanDisk}
-use Rattle.sqlite.specs.declared.error.Error.{Error}
-use Rattle.desk_sql.specs.Calls.{MayRun}
-use Rattle.desk_sql.specs.Causes.{FailsToWrite}
 use Rattle.desk_sql.specs.Rows.{Tables, StockRow}
-use Rattle.desk_sql.specs.Writable.{HasRowids, IsShort}
+use Rattle.desk_sql.specs.Writable.{IsShort}
 use Rattle.sql_loads.specs.Loads.{LacksCell}
 
 -- the row of the same product and places, a night later
@@ -47,15 +41,3 @@ pub record MayAddWeek (s : StockRow) (t : Tables) : Type 0 where
   pub kind : s.kind ≤ 3
   pub free : s.free ≤ s.allot
   pub short : IsShort (length s.supplier + length s.product)
-
-module _ {S : Type 0} (g : Ghosts S) (old new : Held S) where
-  -- A write of so many rows whose rowids the store chooses, in a transaction of a store that is up: where the rows fit and so
-  -- many rowids are left, it fails only out of memory, or where the disk failed or refused.
-  abbrev pub FailsToAddRows : {V : Type 0} → Result V Error → ℕ → (Tables → Type 0) → Type 0
-  FailsToAddRows result count Fits = HasRowids count (state g old).now.trees → FailsToWrite g old new result Fits
-
-  -- a success takes so many rowids
-  abbrev pub TakesRowids : {V : Type 0} → Result V Error → ℕ → (Tables → Type 0) → Type 0
-  TakesRowids result count Fits =
-      HasCleanDisk (state g new) → (t : Tables) → MayRun (state g old) t → Fits t
-      → (n : ℕ) → HasRowids (count + n) (state g old).now.trees → OnOk result (HasRowids n (state g new).now.trees)

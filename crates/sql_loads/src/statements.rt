@@ -1,11 +1,10 @@
 //! An UPDATE of the nights of a range, and INSERTs of a cell and of a week.
-ghost use Rattle.std.specs.Prelude.{◌<◌, ◌^◌, ◌+◌, ⊤};
-ghost use Rattle.desk_sql.specs.Calls.{Writes, GoesOn};
+ghost use Rattle.std.specs.Prelude.{◌<◌, ◌^◌, ◌+◌};
 ghost use Rattle.desk_sql.specs.Stock.{IsSmallRange, IsSmallCell, placed};
-ghost use Rattle.desk_sql.specs.Causes.{FailsToChange, FailsToAdd};
-ghost use Rattle.desk_sql.specs.Writable.{KeepsRowids, TakesRowid};
+ghost use Rattle.desk_sql.specs.Statements.{WritesNumbered};
+ghost use Rattle.desk_sql.specs.Readable.{Any};
 ghost use Rattle.sql_loads.specs.Loads.{CountsRows, MayAddCell, MaySetNights, adds_cell, sets_nights, nights_in};
-ghost use Rattle.sql_loads.specs.Weeks.{FailsToAddRows, MayAddWeek, TakesRowids, adds_cells, week_from};
+ghost use Rattle.sql_loads.specs.Weeks.{MayAddWeek, adds_cells, week_from};
 
 use desk_sql::{CellPlaces, NightRange};
 use sqlite::types::ValueRef;
@@ -22,14 +21,10 @@ pub fn set_nights<S: Alter>(
     requires allot { allot < 2 ^ 63 }
     requires free { free < 2 ^ 63 }
 
-    ensures goes { GoesOn S.Store tx.old.conn tx.new.conn result }
-    ensures made { Writes S.Store tx.old.conn.now tx.new.conn.now result
-        (sets_nights range.entry allot free) }
+    ensures writes { WritesNumbered S.Store tx.old.conn tx.new.conn result
+        Any (MaySetNights range.entry allot free) Any 0 (sets_nights range.entry allot free) }
     ensures count { CountsRows S.Store tx.old.conn.now tx.new.conn.now result
         (nights_in range.entry) }
-    ensures reason { FailsToChange S.Store tx.old.conn.now tx.new.conn.now result
-        (MaySetNights range.entry allot free) }
-    ensures rowids { KeepsRowids S.Store tx.old.conn.now tx.new.conn.now result (λ _. ⊤) }
 {
     tx.execute(
         "UPDATE stock SET allot = ?4, free = ?5 WHERE kind = ?1 AND supplier = ?2 AND product = ?3 AND night BETWEEN ?6 AND ?7",
@@ -52,12 +47,8 @@ pub fn insert_cell<S: Alter>(
 ) -> Result<usize, Error>
     requires { IsSmallCell cell }
 
-    ensures goes { GoesOn S.Store tx.old.conn tx.new.conn result }
-    ensures made { Writes S.Store tx.old.conn.now tx.new.conn.now result
-        (adds_cell (placed cell.entry)) }
-    ensures reason { FailsToAdd S.Store tx.old.conn.now tx.new.conn.now result
-        (MayAddCell (placed cell.entry)) }
-    ensures rowids { TakesRowid S.Store tx.old.conn.now tx.new.conn.now result (λ _. ⊤) }
+    ensures writes { WritesNumbered S.Store tx.old.conn tx.new.conn result
+        Any (MayAddCell (placed cell.entry)) Any 1 (adds_cell (placed cell.entry)) }
 {
     tx.execute(
         "INSERT INTO stock VALUES (?1, ?2, ?3, ?4, ?5, ?6)",
@@ -84,12 +75,8 @@ pub fn insert_week<S: Alter>(
     requires first { IsSmallCell first }
     requires nights { first.night + 6 < 2 ^ 63 }
 
-    ensures goes { GoesOn S.Store tx.old.conn tx.new.conn result }
-    ensures made { Writes S.Store tx.old.conn.now tx.new.conn.now result
-        (adds_cells (week_from (placed first.entry))) }
-    ensures reason { FailsToAddRows S.Store tx.old.conn.now tx.new.conn.now result 7
-        (MayAddWeek (placed first.entry)) }
-    ensures rowids { TakesRowids S.Store tx.old.conn.now tx.new.conn.now result 7 (λ _. ⊤) }
+    ensures writes { WritesNumbered S.Store tx.old.conn tx.new.conn result
+        Any (MayAddWeek (placed first.entry)) Any 7 (adds_cells (week_from (placed first.entry))) }
 {
     tx.execute(
         "INSERT INTO stock VALUES (?1, ?2, ?3, ?6, ?4, ?5), (?1, ?2, ?3, ?7, ?4, ?5), (?1, ?2, ?3, ?8, ?4, ?5), (?1, ?2, ?3, ?9, ?4, ?5), (?1, ?2, ?3, ?10, ?4, ?5), (?1, ?2, ?3, ?11, ?4, ?5), (?1, ?2, ?3, ?12, ?4, ?5)",

@@ -2,15 +2,13 @@
 use Rattle.std.proofs.Common.{◌≡◌, ap, subst, sym, ◌∙◌, Result, Ok, Err, ◌↔◌, IfOk, IfErr, IsErrOf}
 use Rattle.std.specs.Prelude.{⊤}
 use Rattle.sqlite.specs.Store.{Ghosts}
-use Rattle.sqlite.specs.State.{HasCleanDisk, IsUnchanged}
 use Rattle.sqlite.specs.Held.{Held, state}
 use Rattle.sqlite.specs.declared.error.Error.{Error}
 use Rattle.sqlite.specs.declared.error.Error.TheVariants.{SqliteFailure}
 use Rattle.sqlite.specs.declared.error.ErrorCode.TheVariants.{OutOfMemory}
 use Rattle.commands.specs.declared.replies.Fault.{Fault}
 use Rattle.commands.specs.declared.replies.Fault.TheVariants.{Memory, Store}
-use Rattle.desk_sql.specs.Calls.{MaySeeIn, Quiet}
-use Rattle.desk_sql.specs.Causes.{IsUp, HasReason}
+use Rattle.desk_sql.specs.Statements.{QueriesIn}
 use Rattle.desk_sql.specs.Rows.{Tables, ShowsIn}
 use Rattle.desk_sql.specs.declared.versions.Version.{Version}
 use Rattle.desk_sql.proofs.Quieting.{quiet_alone, quiet_twice}
@@ -63,33 +61,30 @@ no_read {g = g} {h = h} = record {
 
 module _ {S : Type 0} {g : Ghosts S} {old new : Held S} {v : Version} where
   -- a query that succeeds
-  pub found_rows : {IsFound : Tables → Type 0}
-      → (HasCleanDisk (state g new) → (t : Tables) → MaySeeIn v (state g old) t → IsUnchanged (state g old) (state g new) × IsFound t)
-      → Quiet g old new → ReadIn g old new v (Ok tt) AnyDesk (λ (s : State) (_ : ⊤). HasFound g old v IsFound s)
-  found_rows reads quiet = record {
+  pub found_rows : {V : Type 0} {x : V} {Finds : Tables → V → Type 0} {Fits : Tables → Type 0} → QueriesIn g old new v (Ok x) Finds Fits
+      → ReadIn g old new v (Ok tt) AnyDesk (λ (s : State) (_ : ⊤). HasFound g old v (λ t. Finds t x) s)
+  found_rows it = record {
     shows = λ clean s desk keeps. (
-        let seen = seen_by (state g old) s (keeps (quiet_clean g old new quiet clean)) in
-        let done = reads clean seen.tables seen.may in
+        let seen = seen_by (state g old) s (keeps (quiet_clean g old new it.quiet clean)) in
+        let done = it.found clean seen.tables seen.may in
         let live = done.0.0.was_open in
         record { tables = seen.tables; rows = (seen.may live).rows; stands = seen.stands live; found = done.1 });
     store = λ clean s desk spelled keeps fits up store. absurd (not_store (Ok tt) tt store);
-    quiet = quiet;
+    quiet = it.quiet;
   }
 
   -- a query that fails
-  pub query_fails : {V : Type 0} {e : Error} {f : Fault} {Fits : Tables → Type 0} {IsGood : State → Type 0} {IsShown : State → V → Type 0}
-      → (HasCleanDisk (state g new) → (t : Tables) → MaySeeIn v (state g old) t → Fits t → IsUp (state g old)
-      → HasReason (state g old) (state g new) e)
-      → Quiet g old new → (f ≡ Memory ↔ e ≡ SqliteFailure OutOfMemory)
+  pub query_fails : {V W : Type 0} {e : Error} {f : Fault} {Finds : Tables → V → Type 0} {Fits : Tables → Type 0} {IsGood : State → Type 0}
+      {IsShown : State → W → Type 0} → QueriesIn g old new v (Err e) Finds Fits → (f ≡ Memory ↔ e ≡ SqliteFailure OutOfMemory)
       → ((t : Tables) (s : State) → StandsIn v t s → IsDesk s → IsSpelled s.ledger → IsGood s → Fits t)
       → ReadIn g old new v (Err f) IsGood IsShown
-  query_fails {e = e} {f = f} fails quiet memory fits = record {
+  query_fails {e = e} {f = f} it memory fits = record {
     shows = λ clean s desk keeps. tt;
     store = λ clean s desk spelled keeps good up store. (
-        let seen = seen_by (state g old) s (keeps (quiet_clean g old new quiet clean)) in
-        let reason = fails clean seen.tables seen.may (fits seen.tables s (seen.stands up.is_open) desk spelled good) up in
+        let seen = seen_by (state g old) s (keeps (quiet_clean g old new it.quiet clean)) in
+        let reason = it.reason clean seen.tables seen.may (fits seen.tables s (seen.stands up.is_open) desk spelled good) up in
         of_error (state g old) (state g new) e f memory reason (fault_is f store));
-    quiet = quiet;
+    quiet = it.quiet;
   }
 
   -- what was read is turned into the result

@@ -6,10 +6,9 @@ ghost use Rattle.sql_reads.specs.Reads.{AnyDesk, Read, ReadEach, ReadIn};
 ghost use Rattle.sql_reads.specs.Reading.{AreMarksAt, AreTakenIn, HasNone, HasStand, HasTries, IsFirstAbove, IsPlanOf, IsRecordAt, IsRecordOf, IsStandAt};
 ghost use Rattle.desk_sql.specs.declared.versions.Version.TheVariants.{Two};
 ghost use Rattle.plan.specs.PlanModel.{step_count};
-ghost use Rattle.desk_sql.specs.Causes.{FailsForReasonIn as SqlFailsIn};
 ghost use Rattle.desk_sql.specs.Readable.{Any};
-ghost use Rattle.desk_sql.specs.Calls.{Quiet, ReadsIn};
 ghost use Rattle.desk_sql.specs.FoundRows.{FindsNextItem};
+ghost use Rattle.desk_sql.specs.Statements.{QueriesIn};
 ghost use Rattle.sql_reads.specs.ItemSearch.{AreSoughtAt, IsLow, IsNextRow};
 
 use crate::item_search::Sought;
@@ -97,9 +96,8 @@ fn next_in<S: Alter>(
     requires journey { journey < 2 ^ 63 }
     requires after { after < 2 ^ 63 }
 
-    ensures found { ReadsIn S.Store conn.old conn.new version result (FindsNextItem journey after) }
-    ensures reason { SqlFailsIn S.Store conn.old conn.new version result Any }
-    ensures quiet { Quiet S.Store conn.old conn.new }
+    ensures queries { QueriesIn S.Store conn.old conn.new version result
+        (FindsNextItem journey after) Any }
 {
     match version {
         Version::One => next_old_item(conn, journey, after),

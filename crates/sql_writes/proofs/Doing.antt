@@ -1,56 +1,56 @@
 -- Writes of a transaction, one after the other, and one that fails. For the functions that write.
-use Rattle.std.proofs.Common.{◌≡◌, ◌∙◌, ◌+◌, ◌≤◌, ℕ, suc, refl, Result, Ok, Err, sym, subst, arith, OnOk}
+use Rattle.std.proofs.Common.{◌≡◌, ◌∙◌, ◌+◌, ◌≤◌, ℕ, refl, Result, Ok, Err, sym, subst, arith, OnOk}
 use Rattle.std.specs.Prelude.{⊤}
 use Rattle.std.specs.Borrow.{MutBor}
 use Rattle.sqlite.specs.Store.{Ghosts}
 use Rattle.sqlite.specs.Held.{Held, state}
 use Rattle.sqlite.specs.State.{HasCleanDisk}
 use Rattle.sqlite.specs.declared.error.Error.{Error}
-use Rattle.desk_sql.specs.Calls.{GoesOn, MayRun, Makes, WasOpen, WritesWhere}
-use Rattle.desk_sql.specs.Causes.{FailsToAdd, FailsToChange, FailsToWrite}
+use Rattle.desk_sql.specs.Calls.{MayRun, Makes, WasOpen}
 use Rattle.desk_sql.specs.Rows.{Tables}
-use Rattle.desk_sql.specs.Writable.{HasRowids, KeepsRowids, TakesRowid}
+use Rattle.desk_sql.specs.Statements.{WritesKeyed, WritesNumbered}
 use Rattle.desk_sql.proofs.Quieting.{survives_alone, survives_twice}
 use Rattle.desk_sql.proofs.Rowids.{rowids_fewer}
-use Rattle.sql_loads.specs.Weeks.{FailsToAddRows, TakesRowids}
 use Rattle.sql_writes.specs.Did.{Did, DidIfOpen}
 use Rattle.sql_writes.proofs.Chaining.{keeps_then, makes_last, reason_last, runs_after, up_after}
 
 -- One statement.
 
--- a statement that adds so many rows whose rowids the store chooses
-pub statement_adds_rows : {S : Type 0} {g : Ghosts S} {a b : MutBor (Held S)} {r : Result ℕ Error} {F P R : Tables → Type 0} {n : ℕ} {f : Tables → Tables}
-    → GoesOn g a b r → WritesWhere g a.now b.now F r f → FailsToAddRows g a.now b.now r n P → TakesRowids g a.now b.now r n R
-    → ((t : Tables) → F t → R t) → Did g a b r F P n f
-statement_adds_rows goes made reason rowids fits = record {
-  goes = goes;
-  made = made;
-  reason = λ clean t may permits has up. reason has clean t may permits up;
-  rowids = λ clean t may live fit x has. rowids clean t may (fits t fit) x has;
-}
+-- of rows whose rowids the store chooses
+module _ {S : Type 0} {g : Ghosts S} {a b : MutBor (Held S)} {F P R : Tables → Type 0} {n : ℕ} {f : Tables → Tables} where
+  pub numbered : {r : Result ℕ Error} → WritesNumbered g a b r F P R n f → ((t : Tables) → F t → R t) → Did g a b r F P n f
+  numbered it fits = record {
+    goes = it.goes;
+    made = it.made;
+    reason = λ clean t may permits has up. it.reason has clean t may permits up;
+    rowids = λ clean t may live fit x has. it.rowids clean t may (fits t fit) x has;
+  }
 
--- one that adds none, and one that adds one
-module _ {S : Type 0} {g : Ghosts S} {a b : MutBor (Held S)} {r : Result ℕ Error} {F P R : Tables → Type 0} {f : Tables → Tables} where
-  pub statement_changes : GoesOn g a b r → WritesWhere g a.now b.now F r f → FailsToChange g a.now b.now r P → KeepsRowids g a.now b.now r R
-      → ((t : Tables) → F t → R t) → Did g a b r F P 0 f
-  statement_changes goes made reason rowids fits = statement_adds_rows goes made reason
-      (λ clean t may fit x has. rowids clean t may fit x (rowids_fewer x (0 + x) (state g a.now).now.trees (omega arith) has)) fits
+  pub numbered_fails : {e : Error} → WritesNumbered g a b (Err e) F P R n f → Did g a b {V = ℕ} (Err e) (λ _. ⊤) P n (λ t. t)
+  numbered_fails it = record {
+    goes = it.goes;
+    made = λ _ _ _ _. tt;
+    reason = λ clean t may permits has up. it.reason has clean t may permits up;
+    rowids = λ _ _ _ _ _ _ _. tt;
+  }
 
-  pub statement_adds : GoesOn g a b r → WritesWhere g a.now b.now F r f → FailsToAdd g a.now b.now r P → TakesRowid g a.now b.now r R
-      → ((t : Tables) → F t → R t) → Did g a b r F P 1 f
-  statement_adds goes made reason rowids fits = statement_adds_rows goes made reason
-      (λ clean t may fit x has. rowids clean t may fit x (rowids_fewer (suc x) (1 + x) (state g a.now).now.trees (omega arith) has)) fits
+-- of other rows
+module _ {S : Type 0} {g : Ghosts S} {a b : MutBor (Held S)} {F P : Tables → Type 0} {f : Tables → Tables} where
+  pub keyed : {r : Result ℕ Error} → WritesKeyed g a b r F P f → Did g a b r F P 0 f
+  keyed it = record {
+    goes = it.goes;
+    made = it.made;
+    reason = λ clean t may permits has up. it.reason clean t may permits up;
+    rowids = λ clean t may live fit x has. it.rowids clean t may x (rowids_fewer x (0 + x) (state g a.now).now.trees (omega arith) has);
+  }
 
--- a statement that failed
-pub statement_fails : {S : Type 0} {g : Ghosts S} {a b : MutBor (Held S)} {e : Error} {P : Tables → Type 0} {n : ℕ}
-    → GoesOn g a b {V = ℕ} (Err e) → (HasRowids n (state g a.now).now.trees → FailsToWrite g a.now b.now {V = ℕ} (Err e) P)
-    → Did g a b {V = ℕ} (Err e) (λ _. ⊤) P n (λ t. t)
-statement_fails goes reason = record {
-  goes = goes;
-  made = λ _ _ _ _. tt;
-  reason = λ clean t may permits has up. reason has clean t may permits up;
-  rowids = λ _ _ _ _ _ _ _. tt;
-}
+  pub keyed_fails : {e : Error} → WritesKeyed g a b (Err e) F P f → Did g a b {V = ℕ} (Err e) (λ _. ⊤) P 0 (λ t. t)
+  keyed_fails it = record {
+    goes = it.goes;
+    made = λ _ _ _ _. tt;
+    reason = λ clean t may permits has up. it.reason clean t may permits up;
+    rowids = λ _ _ _ _ _ _ _. tt;
+  }
 
 -- What is known of an open transaction. A success implies that the transaction was open.
 
@@ -138,6 +138,11 @@ open_like {g} {a} {b} {r} {n} {k} it fits permits few = record {
   rowids = λ clean t may live fit x has. it.rowids clean t may live (fits t fit).0 x
       (rowids_fewer (n + x) (k + x) (state g a.now).now.trees (omega (arith, few)) has);
 }
+
+pub did_like : {S : Type 0} {g : Ghosts S} {a b : MutBor (Held S)} {V : Type 0} {r : Result V Error} {F P Fits All : Tables → Type 0} {n k : ℕ}
+    {f after : Tables → Tables} → Did g a b r F P n f → ((t : Tables) → Fits t → F t × (f t ≡ after t)) → ((t : Tables) → All t → P t) → n ≤ k
+    → Did g a b r Fits All k after
+did_like it fits permits few = did_of (open_like (open_of it) fits permits few) it.goes.live
 
 -- A write that fails.
 

@@ -9,7 +9,7 @@ use Rattle.sqlite.specs.declared.error.ErrorCode.TheVariants.{OutOfMemory}
 use Rattle.desk_sql.specs.declared.versions.Version.{Version}
 use Rattle.desk_sql.specs.declared.versions.Version.TheVariants.{Two}
 use Rattle.desk_sql.specs.Versions.{number_of, SawVersion}
-use Rattle.desk_sql.specs.Calls.{LeavesNoMore, Makes}
+use Rattle.desk_sql.specs.Calls.{Idle, LeavesNoMore, Makes}
 use Rattle.desk_sql.specs.Causes.{IsUp, HasFaulted}
 use Rattle.desk_sql.specs.Changes.{founded}
 use Rattle.desk_sql.specs.Schema.{no_schema}

@@ -1,32 +1,30 @@
 -- The row that is read is one under the key; no row means that there is none.
 use Rattle.std.proofs.Common.{rules}
-use Rattle.desk_sql.proofs.Asking.{found_some, found_none, one_unasked, one_unread}
+use Rattle.desk_sql.proofs.Asking.{one_absent, one_found, one_unasked, one_unread}
 use Rattle.desk_sql.proofs.KeptReplies.{finds_answer}
 use Rattle.desk_sql.proofs.answers.find_answer.Goals as goal
 
 pub first_row-requires : goal.first_row-requires
 first_row-requires g c = (finds_answer c.args.agent.now c.args.mark.now).selects
 
-pub returns-in_ok-answer-in-Some-clause-found : goal.returns-in_ok-answer-in-Some-clause-found
-returns-in_ok-answer-in-Some-clause-found g c =
-    found_some (finds_answer c.args.agent.now c.args.mark.now) g.S.Store c.args.conn.now c.first_row.new.conn c.in_ok-answer-in-Some.answer (simp (c.as_bytes.ensures.value, c.as_bytes-2.ensures.value) at c.in_ok-row.ensures.row)
-    c.in-Some.is c.in_ok-answer-in-Some.ensures.shown
+pub returns-in_ok-answer-in-Some : goal.returns-in_ok-answer-in-Some
+returns-in_ok-answer-in-Some g c = record {
+  queries = one_found (finds_answer c.args.agent.now c.args.mark.now) c.first_row.ensures.quiet c.in_ok-answer-in-Some.answer (simp (c.as_bytes.ensures.value, c.as_bytes-2.ensures.value) at c.in_ok-row.ensures.row) c.in-Some.is
+      c.in_ok-answer-in-Some.ensures.shown;
+}
 
-pub returns-in-None-clause-found : goal.returns-in-None-clause-found
-returns-in-None-clause-found g c =
-    found_none (finds_answer c.args.agent.now c.args.mark.now) g.S.Store c.args.conn.now c.first_row.new.conn (simp (c.as_bytes.ensures.value, c.as_bytes-2.ensures.value) at c.in_ok-row.ensures.row) c.in-None.is
+pub returns-in-None : goal.returns-in-None
+returns-in-None g c = record {
+  queries = one_absent (finds_answer c.args.agent.now c.args.mark.now) c.first_row.ensures.quiet (simp (c.as_bytes.ensures.value, c.as_bytes-2.ensures.value) at c.in_ok-row.ensures.row) c.in-None.is;
+}
 
--- the query fails for a reason
-pub returns-in_err-row-clause-reason : goal.returns-in_err-row-clause-reason
-returns-in_err-row-clause-reason g c clean t sees fits up =
-    let reason = one_unasked (finds_answer c.args.agent.now c.args.mark.now) g.S.Store c.args.conn.now c.first_row.new.conn c.in_err-row.field-0.0
-    (simp (c.as_bytes.ensures.value, c.as_bytes-2.ensures.value) at c.in_err-row.ensures.reason) clean t sees up in
-    search rules
+pub returns-in_err-row : goal.returns-in_err-row
+returns-in_err-row g c = record {
+  queries = one_unasked (finds_answer c.args.agent.now c.args.mark.now) c.first_row.ensures.quiet (simp (c.as_bytes.ensures.value, c.as_bytes-2.ensures.value) at c.in_err-row.ensures.reason) (search rules);
+}
 
--- the row that it gave can be read
-pub returns-in_err-answer-in-Some-clause-reason : goal.returns-in_err-answer-in-Some-clause-reason
-returns-in_err-answer-in-Some-clause-reason g c clean t sees fits up =
-    let reason = one_unread (finds_answer c.args.agent.now c.args.mark.now) g.S.Store c.args.conn.now c.first_row.new.conn c.in_err-answer-in-Some.field-0.0
-    (simp (c.as_bytes.ensures.value, c.as_bytes-2.ensures.value) at c.in_ok-row.ensures.row) c.in-Some.is
-    (λ it. c.in_err-answer-in-Some.ensures.reason it.0 it.1 it.2) clean t sees fits in
-    search rules
+pub returns-in_err-answer-in-Some : goal.returns-in_err-answer-in-Some
+returns-in_err-answer-in-Some g c = record {
+  queries = one_unread (finds_answer c.args.agent.now c.args.mark.now) c.first_row.ensures.quiet (simp (c.as_bytes.ensures.value, c.as_bytes-2.ensures.value) at c.in_ok-row.ensures.row) c.in-Some.is
+      (λ it. c.in_err-answer-in-Some.ensures.reason it.0 it.1 it.2) (search rules);
+}

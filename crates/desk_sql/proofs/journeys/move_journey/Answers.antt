@@ -1,7 +1,7 @@
 -- Each number is passed as the integer that it is.
 use Rattle.std.proofs.Common.{rules}
 use Rattle.desk_sql.proofs.Changing.{moves_cursor}
-use Rattle.desk_sql.proofs.Effects.{done}
+use Rattle.desk_sql.proofs.Effects.{keyed}
 use Rattle.desk_sql.proofs.Writing.{pos_is}
 use Rattle.desk_sql.proofs.journeys.move_journey.Goals as goal
 
@@ -9,7 +9,8 @@ pub returns : goal.returns
 returns g c =
     let to = c.args.cursor in
     let small = c.requires.cursor in
-    let it = done g.S.Store c.args.tx.now.conn.now c.execute.new.self.conn.now c.execute.result (moves_cursor c.args.id to c.requires.id)
-    (simp (pos_is c.args.id c.requires.id, pos_is to.pos small.0, pos_is to.phase small.1.0, pos_is to.target small.1.1.0, pos_is to.used small.1.1.1.0)
-    at c.execute.ensures.runs) in
-    record { goes = search rules; made = it.made; reason = it.reason tt; rowids = it.rowids }
+    record {
+      writes = keyed (moves_cursor c.args.id to c.requires.id)
+          (simp (pos_is c.args.id c.requires.id, pos_is to.pos small.0, pos_is to.phase small.1.0, pos_is to.target small.1.1.0, pos_is to.used small.1.1.1.0)
+          at c.execute.ensures.runs) (search rules);
+    }

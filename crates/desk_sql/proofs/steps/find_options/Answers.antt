@@ -1,6 +1,6 @@
 -- The options that are read of the rows are the query's answer.
 use Rattle.std.proofs.Common.{rules}
-use Rattle.desk_sql.proofs.Asking.{found_all, all_unasked, all_unread}
+use Rattle.desk_sql.proofs.Asking.{all_found, all_unasked, all_unread}
 use Rattle.desk_sql.proofs.Listings.{finds_options}
 use Rattle.desk_sql.proofs.Writing.{pos_is}
 use Rattle.desk_sql.proofs.steps.find_options.Goals as goal
@@ -8,21 +8,19 @@ use Rattle.desk_sql.proofs.steps.find_options.Goals as goal
 pub all_rows-requires : goal.all_rows-requires
 all_rows-requires g c = (finds_options c.args.journey c.args.place).selects
 
-pub returns-clause-found : goal.returns-clause-found
-returns-clause-found g c =
-    found_all (finds_options c.args.journey c.args.place) g.S.Store c.args.conn.now c.all_rows.new.conn c.in_ok-rows.rows.items c.in_ok-steps.steps.items
-    (simp (pos_is c.args.journey c.requires.journey, pos_is c.args.place c.requires.place) at c.in_ok-rows.ensures.rows) (simp c.as_slice.ensures.value at c.in_ok-steps.ensures.shown)
+pub returns : goal.returns
+returns g c = record {
+  queries = all_found (finds_options c.args.journey c.args.place) (λ all. all.items) c.all_rows.ensures.quiet c.in_ok-rows.rows.items c.in_ok-steps.steps (simp (pos_is c.args.journey c.requires.journey, pos_is c.args.place c.requires.place) at c.in_ok-rows.ensures.rows)
+      (simp c.as_slice.ensures.value at c.in_ok-steps.ensures.shown);
+}
 
--- the query fails for a reason
-pub returns-in_err-rows-clause-reason : goal.returns-in_err-rows-clause-reason
-returns-in_err-rows-clause-reason g c clean t sees fits up =
-    let reason = all_unasked (finds_options c.args.journey c.args.place) g.S.Store c.args.conn.now c.all_rows.new.conn c.in_err-rows.field-0.0
-    (simp (pos_is c.args.journey c.requires.journey, pos_is c.args.place c.requires.place) at c.in_err-rows.ensures.reason) clean t sees up in
-    search rules
+pub returns-in_err-rows : goal.returns-in_err-rows
+returns-in_err-rows g c = record {
+  queries = all_unasked (finds_options c.args.journey c.args.place) (λ all. all.items) c.all_rows.ensures.quiet (simp (pos_is c.args.journey c.requires.journey, pos_is c.args.place c.requires.place) at c.in_err-rows.ensures.reason) (search rules);
+}
 
--- the rows that it gave can be read
-pub returns-in_err-steps-clause-reason : goal.returns-in_err-steps-clause-reason
-returns-in_err-steps-clause-reason g c clean t sees fits up =
-    let reason = all_unread (finds_options c.args.journey c.args.place) g.S.Store c.args.conn.now c.all_rows.new.conn c.in_ok-rows.rows.items c.in_err-steps.field-0.0
-    (simp (pos_is c.args.journey c.requires.journey, pos_is c.args.place c.requires.place) at c.in_ok-rows.ensures.rows) (simp c.as_slice.ensures.value at c.in_err-steps.ensures.reason) clean t sees fits in
-    search rules
+pub returns-in_err-steps : goal.returns-in_err-steps
+returns-in_err-steps g c = record {
+  queries = all_unread (finds_options c.args.journey c.args.place) (λ all. all.items) c.all_rows.ensures.quiet c.in_ok-rows.rows.items (simp (pos_is c.args.journey c.requires.journey, pos_is c.args.place c.requires.place) at c.in_ok-rows.ensures.rows)
+      (simp c.as_slice.ensures.value at c.in_err-steps.ensures.reason) (search rules);
+}

@@ -1,7 +1,7 @@
 -- Each number is passed as the integer that it is.
-use Rattle.std.proofs.Common.{rules}
+use Rattle.std.proofs.Common.{rules, arith}
 use Rattle.desk_sql.proofs.Changing.{takes_places}
-use Rattle.desk_sql.proofs.Effects.{done}
+use Rattle.desk_sql.proofs.Effects.{numbered}
 use Rattle.desk_sql.proofs.Writing.{pos_is}
 use Rattle.desk_sql.proofs.stock.take_nights.Goals as goal
 
@@ -9,13 +9,14 @@ pub returns : goal.returns
 returns g c =
     let r = c.args.range in
     let small = c.requires.range in
-    let it = done g.S.Store c.args.tx.now.conn.now c.execute.new.self.conn.now c.execute.result (takes_places r c.args.count)
-    (simp (
-      pos_is r.kind small.0,
-      pos_is r.first small.1.0,
-      pos_is r.last small.1.1.0,
-      pos_is c.args.count c.requires.count,
-      c.as_bytes.ensures.value,
-      c.as_bytes-2.ensures.value,
-    ) at c.execute.ensures.runs) in
-    record { goes = search rules; made = it.made; reason = it.reason; rowids = it.rowids }
+    record {
+      writes = numbered (takes_places r c.args.count) (λ n. omega arith)
+          (simp (
+            pos_is r.kind small.0,
+            pos_is r.first small.1.0,
+            pos_is r.last small.1.1.0,
+            pos_is c.args.count c.requires.count,
+            c.as_bytes.ensures.value,
+            c.as_bytes-2.ensures.value,
+          ) at c.execute.ensures.runs) (search rules);
+    }

@@ -5,7 +5,7 @@ use Rattle.sqlite.specs.Held.{state}
 use Rattle.desk_sql.proofs.Selecting.{ok_then}
 use Rattle.desk_sql.specs.Versions.{SawVersion}
 use Rattle.desk_sql.specs.declared.meta.Meta.{Meta}
-use Rattle.desk_sql.specs.declared.versions.Version.TheVariants.{One}
+use Rattle.desk_sql.specs.declared.versions.Version.TheVariants.{One, Two}
 use Rattle.migrate.specs.Migrating.{IsAsBefore, RefusesNumbers, Tells}
 use Rattle.migrate.specs.Outcomes.{ReadsOld}
 use Rattle.migrate.specs.Reasons.{FailsToRead}
@@ -23,11 +23,11 @@ returns-in-Ok-clause-reads g c =
     ok_then _ (ReadsOld g.S.Store old new) c.old_only.result
     (λ m is. record {
       numbers = λ clean s stood. (
-          let at_old : HasCleanDisk (state g.S.Store old) = omega (arith, c.read_meta.ensures.quiet.survives.clean) in
+          let at_old : HasCleanDisk (state g.S.Store old) = omega (arith, (c.read_meta.ensures.queries Two).quiet.survives.clean) in
           let here : m ≡ meta = is.0 in
-          rw here (numbers_read (state g.S.Store old) (state g.S.Store new) meta (λ v t sees. c.in-Ok.ensures.found v clean t sees) s (stood at_old)));
+          rw here (numbers_read (state g.S.Store old) (state g.S.Store new) meta (λ v t sees. (c.in-Ok.ensures.queries v).found clean t sees) s (stood at_old)));
       version = subst (SawVersion g.S.Store old new) (ap (λ (n : Meta). n.version) (sym is.0) ∙ is.1)
-          (saw_read g.S.Store old new meta c.in-Ok.ensures.found);
+          (saw_read g.S.Store old new meta (λ v. (c.in-Ok.ensures.queries v).found));
       few = is.2;
     })
     c.old_only.ensures.ok
@@ -38,16 +38,16 @@ returns-in-Ok-clause-told g c =
     let old = c.args.conn.now in
     let new = c.read_meta.new.conn in
     let meta = c.in-Ok.meta in
-    let same : IsAsBefore g.S.Store old new = as_before g.S.Store old new c.read_meta.ensures.quiet in
+    let same : IsAsBefore g.S.Store old new = as_before g.S.Store old new (c.read_meta.ensures.queries Two).quiet in
     on_errors (RefusesNumbers meta) (Tells g.S.Store old new) c.old_only.result
-    (λ why is. tells_numbers g.S.Store old new meta why (saw_read g.S.Store old new meta c.in-Ok.ensures.found) same is)
+    (λ why is. tells_numbers g.S.Store old new meta why (saw_read g.S.Store old new meta (λ v. (c.in-Ok.ensures.queries v).found)) same is)
     c.old_only.ensures.refused
 
 pub returns-in-Err-clause-told : goal.returns-in-Err-clause-told
 returns-in-Err-clause-told g c =
     let old = c.args.conn.now in
     let new = c.read_meta.new.conn in
-    let same : IsAsBefore g.S.Store old new = as_before g.S.Store old new c.read_meta.ensures.quiet in
+    let same : IsAsBefore g.S.Store old new = as_before g.S.Store old new (c.read_meta.ensures.queries Two).quiet in
     tells_fault g.S.Store old new c.fault_of.result _ c.fault_of.ensures.memory c.fault_of.ensures.store same
 
 -- Store of numbers that were read says that there are too many events
@@ -58,8 +58,8 @@ returns-in-Ok-clause-store g c =
     let meta = c.in-Ok.meta in
     on_errors (RefusesNumbers meta) (FailsToRead g.S.Store old new) c.old_only.result
     (λ why is clean s stood up store. (
-    let at_old : HasCleanDisk (state g.S.Store old) = omega (arith, c.read_meta.ensures.quiet.survives.clean) in
-    let numbers = numbers_read (state g.S.Store old) (state g.S.Store new) meta (λ v t sees. c.in-Ok.ensures.found v clean t sees) s (stood at_old) in
+    let at_old : HasCleanDisk (state g.S.Store old) = omega (arith, (c.read_meta.ensures.queries Two).quiet.survives.clean) in
+    let numbers = numbers_read (state g.S.Store old) (state g.S.Store new) meta (λ v t sees. (c.in-Ok.ensures.queries v).found clean t sees) s (stood at_old) in
     inr (too_many_events meta s numbers (subst (RefusesNumbers meta) store is))))
     c.old_only.ensures.refused
 
@@ -68,6 +68,12 @@ pub returns-in-Err-clause-store : goal.returns-in-Err-clause-store
 returns-in-Err-clause-store g c clean s stood up store =
     let old = state g.S.Store c.args.conn.now in
     let new = state g.S.Store c.read_meta.new.conn in
-    let at_old : HasCleanDisk old = omega (arith, c.read_meta.ensures.quiet.survives.clean) in
-    let reason = meta_fails old new s c.in-Err.error (stood at_old) up (λ t sees has. c.in-Err.ensures.reason One clean t sees has up) in
+    let at_old : HasCleanDisk old = omega (arith, (c.read_meta.ensures.queries Two).quiet.survives.clean) in
+    let reason = meta_fails old new s c.in-Err.error (stood at_old) up (λ t sees has. (c.in-Err.ensures.queries One).reason clean t sees has up) in
     inl (not_memory old new c.in-Err.error c.fault_of.result c.fault_of.ensures.store reason store)
+
+pub returns-in-Ok-clause-quiet : goal.returns-in-Ok-clause-quiet
+returns-in-Ok-clause-quiet g c = (c.read_meta.ensures.queries Two).quiet
+
+pub returns-in-Err-clause-quiet : goal.returns-in-Err-clause-quiet
+returns-in-Err-clause-quiet g c = (c.read_meta.ensures.queries Two).quiet

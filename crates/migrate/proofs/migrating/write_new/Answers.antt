@@ -11,12 +11,12 @@ pub returns-clause-made : goal.returns-clause-made
 returns-clause-made g c clean t may =
     let one = state g.S.Store c.add_tables.new.tx.conn.now in
     let two = state g.S.Store c.copy_all.new.tx.conn.now in
-    let at_two : HasCleanDisk two = omega (arith, c.update_meta.ensures.goes.survives.clean) in
+    let at_two : HasCleanDisk two = omega (arith, c.update_meta.ensures.writes.goes.survives.clean) in
     let at_one : HasCleanDisk one = omega (arith, c.copy_all.ensures.goes.survives.clean) in
     let n = c.args.meta.events + 1 in
     let added : HasCopied 0 one t = c.in_ok-add_tables.ensures.made at_one t may in
     let copied : HasCopied n two t = c.in_ok-copy_all.ensures.made at_two t added in
-    (c.in_ok-update_meta.ensures.made clean (with_items_below n t) (record { inside = copied.inside; sees = λ _. copied.sees }) tt).sees
+    (c.in_ok-update_meta.ensures.writes.made clean (with_items_below n t) (record { inside = copied.inside; sees = λ _. copied.sees }) tt).sees
 
 -- each of the three fails for a reason
 pub returns-in_err-add_tables-clause-reason : goal.returns-in_err-add_tables-clause-reason
@@ -45,7 +45,7 @@ returns-in_err-update_meta-clause-reason g c clean t may up =
     let one = state g.S.Store c.add_tables.new.tx.conn.now in
     let two = state g.S.Store c.copy_all.new.tx.conn.now in
     let last = state g.S.Store c.update_meta.new.tx.conn.now in
-    let at_two : HasCleanDisk two = omega (arith, c.update_meta.ensures.goes.survives.clean) in
+    let at_two : HasCleanDisk two = omega (arith, c.update_meta.ensures.writes.goes.survives.clean) in
     let at_one : HasCleanDisk one = omega (arith, c.copy_all.ensures.goes.survives.clean) in
     let n = c.args.meta.events + 1 in
     let added : HasCopied 0 one t = c.in_ok-add_tables.ensures.made at_one t may in
@@ -55,5 +55,5 @@ returns-in_err-update_meta-clause-reason g c clean t may up =
     let low : old.faults ≤ two.faults = omega (arith, c.add_tables.ensures.goes.survives.counts, c.copy_all.ensures.goes.survives.counts) in
     let e = c.in_err-update_meta.field-0.0 in
     let reason : HasReason old last e = reason_since old two last e low
-    (c.in_err-update_meta.ensures.reason clean (with_items_below n t) (record { inside = copied.inside; sees = λ _. copied.sees }) tt still) in
+    (c.in_err-update_meta.ensures.writes.reason clean (with_items_below n t) (record { inside = copied.inside; sees = λ _. copied.sees }) tt still) in
     search rules

@@ -14,14 +14,14 @@ returns-in-None g c = read_ok no_read (λ s desk _. subst (λ o. Finds s (option
 pub returns-in-Ok-None : goal.returns-in-Ok-None
 returns-in-Ok-None g c =
     let ask = c.in-Some.ask.now in
-    read_ok (found_rows (rw c.in-Ok-None.field-0-is at c.in-Ok-None.ensures.found) c.find_answer.ensures.quiet)
+    read_ok (found_rows (rw c.in-Ok-None.field-0-is at c.in-Ok-None.ensures.queries))
     (λ s desk at. subst (λ o. Finds s (option_copied o) None) (sym c.in-Some.is) (new_key at.tables s ask at.stands desk (rw (← c.agent.ensures.agent, ← c.as_str.ensures.text, ← c.key.ensures.key, ← c.as_str-in-Some.ensures.text) at.found)))
 
 -- a row: the reply is the kept one
 pub returns-in-Ok : goal.returns-in-Ok
 returns-in-Ok g c =
     let ask = c.in-Some.ask.now in
-    read_ok (found_rows (rw c.in-Ok-Some.field-0-is at c.in-Ok-Some.ensures.found) c.find_answer.ensures.quiet)
+    read_ok (found_rows (rw c.in-Ok-Some.field-0-is at c.in-Ok-Some.ensures.queries))
     (λ s desk at. subst (λ o. Finds s (option_copied o) (Some c.in-Ok.reply)) (sym c.in-Some.is)
     (known_reply at.tables s ask c.in-Ok-Some.kept c.in-Ok.reply at.stands desk (rw (← c.agent.ensures.agent, ← c.as_str.ensures.text, ← c.key.ensures.key, ← c.as_str-in-Some.ensures.text) at.found) c.in-Ok.ensures.again))
 
@@ -29,10 +29,10 @@ returns-in-Ok g c =
 pub returns-in-Ok-Some : goal.returns-in-Ok-Some
 returns-in-Ok-Some g c =
     let ask = c.in-Some.ask.now in
-    read_so _ (found_rows (rw c.in-Ok-Some.field-0-is at c.in-Ok-Some.ensures.found) c.find_answer.ensures.quiet) (λ s desk at. tt)
+    read_so _ (found_rows (rw c.in-Ok-Some.field-0-is at c.in-Ok-Some.ensures.queries)) (λ s desk at. tt)
     (λ s desk spelled _ at. c.in-Err-again.ensures.there (kept_line at.tables s ask c.in-Ok-Some.kept at.stands desk (rw (← c.agent.ensures.agent, ← c.as_str.ensures.text, ← c.key.ensures.key, ← c.as_str-in-Some.ensures.text) at.found)))
 
 pub returns : goal.returns
 returns g c =
-    query_fails c.in-Err.ensures.reason c.find_answer.ensures.quiet c.fault_of.ensures.memory
+    query_fails c.in-Err.ensures.queries c.fault_of.ensures.memory
     (λ t s st desk spelled _. reply_texts t s st desk _ _)

@@ -21,7 +21,7 @@ returns-in_ok-places-in-Ok-clause-read g c =
       first = search rules;
       last = search rules;
     } in
-    read_ok (found_rows c.in-Ok.ensures.found c.find_nights.ensures.quiet) (λ s desk at.
+    read_ok (found_rows c.in-Ok.ensures.queries) (λ s desk at.
     (simp c.as_slice.ensures.value at c.in_ok-places-in-Ok.ensures.told)
     ∙ nights_read at.tables s at.stands desk range want rows is c.requires at.found)
 
@@ -40,10 +40,10 @@ returns-in_err-places-in-Ok-clause-read g c =
       last = search rules;
     } in
     let failed : c.from_residual.result ≡ Err c.in_err-places-in-Ok.field-0.0 = search rules in
-    read_so c.from_residual.result (found_rows c.in-Ok.ensures.found c.find_nights.ensures.quiet) (λ s desk at. rw failed tt) (λ s desk spelled _ at.
+    read_so c.from_residual.result (found_rows c.in-Ok.ensures.queries) (λ s desk at. rw failed tt) (λ s desk spelled _ at.
     rw failed ((simp c.as_slice.ensures.value at c.in_err-places-in-Ok.ensures.there)
     (good_nights s.ledger desk.legal want rows (nights_read at.tables s at.stands desk range want rows is c.requires at.found))))
 
 pub returns-in-Err-clause-read : goal.returns-in-Err-clause-read
 returns-in-Err-clause-read g c =
-    query_fails c.in-Err.ensures.reason c.find_nights.ensures.quiet c.fault_of.ensures.memory (λ t s st desk spelled _. tt)
+    query_fails c.in-Err.ensures.queries c.fault_of.ensures.memory (λ t s st desk spelled _. tt)

@@ -12,7 +12,7 @@ returns-in-Ok-clause-read g c =
     let id = c.args.id in
     let rows = c.in-Ok.rows.items in
     let same : c.as_slice.result.now ≡ rows = search rules in
-    read_so c.choose_next.result (found_rows c.in-Ok.ensures.found c.find_options.ensures.quiet)
+    read_so c.choose_next.result (found_rows c.in-Ok.ensures.queries)
     (λ s desk at.
     also_ok c.choose_next.result (IsRowChosen c.as_slice.result.now (min (c.args.used + 1) (length c.as_slice.result.now))) (IsNextChoice id c.args.step c.args.used s)
     (λ choice chosen. next_told at.tables s at.stands desk id c.args.step rows at.found choice
@@ -23,5 +23,5 @@ returns-in-Ok-clause-read g c =
 
 pub returns-in-Err-clause-read : goal.returns-in-Err-clause-read
 returns-in-Err-clause-read g c =
-    query_fails c.in-Err.ensures.reason c.find_options.ensures.quiet c.fault_of.ensures.memory
+    query_fails c.in-Err.ensures.queries c.fault_of.ensures.memory
     (λ t s st desk spelled has. option_texts t s st desk c.args.id c.args.step has.journey has.at)

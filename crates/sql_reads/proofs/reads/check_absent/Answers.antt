@@ -9,17 +9,17 @@ use Rattle.sql_reads.proofs.reads.check_absent.Goals as goal
 
 pub returns-in-Ok : goal.returns-in-Ok
 returns-in-Ok g c v =
-    read_ok (found_rows (c.in-Ok.ensures.found v) c.read_meta.ensures.quiet) (λ s desk at.
+    read_ok (found_rows (c.in-Ok.ensures.queries v)) (λ s desk at.
     let few : c.in-Ok.meta.journeys ≡ length (journeys s.ledger) = (meta_read at.tables s at.stands desk c.in-Ok.meta at.found).2 in
     journey_past s.ledger c.args.id (omega (arith, c.if-meta-id.true, few)))
 
 -- no ledger has so many journeys
 pub returns-in-Ok-2 : goal.returns-in-Ok-2
 returns-in-Ok-2 g c v =
-    read_never (found_rows (c.in-Ok.ensures.found v) c.read_meta.ensures.quiet) (λ s desk spelled far at.
+    read_never (found_rows (c.in-Ok.ensures.queries v)) (λ s desk spelled far at.
     let many : c.in-Ok.meta.journeys ≡ length (journeys s.ledger) = (meta_read at.tables s at.stands desk c.in-Ok.meta at.found).2 in
     omega (arith, far, c.if-meta-id.false, many, few_journeys s.ledger, spelled.few))
 
 pub returns-in-Err : goal.returns-in-Err
 returns-in-Err g c v =
-    query_fails (c.in-Err.ensures.reason v) c.read_meta.ensures.quiet c.fault_of.ensures.memory (λ t s st desk spelled far. meta_there t s st)
+    query_fails (c.in-Err.ensures.queries v) c.fault_of.ensures.memory (λ t s st desk spelled far. meta_there t s st)

@@ -12,11 +12,11 @@ returns-then-sought-gt-LARGEST g c = read_never no_read (λ s desk spelled low _
 pub returns-in-Ok : goal.returns-in-Ok
 returns-in-Ok g c =
     let w = c.args.sought.now in
-    read_ok (found_rows c.in-Ok.ensures.found c.next_in.ensures.quiet) (λ s desk at. record {
+    read_ok (found_rows c.in-Ok.ensures.queries) (λ s desk at. record {
       next = next_sought at.tables s at.stands desk w c.in-Ok.found at.found;
       early = λ spelled. item_early at.tables s at.stands spelled w.journey w.after c.in-Ok.found at.found;
     })
 
 pub returns-in-Err : goal.returns-in-Err
 returns-in-Err g c =
-    query_fails c.in-Err.ensures.reason c.next_in.ensures.quiet c.fault_of.ensures.memory (λ t s st desk spelled low. tt)
+    query_fails c.in-Err.ensures.queries c.fault_of.ensures.memory (λ t s st desk spelled low. tt)

@@ -25,7 +25,7 @@ returns-in-Ok g c =
       last = search rules;
     } in
     let some = some_night want c.nights.ensures.limits in
-    read_so c.nights_told.result (found_rows c.in-Ok.ensures.found c.find_nights.ensures.quiet)
+    read_so c.nights_told.result (found_rows c.in-Ok.ensures.queries)
     (λ s desk at.
     also_ok c.nights_told.result (λ nights. TellNights rows nights.items) (λ nights. ShowsCells want s nights.items)
     (λ nights tell. tell ∙ nights_read at.tables s at.stands desk range want rows is some at.found) (search rules))
@@ -35,4 +35,4 @@ returns-in-Ok g c =
 
 pub returns-in-Err : goal.returns-in-Err
 returns-in-Err g c =
-    query_fails c.in-Err.ensures.reason c.find_nights.ensures.quiet c.fault_of.ensures.memory (λ t s st desk spelled _. tt)
+    query_fails c.in-Err.ensures.queries c.fault_of.ensures.memory (λ t s st desk spelled _. tt)

@@ -18,19 +18,19 @@ returns-then-id-gt-LARGEST g c = read_ok (c.in_ok-check_absent.ensures c.args.ve
 
 pub returns-in-Ok-None : goal.returns-in-Ok-None
 returns-in-Ok-None g c =
-    read_ok (found_rows (rw c.in-Ok-None.field-0-is at (c.in-Ok-None.ensures.found c.args.version)) c.find_journey.ensures.quiet) (λ s desk at.
+    read_ok (found_rows (rw c.in-Ok-None.field-0-is at (c.in-Ok-None.ensures.queries c.args.version))) (λ s desk at.
     record_none s.ledger c.args.id (absent_read at.tables s at.stands desk c.args.id at.found))
 
 pub returns : goal.returns
 returns g c =
-    query_fails (c.in-Err.ensures.reason c.args.version) c.find_journey.ensures.quiet c.fault_of.ensures.memory
+    query_fails (c.in-Err.ensures.queries c.args.version) c.fault_of.ensures.memory
     (λ t s st desk spelled _. has_text t s st spelled c.args.id)
 
 -- the plan of a journey that is there is read
 pub returns-in_err-plan-in-Ok-Some : goal.returns-in_err-plan-in-Ok-Some
 returns-in_err-plan-in-Ok-Some g c =
     let row = c.in-Ok-Some.found in
-    then_err (search rules) (found_rows (rw c.in-Ok-Some.field-0-is at (c.in-Ok-Some.ensures.found c.args.version)) c.find_journey.ensures.quiet)
+    then_err (search rules) (found_rows (rw c.in-Ok-Some.field-0-is at (c.in-Ok-Some.ensures.queries c.args.version)))
     (c.in_err-plan-in-Ok-Some.ensures c.args.version) (λ s desk _ at.
     let there = journey_there s.ledger c.args.id (journey_of row) (journey_read at.tables s at.stands desk c.args.id (Some row) at.found) in
     (there.journey, there.at, there.is.tries))
@@ -38,14 +38,14 @@ returns-in_err-plan-in-Ok-Some g c =
 -- and so are its save-points
 pub returns-in_err-marks-in-Ok-Some : goal.returns-in_err-marks-in-Ok-Some
 returns-in_err-marks-in-Ok-Some g c =
-    then_err (search rules) (read_both (found_rows (rw c.in-Ok-Some.field-0-is at (c.in-Ok-Some.ensures.found c.args.version)) c.find_journey.ensures.quiet)
+    then_err (search rules) (read_both (found_rows (rw c.in-Ok-Some.field-0-is at (c.in-Ok-Some.ensures.queries c.args.version)))
     (c.in_ok-plan-in-Ok-Some.ensures c.args.version)) c.in_err-marks-in-Ok-Some.ensures (λ s desk _ both. tt)
 
 pub returns-in-Some : goal.returns-in-Some
 returns-in-Some g c =
     let row = c.in-Ok-Some.found in
     let marks = c.in_ok-marks-in-Ok-Some.marks in
-    read_ok (read_both (read_both (found_rows (rw c.in-Ok-Some.field-0-is at (c.in-Ok-Some.ensures.found c.args.version)) c.find_journey.ensures.quiet)
+    read_ok (read_both (read_both (found_rows (rw c.in-Ok-Some.field-0-is at (c.in-Ok-Some.ensures.queries c.args.version)))
     (c.in_ok-plan-in-Ok-Some.ensures c.args.version)) c.in_ok-marks-in-Ok-Some.ensures) (λ s desk all.
     let at = all.0.0 in
     record_shown s.ledger c.args.id row c.in_ok-plan-in-Ok-Some.plan marks c.in-Some.record
@@ -57,7 +57,7 @@ returns-in-Some g c =
 pub returns-in-Ok-Some : goal.returns-in-Ok-Some
 returns-in-Ok-Some g c =
     let row = c.in-Ok-Some.found in
-    read_never (read_both (read_both (found_rows (rw c.in-Ok-Some.field-0-is at (c.in-Ok-Some.ensures.found c.args.version)) c.find_journey.ensures.quiet)
+    read_never (read_both (read_both (found_rows (rw c.in-Ok-Some.field-0-is at (c.in-Ok-Some.ensures.queries c.args.version)))
     (c.in_ok-plan-in-Ok-Some.ensures c.args.version)) c.in_ok-marks-in-Ok-Some.ensures) (λ s desk spelled _ all.
     let at = all.0.0 in
     row_told at.tables s at.stands spelled row (found_there at.tables s at.stands spelled c.args.id row at.found) c.in-None.ensures.there)

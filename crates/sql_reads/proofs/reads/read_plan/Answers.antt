@@ -14,7 +14,7 @@ returns-in-Ok g c v =
     let rows = c.in-Ok.found in
     let id = c.args.id in
     let same : c.as_slice.result.now ≡ rows.items = search rules in
-    read_so c.plan_told.result (found_rows (c.in-Ok.ensures.found v) c.find_steps.ensures.quiet)
+    read_so c.plan_told.result (found_rows (c.in-Ok.ensures.queries v))
     (λ s desk at.
     both_ok c.plan_told.result (TellPlan c.as_slice.result.now) (λ plan. plan.tries ≡ c.args.tries) (λ plan. IsTrue (is_plan plan)) (IsPlanOf id c.args.tries s)
     (λ plan told tries good a here is.
@@ -25,5 +25,5 @@ returns-in-Ok g c v =
 
 pub returns-in-Err : goal.returns-in-Err
 returns-in-Err g c v =
-    query_fails (c.in-Err.ensures.reason v) c.find_steps.ensures.quiet c.fault_of.ensures.memory
+    query_fails (c.in-Err.ensures.queries v) c.fault_of.ensures.memory
     (λ t s st desk spelled fits. want_texts t s st desk c.args.id fits.0 fits.1)

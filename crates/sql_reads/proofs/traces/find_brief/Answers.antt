@@ -18,7 +18,7 @@ returns-then-id-gt-LARGEST-clause-read g c =
 
 pub returns-in-Ok-None-clause-read : goal.returns-in-Ok-None-clause-read
 returns-in-Ok-None-clause-read g c =
-    read_ok (found_rows (rw c.in-Ok-None.field-0-is at (c.in-Ok-None.ensures.found Two)) c.find_journey.ensures.quiet) (λ s desk at. record {
+    read_ok (found_rows (rw c.in-Ok-None.field-0-is at (c.in-Ok-None.ensures.queries Two))) (λ s desk at. record {
       brief = brief_none s.ledger c.args.id (absent_read at.tables s at.stands desk c.args.id at.found);
       begun = tt;
     })
@@ -28,7 +28,7 @@ pub returns-in-Some-clause-read : goal.returns-in-Some-clause-read
 returns-in-Some-clause-read g c =
     let id = c.args.id in
     let row = c.in-Ok-Some.found in
-    read_ok (found_rows (rw c.in-Ok-Some.field-0-is at (c.in-Ok-Some.ensures.found Two)) c.find_journey.ensures.quiet) (λ s desk at. record {
+    read_ok (found_rows (rw c.in-Ok-Some.field-0-is at (c.in-Ok-Some.ensures.queries Two))) (λ s desk at. record {
       brief = brief_shown s.ledger id row c.in-Some.brief (journey_read at.tables s at.stands desk id (Some row) at.found) c.in-Some.ensures.told;
       begun = begins_read at.tables s at.stands desk id row at.found;
     })
@@ -37,18 +37,18 @@ returns-in-Some-clause-read g c =
 pub returns-in-Ok-Some-clause-read : goal.returns-in-Ok-Some-clause-read
 returns-in-Ok-Some-clause-read g c =
     let row = c.in-Ok-Some.found in
-    read_never (found_rows (rw c.in-Ok-Some.field-0-is at (c.in-Ok-Some.ensures.found Two)) c.find_journey.ensures.quiet) (λ s desk spelled _ at.
+    read_never (found_rows (rw c.in-Ok-Some.field-0-is at (c.in-Ok-Some.ensures.queries Two))) (λ s desk spelled _ at.
     row_told at.tables s at.stands spelled row (found_there at.tables s at.stands spelled c.args.id row at.found) c.in-None.ensures.there)
 
 -- each journey was begun by one of the events
 pub returns-in-Ok-Some-2-clause-read : goal.returns-in-Ok-Some-2-clause-read
 returns-in-Ok-Some-2-clause-read g c =
     let row = c.in-Ok-Some.found in
-    read_never (found_rows (rw c.in-Ok-Some.field-0-is at (c.in-Ok-Some.ensures.found Two)) c.find_journey.ensures.quiet) (λ s desk spelled _ at.
+    read_never (found_rows (rw c.in-Ok-Some.field-0-is at (c.in-Ok-Some.ensures.queries Two))) (λ s desk spelled _ at.
     let low = row_number at.tables s at.stands spelled c.args.id row at.found in
     omega (arith, low, c.if-this-le-LARGEST.false))
 
 pub returns-clause-read : goal.returns-clause-read
 returns-clause-read g c =
-    query_fails (c.in-Err.ensures.reason Two) c.find_journey.ensures.quiet c.fault_of.ensures.memory
+    query_fails (c.in-Err.ensures.queries Two) c.fault_of.ensures.memory
     (λ t s st desk spelled _. has_text t s st spelled c.args.id)

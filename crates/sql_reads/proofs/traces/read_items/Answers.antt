@@ -18,7 +18,7 @@ returns-in-Ok g c =
     let id = c.args.id in
     let after = c.args.after in
     let rows = c.in-Ok.found.items in
-    read_so c.items_told.result (found_rows c.in-Ok.ensures.found c.find_items.ensures.quiet)
+    read_so c.items_told.result (found_rows c.in-Ok.ensures.queries)
     (λ s desk at.
     also_ok c.items_told.result (λ items. TellItems rows items.items) (λ items. HasNoItemTo id after s → items.items ≡ history s.ledger id)
     (λ items tell first.
@@ -31,4 +31,4 @@ returns-in-Ok g c =
 
 pub returns-in-Err : goal.returns-in-Err
 returns-in-Err g c =
-    query_fails c.in-Err.ensures.reason c.find_items.ensures.quiet c.fault_of.ensures.memory (λ t s st desk spelled first. tt)
+    query_fails c.in-Err.ensures.queries c.fault_of.ensures.memory (λ t s st desk spelled first. tt)

@@ -12,7 +12,7 @@ returns-in-Ok-None g c =
     let name = c.as_str.result.now in
     let after = c.min.result in
     let low : after ≤ c.args.after = search rules in
-    read_ok (found_rows (rw c.in-Ok-None.field-0-is at c.in-Ok-None.ensures.found) c.first_owned.ensures.quiet) (λ s desk at.
+    read_ok (found_rows (rw c.in-Ok-None.field-0-is at c.in-Ok-None.ensures.queries)) (λ s desk at.
     subst (λ n. None ≡ first_shown s.ledger n c.args.after) c.as_str.ensures.text
     (sym (none_owned_above s.ledger name after c.args.after low
     (sym (none_told (first_shown s.ledger name after) (owned_read at.tables s at.stands desk name after None at.found))))))
@@ -23,7 +23,7 @@ returns-in-Some g c =
     let after = c.min.result in
     let row = c.in-Ok-Some.found in
     let same : after ≡ c.args.after = search rules in
-    read_ok (found_rows (rw c.in-Ok-Some.field-0-is at c.in-Ok-Some.ensures.found) c.first_owned.ensures.quiet) (λ s desk at.
+    read_ok (found_rows (rw c.in-Ok-Some.field-0-is at c.in-Ok-Some.ensures.queries)) (λ s desk at.
     subst (λ n. Some c.in-Some.brief ≡ first_shown s.ledger n c.args.after) c.as_str.ensures.text
     (brief_told (first_shown s.ledger name after) row c.in-Some.brief (owned_read at.tables s at.stands desk name after (Some row) at.found)
     c.in-Some.ensures.told ∙ ap (first_shown s.ledger name) same))
@@ -32,7 +32,7 @@ returns-in-Some g c =
 pub returns-in-Ok-Some : goal.returns-in-Ok-Some
 returns-in-Ok-Some g c =
     let row = c.in-Ok-Some.found in
-    read_never (found_rows (rw c.in-Ok-Some.field-0-is at c.in-Ok-Some.ensures.found) c.first_owned.ensures.quiet) (λ s desk spelled _ at.
+    read_never (found_rows (rw c.in-Ok-Some.field-0-is at c.in-Ok-Some.ensures.queries)) (λ s desk spelled _ at.
     row_told at.tables s at.stands spelled row (owned_there at.tables s at.stands spelled c.as_str.result.now c.min.result row at.found)
     c.in-None.ensures.there)
 
@@ -43,12 +43,12 @@ returns-then-after-gt-LARGEST g c =
     let after = c.min.result in
     let row = c.in-Ok-Some.found in
     let top : after ≡ 9223372036854775807 = search rules in
-    read_never (found_rows (rw c.in-Ok-Some.field-0-is at c.in-Ok-Some.ensures.found) c.first_owned.ensures.quiet) (λ s desk spelled _ at.
+    read_never (found_rows (rw c.in-Ok-Some.field-0-is at c.in-Ok-Some.ensures.queries)) (λ s desk spelled _ at.
     let low = row_low at.tables s at.stands spelled row (owned_there at.tables s at.stands spelled name after row at.found) in
     let above = owned_above at.tables s at.stands spelled name after row at.found in
     omega (arith, low, above, top))
 
 pub returns : goal.returns
 returns g c =
-    query_fails c.in-Err.ensures.reason c.first_owned.ensures.quiet c.fault_of.ensures.memory
+    query_fails c.in-Err.ensures.queries c.fault_of.ensures.memory
     (λ t s st desk spelled _. have_owned_texts t s st spelled c.as_str.result.now c.min.result)

@@ -6,7 +6,7 @@ use Rattle.desk_sql.specs.Changes.{adds_journey, begun, counts}
 use Rattle.desk_sql.specs.Writable.{MayAddJourney}
 use Rattle.sql_model.specs.ExpectedRows.{step_rows_of}
 use Rattle.sql_model.specs.Beginning.{adds_steps, meta_row_at}
-use Rattle.sql_writes.proofs.Doing.{did_and, did_both, did_fail, did_then_fail, open_of, statement_changes, statement_fails}
+use Rattle.sql_writes.proofs.Doing.{did_and, did_both, did_fail, did_then_fail, keyed, keyed_fails, open_of}
 use Rattle.sql_writes.proofs.Permitting.{added_there}
 use Rattle.sql_writes.proofs.begins.write_begin.Goals as goal
 
@@ -18,7 +18,7 @@ returns-in_err-insert_journey g c =
     let same : begun n.journeys n.num b.agent.now c.steps.result c.from.result ≡ begun n.journeys n.num b.agent.now (step_count b.plan.now) b.plan.now.tries =
     rw (c.steps.ensures.count, c.from.ensures, c.tries.ensures.tries) refl in
     record {
-      did = did_fail (statement_fails {n = 0} row.goes (λ _. row.reason)) (λ t permits. subst (λ (j : JourneyRow). MayAddJourney j t) (sym same) permits.journey)
+      did = did_fail (keyed_fails row.writes) (λ t permits. subst (λ (j : JourneyRow). MayAddJourney j t) (sym same) permits.journey)
           (omega arith) (search rules);
     }
 
@@ -26,7 +26,7 @@ pub returns-in_err-write_steps : goal.returns-in_err-write_steps
 returns-in_err-write_steps g c =
     let row = c.in_ok-insert_journey.ensures in
     record {
-      did = did_then_fail (statement_changes row.goes row.made (λ _. row.reason) row.rowids (λ _ _. tt)) c.in_err-write_steps.ensures.did
+      did = did_then_fail (keyed row.writes) c.in_err-write_steps.ensures.did
           (λ t permits. (permits.journey.below, record { journey = added_there _ t; options = permits.options })) (omega arith) (search rules);
     }
 
@@ -35,8 +35,8 @@ returns-in_err-update_meta g c =
     let row = c.in_ok-insert_journey.ensures in
     let meta = c.in_err-update_meta.ensures in
     record {
-      did = did_then_fail (did_and (statement_changes row.goes row.made (λ _. row.reason) row.rowids (λ _ _. tt)) c.in_ok-write_steps.ensures.did)
-          (open_of (statement_fails {n = 0} meta.goes (λ _. meta.reason))) (λ t permits. ((permits.journey.below, tt), tt)) (omega arith) (search rules);
+      did = did_then_fail (did_and (keyed row.writes) c.in_ok-write_steps.ensures.did)
+          (open_of (keyed_fails meta.writes)) (λ t permits. ((permits.journey.below, tt), tt)) (omega arith) (search rules);
     }
 
 pub returns : goal.returns
@@ -48,8 +48,8 @@ returns g c =
     let same : begun n.journeys n.num b.agent.now c.steps.result c.from.result ≡ begun n.journeys n.num b.agent.now (step_count b.plan.now) b.plan.now.tries =
     rw (c.steps.ensures.count, c.from.ensures, c.tries.ensures.tries) refl in
     record {
-      did = did_both (did_and (statement_changes row.goes row.made (λ _. row.reason) row.rowids (λ _ _. tt)) c.in_ok-write_steps.ensures.did)
-          (open_of (statement_changes meta.goes meta.made (λ _. meta.reason) meta.rowids (λ _ _. tt)))
+      did = did_both (did_and (keyed row.writes) c.in_ok-write_steps.ensures.did)
+          (open_of (keyed meta.writes))
           (λ t below. (
             (below, tt),
             (

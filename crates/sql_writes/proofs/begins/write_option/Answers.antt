@@ -1,7 +1,7 @@
 use mir.Val.{bool_byte}
 use Rattle.std.proofs.Common.{IsTrue, ◌<◌, ◌≤◌, Bool, true, false, arith, lit<, rules, subst, sym}
 use Rattle.allotment.specs.Limits.{is_code}
-use Rattle.sql_writes.proofs.Doing.{did_as, did_fail, statement_adds, statement_fails}
+use Rattle.sql_writes.proofs.Doing.{did_as, did_fail, numbered, numbered_fails}
 use Rattle.sql_writes.proofs.OptionLemmas.{one_row}
 use Rattle.sql_writes.proofs.Permitting.{codes_short}
 use Rattle.sql_writes.proofs.begins.write_option.Goals as goal
@@ -28,7 +28,7 @@ returns-in_err-insert_step g c =
     let one = one_row c.args.id c.args.plan.now c.args.step c.args.option c.want-want.result c.want-want.ensures.want in
     let low = flag_low c.marked.result in
     record {
-      did = did_fail (statement_fails add.goes add.reason) (λ t permits. record {
+      did = did_fail (numbered_fails add.writes) (λ t permits. record {
         journey = permits.journey;
         unplaced = permits.unplaced;
         save = omega (arith, low, c.from.ensures);
@@ -43,4 +43,4 @@ pub returns : goal.returns
 returns g c =
     let add = c.in_ok-insert_step.ensures in
     let one = one_row c.args.id c.args.plan.now c.args.step c.args.option c.want-want.result c.want-want.ensures.want in
-    record { did = did_as (statement_adds add.goes add.made add.reason add.rowids (λ _ _. tt)) (λ _ t _ _. (tt, search rules)) (omega (arith, one)) }
+    record { did = did_as (numbered add.writes (λ _ _. tt)) (λ _ t _ _. (tt, search rules)) (omega (arith, one)) }

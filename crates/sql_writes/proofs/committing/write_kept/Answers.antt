@@ -1,6 +1,6 @@
 -- First the event's rows, then the reply's.
 use Rattle.std.proofs.Common.{refl, arith, rules}
-use Rattle.sql_writes.proofs.Doing.{did_both, did_fail, did_then_fail, open_of, statement_adds, statement_fails}
+use Rattle.sql_writes.proofs.Doing.{did_both, did_fail, did_then_fail, numbered, numbered_fails, open_of}
 use Rattle.sql_writes.proofs.EventLemmas.{permits_fits, permits_reply}
 use Rattle.sql_writes.proofs.committing.write_kept.Goals as goal
 
@@ -13,7 +13,7 @@ returns-in_err-insert_answer g c =
     let n = c.args.numbers in
     let event = c.args.event.now in
     record {
-      did = did_then_fail c.in_ok-write_rows.ensures.did (open_of (statement_fails answer.goes answer.reason))
+      did = did_then_fail c.in_ok-write_rows.ensures.did (open_of (numbered_fails answer.writes))
           (λ t permits. (permits_fits n event t permits.0, permits_reply n event c.args.keeping t permits.1)) (omega arith) (search rules);
     }
 
@@ -21,6 +21,6 @@ pub returns : goal.returns
 returns g c =
     let answer = c.in_ok-insert_answer.ensures in
     record {
-      did = did_both c.in_ok-write_rows.ensures.did (open_of (statement_adds answer.goes answer.made answer.reason answer.rowids (λ _ _. tt)))
+      did = did_both c.in_ok-write_rows.ensures.did (open_of (numbered answer.writes (λ _ _. tt)))
           (λ t fits. (fits, (tt, refl))) (omega arith);
     }

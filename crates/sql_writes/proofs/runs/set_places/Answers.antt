@@ -1,12 +1,9 @@
 -- The nights of the range are those of the product, up to the last one.
-use Rattle.std.proofs.Common.{IsTrue, ◌≡◌, subst, arith, rules, IfOk, OnOk}
-use Rattle.sqlite.specs.Held.{state}
+use Rattle.std.proofs.Common.{IsTrue, ◌≡◌, subst, arith, rules, IfOk}
 use Rattle.allotment.specs.Cells.{kind_number}
 use Rattle.allotment.specs.Limits.{is_code}
-use Rattle.desk_sql.specs.Calls.{Makes}
-use Rattle.desk_sql.specs.Rows.{Tables}
 use Rattle.desk_sql.specs.declared.stock.NightRange.{NightRange}
-use Rattle.sql_writes.proofs.Doing.{statement_changes}
+use Rattle.sql_writes.proofs.Doing.{did_like, numbered}
 use Rattle.sql_writes.proofs.Permitting.{codes_short}
 use Rattle.sql_writes.proofs.RunWrites.{short_nights, same_nights, same_count}
 use Rattle.sql_writes.proofs.runs.set_places.Goals as goal
@@ -24,11 +21,9 @@ returns-clause-did g c =
     let free : c.from-5.result ≡ first.1.free = search rules in
     let within = first.1.within in
     let set = c.set_nights.ensures in
-    statement_changes set.goes
-    (λ clean t may _. subst (λ (u : Tables). OnOk c.set_nights.result (Makes (state g.S.Store c.args.tx.now.conn.now) (state g.S.Store c.set_nights.new.tx.conn.now) u))
-    (same_nights range first c.args.last c.from-4.result c.from-5.result t kind supplier product from to allot free) (set.made clean t may tt))
-    (λ has clean t may cells up. set.reason has clean t may (record { free_is = omega (arith, within, allot, free); short = short_nights range t cells }) up)
-    set.rowids (λ _ _. tt)
+    did_like (numbered set.writes (λ _ it. it))
+    (λ t _. (tt, same_nights range first c.args.last c.from-4.result c.from-5.result t kind supplier product from to allot free))
+    (λ t cells. record { free_is = omega (arith, within, allot, free); short = short_nights range t cells }) (omega arith)
 
 -- the rows are counted
 pub returns-clause-known : goal.returns-clause-known

@@ -3,6 +3,7 @@ use Rattle.std.proofs.Common.{◌≡◌, refl, sym, subst, ◌∙◌, Some, None
 use Rattle.sqlite.specs.Held.{state}
 use Rattle.commands.specs.declared.replies.Fault.TheVariants as fault
 use Rattle.desk_sql.specs.declared.versions.Version.{Version}
+use Rattle.desk_sql.specs.declared.versions.Version.TheVariants.{Two}
 use Rattle.desk_sql.specs.Versions.{number_of, AreOfVersion}
 use Rattle.sql_model.proofs.KeepLemmas.{seen_by}
 use Rattle.sql_model.proofs.Quieting.{quiet_clean, quiet_leaves, quiet_sees, quiet_up}
@@ -17,17 +18,17 @@ returns-in-Some-clause-opens g c =
     let store = g.S.Store in
     let old = c.args.conn.now in
     let new = c.read_meta.new.conn in
-    let quiet = c.read_meta.ensures.quiet in
+    let quiet = (c.read_meta.ensures.queries Two).quiet in
     let m = c.in-Ok.meta in
     let now = c.in-Some.version in
     let named : (w : Version) → Some now ≡ Some w ↔ m.version ≡ number_of w
     = subst (λ (o : Option Version). (w : Version) → o ≡ Some w ↔ m.version ≡ number_of w) c.in-Some.is c.from_number.ensures in
     record {
-      finds = λ clean v s stood. keeps_named (state store old) (state store new) m (λ w t sees. c.in-Ok.ensures.found w clean t sees) v s
+      finds = λ clean v s stood. keeps_named (state store old) (state store new) m (λ w t sees. (c.in-Ok.ensures.queries w).found clean t sees) v s
           (stood (quiet_clean store old new quiet clean)) c.requires.filled now named (quiet_leaves store old new quiet clean);
-      only = λ clean v s stood. is_named (state store old) (state store new) m (λ w t sees. c.in-Ok.ensures.found w clean t sees) v s
+      only = λ clean v s stood. is_named (state store old) (state store new) m (λ w t sees. (c.in-Ok.ensures.queries w).found clean t sees) v s
           (stood (quiet_clean store old new quiet clean)) c.requires.filled now named;
-      version = λ clean v t sees. subst (λ n. AreOfVersion n t) ((named now).0 refl) (has_version t m (c.in-Ok.ensures.found v clean t sees).1);
+      version = λ clean v t sees. subst (λ n. AreOfVersion n t) ((named now).0 refl) (has_version t m ((c.in-Ok.ensures.queries v).found clean t sees).1);
       idle = quiet_idle store old new quiet c.requires.idle;
       sound = quiet_clean store old new quiet;
       up = quiet_up store old new quiet;
@@ -40,7 +41,7 @@ returns-in-None-clause-fails g c =
     let store = g.S.Store in
     let old = c.args.conn.now in
     let new = c.read_meta.new.conn in
-    let quiet = c.read_meta.ensures.quiet in
+    let quiet = (c.read_meta.ensures.queries Two).quiet in
     let m = c.in-Ok.meta in
     let other : (v : Version) → m.version ≡ number_of v → ⊥ = λ v is.
     let some : c.from_number.result ≡ Some v = (c.from_number.ensures v).1 is in
@@ -48,8 +49,8 @@ returns-in-None-clause-fails g c =
     absurd (let never : None ≡ Some v = sym none ∙ some in cc) in
     fails_quietly store old new quiet c.requires.idle c.requires.filled (UnknownSchema m.version) (
       other,
-      λ clean v t sees. has_version t m (c.in-Ok.ensures.found v clean t sees).1,
-      λ clean v s stood. other v (has_number (state store old) (state store new) m (λ w t sees. c.in-Ok.ensures.found w clean t sees) v s
+      λ clean v t sees. has_version t m ((c.in-Ok.ensures.queries v).found clean t sees).1,
+      λ clean v s stood. other v (has_number (state store old) (state store new) m (λ w t sees. (c.in-Ok.ensures.queries w).found clean t sees) v s
           (stood (quiet_clean store old new quiet clean)) c.requires.filled),
     )
     (λ clean v s keeps up is. absurd (let never : UnknownSchema m.version ≡ Store = is in cc))
@@ -60,11 +61,11 @@ returns-in-Err-clause-fails g c =
     let store = g.S.Store in
     let old = c.args.conn.now in
     let new = c.read_meta.new.conn in
-    let quiet = c.read_meta.ensures.quiet in
+    let quiet = (c.read_meta.ensures.queries Two).quiet in
     fails_quietly store old new quiet c.requires.idle c.requires.filled c.opening_fault.result
     (tells_fault store old new c.fault_of.result c.opening_fault.result c.opening_fault.ensures.memory c.opening_fault.ensures.store quiet.survives)
     (λ clean v s keeps up is. (
     let seen = seen_by (state store old) s (keeps (quiet_clean store old new quiet clean)) in
-    let reason = c.in-Err.ensures.reason v clean seen.tables seen.may (meta_there seen.tables s (seen.stands up.is_open)) up in
+    let reason = (c.in-Err.ensures.queries v).reason clean seen.tables seen.may (meta_there seen.tables s (seen.stands up.is_open)) up in
     let was : c.fault_of.result ≡ fault.Store = c.opening_fault.ensures.store.0 is in
     of_error (state store old) (state store new) c.in-Err.error c.fault_of.result c.fault_of.ensures.memory reason was))
