@@ -1,9 +1,10 @@
 //! The report of the holders of a cell.
-ghost use Rattle.std.specs.Prelude.{◌≡◌, ◌+◌, List, [], codes, length, IfOk, OnOk, string_bytes};
+ghost use Rattle.std.specs.Prelude.{◌≡◌, codes, IfOk, OnOk, string_bytes};
 ghost use Rattle.std.specs.List.{flat_map};
 ghost use Rattle.std.specs.Io.KnownBytes.{Appends};
 ghost use Rattle.holder_reports.specs.Layouts.{holder_row, holders_in};
 ghost use Rattle.reports.specs.Formats.{last_line};
+ghost use Rattle.reports.specs.Writing.{Writes};
 ghost use Rattle.streams.specs.Written.{WroteFront};
 
 use crate::holders::Holder;
@@ -25,19 +26,8 @@ pub fn holders_text<R: RowSource<Holder>, W: Write>(
     rows: &mut R,
     out: &mut W,
 ) -> Result<u64, ReportFault>
-    ensures written { R.is_sound rows.new → (all : List Holder) → R.rests rows.old all →
-        OnOk result (Appends (W.contents out.old) (W.contents out.new) (holders_in format all)) }
-    ensures number { R.is_sound rows.new → (all : List Holder) → R.rests rows.old all →
-        IfOk result (λ count. count ≡ length all) }
-    ensures rest { R.is_sound rows.new → (all : List Holder) → R.rests rows.old all →
-        OnOk result (R.rests rows.new []) }
-    ensures given { IfOk result (λ count. R.given rows.new ≡ count + R.given rows.old) }
-
-    ensures front { R.is_sound rows.new → (all : List Holder) → R.rests rows.old all →
-        WroteFront (W.contents out.old) (W.contents out.new) (holders_in format all) }
-
-    ensures kept { R.becomes rows.old rows.new }
-    ensures sound { R.is_sound rows.new → R.is_sound rows.old }
+    ensures writes { Writes R.RowSource rows.old rows.new (holders_in format)
+        (W.contents out.old) (W.contents out.new) result }
 {
     send(out, holders_head(format).as_bytes())?;
     let count = send_holders(alloc, format, rows, out)?;
@@ -64,20 +54,8 @@ fn send_holders<R: RowSource<Holder>, W: Write>(
     rows: &mut R,
     out: &mut W,
 ) -> Result<u64, ReportFault>
-    ensures written { R.is_sound rows.new → (all : List Holder) → R.rests rows.old all →
-        OnOk result
-        (Appends (W.contents out.old) (W.contents out.new) (flat_map (holder_row format) all)) }
-    ensures number { R.is_sound rows.new → (all : List Holder) → R.rests rows.old all →
-        IfOk result (λ count. count ≡ length all) }
-    ensures rest { R.is_sound rows.new → (all : List Holder) → R.rests rows.old all →
-        OnOk result (R.rests rows.new []) }
-    ensures given { IfOk result (λ count. R.given rows.new ≡ count + R.given rows.old) }
-
-    ensures front { R.is_sound rows.new → (all : List Holder) → R.rests rows.old all →
-        WroteFront (W.contents out.old) (W.contents out.new) (flat_map (holder_row format) all) }
-
-    ensures kept { R.becomes rows.old rows.new }
-    ensures sound { R.is_sound rows.new → R.is_sound rows.old }
+    ensures writes { Writes R.RowSource rows.old rows.new (flat_map (holder_row format))
+        (W.contents out.old) (W.contents out.new) result }
 {
     let mut count = 0u64;
     while let Some(row) = rows.next_row()? {

@@ -1,11 +1,13 @@
 -- The reports by month: what stands before the months, the months, and what stands after so many of them.
-use Rattle.std.specs.Prelude.{ℕ, List, ◌++◌, length, codes}
+use Rattle.std.specs.Prelude.{◌+◌, ◌≤◌, ℕ, List, [], ◌++◌, length, codes, Option, Result}
 use Rattle.std.specs.List.{flat_map}
 use Rattle.filters.specs.declared.cells.CellFilter.{CellFilter}
 use Rattle.reports.specs.Formats.{last_line}
+use Rattle.reports.specs.Writing.{WritesCounted}
 use Rattle.reports.specs.declared.formats.Format.TheVariants.{Text}
+use Rattle.saga_core.specs.declared.row_sources.RowSource.{Ghosts}
 use Rattle.month_reports.specs.Calendars.{calendar_head, calendar_row}
-use Rattle.month_reports.specs.Months.{asked_of, months_of, Places}
+use Rattle.month_reports.specs.Months.{asked_of, AskedRest, months_of, Places}
 use Rattle.month_reports.specs.Summaries.{summary_head, summary_row}
 use Rattle.month_reports.specs.declared.by_month.MonthReport.{MonthReport}
 use Rattle.month_reports.specs.declared.by_month.MonthReport.TheVariants.{Summary, Calendar}
@@ -33,3 +35,12 @@ asked_months f rows = months_of (asked_of f rows)
 abbrev pub months_in : MonthReport → List (List Places) → List ℕ
 months_in report months =
     months_head report ++ flat_map (month_shown report) months ++ months_end report (length months)
+
+module _ {R : Type 0} (source : Ghosts R Places) (old new : R) where
+  -- this text of the months of all cells that are asked for was written, and they were counted, each with a cell of its own; at a
+  -- fault a prefix of the text was written
+  abbrev pub WritesMonths : CellFilter → (List (List Places) → List ℕ)
+      → Option (List ℕ) → Option (List ℕ) → {E : Type 0} → Result ℕ E → Type 0
+  WritesMonths f text held holds result =
+      WritesCounted source old new (λ all. text (asked_months f all)) (λ all. length (asked_months f all))
+      (λ count. count + source.given old ≤ source.given new) (AskedRest f (source.rests new) []) held holds result

@@ -1,11 +1,8 @@
 //! The reports by month.
-ghost use Rattle.std.specs.Prelude.{◌≡◌, ◌+◌, ◌≤◌, ℕ, List, [], length, IfOk, OnOk};
+ghost use Rattle.std.specs.Prelude.{◌≡◌, ◌≤◌, length, IfOk, OnOk};
 ghost use Rattle.std.specs.List.{flat_map};
 ghost use Rattle.std.specs.Io.KnownBytes.{Appends};
-ghost use Rattle.allotment.specs.declared.cells.Cell.{Cell};
-ghost use Rattle.allotment.specs.declared.places.Held.{Held};
-ghost use Rattle.month_reports.specs.MonthReports.{asked_months, month_shown, months_end, months_head, months_in};
-ghost use Rattle.month_reports.specs.Months.{AskedRest};
+ghost use Rattle.month_reports.specs.MonthReports.{month_shown, months_end, months_head, months_in, WritesMonths};
 ghost use Rattle.streams.specs.Written.{WroteFront};
 
 use crate::calendars::{calendar_head, calendar_row};
@@ -80,21 +77,8 @@ pub fn months_text<R: RowSource<(Cell, Held)>, W: Write>(
     rows: &mut R,
     out: &mut W,
 ) -> Result<u64, ReportFault>
-    ensures written { R.is_sound rows.new → (all : List (Cell × Held)) → R.rests rows.old all →
-        OnOk result (Appends (W.contents out.old) (W.contents out.new)
-        (months_in report (asked_months filter.now all))) }
-    ensures number { R.is_sound rows.new → (all : List (Cell × Held)) → R.rests rows.old all →
-        IfOk result (λ count. count ≡ length (asked_months filter.now all)) }
-    ensures rest { R.is_sound rows.new → (all : List (Cell × Held)) → R.rests rows.old all →
-        OnOk result (AskedRest filter.now (R.rests rows.new) []) }
-    ensures given { IfOk result (λ count. count + R.given rows.old ≤ R.given rows.new) }
-
-    ensures front { R.is_sound rows.new → (all : List (Cell × Held)) → R.rests rows.old all →
-        WroteFront (W.contents out.old) (W.contents out.new)
-        (months_in report (asked_months filter.now all)) }
-
-    ensures kept { R.becomes rows.old rows.new }
-    ensures sound { R.is_sound rows.new → R.is_sound rows.old }
+    ensures writes { WritesMonths R.RowSource rows.old rows.new filter.now (months_in report)
+        (W.contents out.old) (W.contents out.new) result }
 {
     send(out, report.head().as_bytes())?;
     let count = send_months(alloc, report, filter, rows, out)?;
@@ -111,21 +95,8 @@ fn send_months<R: RowSource<(Cell, Held)>, W: Write>(
     rows: &mut R,
     out: &mut W,
 ) -> Result<u64, ReportFault>
-    ensures written { R.is_sound rows.new → (all : List (Cell × Held)) → R.rests rows.old all →
-        OnOk result (Appends (W.contents out.old) (W.contents out.new)
-        (flat_map (month_shown report) (asked_months filter.now all))) }
-    ensures number { R.is_sound rows.new → (all : List (Cell × Held)) → R.rests rows.old all →
-        IfOk result (λ count. count ≡ length (asked_months filter.now all)) }
-    ensures rest { R.is_sound rows.new → (all : List (Cell × Held)) → R.rests rows.old all →
-        OnOk result (AskedRest filter.now (R.rests rows.new) []) }
-    ensures given { IfOk result (λ count. count + R.given rows.old ≤ R.given rows.new) }
-
-    ensures front { R.is_sound rows.new → (all : List (Cell × Held)) → R.rests rows.old all →
-        WroteFront (W.contents out.old) (W.contents out.new)
-        (flat_map (month_shown report) (asked_months filter.now all)) }
-
-    ensures kept { R.becomes rows.old rows.new }
-    ensures sound { R.is_sound rows.new → R.is_sound rows.old }
+    ensures writes { WritesMonths R.RowSource rows.old rows.new filter.now (flat_map (month_shown report))
+        (W.contents out.old) (W.contents out.new) result }
 {
     let mut count = 0u64;
     let mut next = next_asked(filter, rows)?;

@@ -2,6 +2,7 @@
 ghost use Rattle.std.specs.Prelude.{◌≡◌, ◌+◌, ◌<◌, ◌≤◌, ◌^◌, ◌++◌, [], ◌∷◌, List, Some, length, IfOk, OnOk};
 ghost use Rattle.saga_core.specs.RowSources.{count_of, Hands};
 ghost use Rattle.month_reports.specs.Months.{AskedRest, MonthsRest};
+ghost use Rattle.reports.specs.Writing.{Takes};
 
 use crate::days::goes_on;
 use crate::sums::MOST_NIGHTS;
@@ -30,8 +31,7 @@ pub(crate) fn next_asked<R: RowSource<(Cell, Held)>>(
     ensures counted { IfOk result (λ found. count_of found + R.given rows.old ≤ R.given rows.new) }
     ensures few { R.given rows.new < 2 ^ 64 }
 
-    ensures kept { R.becomes rows.old rows.new }
-    ensures sound { R.is_sound rows.new → R.is_sound rows.old }
+    ensures takes { Takes R.RowSource rows.old rows.new }
 {
     while let Some(row) = rows.next_row()? {
         if filter.lets(&row.0) {
@@ -56,8 +56,7 @@ pub(crate) fn read_month<R: RowSource<(Cell, Held)>>(
         (λ read. count_of read.after + R.given rows.old ≤ R.given rows.new) }
     ensures given { OnOk result (R.given rows.new < 2 ^ 64) }
 
-    ensures kept { R.becomes rows.old rows.new }
-    ensures sound { R.is_sound rows.new → R.is_sound rows.old }
+    ensures takes { Takes R.RowSource rows.old rows.new }
 {
     let mut cells = Vec::new(alloc);
     add(&mut cells, first)?;

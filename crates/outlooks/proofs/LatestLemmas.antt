@@ -1,6 +1,6 @@
 -- The option with which a step was done last: it is the one that stands, if any does. For the compensation of the step,
 -- and for reading the items of a journey.
-use Rattle.std.proofs.Common.{◌≡◌, ℕ, List, [], ◌∷◌, ◌++◌, refl, ap, sym, ◌∙◌, append-nil, append_assoc, eq-eqb, eqb-true, Bool, true, false, ◌==◌, ◌||◌, if◌then◌else◌, filter_map, Option, Some, None}
+use Rattle.std.proofs.Common.{◌≡◌, ℕ, List, [], ◌∷◌, ◌++◌, refl, ap, sym, ◌∙◌, append-nil, eq-eqb, eqb-true, Bool, true, false, ◌==◌, ◌||◌, if◌then◌else◌, filter_map, Option, Some, None}
 use Rattle.std.proofs.lemmas.Bool.{false_from_ne_true}
 use Rattle.std.proofs.lemmas.List.Elements.{filter_map-append}
 use Rattle.std.specs.List.{cons_option, list_any}
@@ -9,7 +9,8 @@ use Rattle.commands.specs.declared.items.Item.TheVariants.{Transaction, Compensa
 use Rattle.ledger.specs.History.{net, last_of, is_compensation_of}
 use Rattle.ledger.proofs.Lists.{last_of-is, last_of-append}
 use Rattle.ledger_transitions.specs.JourneyChanges.{newer}
-use Rattle.saga_core.specs.RowSources.{Hands, HandsFirst}
+use Rattle.saga_core.specs.RowSources.{Hands}
+use Rattle.reports.proofs.TakeLemmas.{Taken, taken_all, taken_more, taken_none}
 use Rattle.outlooks.specs.Outlooks.{latest_option, option_done}
 
 -- What stands.
@@ -116,42 +117,25 @@ latest-more i h x = ap last_of (filter_map-append (option_done i) h (x ∷ [])) 
 -- these items were read, and the others remain
 pub record Read (i : ℕ) (rests : List Item → Type 0) (all : List Item) (latest : Option ℕ) : Type 0 where
   pub passed : List Item
-  pub left : List Item
-  pub whole : all ≡ passed ++ left
-  pub remain : rests left
+  pub taken : Taken rests all passed
   pub latest_is : latest ≡ latest_option i passed
 
 -- none was read
 pub reads_none : (i : ℕ) (rests : List Item → Type 0) (all : List Item) → rests all → Read i rests all None
-reads_none i rests all remain =
-    record { passed = []; left = all; whole = refl; remain = remain; latest_is = refl }
+reads_none i rests all remain = record { passed = []; taken = taken_none all remain; latest_is = refl }
 
 module _ (i : ℕ) (rested rests : List Item → Type 0) (all : List Item) (latest : Option ℕ) where
   -- one more was
   pub reads_more : (x : Item) (o : Option ℕ) → Read i rested all latest → Hands rested rests (Some x)
       → o ≡ newer (option_done i x) latest → Read i rests all o
-  reads_more x o at hands is = go at.left at.whole (hands at.left at.remain)
-    where
-      go : (left : List Item) → all ≡ at.passed ++ left → HandsFirst rests (Some x) left → Read i rests all o
-      go [] whole first = let bad : Some x ≡ None = first.0 in cc
-      go (row ∷ later) whole first =
-          let same : x ≡ row = cc in
-          record {
-            passed = at.passed ++ x ∷ [];
-            left = later;
-            whole =
-                whole ∙ ap (λ r. at.passed ++ r ∷ later) (sym same)
-                ∙ sym (append_assoc at.passed (x ∷ []) later);
-            remain = first.1;
-            latest_is = is ∙ ap (newer (option_done i x)) at.latest_is ∙ sym (latest-more i at.passed x);
-          }
+  reads_more x o at hands is = record {
+    passed = at.passed ++ x ∷ [];
+    taken = taken_more at.taken rests hands;
+    latest_is = is ∙ ap (newer (option_done i x)) at.latest_is ∙ sym (latest-more i at.passed x);
+  }
 
   -- there is no other
   pub reads_all : Read i rested all latest → Hands rested rests None → (latest ≡ latest_option i all) × rests []
-  reads_all at hands = go at.left at.whole (hands at.left at.remain)
-    where
-      go : (left : List Item) → all ≡ at.passed ++ left → HandsFirst rests None left
-          → (latest ≡ latest_option i all) × rests []
-      go [] whole first =
-          (at.latest_is ∙ ap (latest_option i) (sym (whole ∙ append-nil at.passed)), first.1)
-      go (row ∷ later) whole first = let bad : None ≡ Some row = first.0 in cc
+  reads_all at hands =
+      let whole = taken_all at.taken rests hands in
+      (at.latest_is ∙ ap (latest_option i) (sym whole.0), whole.1)

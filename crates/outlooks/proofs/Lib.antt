@@ -1,4 +1,3 @@
-pub mod ReadLemmas
 pub mod NightLemmas
 pub mod LatestLemmas
 pub mod OutlookLemmas

@@ -8,6 +8,7 @@ ghost use Rattle.allotment.specs.declared.places.Held.{Held};
 ghost use Rattle.ledger.specs.Ledger.{Event, fits, IsLegal};
 ghost use Rattle.saga_core.specs.Views.{places_at};
 ghost use Rattle.outlooks.specs.Nights.{has_room, night_with, nights_in, nights_of};
+ghost use Rattle.reports.specs.Writing.{Takes};
 
 use allotment::{Cell, Held, Night, Want};
 use reports::ReportFault;
@@ -78,8 +79,7 @@ pub fn read_nights<R: RowSource<(Cell, Held)>>(
 
     ensures no_write { IfErr result (λ fault. fault ≢ ReportFault.Write) }
 
-    ensures kept { R.becomes rows.old rows.new }
-    ensures sound { R.is_sound rows.new → R.is_sound rows.old }
+    ensures takes { Takes R.RowSource rows.old rows.new }
 {
     let mut cells = Vec::new(alloc);
     while let Some(row) = rows.next_row()? {

@@ -1,7 +1,7 @@
 //! The lines of an outlook as CSV records (RFC 4180).
-ghost use Rattle.std.specs.Prelude.{◌≡◌, [], ◌∷◌, ◌++◌, IfOk, OnOk, string_bytes};
-ghost use Rattle.csv.specs.Records.{fields_of, partial_of};
-ghost use Rattle.reports.specs.Records.{csv_line};
+ghost use Rattle.std.specs.Prelude.{◌≡◌, [], ◌∷◌, IfOk, string_bytes};
+ghost use Rattle.csv.specs.Records.{partial_of};
+ghost use Rattle.reports.specs.Records.{Adds, csv_line};
 ghost use Rattle.outlooks.specs.Layouts.{free_field, next_fields, night_fields, why_fields, why_names};
 
 use crate::lines::step_word;
@@ -40,8 +40,7 @@ pub(crate) fn why_record(
 fn put_next(alloc: Global, row: &mut ByteRecord, next: &Option<NextStep>) -> Result<(), AllocError>
     requires whole { partial_of row.old ≡ [] }
 
-    ensures fields { OnOk result (fields_of row.new ≡ fields_of row.old ++ next_fields next.now) }
-    ensures whole { OnOk result (partial_of row.new ≡ []) }
+    ensures adds { Adds row.old row.new (next_fields next.now) result }
 {
     match next {
         Some(next) => {
@@ -61,8 +60,7 @@ fn put_night(
 ) -> Result<(), AllocError>
     requires whole { partial_of row.old ≡ [] }
 
-    ensures fields { OnOk result (fields_of row.new ≡ fields_of row.old ++ night_fields night.now) }
-    ensures whole { OnOk result (partial_of row.new ≡ []) }
+    ensures adds { Adds row.old row.new (night_fields night.now) result }
 {
     match night {
         Some(night) => {
@@ -88,9 +86,7 @@ fn free_text(alloc: Global, free: Option<u32>) -> Result<String, AllocError>
 fn put_two(row: &mut ByteRecord, first: &str, second: &str) -> Result<(), AllocError>
     requires whole { partial_of row.old ≡ [] }
 
-    ensures fields { OnOk result
-        (fields_of row.new ≡ fields_of row.old ++ (first.now ∷ second.now ∷ [])) }
-    ensures whole { OnOk result (partial_of row.new ≡ []) }
+    ensures adds { Adds row.old row.new (first.now ∷ second.now ∷ []) result }
 {
     put_field(row, first)?;
     put_field(row, second)

@@ -1,33 +1,19 @@
 -- What was written of a report, and how its job ends. For the job of a report.
 use Rattle.std.proofs.Common.{◌≡◌, false, refl, sym, subst, true, ℕ, List, Option, Result, None, Some, Ok, Err, IsErr, OnOk}
 use Rattle.std.specs.Io.KnownBytes.{Appends, Keeps}
-use Rattle.sqlite.specs.Store.{Ghosts}
-use Rattle.sqlite.specs.Held.{state}
 use Rattle.commands.specs.declared.replies.Refusal.TheVariants as refusal
-use Rattle.ledger.specs.Answer.{State}
 use Rattle.saga_core.specs.declared.records.Record.{Record}
 use Rattle.streams.specs.Written.{WroteFront}
 use Rattle.streams.proofs.ByteLemmas.{appends_before, keeps_same}
 use Rattle.reports.proofs.FrontLemmas.{front_none, front_whole}
 use Rattle.reports.specs.declared.faults.ReportFault.{ReportFault}
-use Rattle.sql_model.proofs.Quieting.{quiet_keeps}
-use Rattle.tables.specs.Keeping.{KeepsIn}
-use Rattle.tables.specs.Lending.{IsOnlyRead}
-use Rattle.tables.specs.declared.opening.Opened.{Opened}
+use Rattle.reports.specs.Writing.{Wrote}
 use Rattle.program_ends.specs.Ends.{EndsBadly, IfDone, IsNotRefused}
 use Rattle.program_ends.specs.declared.ends.End.{End}
 use Rattle.program_ends.specs.declared.ends.End.TheVariants as finish
 use Rattle.program_ends.specs.declared.faults.ProgramFault.{ProgramFault}
 use Rattle.report_jobs.specs.Jobs.{EndsReport}
-use Rattle.report_jobs.specs.Reporting.{IsDeskIn, ReportsIfThere, ReportsText, WritesText, end_of_report}
-
--- what was opened still keeps the state after it was only read
-pub still_in : {S : Type 0} (g : Ghosts S) (old new : Opened S) (s : State) → IsOnlyRead g old new → IsDeskIn g old s → IsDeskIn g new s
-still_in g old new s read is = record {
-  desk = is.desk;
-  keeps = subst (λ v. KeepsIn v (state g new.conn) s) (sym read.version)
-      (quiet_keeps g old.conn new.conn read.quiet old.version s is.keeps);
-}
+use Rattle.report_jobs.specs.Reporting.{ReportsIfThere, ReportsText, WritesText, end_of_report}
 
 -- what holds, holds where there was no fault
 on_ok : {T E P : Type 0} (r : Result T E) → P → OnOk r P
@@ -48,6 +34,10 @@ module _ (held : Option (List ℕ)) (text : List ℕ) where
   wrote_whole mid holds r sent kept =
       let all = appends_before held mid holds text sent kept in
       record { whole = on_ok r all; front = front_whole held holds text all }
+
+  -- the text of a source's rows was written
+  pub wrote_rows : {holds : Option (List ℕ)} {n : ℕ} {r : Result ℕ ReportFault} → Wrote held holds text n r → WritesText held holds text r
+  wrote_rows it = record { whole = it.written; front = it.front }
 
   -- nothing was written, and a fault came
   pub wrote_none : {T : Type 0} (f : ReportFault) → WritesText held held text {T = T} (Err f)

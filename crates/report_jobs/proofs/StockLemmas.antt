@@ -23,11 +23,10 @@ use Rattle.streams.specs.Written.{WroteFront}
 use Rattle.streams.proofs.ByteLemmas.{appends_more}
 use Rattle.reports.specs.declared.faults.ReportFault.{ReportFault}
 use Rattle.report_rows.specs.declared.progress.Progress.{Progress}
-use Rattle.desk_sql.proofs.Quieting.{quiet_twice}
-use Rattle.sql_model.proofs.Quieting.{quiet_clean, quiet_keeps}
 use Rattle.sqlite.specs.Store.{Ghosts}
 use Rattle.sqlite.specs.Held.{Held}
 use Rattle.report_jobs.specs.Reporting.{asked_cells, cells_of_kind, ShowsCells, WritesCells}
+use Rattle.report_jobs.proofs.ShowLemmas.{shows_as, shows_then}
 
 -- Kinds.
 
@@ -242,13 +241,10 @@ module _ {S : Type 0} (g : Ghosts S) (format : Format) where
       → ShowsCells g old mid held half format one before (Ok between)
       → ShowsCells g mid new half holds format two between result
       → ShowsCells g old new held holds format (λ all. one all ++ two all) before result
-  shows_both {old} {mid} {new} {held} {half} {holds} {one} {two} {before} {between} {result} first second = record {
-    told = λ clean v s desk keeps going all stock. (
-        let wrote = first.told (quiet_clean g mid new second.quiet clean) v s desk keeps going all stock in
-        writes_both held half holds format (one all) (two all) before between result wrote
-        (second.told clean v s desk (quiet_keeps g old mid first.quiet v s keeps) wrote.going all stock));
-    quiet = quiet_twice g old mid new first.quiet second.quiet;
-  }
+  shows_both {held = held} {half} {holds} {one} {two} {before} {between} {result} first second =
+      shows_then g first second (λ s wrote more going all stock. (
+      let lines = wrote going all stock in
+      writes_both held half holds format (one all) (two all) before between result lines (more lines.going all stock)))
 
   -- a fault came before the next one
   pub shows_less : {old new : Held S} {held holds : Option (List ℕ)} {one : List (Cell × Places) → List (Cell × Places)}
@@ -256,13 +252,11 @@ module _ {S : Type 0} (g : Ghosts S) (format : Format) where
       (after : Result Progress ReportFault) → IsErr after
       → ShowsCells g old new held holds format one before result
       → ShowsCells g old new held holds format (λ all. one all ++ two all) before after
-  shows_less {old} {new} {held} {holds} {one} {before} {result} two after failed first = record {
-    told = λ clean v s desk keeps going all stock. writes_less held holds format (one all ++ two all) before after failed
-        (subst (WroteFront held holds) (sym (flat_append (stock_row format) (one all) (two all)))
-        (front_before held holds (flat_map (stock_row format) (one all)) (flat_map (stock_row format) (two all))
-        (first.told clean v s desk keeps going all stock).front));
-    quiet = first.quiet;
-  }
+  shows_less {held = held} {holds} {one} {before} {result} two after failed first =
+      shows_as g first (λ s desk wrote going all stock.
+      writes_less held holds format (one all ++ two all) before after failed
+      (subst (WroteFront held holds) (sym (flat_append (stock_row format) (one all) (two all)))
+      (front_before held holds (flat_map (stock_row format) (one all)) (flat_map (stock_row format) (two all)) (wrote going all stock).front)))
 
   -- those of the four kinds are those that are asked for
   pub shows_asked : {old new : Held S} {held holds : Option (List ℕ)} {before : Progress} {result : Result Progress ReportFault}
@@ -270,11 +264,9 @@ module _ {S : Type 0} (g : Ghosts S) (format : Format) where
       → ShowsCells g old new held holds format
       (λ all. cells_of_kind Flight f all ++ (cells_of_kind Room f all ++ (cells_of_kind Transfer f all ++ cells_of_kind Cover f all))) before result
       → ShowsCells g old new held holds format (asked_cells f) before result
-  shows_asked {old} {new} {held} {holds} {before} {result} f shows = record {
-    told = λ clean v s desk keeps going all stock. subst (λ cells. WritesCells held holds format cells before result)
-        (sym (by_kinds f all stock.in_order)) (shows.told clean v s desk keeps going all stock);
-    quiet = shows.quiet;
-  }
+  shows_asked {held = held} {holds} {before} {result} f shows =
+      shows_as g shows (λ s desk wrote going all stock.
+      subst (λ cells. WritesCells held holds format cells before result) (sym (by_kinds f all stock.in_order)) (wrote going all stock))
 
 -- The cells of one kind.
 

@@ -33,7 +33,7 @@ use Rattle.streams.specs.Written.{WroteFront}
 use Rattle.sql_model.specs.Standing.{IsDesk}
 use Rattle.report_rows.specs.declared.progress.Progress.{Progress}
 use Rattle.tables.specs.Keeping.{KeepsIn}
-use Rattle.tables.specs.Lending.{OpenedKeeps}
+use Rattle.tables.specs.Lending.{IsOnlyRead, OpenedKeeps}
 use Rattle.tables.specs.Opening.{Tells}
 use Rattle.tables.specs.declared.faults.OpenFault.TheVariants as opening
 use Rattle.tables.specs.declared.opening.Opened.{Opened}
@@ -52,6 +52,17 @@ module _ {S : Type 0} (g : Ghosts S) where
 -- the refusal is that there is no such journey
 abbrev pub IsNoJourney : Refusal → Type 0
 IsNoJourney why = why ≡ refusal.NoJourney
+
+module _ {S : Type 0} (g : Ghosts S) where
+  -- this is shown of each desk that the connection kept, and the connection was only read
+  pub record ShowsDesk (old new : Held S) (IsShown : State → Type 0) : Type 0 where
+    pub told : HasCleanDisk (state g new) → (v : Version) (s : State) → IsDesk s → KeepsIn v (state g old) s → IsShown s
+    pub quiet : Quiet g old new
+
+  -- this is shown of the desk that was opened, and what was opened was only read
+  pub record ShowsOpened (old new : Opened S) (IsShown : State → Type 0) : Type 0 where
+    pub told : HasCleanDisk (state g new.conn) → (s : State) → IsDeskIn g old s → IsShown s
+    pub kept : IsOnlyRead g old new
 
 module _ {S : Type 0} (g : Ghosts S) (old new : Held S) where
   -- the refusal names the version of the tables, which is unknown, so that the connection represented no state
@@ -141,11 +152,9 @@ module _ (held holds : Option (List ℕ)) where
   ReportsHistory format id e s =
       ReportsIfThere (λ journey. history_in format id journey (history s.ledger id)) (record_of s.ledger id) e
 
-module _ {S : Type 0} (g : Ghosts S) (old new : Held S) (held holds : Option (List ℕ)) where
-  -- of a stock that the connection kept, the lines of such cells were written and counted; the connection was only read
-  pub record ShowsCells (format : Format) (asked : List (Cell × Places) → List (Cell × Places)) (before : Progress)
-      (result : Result Progress ReportFault) : Type 0 where
-    pub told : HasCleanDisk (state g new) → (v : Version) (s : State) → IsDesk s → KeepsIn v (state g old) s
-        → before.failed ≡ false → (all : List (Cell × Places)) → IsStock s.ledger all
-        → WritesCells held holds format (asked all) before result
-    pub quiet : Quiet g old new
+-- of each stock that the connection kept, the lines of such cells were written and counted; the connection was only read
+abbrev pub ShowsCells : {S : Type 0} → Ghosts S → Held S → Held S → Option (List ℕ) → Option (List ℕ) → Format
+    → (List (Cell × Places) → List (Cell × Places)) → Progress → Result Progress ReportFault → Type 0
+ShowsCells g old new held holds format asked before result =
+    ShowsDesk g old new (λ s. before.failed ≡ false → (all : List (Cell × Places)) → IsStock s.ledger all
+    → WritesCells held holds format (asked all) before result)

@@ -1,16 +1,9 @@
 //! The reports of cells and of journeys that a filter lets through, each by a statement in which the filter stands.
 ghost use Rattle.std.specs.Prelude.{◌≡◌, false, List};
-ghost use Rattle.sqlite.specs.Held.{state};
-ghost use Rattle.sqlite.specs.State.{HasCleanDisk};
-ghost use Rattle.desk_sql.specs.Calls.{Quiet};
-ghost use Rattle.desk_sql.specs.declared.versions.Version.{Version};
-ghost use Rattle.ledger.specs.Answer.{State};
 ghost use Rattle.reports.specs.Formats.{stock_in};
 ghost use Rattle.saga_core.specs.Views.{IsStock};
-ghost use Rattle.sql_model.specs.Standing.{IsDesk};
 ghost use Rattle.report_rows.specs.RowsLeft.{AreCellsOf};
-ghost use Rattle.tables.specs.Keeping.{KeepsIn};
-ghost use Rattle.report_jobs.specs.Reporting.{asked_cells, cells_of_kind, ShowsCells, WritesCells, WritesJourneys, WritesText};
+ghost use Rattle.report_jobs.specs.Reporting.{asked_cells, cells_of_kind, ShowsCells, ShowsDesk, WritesCells, WritesJourneys, WritesText};
 
 use allotment::{Cell, Held, Kind};
 use filters::{CellFilter, JourneyFilter};
@@ -24,7 +17,6 @@ use std::alloc::Global;
 use std::io::Write;
 
 /// Writes the stock report of the cells of the desk of a connection that are asked for, and returns how many there are.
-#[tactic(auto, using(desk_sql::proofs::Quieting::quiet_alone))]
 pub(crate) fn write_kinds<S: Alter, O: Write>(
     alloc: Global,
     filter: &CellFilter,
@@ -32,11 +24,10 @@ pub(crate) fn write_kinds<S: Alter, O: Write>(
     conn: &mut Connection<S>,
     out: &mut O,
 ) -> Result<u64, ReportFault>
-    ensures told { HasCleanDisk (state S.Store conn.new) → (v : Version) (s : State) → IsDesk s →
-        KeepsIn v (state S.Store conn.old) s → (rows : List (Cell × Held)) → IsStock s.ledger rows →
+    ensures shows { ShowsDesk S.Store conn.old conn.new (λ s.
+        (rows : List (Cell × Held)) → IsStock s.ledger rows →
         WritesText (O.contents out.old) (O.contents out.new)
-        (stock_in format (asked_cells filter.now rows)) result }
-    ensures quiet { Quiet S.Store conn.old conn.new }
+        (stock_in format (asked_cells filter.now rows)) result) }
 {
     begin_stock(format, out)?;
     let none = Progress::new();
@@ -85,7 +76,6 @@ fn write_kind<S: Alter, O: Write>(
 }
 
 /// Writes the lines of the cells of a kind that the statement finds, and counts them so.
-#[tactic(auto, using(desk_sql::proofs::Quieting::quiet_twice))]
 fn write_found<S: Alter, O: Write>(
     alloc: Global,
     filter: &CellFilter,
@@ -95,11 +85,10 @@ fn write_found<S: Alter, O: Write>(
     conn: &mut Connection<S>,
     out: &mut O,
 ) -> Result<Progress, ReportFault>
-    ensures told { HasCleanDisk (state S.Store conn.new) → (v : Version) (s : State) → IsDesk s →
-        KeepsIn v (state S.Store conn.old) s → before.failed ≡ false →
+    ensures shows { ShowsDesk S.Store conn.old conn.new (λ s.
+        before.failed ≡ false →
         (rows : List (Cell × Held)) → AreCellsOf kind filter.now s.ledger rows →
-        WritesCells (O.contents out.old) (O.contents out.new) format rows before result }
-    ensures quiet { Quiet S.Store conn.old conn.new }
+        WritesCells (O.contents out.old) (O.contents out.new) format rows before result) }
 {
     let mut rows = match start_cells(conn, kind, filter) {
         Ok(rows) => rows,
@@ -116,7 +105,6 @@ fn write_found<S: Alter, O: Write>(
 }
 
 /// Writes the report of the journeys of the desk of a connection that are asked for, and returns how many there are.
-#[tactic(auto, using(desk_sql::proofs::Quieting::quiet_twice, crate::proofs::ReportLemmas::wrote_none))]
 pub(crate) fn write_asked<S: Alter, O: Write>(
     alloc: Global,
     name: JourneyReport,
@@ -125,10 +113,8 @@ pub(crate) fn write_asked<S: Alter, O: Write>(
     conn: &mut Connection<S>,
     out: &mut O,
 ) -> Result<u64, ReportFault>
-    ensures told { HasCleanDisk (state S.Store conn.new) → (v : Version) (s : State) → IsDesk s →
-        KeepsIn v (state S.Store conn.old) s →
-        WritesJourneys (O.contents out.old) (O.contents out.new) name format filter.now result s }
-    ensures quiet { Quiet S.Store conn.old conn.new }
+    ensures shows { ShowsDesk S.Store conn.old conn.new (λ s.
+        WritesJourneys (O.contents out.old) (O.contents out.new) name format filter.now result s) }
 {
     let mut rows = match start_journeys(conn, filter) {
         Ok(rows) => rows,

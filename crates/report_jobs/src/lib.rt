@@ -5,7 +5,7 @@
 //!
 //! Words: a connection *represents* a state where an opening finds that state in it; a store without tables represents
 //! a new desk.
-#![tactic(auto)]
+#![tactic(auto, using(desk_sql::proofs::Quieting::quiet_alone, desk_sql::proofs::Quieting::quiet_twice, crate::proofs::EndLemmas::ends_any, crate::proofs::ReportLemmas::wrote_none))]
 
 mod asked_reports;
 mod holding;

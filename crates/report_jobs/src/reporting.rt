@@ -3,7 +3,7 @@ ghost use Rattle.std.specs.Prelude.{◌≡◌, ℕ, true, None, List, Option, Is
 ghost use Rattle.std.specs.Io.KnownBytes.{Keeps};
 ghost use Rattle.sqlite.specs.Held.{state};
 ghost use Rattle.sqlite.specs.State.{HasCleanDisk};
-ghost use Rattle.desk_sql.specs.Calls.{Quiet, Idle};
+ghost use Rattle.desk_sql.specs.Calls.{Idle};
 ghost use Rattle.desk_sql.specs.declared.versions.Version.{Version};
 ghost use Rattle.ledger.specs.Answer.{State};
 ghost use Rattle.ledger.specs.Ledger.{Event, history};
@@ -13,11 +13,8 @@ ghost use Rattle.openings.specs.Connections.{RepresentsIn};
 ghost use Rattle.reports.specs.Formats.{history_in, stock_in};
 ghost use Rattle.reports.specs.declared.formats.JourneyReport.TheVariants.{Unfinished};
 ghost use Rattle.saga_core.specs.Views.{IsStock, unfinished_of};
-ghost use Rattle.sql_model.specs.Standing.{IsDesk};
-ghost use Rattle.tables.specs.Keeping.{KeepsIn};
-ghost use Rattle.tables.specs.Lending.{IsOnlyRead};
 ghost use Rattle.report_jobs.specs.Jobs.{EndsReport, KeepsDesk, RefusesAbsent, RefusesToShow, Reports};
-ghost use Rattle.report_jobs.specs.Reporting.{asked_cells, end_of_report, IsDeskIn, IsNoJourney, ReportsHistory, ReportsText, WritesJourneys, WritesText};
+ghost use Rattle.report_jobs.specs.Reporting.{asked_cells, end_of_report, IsNoJourney, ReportsHistory, ReportsText, ShowsDesk, ShowsOpened, WritesJourneys, WritesText};
 
 use crate::asked_reports::{write_asked, write_kinds};
 use crate::holding::write_holders;
@@ -64,19 +61,15 @@ pub fn report_over<S: Alter + Drop, O: Write>(
 
 /// Writes a report of what was opened, and flushes it. A journey that is absent is refused. What was opened was only
 /// read, and may be read again.
-#[tactic(auto, using(crate::proofs::EndLemmas::ends_any))]
 pub fn tell_report<S: Alter, O: Write>(
     alloc: Global,
     report: &Report,
     opened: &mut Opened<S>,
     out: &mut O,
 ) -> End
-    ensures told { HasCleanDisk (state S.Store opened.new.conn) → (s : State) →
-        IsDeskIn S.Store opened.old s →
-        Reports (O.contents out.old) (O.contents out.new) report.now result s }
+    ensures shows { ShowsOpened S.Store opened.old opened.new (λ s.
+        Reports (O.contents out.old) (O.contents out.new) report.now result s) }
     ensures ends { EndsReport (RefusesAbsent report.now) result }
-
-    ensures kept { IsOnlyRead S.Store opened.old opened.new }
 {
     match report {
         Report::Stock { filter, format } => {
@@ -129,11 +122,10 @@ fn write_stock<S: Alter, O: Write>(
     conn: &mut Connection<S>,
     out: &mut O,
 ) -> Result<u64, ReportFault>
-    ensures told { HasCleanDisk (state S.Store conn.new) → (v : Version) (s : State) → IsDesk s →
-        KeepsIn v (state S.Store conn.old) s → (rows : List (Cell × Held)) → IsStock s.ledger rows →
+    ensures shows { ShowsDesk S.Store conn.old conn.new (λ s.
+        (rows : List (Cell × Held)) → IsStock s.ledger rows →
         WritesText (O.contents out.old) (O.contents out.new)
-        (stock_in format (asked_cells filter.now rows)) result }
-    ensures quiet { Quiet S.Store conn.old conn.new }
+        (stock_in format (asked_cells filter.now rows)) result) }
 {
     if names_nothing(filter) {
         return write_whole_stock(alloc, format, conn, out);
@@ -168,10 +160,8 @@ fn write_journeys<S: Alter, O: Write>(
     conn: &mut Connection<S>,
     out: &mut O,
 ) -> Result<u64, ReportFault>
-    ensures told { HasCleanDisk (state S.Store conn.new) → (v : Version) (s : State) → IsDesk s →
-        KeepsIn v (state S.Store conn.old) s →
-        WritesJourneys (O.contents out.old) (O.contents out.new) name format filter.now result s }
-    ensures quiet { Quiet S.Store conn.old conn.new }
+    ensures shows { ShowsDesk S.Store conn.old conn.new (λ s.
+        WritesJourneys (O.contents out.old) (O.contents out.new) name format filter.now result s) }
 {
     if is_plain(name, filter) {
         return write_unfinished(alloc, format, conn, out);
@@ -180,7 +170,6 @@ fn write_journeys<S: Alter, O: Write>(
 }
 
 /// Writes the history of the journey of this number in what was opened, or refuses one that is absent.
-#[tactic(auto, using(desk_sql::proofs::Quieting::quiet_twice, crate::proofs::EndLemmas::ends_any))]
 fn tell_history<S: Alter, O: Write>(
     alloc: Global,
     format: Format,
@@ -188,12 +177,9 @@ fn tell_history<S: Alter, O: Write>(
     opened: &mut Opened<S>,
     out: &mut O,
 ) -> End
-    ensures told { HasCleanDisk (state S.Store opened.new.conn) → (s : State) →
-        IsDeskIn S.Store opened.old s →
-        ReportsHistory (O.contents out.old) (O.contents out.new) format id result s }
+    ensures shows { ShowsOpened S.Store opened.old opened.new (λ s.
+        ReportsHistory (O.contents out.old) (O.contents out.new) format id result s) }
     ensures ends { EndsReport IsNoJourney result }
-
-    ensures kept { IsOnlyRead S.Store opened.old opened.new }
 {
     match opened.journey_of(alloc, id) {
         Ok(Some(journey)) => finish(write_history(alloc, format, id, &journey, opened, out), out),
@@ -203,7 +189,6 @@ fn tell_history<S: Alter, O: Write>(
 }
 
 /// Writes the history of a journey in what was opened, and returns how many items it has.
-#[tactic(auto, using(desk_sql::proofs::Quieting::quiet_twice, crate::proofs::ReportLemmas::wrote_none))]
 fn write_history<S: Alter, O: Write>(
     alloc: Global,
     format: Format,
@@ -212,12 +197,9 @@ fn write_history<S: Alter, O: Write>(
     opened: &mut Opened<S>,
     out: &mut O,
 ) -> Result<u64, ReportFault>
-    ensures told { HasCleanDisk (state S.Store opened.new.conn) → (s : State) →
-        IsDeskIn S.Store opened.old s →
+    ensures shows { ShowsOpened S.Store opened.old opened.new (λ s.
         WritesText (O.contents out.old) (O.contents out.new)
-        (history_in format id journey.now (history s.ledger id)) result }
-
-    ensures kept { IsOnlyRead S.Store opened.old opened.new }
+        (history_in format id journey.now (history s.ledger id)) result) }
 {
     let mut rows = match opened.item_rows(id) {
         Ok(rows) => rows,
@@ -227,7 +209,6 @@ fn write_history<S: Alter, O: Write>(
 }
 
 /// Flushes the writer after a report that was written so, and returns its end.
-#[tactic(auto, using(crate::proofs::EndLemmas::ends_any))]
 pub(crate) fn finish<T: Copy, O: Write>(done: Result<T, ReportFault>, out: &mut O) -> End
     ensures told { (held : Option (List ℕ)) → (text : List ℕ) →
         WritesText held (O.contents out.old) text done →

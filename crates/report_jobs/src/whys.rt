@@ -1,22 +1,14 @@
 //! The report of why a journey goes on or does not, of a desk that is not recovered.
 ghost use Rattle.std.specs.Prelude.{◌≡◌, Some, List, IfOk};
-ghost use Rattle.sqlite.specs.Held.{state};
-ghost use Rattle.sqlite.specs.State.{HasCleanDisk};
-ghost use Rattle.desk_sql.specs.Calls.{Quiet};
-ghost use Rattle.desk_sql.specs.declared.versions.Version.{Version};
-ghost use Rattle.ledger.specs.Answer.{State};
 ghost use Rattle.ledger.specs.Ledger.{history};
 ghost use Rattle.saga_core.specs.Views.{record_of, IsStock};
-ghost use Rattle.sql_model.specs.Standing.{IsDesk};
-ghost use Rattle.tables.specs.Keeping.{KeepsIn};
-ghost use Rattle.tables.specs.Lending.{IsOnlyRead};
 ghost use Rattle.allotment.specs.declared.cells.Cell.{Cell};
 ghost use Rattle.allotment.specs.declared.places.Held.{Held};
 ghost use Rattle.outlooks.specs.Layouts.{why_of};
 ghost use Rattle.outlooks.specs.Nights.{nights_of};
 ghost use Rattle.outlooks.specs.Outlooks.{begun_as, latest_option as latest_option_of, nights_ahead, IsTaken};
 ghost use Rattle.report_jobs.specs.Jobs.{EndsReport};
-ghost use Rattle.report_jobs.specs.Reporting.{IsDeskIn, IsNoJourney, WritesText};
+ghost use Rattle.report_jobs.specs.Reporting.{IsNoJourney, ShowsDesk, ShowsOpened, WritesText};
 ghost use Rattle.report_jobs.specs.Whys.{IsSeenOf, LetsCellsOf, ReportsWhy};
 
 use crate::reporting::{end_of_report, finish};
@@ -44,7 +36,6 @@ struct Seen {
 }
 
 /// Writes the report of the journey of this number in what was opened, or refuses one that is absent.
-#[tactic(auto, using(desk_sql::proofs::Quieting::quiet_twice, crate::proofs::EndLemmas::ends_any))]
 pub(crate) fn tell_why<S: Alter, O: Write>(
     alloc: Global,
     format: Format,
@@ -52,12 +43,9 @@ pub(crate) fn tell_why<S: Alter, O: Write>(
     opened: &mut Opened<S>,
     out: &mut O,
 ) -> End
-    ensures told { HasCleanDisk (state S.Store opened.new.conn) → (s : State) →
-        IsDeskIn S.Store opened.old s →
-        ReportsWhy (O.contents out.old) (O.contents out.new) format id result s }
+    ensures shows { ShowsOpened S.Store opened.old opened.new (λ s.
+        ReportsWhy (O.contents out.old) (O.contents out.new) format id result s) }
     ensures ends { EndsReport IsNoJourney result }
-
-    ensures kept { IsOnlyRead S.Store opened.old opened.new }
 {
     match opened.journey_of(alloc, id) {
         Ok(Some(journey)) => finish(write_why(alloc, format, id, &journey, opened, out), out),
@@ -75,32 +63,27 @@ fn write_why<S: Alter, O: Write>(
     opened: &mut Opened<S>,
     out: &mut O,
 ) -> Result<(), ReportFault>
-    ensures told { HasCleanDisk (state S.Store opened.new.conn) → (s : State) →
-        IsDeskIn S.Store opened.old s → record_of s.ledger id ≡ Some journey.now →
+    ensures shows { ShowsOpened S.Store opened.old opened.new (λ s.
+        record_of s.ledger id ≡ Some journey.now →
         (rows : List (Cell × Held)) → IsStock s.ledger rows →
         WritesText (O.contents out.old) (O.contents out.new)
-        (why_of format s.ledger id (begun_as journey.now)) result }
-
-    ensures kept { IsOnlyRead S.Store opened.old opened.new }
+        (why_of format s.ledger id (begun_as journey.now)) result) }
 {
     let seen = read_outlook(alloc, id, journey, opened)?;
     why_text(alloc, format, &seen.outlook, seen.nights.as_slice(), out)
 }
 
 /// Reads the outlook of a journey in what was opened.
-#[tactic(auto, using(desk_sql::proofs::Quieting::quiet_twice))]
 fn read_outlook<S: Alter>(
     alloc: Global,
     id: u64,
     journey: &Record,
     opened: &mut Opened<S>,
 ) -> Result<Seen, ReportFault>
-    ensures seen { HasCleanDisk (state S.Store opened.new.conn) → (s : State) →
-        IsDeskIn S.Store opened.old s → record_of s.ledger id ≡ Some journey.now →
+    ensures shows { ShowsOpened S.Store opened.old opened.new (λ s.
+        record_of s.ledger id ≡ Some journey.now →
         (rows : List (Cell × Held)) → IsStock s.ledger rows
-        → IfOk result (IsSeenOf s.ledger id journey.now) }
-
-    ensures kept { IsOnlyRead S.Store opened.old opened.new }
+        → IfOk result (IsSeenOf s.ledger id journey.now)) }
 {
     let taken = read_taken(id, journey, opened)?;
     let next = next_step(journey, taken)?;
@@ -110,16 +93,13 @@ fn read_outlook<S: Alter>(
 }
 
 /// Reads the option with which the step at the position of a journey was done last, if the journey goes back.
-#[tactic(auto, using(desk_sql::proofs::Quieting::quiet_alone))]
 fn read_taken<S: Alter>(
     id: u64,
     journey: &Record,
     opened: &mut Opened<S>,
 ) -> Result<Option<usize>, Fault>
-    ensures taken { HasCleanDisk (state S.Store opened.new.conn) → (s : State) →
-        IsDeskIn S.Store opened.old s → IfOk result (IsTaken s.ledger id journey.now) }
-
-    ensures kept { IsOnlyRead S.Store opened.old opened.new }
+    ensures shows { ShowsOpened S.Store opened.old opened.new (λ s.
+        IfOk result (IsTaken s.ledger id journey.now)) }
 {
     match journey.cursor.phase {
         Phase::Back(_) => read_latest(id, journey.cursor.pos, opened),
@@ -128,17 +108,13 @@ fn read_taken<S: Alter>(
 }
 
 /// Reads the option with which a step of the journey of this number was done last.
-#[tactic(auto, using(desk_sql::proofs::Quieting::quiet_twice))]
 fn read_latest<S: Alter>(
     id: u64,
     step: usize,
     opened: &mut Opened<S>,
 ) -> Result<Option<usize>, Fault>
-    ensures latest { HasCleanDisk (state S.Store opened.new.conn) → (s : State) →
-        IsDeskIn S.Store opened.old s →
-        IfOk result (λ option. option ≡ latest_option_of step (history s.ledger id)) }
-
-    ensures kept { IsOnlyRead S.Store opened.old opened.new }
+    ensures shows { ShowsOpened S.Store opened.old opened.new (λ s.
+        IfOk result (λ option. option ≡ latest_option_of step (history s.ledger id))) }
 {
     let mut rows = match opened.item_rows(id) {
         Ok(rows) => rows,
@@ -148,16 +124,14 @@ fn read_latest<S: Alter>(
 }
 
 /// Reads what is free of each night of the want of a next step, in the desk of a connection.
-#[tactic(auto, using(desk_sql::proofs::Quieting::quiet_alone))]
 fn nights_ahead<S: Alter>(
     alloc: Global,
     next: &Option<NextStep>,
     conn: &mut Connection<S>,
 ) -> Result<Vec<FreeNight>, ReportFault>
-    ensures nights { HasCleanDisk (state S.Store conn.new) → (v : Version) (s : State) → IsDesk s →
-        KeepsIn v (state S.Store conn.old) s → (rows : List (Cell × Held)) → IsStock s.ledger rows →
-        IfOk result (λ nights. nights.items ≡ nights_ahead s.ledger next.now) }
-    ensures quiet { Quiet S.Store conn.old conn.new }
+    ensures shows { ShowsDesk S.Store conn.old conn.new (λ s.
+        (rows : List (Cell × Held)) → IsStock s.ledger rows →
+        IfOk result (λ nights. nights.items ≡ nights_ahead s.ledger next.now)) }
 {
     match next {
         Some(next) => nights_of(alloc, &next.want, conn),
@@ -180,16 +154,14 @@ fn filter_of(want: &Want) -> CellFilter
 }
 
 /// Reads what is free of each night of a want, in the desk of a connection.
-#[tactic(auto, using(desk_sql::proofs::Quieting::quiet_twice))]
 fn nights_of<S: Alter>(
     alloc: Global,
     want: &Want,
     conn: &mut Connection<S>,
 ) -> Result<Vec<FreeNight>, ReportFault>
-    ensures nights { HasCleanDisk (state S.Store conn.new) → (v : Version) (s : State) → IsDesk s →
-        KeepsIn v (state S.Store conn.old) s → (rows : List (Cell × Held)) → IsStock s.ledger rows →
-        IfOk result (λ nights. nights.items ≡ nights_of s.ledger want.now) }
-    ensures quiet { Quiet S.Store conn.old conn.new }
+    ensures shows { ShowsDesk S.Store conn.old conn.new (λ s.
+        (rows : List (Cell × Held)) → IsStock s.ledger rows →
+        IfOk result (λ nights. nights.items ≡ nights_of s.ledger want.now)) }
 {
     let filter = filter_of(want);
     let mut rows = match start_cells(conn, want.kind(), &filter) {

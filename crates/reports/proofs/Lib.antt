@@ -4,3 +4,4 @@ pub mod ColumnLemmas
 pub mod HistoryLemmas
 pub mod PartLemmas
 pub mod RowLemmas
+pub mod TakeLemmas

@@ -1,93 +1,111 @@
 -- Rows that were written one after another. For sending rows.
-use Rattle.std.proofs.Common.{◌≡◌, ◌∙◌, ap, sym, subst, refl, ℕ, ◌+◌, List, [], ◌∷◌, ◌++◌, length, append-nil, append_assoc, length-append, Option, Some, None}
+use Rattle.std.proofs.Common.{◌≡◌, ◌∙◌, ap, sym, subst, refl, ℕ, ◌+◌, List, [], ◌∷◌, ◌++◌, length, append-nil, append_assoc, length-append, Option, Some, Result, Ok, IsErr}
 use Rattle.std.specs.Io.KnownBytes.{Appends}
 use Rattle.std.specs.List.{flat_map}
 use Rattle.std.proofs.lemmas.List.Concat.{flat_map-append}
 use Rattle.saga_core.specs.RowSources.{Hands}
+use Rattle.saga_core.specs.declared.row_sources.RowSource.{Ghosts}
 use Rattle.streams.specs.Written.{WroteFront}
 use Rattle.streams.proofs.ByteLemmas.{appends_more}
+use Rattle.reports.specs.Writing.{Takes, WritesCounted, Wrote}
 use Rattle.reports.proofs.FrontLemmas.{appends_none, front_after, front_before, front_whole}
+use Rattle.reports.proofs.TakeLemmas.{Taken, taken_more, taken_none, takes_twice, writes_failed}
 
 -- the first `count` rows were written, and the others remain
 pub record SoFar {T : Type 0} (shown : T → List ℕ) (rests : List T → Type 0)
     (held holds : Option (List ℕ)) (all : List T) (count : ℕ) : Type 0 where
   pub gone : List T
-  pub later : List T
-  pub cut : all ≡ gone ++ later
-  pub rest : rests later
+  pub taken : Taken rests all gone
   pub sent : Appends held holds (flat_map shown gone)
   pub counted : count ≡ length gone
 
 -- at first no row was written
-pub starts : {T : Type 0} (shown : T → List ℕ) (rests : List T → Type 0)
-    (held : Option (List ℕ)) (all : List T)
+pub starts : {T : Type 0} {shown : T → List ℕ} {rests : List T → Type 0} {held : Option (List ℕ)} {all : List T}
     → rests all → SoFar shown rests held held all 0
-starts shown rests held all rest =
-    record { gone = []; later = all; cut = refl; rest = rest; sent = appends_none held; counted = refl }
+starts {held = held} rest = record { gone = []; taken = taken_none _ rest; sent = appends_none held; counted = refl }
 
--- a row was returned: it is the first of those that remained
-pub record Next {T : Type 0} (rests : List T → Type 0) (rows : List T) (row : T) : Type 0 where
-  pub later : List T
-  pub is : rows ≡ row ∷ later
-  pub rest : rests later
+module _ {T : Type 0} {shown : T → List ℕ} {rested : List T → Type 0} {held holds : Option (List ℕ)} {all : List T} {count : ℕ}
+    (so_far : SoFar shown rested held holds all count) where
+  -- no row remains: all were written
+  all_gone : so_far.taken.later ≡ [] → {E : Type 0} → Wrote held holds (flat_map shown all) (length all) {E = E} (Ok count)
+  all_gone none =
+      let same : all ≡ so_far.gone = so_far.taken.cut ∙ ap (λ rows. so_far.gone ++ rows) none ∙ append-nil so_far.gone in
+      let written = subst (λ rows. Appends held holds (flat_map shown rows)) (sym same) so_far.sent in
+      record { written = written; number = so_far.counted ∙ ap length (sym same); front = front_whole held holds (flat_map shown all) written }
 
-pub next_of : {T : Type 0} (rested rests : List T → Type 0) (rows : List T) (row : T)
-    → rested rows → Hands rested rests (Some row) → Next rests rows row
-next_of rested rests [] row rest hands = absurd (none_is_some row (hands [] rest).0)
-  where
-    none_is_some : {A : Type 0} (x : A) → Some x ≡ None → ⊥
-    none_is_some x is = cc
-next_of rested rests (first ∷ later) row rest hands =
-    let told = hands (first ∷ later) rest in
-    record { later = later; is = ap (λ x. x ∷ later) (same row first told.0); rest = told.1 }
-  where
-    same : {A : Type 0} (x y : A) → Some x ≡ Some y → y ≡ x
-    same x y is = cc
+  -- what was written is a prefix
+  front_of : WroteFront held holds (flat_map shown all)
+  front_of =
+      let whole : flat_map shown all ≡ flat_map shown so_far.gone ++ flat_map shown so_far.taken.later =
+      ap (flat_map shown) so_far.taken.cut ∙ flat_map-append shown so_far.gone so_far.taken.later in
+      subst (WroteFront held holds) (sym whole)
+      (front_before held holds (flat_map shown so_far.gone) (flat_map shown so_far.taken.later)
+      (front_whole held holds (flat_map shown so_far.gone) so_far.sent))
 
--- one more row was written
-pub goes_on : {T : Type 0} (shown : T → List ℕ) (rested rests : List T → Type 0)
-    (held holds now : Option (List ℕ)) (all : List T) (count : ℕ) (row : T) (text : List ℕ)
-    → SoFar shown rested held holds all count → Hands rested rests (Some row)
-    → text ≡ shown row → Appends holds now text
-    → SoFar shown rests held now all (count + 1)
-goes_on shown rested rests held holds now all count row text so_far hands is sent =
-    let next = next_of rested rests so_far.later row so_far.rest hands in
-    let gone = so_far.gone in
-    let whole : flat_map shown (gone ++ row ∷ []) ≡ flat_map shown gone ++ text =
-    flat_map-append shown gone (row ∷ []) ∙ ap (λ t. flat_map shown gone ++ t) (append-nil (shown row) ∙ sym is) in
-    record {
-      gone = gone ++ row ∷ [];
-      later = next.later;
-      cut = so_far.cut ∙ ap (λ rows. gone ++ rows) next.is ∙ sym (append_assoc gone (row ∷ []) next.later);
-      rest = next.rest;
-      sent = subst (Appends held now) (sym whole) (appends_more held holds now (flat_map shown gone) text so_far.sent sent);
-      counted = ap (λ n. n + 1) so_far.counted ∙ sym (length-append gone (row ∷ []));
+  module _ (rests : List T → Type 0) {row : T} (hands : Hands rested rests (Some row)) where
+    -- one more row was written
+    goes_on : {now : Option (List ℕ)} → Appends holds now (shown row) → SoFar shown rests held now all (count + 1)
+    goes_on {now} sent =
+        let gone = so_far.gone in
+        let whole : flat_map shown (gone ++ row ∷ []) ≡ flat_map shown gone ++ shown row =
+        flat_map-append shown gone (row ∷ []) ∙ ap (λ t. flat_map shown gone ++ t) (append-nil (shown row)) in
+        record {
+          gone = gone ++ row ∷ [];
+          taken = taken_more so_far.taken rests hands;
+          sent = subst (Appends held now) (sym whole) (appends_more held holds now (flat_map shown gone) (shown row) so_far.sent sent);
+          counted = ap (λ n. n + 1) so_far.counted ∙ sym (length-append gone (row ∷ []));
+        }
+
+    -- what was written stays a prefix where a prefix of the next row was written
+    front_with : (now : Option (List ℕ)) → WroteFront holds now (shown row) → WroteFront held now (flat_map shown all)
+    front_with now front =
+        let more = taken_more so_far.taken rests hands in
+        let whole : flat_map shown all ≡ flat_map shown so_far.gone ++ (shown row ++ flat_map shown more.later) =
+        ap (flat_map shown) (more.cut ∙ append_assoc so_far.gone (row ∷ []) more.later) ∙ flat_map-append shown so_far.gone (row ∷ more.later) in
+        subst (WroteFront held now) (sym whole)
+        (front_after held holds now (flat_map shown so_far.gone) (shown row ++ flat_map shown more.later) so_far.sent
+        (front_before holds now (shown row) (flat_map shown more.later) front))
+
+-- What a source's rows make, as the rows themselves or their months, was taken and written one after another: so many so far.
+pub record SoManyWritten {R T U : Type 0} (source : Ghosts R T) (first old : R) (made : List T → List U) (left : List U → Type 0)
+    (shown : U → List ℕ) (held holds : Option (List ℕ)) (count : ℕ) : Type 0 where
+  pub so_far : source.is_sound old → (all : List T) → source.rests first all → SoFar shown left held holds (made all) count
+  pub takes : Takes source first old
+
+module _ {R T U : Type 0} {source : Ghosts R T} {first old new : R} {made : List T → List U} {left : List U → Type 0}
+    {shown : U → List ℕ} {held holds : Option (List ℕ)} {count : ℕ} (so_many : SoManyWritten source first old made left shown held holds count)
+    (joins : (a b c : R) → source.becomes a b → source.becomes b c → source.becomes a c) (took : Takes source old new) where
+  takes : Takes source first new
+  takes = takes_twice source joins so_many.takes took
+
+  so_far : source.is_sound new → (all : List T) → source.rests first all → SoFar shown left held holds (made all) count
+  so_far sound all rest = so_many.so_far (took.sound sound) all rest
+
+  module _ {Counted : ℕ → Type 0} {NoneLeft : Type 0} {E : Type 0} where
+    -- a fault came before the next one was written
+    pub written_less : (result : Result ℕ E) → IsErr result
+        → WritesCounted source first new (λ all. flat_map shown (made all)) (λ all. length (made all)) Counted NoneLeft held holds result
+    written_less result is = writes_failed result is takes (λ sound all rest. front_of (so_far sound all rest))
+
+    -- there is no further one
+    pub written_all : (source.is_sound new → (rows : List U) → left rows → (rows ≡ []) × NoneLeft) → Counted count
+        → WritesCounted source first new (λ all. flat_map shown (made all)) (λ all. length (made all)) Counted NoneLeft held holds {E = E} (Ok count)
+    written_all last counted = record {
+      wrote = λ sound all rest. (let it = so_far sound all rest in all_gone it (last sound it.taken.later it.taken.rest).0);
+      rest = λ sound all rest. (let it = so_far sound all rest in (last sound it.taken.later it.taken.rest).1);
+      given = counted;
+      takes = takes;
     }
 
--- what was written is a prefix
-pub front_of : {T : Type 0} (shown : T → List ℕ) (rests : List T → Type 0)
-    (held holds : Option (List ℕ)) (all : List T) (count : ℕ)
-    → SoFar shown rests held holds all count
-    → WroteFront held holds (flat_map shown all)
-front_of shown rests held holds all count so_far =
-    let whole : flat_map shown all ≡ flat_map shown so_far.gone ++ flat_map shown so_far.later =
-    ap (flat_map shown) so_far.cut ∙ flat_map-append shown so_far.gone so_far.later in
-    subst (WroteFront held holds) (sym whole)
-    (front_before held holds (flat_map shown so_far.gone) (flat_map shown so_far.later)
-    (front_whole held holds (flat_map shown so_far.gone) so_far.sent))
+  module _ (after : List U → Type 0) {found : Option U} (next : source.is_sound new → Hands left after found) {row : U} (some : found ≡ Some row) where
+    hands : source.is_sound new → Hands left after (Some row)
+    hands sound = subst (Hands left after) some (next sound)
 
--- what was written stays a prefix where a prefix of the next row was written
-pub front_with : {T : Type 0} (shown : T → List ℕ) (rested rests : List T → Type 0)
-    (held holds now : Option (List ℕ)) (all : List T) (count : ℕ) (row : T) (text : List ℕ)
-    → SoFar shown rested held holds all count → Hands rested rests (Some row)
-    → text ≡ shown row → WroteFront holds now text
-    → WroteFront held now (flat_map shown all)
-front_with shown rested rests held holds now all count row text so_far hands is front =
-    let next = next_of rested rests so_far.later row so_far.rest hands in
-    let behind : flat_map shown so_far.later ≡ text ++ flat_map shown next.later =
-    ap (flat_map shown) next.is ∙ ap (λ t. t ++ flat_map shown next.later) (sym is) in
-    let whole : flat_map shown all ≡ flat_map shown so_far.gone ++ (text ++ flat_map shown next.later) =
-    ap (flat_map shown) so_far.cut ∙ flat_map-append shown so_far.gone so_far.later ∙ ap (λ t. flat_map shown so_far.gone ++ t) behind in
-    subst (WroteFront held now) (sym whole)
-    (front_after held holds now (flat_map shown so_far.gone) (text ++ flat_map shown next.later) so_far.sent
-    (front_before holds now text (flat_map shown next.later) front))
+    -- one more was written
+    pub written_more : {now : Option (List ℕ)} → Appends holds now (shown row) → SoManyWritten source first new made after shown held now (count + 1)
+    written_more sent = record { so_far = λ sound all rest. goes_on (so_far sound all rest) after (hands sound) sent; takes = takes }
+
+    -- a prefix of one more was written
+    pub written_part : {Counted : ℕ → Type 0} {NoneLeft : Type 0} {now : Option (List ℕ)} → WroteFront holds now (shown row) → {E : Type 0} (result : Result ℕ E) → IsErr result
+        → WritesCounted source first new (λ all. flat_map shown (made all)) (λ all. length (made all)) Counted NoneLeft held now result
+    written_part {now = now} front result is = writes_failed result is takes (λ sound all rest. front_with (so_far sound all rest) after (hands sound) now front)

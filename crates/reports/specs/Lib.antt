@@ -2,6 +2,7 @@ pub mod Columns
 pub mod Layouts
 pub mod Objects
 pub mod Records
+pub mod Writing
 pub mod Formats
 pub mod Faults
 pub mod Parts

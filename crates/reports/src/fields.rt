@@ -1,8 +1,8 @@
 //! Fields and lines of CSV records (RFC 4180).
-ghost use Rattle.std.specs.Prelude.{◌≡◌, [], ◌∷◌, ◌++◌, decimal, false, IfOk, OnOk};
+ghost use Rattle.std.specs.Prelude.{◌≡◌, [], ◌∷◌, decimal, false, IfOk};
 ghost use Rattle.csv.specs.Records.{fields_of, partial_of};
 ghost use Rattle.csv.specs.Writing.{fields_written, has_written, writer_pending, writer_setup, writer_under};
-ghost use Rattle.reports.specs.Records.{csv_line, rfc_4180};
+ghost use Rattle.reports.specs.Records.{Adds, csv_line, rfc_4180};
 
 use csv::{ByteRecord, Terminator, Writer, WriterBuilder};
 use std::alloc::{AllocError, Global};
@@ -11,9 +11,7 @@ use std::alloc::{AllocError, Global};
 pub fn put_number(alloc: Global, row: &mut ByteRecord, number: u64) -> Result<(), AllocError>
     requires whole { partial_of row.old ≡ [] }
 
-    ensures fields { OnOk result
-        (fields_of row.new ≡ fields_of row.old ++ decimal number ∷ []) }
-    ensures whole { OnOk result (partial_of row.new ≡ []) }
+    ensures adds { Adds row.old row.new (decimal number ∷ []) result }
 {
     let digits = format!(in alloc; "{number}")?;
     put_field(row, digits.as_str())
@@ -23,8 +21,7 @@ pub fn put_number(alloc: Global, row: &mut ByteRecord, number: u64) -> Result<()
 pub fn put_field(row: &mut ByteRecord, field: &str) -> Result<(), AllocError>
     requires whole { partial_of row.old ≡ [] }
 
-    ensures fields { OnOk result (fields_of row.new ≡ fields_of row.old ++ field.now ∷ []) }
-    ensures whole { OnOk result (partial_of row.new ≡ []) }
+    ensures adds { Adds row.old row.new (field.now ∷ []) result }
 {
     row.push_field(field.as_bytes())
 }

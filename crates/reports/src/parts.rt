@@ -1,10 +1,9 @@
 //! The parts of a stock report, for one whose cells come from several sources: its heading, its lines, its ending.
-ghost use Rattle.std.specs.Prelude.{◌≡◌, ◌≢◌, ◌+◌, List, [], codes, length, IfErr, IfOk, OnOk};
+ghost use Rattle.std.specs.Prelude.{◌≡◌, ◌≢◌, codes, IfErr, OnOk};
 ghost use Rattle.std.specs.List.{flat_map};
 ghost use Rattle.std.specs.Io.KnownBytes.{Appends};
-ghost use Rattle.allotment.specs.declared.cells.Cell.{Cell};
-ghost use Rattle.allotment.specs.declared.places.Held.{Held};
 ghost use Rattle.reports.specs.Formats.{last_line, stock_head as head_in, stock_row};
+ghost use Rattle.reports.specs.Writing.{Writes};
 ghost use Rattle.streams.specs.Written.{WroteFront};
 
 use crate::endings::Ending;
@@ -36,20 +35,8 @@ pub fn stock_lines<R: RowSource<(Cell, Held)>, W: Write>(
     rows: &mut R,
     out: &mut W,
 ) -> Result<u64, ReportFault>
-    ensures written { R.is_sound rows.new → (all : List (Cell × Held)) → R.rests rows.old all →
-        OnOk result
-        (Appends (W.contents out.old) (W.contents out.new) (flat_map (stock_row format) all)) }
-    ensures number { R.is_sound rows.new → (all : List (Cell × Held)) → R.rests rows.old all →
-        IfOk result (λ count. count ≡ length all) }
-    ensures rest { R.is_sound rows.new → (all : List (Cell × Held)) → R.rests rows.old all →
-        OnOk result (R.rests rows.new []) }
-    ensures given { IfOk result (λ count. R.given rows.new ≡ count + R.given rows.old) }
-
-    ensures front { R.is_sound rows.new → (all : List (Cell × Held)) → R.rests rows.old all →
-        WroteFront (W.contents out.old) (W.contents out.new) (flat_map (stock_row format) all) }
-
-    ensures kept { R.becomes rows.old rows.new }
-    ensures sound { R.is_sound rows.new → R.is_sound rows.old }
+    ensures writes { Writes R.RowSource rows.old rows.new (flat_map (stock_row format))
+        (W.contents out.old) (W.contents out.new) result }
 {
     send_rows(alloc, &format, rows, out)
 }

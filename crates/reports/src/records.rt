@@ -1,9 +1,9 @@
 //! The rows of reports as CSV records (RFC 4180).
-ghost use Rattle.std.specs.Prelude.{◌≡◌, [], ◌∷◌, ◌++◌, decimal, IfOk, OnOk};
+ghost use Rattle.std.specs.Prelude.{◌≡◌, [], ◌∷◌, decimal, IfOk};
 ghost use Rattle.allotment.specs.Places.{held_of};
 ghost use Rattle.allotment.specs.Texts.{kind_word};
-ghost use Rattle.csv.specs.Records.{fields_of, partial_of};
-ghost use Rattle.reports.specs.Records.{csv_line, cell_names, cell_fields, journey_names, journey_fields, target_field, item_names, item_fields};
+ghost use Rattle.csv.specs.Records.{partial_of};
+ghost use Rattle.reports.specs.Records.{Adds, csv_line, cell_names, cell_fields, journey_names, journey_fields, target_field, item_names, item_fields};
 
 use crate::fields::{csv_line, put_field, put_number};
 use crate::lines::night_text;
@@ -70,9 +70,7 @@ pub(crate) fn item_record(alloc: Global, id: u64, item: &Item) -> Result<Vec<u8>
 pub fn put_journey(alloc: Global, row: &mut ByteRecord, brief: &Brief) -> Result<(), AllocError>
     requires whole { partial_of row.old ≡ [] }
 
-    ensures fields { OnOk result (fields_of row.new
-        ≡ fields_of row.old ++ journey_fields brief.now) }
-    ensures whole { OnOk result (partial_of row.new ≡ []) }
+    ensures adds { Adds row.old row.new (journey_fields brief.now) result }
 {
     let Cursor { pos, phase, .. } = brief.cursor;
     put_number(alloc, row, brief.id)?;
@@ -86,9 +84,8 @@ pub fn put_journey(alloc: Global, row: &mut ByteRecord, brief: &Brief) -> Result
 fn put_cell(row: &mut ByteRecord, cell: &Cell, night: &str) -> Result<(), AllocError>
     requires whole { partial_of row.old ≡ [] }
 
-    ensures fields { OnOk result (fields_of row.new ≡ fields_of row.old
-        ++ (kind_word cell.now.kind ∷ cell.now.supplier ∷ cell.now.product ∷ night.now ∷ [])) }
-    ensures whole { OnOk result (partial_of row.new ≡ []) }
+    ensures adds { Adds row.old row.new
+        (kind_word cell.now.kind ∷ cell.now.supplier ∷ cell.now.product ∷ night.now ∷ []) result }
 {
     put_field(row, cell.kind.word())?;
     put_field(row, cell.supplier.as_str())?;
@@ -100,9 +97,8 @@ fn put_cell(row: &mut ByteRecord, cell: &Cell, night: &str) -> Result<(), AllocE
 fn put_places(alloc: Global, row: &mut ByteRecord, places: &Held) -> Result<(), AllocError>
     requires whole { partial_of row.old ≡ [] }
 
-    ensures fields { OnOk result (fields_of row.new ≡ fields_of row.old ++ (decimal places.now.allot
-        ∷ decimal (held_of places.now) ∷ decimal places.now.free ∷ [])) }
-    ensures whole { OnOk result (partial_of row.new ≡ []) }
+    ensures adds { Adds row.old row.new
+        (decimal places.now.allot ∷ decimal (held_of places.now) ∷ decimal places.now.free ∷ []) result }
 {
     let Held { allot, free, .. } = *places;
     let held = places.held();
@@ -115,9 +111,7 @@ fn put_places(alloc: Global, row: &mut ByteRecord, places: &Held) -> Result<(), 
 fn put_target(alloc: Global, row: &mut ByteRecord, phase: Phase) -> Result<(), AllocError>
     requires whole { partial_of row.old ≡ [] }
 
-    ensures fields { OnOk result
-        (fields_of row.new ≡ fields_of row.old ++ target_field phase ∷ []) }
-    ensures whole { OnOk result (partial_of row.new ≡ []) }
+    ensures adds { Adds row.old row.new (target_field phase ∷ []) result }
 {
     match phase {
         Phase::Back(target) => put_number(alloc, row, target as u64),

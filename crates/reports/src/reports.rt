@@ -1,17 +1,12 @@
 //! The reports.
-ghost use Rattle.std.specs.Prelude.{◌≡◌, ◌+◌, ◌++◌, ℕ, List, [], length, IfOk, OnErr, OnOk};
+ghost use Rattle.std.specs.Prelude.{◌++◌};
 ghost use Rattle.std.specs.List.{flat_map};
-ghost use Rattle.std.specs.Io.KnownBytes.{Appends};
-ghost use Rattle.allotment.specs.declared.cells.Cell.{Cell};
-ghost use Rattle.allotment.specs.declared.places.Held.{Held};
-ghost use Rattle.commands.specs.declared.items.Item.{Item};
-ghost use Rattle.saga_core.specs.declared.records.Brief.{Brief};
 ghost use Rattle.reports.specs.Formats.{stock_in, unfinished_in, journeys_in, history_in};
 ghost use Rattle.reports.specs.Layouts.{history_report};
 ghost use Rattle.reports.specs.Parts.{whole_report};
 ghost use Rattle.reports.specs.Records.{csv_line, item_names, item_fields};
+ghost use Rattle.reports.specs.Writing.{Writes};
 ghost use Rattle.reports.specs.declared.formats.Format.TheVariants.{Json};
-ghost use Rattle.streams.specs.Written.{WroteFront};
 
 use crate::endings::Ending;
 use crate::faults::ReportFault;
@@ -38,19 +33,8 @@ pub fn stock_text<R: RowSource<(Cell, Held)>, W: Write>(
     rows: &mut R,
     out: &mut W,
 ) -> Result<u64, ReportFault>
-    ensures written { R.is_sound rows.new → (all : List (Cell × Held)) → R.rests rows.old all →
-        OnOk result (Appends (W.contents out.old) (W.contents out.new) (stock_in format all)) }
-    ensures number { R.is_sound rows.new → (all : List (Cell × Held)) → R.rests rows.old all →
-        IfOk result (λ count. count ≡ length all) }
-    ensures rest { R.is_sound rows.new → (all : List (Cell × Held)) → R.rests rows.old all →
-        OnOk result (R.rests rows.new []) }
-    ensures given { IfOk result (λ count. R.given rows.new ≡ count + R.given rows.old) }
-
-    ensures front { R.is_sound rows.new → (all : List (Cell × Held)) → R.rests rows.old all →
-        WroteFront (W.contents out.old) (W.contents out.new) (stock_in format all) }
-
-    ensures kept { R.becomes rows.old rows.new }
-    ensures sound { R.is_sound rows.new → R.is_sound rows.old }
+    ensures writes { Writes R.RowSource rows.old rows.new (stock_in format)
+        (W.contents out.old) (W.contents out.new) result }
 {
     let ending = Ending::of_list(format, "cells");
     send_report(alloc, stock_head(format), &format, rows, &ending, out)
@@ -66,19 +50,8 @@ pub fn unfinished_text<R: RowSource<Brief>, W: Write>(
     rows: &mut R,
     out: &mut W,
 ) -> Result<u64, ReportFault>
-    ensures written { R.is_sound rows.new → (all : List Brief) → R.rests rows.old all →
-        OnOk result (Appends (W.contents out.old) (W.contents out.new) (unfinished_in format all)) }
-    ensures number { R.is_sound rows.new → (all : List Brief) → R.rests rows.old all →
-        IfOk result (λ count. count ≡ length all) }
-    ensures rest { R.is_sound rows.new → (all : List Brief) → R.rests rows.old all →
-        OnOk result (R.rests rows.new []) }
-    ensures given { IfOk result (λ count. R.given rows.new ≡ count + R.given rows.old) }
-
-    ensures front { R.is_sound rows.new → (all : List Brief) → R.rests rows.old all →
-        WroteFront (W.contents out.old) (W.contents out.new) (unfinished_in format all) }
-
-    ensures kept { R.becomes rows.old rows.new }
-    ensures sound { R.is_sound rows.new → R.is_sound rows.old }
+    ensures writes { Writes R.RowSource rows.old rows.new (unfinished_in format)
+        (W.contents out.old) (W.contents out.new) result }
 {
     let ending = Ending::of_list(format, "unfinished");
     send_report(alloc, unfinished_head(format), &format, rows, &ending, out)
@@ -94,20 +67,8 @@ pub fn journeys_text<R: RowSource<Brief>, W: Write>(
     rows: &mut R,
     out: &mut W,
 ) -> Result<u64, ReportFault>
-    ensures written { R.is_sound rows.new → (all : List Brief) → R.rests rows.old all →
-        OnOk result
-        (Appends (W.contents out.old) (W.contents out.new) (journeys_in name format all)) }
-    ensures number { R.is_sound rows.new → (all : List Brief) → R.rests rows.old all →
-        IfOk result (λ count. count ≡ length all) }
-    ensures rest { R.is_sound rows.new → (all : List Brief) → R.rests rows.old all →
-        OnOk result (R.rests rows.new []) }
-    ensures given { IfOk result (λ count. R.given rows.new ≡ count + R.given rows.old) }
-
-    ensures front { R.is_sound rows.new → (all : List Brief) → R.rests rows.old all →
-        WroteFront (W.contents out.old) (W.contents out.new) (journeys_in name format all) }
-
-    ensures kept { R.becomes rows.old rows.new }
-    ensures sound { R.is_sound rows.new → R.is_sound rows.old }
+    ensures writes { Writes R.RowSource rows.old rows.new (journeys_in name format)
+        (W.contents out.old) (W.contents out.new) result }
 {
     let ending = Ending::of_list(format, name.word());
     send_report(alloc, unfinished_head(format), &format, rows, &ending, out)
@@ -127,21 +88,8 @@ pub fn history_text<R: RowSource<Item>, W: Write>(
     rows: &mut R,
     out: &mut W,
 ) -> Result<u64, ReportFault>
-    ensures written { R.is_sound rows.new → (all : List Item) → R.rests rows.old all →
-        OnOk result (Appends (W.contents out.old) (W.contents out.new)
-        (history_in format id journey.now all)) }
-    ensures number { R.is_sound rows.new → (all : List Item) → R.rests rows.old all →
-        IfOk result (λ count. count ≡ length all) }
-    ensures rest { R.is_sound rows.new → (all : List Item) → R.rests rows.old all →
-        OnOk result (R.rests rows.new []) }
-    ensures given { IfOk result (λ count. R.given rows.new ≡ count + R.given rows.old) }
-
-    ensures front { R.is_sound rows.new → (all : List Item) → R.rests rows.old all →
-        WroteFront (W.contents out.old) (W.contents out.new)
-        (history_in format id journey.now all) }
-
-    ensures kept { R.becomes rows.old rows.new }
-    ensures sound { R.is_sound rows.new → R.is_sound rows.old }
+    ensures writes { Writes R.RowSource rows.old rows.new (history_in format id journey.now)
+        (W.contents out.old) (W.contents out.new) result }
 {
     match format {
         Format::Text => history_lines(alloc, id, journey, rows, out),
@@ -158,20 +106,8 @@ fn history_lines<R: RowSource<Item>, W: Write>(
     rows: &mut R,
     out: &mut W,
 ) -> Result<u64, ReportFault>
-    ensures written { R.is_sound rows.new → (all : List Item) → R.rests rows.old all →
-        OnOk result (Appends (W.contents out.old) (W.contents out.new)
-        (history_report id journey.now all)) }
-    ensures number { R.is_sound rows.new → (all : List Item) → R.rests rows.old all →
-        IfOk result (λ count. count ≡ length all) }
-    ensures rest { R.is_sound rows.new → (all : List Item) → R.rests rows.old all →
-        OnOk result (R.rests rows.new []) }
-    ensures given { IfOk result (λ count. R.given rows.new ≡ count + R.given rows.old) }
-
-    ensures front { R.is_sound rows.new → (all : List Item) → R.rests rows.old all →
-        WroteFront (W.contents out.old) (W.contents out.new) (history_report id journey.now all) }
-
-    ensures kept { R.becomes rows.old rows.new }
-    ensures sound { R.is_sound rows.new → R.is_sound rows.old }
+    ensures writes { Writes R.RowSource rows.old rows.new (history_report id journey.now)
+        (W.contents out.old) (W.contents out.new) result }
 {
     let head = history_head(alloc, id, journey)?;
     let state = history_tail(alloc, &journey.cursor)?;
@@ -187,20 +123,8 @@ fn history_objects<R: RowSource<Item>, W: Write>(
     rows: &mut R,
     out: &mut W,
 ) -> Result<u64, ReportFault>
-    ensures written { R.is_sound rows.new → (all : List Item) → R.rests rows.old all →
-        OnOk result (Appends (W.contents out.old) (W.contents out.new)
-        (history_in Json id journey.now all)) }
-    ensures number { R.is_sound rows.new → (all : List Item) → R.rests rows.old all →
-        IfOk result (λ count. count ≡ length all) }
-    ensures rest { R.is_sound rows.new → (all : List Item) → R.rests rows.old all →
-        OnOk result (R.rests rows.new []) }
-    ensures given { IfOk result (λ count. R.given rows.new ≡ count + R.given rows.old) }
-
-    ensures front { R.is_sound rows.new → (all : List Item) → R.rests rows.old all →
-        WroteFront (W.contents out.old) (W.contents out.new) (history_in Json id journey.now all) }
-
-    ensures kept { R.becomes rows.old rows.new }
-    ensures sound { R.is_sound rows.new → R.is_sound rows.old }
+    ensures writes { Writes R.RowSource rows.old rows.new (history_in Json id journey.now)
+        (W.contents out.old) (W.contents out.new) result }
 {
     let head = begin_object(alloc, id, journey)?;
     let state = state_object(alloc, id, &journey.cursor)?;
@@ -222,21 +146,9 @@ fn history_records<R: RowSource<Item>, W: Write>(
     rows: &mut R,
     out: &mut W,
 ) -> Result<u64, ReportFault>
-    ensures written { R.is_sound rows.new → (all : List Item) → R.rests rows.old all →
-        OnOk result (Appends (W.contents out.old) (W.contents out.new)
-        (csv_line item_names ++ flat_map (λ item. csv_line (item_fields id item)) all)) }
-    ensures number { R.is_sound rows.new → (all : List Item) → R.rests rows.old all →
-        IfOk result (λ count. count ≡ length all) }
-    ensures rest { R.is_sound rows.new → (all : List Item) → R.rests rows.old all →
-        OnOk result (R.rests rows.new []) }
-    ensures given { IfOk result (λ count. R.given rows.new ≡ count + R.given rows.old) }
-
-    ensures front { R.is_sound rows.new → (all : List Item) → R.rests rows.old all →
-        WroteFront (W.contents out.old) (W.contents out.new)
-        (csv_line item_names ++ flat_map (λ item. csv_line (item_fields id item)) all) }
-
-    ensures kept { R.becomes rows.old rows.new }
-    ensures sound { R.is_sound rows.new → R.is_sound rows.old }
+    ensures writes { Writes R.RowSource rows.old rows.new
+        (λ all. csv_line item_names ++ flat_map (λ item. csv_line (item_fields id item)) all)
+        (W.contents out.old) (W.contents out.new) result }
 {
     let layout = ItemRecords { id };
     send_report(alloc, item_heading(), &layout, rows, &Ending::Text(""), out)
@@ -251,21 +163,8 @@ fn send_report<T: Drop, L: Layout<T>, R: RowSource<T>, W: Write>(
     ending: &Ending<'_>,
     out: &mut W,
 ) -> Result<u64, ReportFault>
-    ensures written { R.is_sound rows.new → (all : List T) → R.rests rows.old all →
-        OnOk result (Appends (W.contents out.old) (W.contents out.new)
-        (whole_report (L.shown layout.now) head.now ending.now all)) }
-    ensures number { R.is_sound rows.new → (all : List T) → R.rests rows.old all →
-        IfOk result (λ count. count ≡ length all) }
-    ensures rest { R.is_sound rows.new → (all : List T) → R.rests rows.old all →
-        OnOk result (R.rests rows.new []) }
-    ensures given { IfOk result (λ count. R.given rows.new ≡ count + R.given rows.old) }
-
-    ensures front { R.is_sound rows.new → (all : List T) → R.rests rows.old all →
-        WroteFront (W.contents out.old) (W.contents out.new)
-        (whole_report (L.shown layout.now) head.now ending.now all) }
-
-    ensures kept { R.becomes rows.old rows.new }
-    ensures sound { R.is_sound rows.new → R.is_sound rows.old }
+    ensures writes { Writes R.RowSource rows.old rows.new
+        (whole_report (L.shown layout.now) head.now ending.now) (W.contents out.old) (W.contents out.new) result }
 {
     send_text(out, head)?;
     let count = send_rows(alloc, layout, rows, out)?;

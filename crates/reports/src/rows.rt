@@ -1,11 +1,12 @@
 //! The rows of a report, written one after another.
-ghost use Rattle.std.specs.Prelude.{◌≡◌, ◌+◌, ℕ, List, [], length, IfOk, IfErr, OnOk};
+ghost use Rattle.std.specs.Prelude.{ℕ, List, OnOk};
 ghost use Rattle.std.specs.List.{flat_map};
 ghost use Rattle.std.specs.Io.KnownBytes.{Appends};
 ghost use Rattle.reports.specs.Formats.{stock_row, unfinished_row};
 ghost use Rattle.reports.specs.Objects.{json_line, item_data};
 ghost use Rattle.reports.specs.Parts.{item_word};
 ghost use Rattle.reports.specs.Records.{csv_line, item_fields};
+ghost use Rattle.reports.specs.Writing.{Writes};
 ghost use Rattle.streams.specs.Written.{WroteFront};
 
 use crate::faults::ReportFault;
@@ -131,20 +132,8 @@ pub(crate) fn send_rows<T: Drop, L: Layout<T>, R: RowSource<T>, W: Write>(
     rows: &mut R,
     out: &mut W,
 ) -> Result<u64, ReportFault>
-    ensures written { R.is_sound rows.new → (all : List T) → R.rests rows.old all →
-        OnOk result
-        (Appends (W.contents out.old) (W.contents out.new) (flat_map (L.shown layout.now) all)) }
-    ensures number { R.is_sound rows.new → (all : List T) → R.rests rows.old all →
-        IfOk result (λ count. count ≡ length all) }
-    ensures rest { R.is_sound rows.new → (all : List T) → R.rests rows.old all →
-        OnOk result (R.rests rows.new []) }
-    ensures given { IfOk result (λ count. R.given rows.new ≡ count + R.given rows.old) }
-
-    ensures front { R.is_sound rows.new → (all : List T) → R.rests rows.old all →
-        WroteFront (W.contents out.old) (W.contents out.new) (flat_map (L.shown layout.now) all) }
-
-    ensures kept { R.becomes rows.old rows.new }
-    ensures sound { R.is_sound rows.new → R.is_sound rows.old }
+    ensures writes { Writes R.RowSource rows.old rows.new (flat_map (L.shown layout.now))
+        (W.contents out.old) (W.contents out.new) result }
 {
     let mut count = 0u64;
     while let Some(row) = rows.next_row()? {

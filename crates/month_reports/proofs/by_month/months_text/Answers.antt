@@ -1,74 +1,52 @@
 -- The report is written in its parts: its head, its months and its ending.
-use Rattle.std.proofs.Common.{◌≡◌, ◌∙◌, ap, length, subst}
-use Rattle.std.specs.Io.KnownBytes.{Appends}
+use Rattle.std.proofs.Common.{◌∙◌, length}
 use Rattle.std.specs.List.{flat_map}
-use Rattle.streams.specs.Written.{WroteFront}
-use Rattle.reports.proofs.FrontLemmas.{front_whole}
-use Rattle.reports.proofs.PartLemmas.{all_written, ending_begun, head_begun, rows_begun}
-use Rattle.month_reports.specs.MonthReports.{asked_months, month_shown, months_end, months_head, months_in}
+use Rattle.reports.proofs.PartLemmas.{ending_cut, head_cut, none_cut, rows_cut}
+use Rattle.reports.proofs.TakeLemmas.{takes_none}
+use Rattle.month_reports.specs.MonthReports.{asked_months, month_shown, months_end, months_head}
 use Rattle.month_reports.proofs.by_month.months_text.Goals as goal
 
 -- a prefix of the head was written
-pub returns-in_err-send-clause-front : goal.returns-in_err-send-clause-front
-returns-in_err-send-clause-front g c = λ sound all rest.
-    let contents = g.W.Write.contents in
-    let report = c.args.report in
-    let months = asked_months c.args.filter.now all in
-    let is : c.as_bytes.result.now ≡ months_head report = c.as_bytes.ensures.value ∙ c.head.ensures.head in
-    head_begun (contents c.args.out.now) (contents c.send.new.out) (months_head report) (flat_map (month_shown report) months)
-    (months_end report (length months)) (subst (WroteFront (contents c.args.out.now) (contents c.send.new.out)) is c.send.ensures.front)
+pub returns-in_err-send : goal.returns-in_err-send
+returns-in_err-send g c = record {
+  writes = head_cut (months_head c.args.report) (λ all. flat_map (month_shown c.args.report) (asked_months c.args.filter.now all)) (months_end c.args.report)
+      (λ all. length (asked_months c.args.filter.now all))
+      (c.as_bytes.ensures.value ∙ c.head.ensures.head) c.send.ensures.front
+      (takes_none g.R.RowSource g.met.R.RowSource.stays c.args.rows.now) c.from_residual.result c.from_residual.ensures.0;
+}
 
 -- a prefix of the months was written
-pub returns-in_err-count-clause-front : goal.returns-in_err-count-clause-front
-returns-in_err-count-clause-front g c = λ sound all rest.
-    let contents = g.W.Write.contents in
-    let report = c.args.report in
-    let months = asked_months c.args.filter.now all in
-    let is : c.as_bytes.result.now ≡ months_head report = c.as_bytes.ensures.value ∙ c.head.ensures.head in
-    rows_begun (contents c.args.out.now) (contents c.send.new.out) (contents c.send_months.new.out)
-    (months_head report) (flat_map (month_shown report) months) (months_end report (length months))
-    (subst (Appends (contents c.args.out.now) (contents c.send.new.out)) is c.in_ok-send.ensures.sent)
-    (c.send_months.ensures.front sound all rest)
+pub returns-in_err-count : goal.returns-in_err-count
+returns-in_err-count g c = record {
+  writes = rows_cut (months_head c.args.report) (λ all. flat_map (month_shown c.args.report) (asked_months c.args.filter.now all)) (months_end c.args.report)
+      (λ all. length (asked_months c.args.filter.now all))
+      (c.as_bytes.ensures.value ∙ c.head.ensures.head) c.in_ok-send.ensures.sent c.send_months.ensures.writes
+      c.from_residual-in_err-count.result c.from_residual-in_err-count.ensures.0;
+}
 
 -- out of memory for the ending
-pub returns-in_err-text-clause-front : goal.returns-in_err-text-clause-front
-returns-in_err-text-clause-front g c = λ sound all rest.
-    let contents = g.W.Write.contents in
-    let report = c.args.report in
-    let months = asked_months c.args.filter.now all in
-    let is : c.as_bytes.result.now ≡ months_head report = c.as_bytes.ensures.value ∙ c.head.ensures.head in
-    rows_begun (contents c.args.out.now) (contents c.send.new.out) (contents c.send_months.new.out)
-    (months_head report) (flat_map (month_shown report) months) (months_end report (length months))
-    (subst (Appends (contents c.args.out.now) (contents c.send.new.out)) is c.in_ok-send.ensures.sent)
-    (c.send_months.ensures.front sound all rest)
+pub returns-in_err-text : goal.returns-in_err-text
+returns-in_err-text g c = record {
+  writes = rows_cut (months_head c.args.report) (λ all. flat_map (month_shown c.args.report) (asked_months c.args.filter.now all)) (months_end c.args.report)
+      (λ all. length (asked_months c.args.filter.now all))
+      (c.as_bytes.ensures.value ∙ c.head.ensures.head) c.in_ok-send.ensures.sent c.send_months.ensures.writes
+      c.from_residual-in_err-text.result c.from_residual-in_err-text.ensures.0;
+}
 
 -- a prefix of the ending was written
-pub returns-in_err-send-2-clause-front : goal.returns-in_err-send-2-clause-front
-returns-in_err-send-2-clause-front g c = λ sound all rest.
-    let contents = g.W.Write.contents in
-    let report = c.args.report in
-    let months = asked_months c.args.filter.now all in
-    let is : c.as_bytes.result.now ≡ months_head report = c.as_bytes.ensures.value ∙ c.head.ensures.head in
-    let ends : c.as_bytes-2.result.now ≡ months_end report (length months) =
-    c.as_bytes-2.ensures.value ∙ c.in_ok-text.ensures.ending ∙ ap (months_end report) (c.in_ok-count.ensures.number sound all rest) in
-    ending_begun (contents c.args.out.now) (contents c.send.new.out) (contents c.send_months.new.out) (contents c.send-2.new.out)
-    (months_head report) (flat_map (month_shown report) months) (months_end report (length months))
-    (subst (Appends (contents c.args.out.now) (contents c.send.new.out)) is c.in_ok-send.ensures.sent)
-    (c.in_ok-count.ensures.written sound all rest)
-    (subst (WroteFront (contents c.send_months.new.out) (contents c.send-2.new.out)) ends c.send-2.ensures.front)
+pub returns-in_err-send-2 : goal.returns-in_err-send-2
+returns-in_err-send-2 g c = record {
+  writes = ending_cut (months_head c.args.report) (λ all. flat_map (month_shown c.args.report) (asked_months c.args.filter.now all)) (months_end c.args.report)
+      (λ all. length (asked_months c.args.filter.now all))
+      (c.as_bytes.ensures.value ∙ c.head.ensures.head) c.in_ok-count.ensures.writes (c.as_bytes-2.ensures.value ∙ c.in_ok-text.ensures.ending)
+      c.in_ok-send.ensures.sent c.send-2.ensures.front c.from_residual-in_err-send-2.result c.from_residual-in_err-send-2.ensures.0;
+}
 
--- the whole report is a prefix of itself
-pub returns-clause-front : goal.returns-clause-front
-returns-clause-front g c = λ sound all rest.
-    let contents = g.W.Write.contents in
-    let report = c.args.report in
-    let months = asked_months c.args.filter.now all in
-    let is : c.as_bytes.result.now ≡ months_head report = c.as_bytes.ensures.value ∙ c.head.ensures.head in
-    let ends : c.as_bytes-2.result.now ≡ months_end report (length months) =
-    c.as_bytes-2.ensures.value ∙ c.in_ok-text.ensures.ending ∙ ap (months_end report) (c.in_ok-count.ensures.number sound all rest) in
-    front_whole (contents c.args.out.now) (contents c.send-2.new.out) (months_in report months)
-    (all_written (contents c.args.out.now) (contents c.send.new.out) (contents c.send_months.new.out) (contents c.send-2.new.out)
-    (months_head report) (flat_map (month_shown report) months) (months_end report (length months))
-    (subst (Appends (contents c.args.out.now) (contents c.send.new.out)) is c.in_ok-send.ensures.sent)
-    (c.in_ok-count.ensures.written sound all rest)
-    (subst (Appends (contents c.send_months.new.out) (contents c.send-2.new.out)) ends c.in_ok-send-2.ensures.sent))
+-- all parts were written
+pub returns : goal.returns
+returns g c = record {
+  writes = none_cut (months_head c.args.report) (λ all. flat_map (month_shown c.args.report) (asked_months c.args.filter.now all)) (months_end c.args.report)
+      (λ all. length (asked_months c.args.filter.now all))
+      (c.as_bytes.ensures.value ∙ c.head.ensures.head) c.in_ok-count.ensures.writes (c.as_bytes-2.ensures.value ∙ c.in_ok-text.ensures.ending)
+      c.in_ok-send.ensures.sent c.in_ok-send-2.ensures.sent;
+}

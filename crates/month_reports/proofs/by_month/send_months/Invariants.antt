@@ -1,8 +1,8 @@
-use Rattle.std.proofs.Common.{◌+◌, ◌-◌, ◌^◌, ◌≤◌, ◌<◌, List}
+use Rattle.std.proofs.Common.{◌+◌, ◌-◌, ◌^◌, ◌≤◌, ◌<◌}
 use Rattle.saga_core.specs.RowSources.{count_of}
-use Rattle.reports.proofs.RowLemmas.{SoFar}
+use Rattle.reports.proofs.RowLemmas.{SoManyWritten}
 use Rattle.month_reports.specs.MonthReports.{asked_months, month_shown}
-use Rattle.month_reports.specs.Months.{AskedRest, MonthsRest, Places}
+use Rattle.month_reports.specs.Months.{AskedRest, MonthsRest}
 use Rattle.month_reports.proofs.by_month.send_months.Given as goal
 
 -- the first months were written, as many as were counted, and each took a cell
@@ -13,11 +13,8 @@ invariant-loop-next g l =
     record {
       counted : l.count + (count_of l.next + source.given l.fn.rows) ≤ source.given l.rows;
       small : source.given l.rows < 2 ^ 64;
-      kept : source.becomes l.fn.rows l.rows;
-      sound : source.is_sound l.rows → source.is_sound l.fn.rows;
-      so_far : source.is_sound l.rows → (all : List Places) → source.rests l.fn.rows all
-          → SoFar (month_shown l.report) (MonthsRest (AskedRest l.filter (source.rests l.rows)) l.next) (contents l.fn.out)
-          (contents l.out) (asked_months l.filter all) l.count;
+      written : SoManyWritten source l.fn.rows l.rows (asked_months l.filter) (MonthsRest (AskedRest l.filter (source.rests l.rows)) l.next)
+          (month_shown l.report) (contents l.fn.out) (contents l.out) l.count;
     }
 
 -- each month takes a cell, and fewer cells are returned than can be counted

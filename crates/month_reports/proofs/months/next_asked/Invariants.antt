@@ -1,4 +1,5 @@
 use Rattle.std.proofs.Common.{◌-◌, ◌^◌, ◌≤◌}
+use Rattle.reports.specs.Writing.{Takes}
 use Rattle.month_reports.proofs.MonthLemmas.{Passing}
 use Rattle.month_reports.proofs.months.next_asked.Given as goal
 
@@ -9,8 +10,7 @@ invariant-loop-row g l =
     record {
       passing : source.is_sound l.rows → Passing l.filter (source.rests l.fn.rows) (source.rests l.rows);
       given : source.given l.fn.rows ≤ source.given l.rows;
-      kept : source.becomes l.fn.rows l.rows;
-      sound : source.is_sound l.rows → source.is_sound l.fn.rows;
+      takes : Takes source l.fn.rows l.rows;
     }
 
 -- fewer cells are returned than can be counted

@@ -2,6 +2,7 @@
 use Rattle.std.proofs.Common.{◌≡◌, ◌∙◌, ◌+◌, ◌-◌, ◌≤◌, ◌++◌, ◌∷◌, [], List, ap, arith, false, length, length-append, rules, subst, sym, true}
 use Rattle.allotment.specs.Limits.{first_night}
 use Rattle.allotment.specs.Nights.{date_of, days_before, months, year_of}
+use Rattle.reports.proofs.TakeLemmas.{takes_none, takes_twice}
 use Rattle.saga_core.specs.RowSources.{Hands}
 use Rattle.month_reports.specs.Months.{AskedRest, goes_on, Places}
 use Rattle.month_reports.proofs.DayLemmas.{day_from_one}
@@ -24,8 +25,7 @@ loop-cells-init g c =
       few = omega (arith, one);
       days = subst (λ n. n ≤ (date_of first.0.night).1.1) (sym one) (day_from_one 1 (months (year_of k)) (k - days_before (year_of k)));
       given = omega arith;
-      kept = search rules;
-      sound = λ sound. sound;
+      takes = takes_none source g.met.R.RowSource.stays c.args.rows.now;
     }
 
 -- one more cell goes on with the month
@@ -45,14 +45,13 @@ loop-cells-preserved g c =
     record {
       begun = subst (λ cs. Begins cs row.0) (sym is) (begins_more cells at.last.0 row at.invariant.begun follows);
       reading = λ sound. subst (Reading all after c.args.first.now) (sym is)
-          (reads_more all left after c.args.first.now cells row (at.invariant.reading (c.next_asked.ensures.sound sound))
+          (reads_more all left after c.args.first.now cells row (at.invariant.reading (c.next_asked.ensures.takes.sound sound))
           (subst (Hands left after) c.in-Some.is (c.in_ok-row.ensures.next sound)));
       few = subst (λ n. n ≤ 31) (sym long)
           (at_most (length cells + 1) (date_of row.0.night).1.1 31 later c.goes_on.ensures.short);
       days = subst (λ n. n ≤ (date_of row.0.night).1.1) (sym long) later;
       given = omega (arith, at.invariant.given, c.in_ok-row.ensures.counted);
-      kept = g.met.R.RowSource.joins c.args.rows.now at.rows c.next_asked.new.rows at.invariant.kept c.next_asked.ensures.kept;
-      sound = λ sound. at.invariant.sound (c.next_asked.ensures.sound sound);
+      takes = takes_twice source g.met.R.RowSource.joins at.invariant.takes c.next_asked.ensures.takes;
     }
 
 -- the next cell begins another month
@@ -66,19 +65,19 @@ returns-then-not-goes_on-clause-month g c sound =
     let after = AskedRest c.args.filter.now (source.rests c.next_asked.new.rows) in
     let apart : goes_on at.last.0 row.0 ≡ false = search rules in
     hands_month all left after c.args.first.now at.cells.items at.last.0 row
-    (at.invariant.reading (c.next_asked.ensures.sound sound)) at.invariant.begun
+    (at.invariant.reading (c.next_asked.ensures.takes.sound sound)) at.invariant.begun
     (subst (Hands left after) c.in-Some.is (c.in_ok-row.ensures.next sound)) apart
 
-pub returns-then-not-goes_on-clause-kept : goal.returns-then-not-goes_on-clause-kept
-returns-then-not-goes_on-clause-kept g c =
+pub returns-then-not-goes_on-clause-takes : goal.returns-then-not-goes_on-clause-takes
+returns-then-not-goes_on-clause-takes g c =
     let at = c.loop-cells in
-    g.met.R.RowSource.joins c.args.rows.now at.rows c.next_asked.new.rows at.invariant.kept c.next_asked.ensures.kept
+    takes_twice g.R.RowSource g.met.R.RowSource.joins at.invariant.takes c.next_asked.ensures.takes
 
 -- out of memory for one more cell
-pub returns-in_err-add-2-clause-kept : goal.returns-in_err-add-2-clause-kept
-returns-in_err-add-2-clause-kept g c =
+pub returns-in_err-add-2-clause-takes : goal.returns-in_err-add-2-clause-takes
+returns-in_err-add-2-clause-takes g c =
     let at = c.loop-cells in
-    g.met.R.RowSource.joins c.args.rows.now at.rows c.next_asked.new.rows at.invariant.kept c.next_asked.ensures.kept
+    takes_twice g.R.RowSource g.met.R.RowSource.joins at.invariant.takes c.next_asked.ensures.takes
 
 -- no cell is left
 pub returns-clause-month : goal.returns-clause-month
@@ -89,5 +88,5 @@ returns-clause-month g c sound =
     let left = AskedRest c.args.filter.now (source.rests at.rows) in
     let after = AskedRest c.args.filter.now (source.rests c.next_asked.new.rows) in
     hands_last all left after c.args.first.now at.cells.items at.last.0
-    (at.invariant.reading (c.next_asked.ensures.sound sound)) at.invariant.begun
+    (at.invariant.reading (c.next_asked.ensures.takes.sound sound)) at.invariant.begun
     (subst (Hands left after) c.in_default.is (c.in_ok-row.ensures.next sound))

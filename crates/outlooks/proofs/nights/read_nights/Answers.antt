@@ -1,14 +1,12 @@
 -- The cells are read to the last one.
-use Rattle.std.proofs.Common.{◌≡◌, ◌∙◌, ◌+◌, [], arith, rules, subst, sym, Option}
+use Rattle.std.proofs.Common.{◌≡◌, ◌∙◌, [], arith, rules, subst, sym}
 use Rattle.std.proofs.lemmas.Result.{err_from_is_err_and}
-use Rattle.allotment.specs.declared.cells.Cell.{Cell}
-use Rattle.allotment.specs.declared.places.Held.{Held}
 use Rattle.commands.specs.declared.replies.Fault.{Fault}
 use Rattle.commands.specs.declared.replies.Fault.TheVariants.{Memory, Store}
 use Rattle.reports.specs.Faults.{report_fault}
 use Rattle.reports.specs.declared.faults.ReportFault.TheVariants.{Write}
-use Rattle.saga_core.specs.RowSources.{count_of, Hands}
-use Rattle.outlooks.proofs.ReadLemmas.{Collected, collects_more, collects_none}
+use Rattle.reports.proofs.TakeLemmas.{given_one, Taken, taken_more, taken_none, takes_next, takes_none}
+use Rattle.saga_core.specs.RowSources.{Hands}
 use Rattle.outlooks.proofs.nights.read_nights.Goals as goal
 
 -- none was read
@@ -18,10 +16,9 @@ loop-cells-init g c =
     let empty : c.new-cells.result.items ≡ [] = search rules in
     record {
       read = λ sound all remain.
-          subst (Collected (source.rests c.args.rows.now) all) (sym empty) (collects_none (source.rests c.args.rows.now) all remain);
+          subst (Taken (source.rests c.args.rows.now) all) (sym empty) (taken_none all remain);
       given = omega arith;
-      kept = search rules;
-      sound = λ sound. sound;
+      takes = takes_none source g.met.R.RowSource.stays c.args.rows.now;
     }
 
 -- one more was
@@ -30,17 +27,13 @@ loop-cells-preserved g c =
     let source = g.R.RowSource in
     let at = c.loop-cells in
     let after = c.next_row.new.self in
-    let counted : source.given after ≡ 1 + source.given at.rows =
-    subst (λ (found : Option (Cell × Held)). source.given after ≡ count_of found + source.given at.rows) c.in-Some.is c.in_ok-row.ensures.counted in
     record {
       read = λ sound all remain.
-          collects_more (source.rests at.rows) (source.rests after) all at.cells.items c.in-Some.row c.add.new.cells.items
-          (at.invariant.read (c.next_row.ensures.sound sound) all remain)
-          (subst (Hands (source.rests at.rows) (source.rests after)) c.in-Some.is (c.in_ok-row.ensures.next sound))
-          c.in_ok-add.ensures.added;
-      given = omega (arith, counted, at.invariant.given);
-      kept = search rules;
-      sound = λ sound. at.invariant.sound (c.next_row.ensures.sound sound);
+          subst (Taken (source.rests after) all) (sym c.in_ok-add.ensures.added)
+          (taken_more (at.invariant.read (c.next_row.ensures.sound sound) all remain) (source.rests after)
+          (subst (Hands (source.rests at.rows) (source.rests after)) c.in-Some.is (c.in_ok-row.ensures.next sound)));
+      given = omega (arith, given_one _ _ c.in_ok-row.ensures.counted c.in-Some.is, at.invariant.given);
+      takes = takes_next source g.met.R.RowSource.joins at.invariant.takes c.next_row.ensures.kept c.next_row.ensures.sound;
     }
 
 -- a source does not fail to write

@@ -1,7 +1,8 @@
 use Rattle.std.proofs.Common.{◌-◌, ◌^◌, ◌≤◌, List}
 use Rattle.allotment.specs.declared.cells.Cell.{Cell}
 use Rattle.allotment.specs.declared.places.Held.{Held}
-use Rattle.outlooks.proofs.ReadLemmas.{Collected}
+use Rattle.reports.specs.Writing.{Takes}
+use Rattle.reports.proofs.TakeLemmas.{Taken}
 use Rattle.outlooks.proofs.nights.read_nights.Given as goal
 
 -- the cells that were read
@@ -10,10 +11,9 @@ invariant-loop-cells g l =
     let source = g.R.RowSource in
     record {
       read : source.is_sound l.rows → (all : List (Cell × Held)) → source.rests l.fn.rows all
-          → Collected (source.rests l.rows) all l.cells.items;
+          → Taken (source.rests l.rows) all l.cells.items;
       given : source.given l.fn.rows ≤ source.given l.rows;
-      kept : source.becomes l.fn.rows l.rows;
-      sound : source.is_sound l.rows → source.is_sound l.fn.rows;
+      takes : Takes source l.fn.rows l.rows;
     }
 
 -- fewer cells are returned than can be counted

@@ -1,17 +1,11 @@
 -- The rows that are written are those of the state that is kept.
 use Rattle.std.proofs.Common.{refl, rules}
-use Rattle.sqlite.specs.Held.{state}
-use Rattle.sqlite.specs.State.{HasCleanDisk}
-use Rattle.sql_model.proofs.Quieting.{quiet_clean}
+use Rattle.report_jobs.proofs.ReportLemmas.{wrote_rows}
+use Rattle.report_jobs.proofs.ShowLemmas.{shows_rows}
 use Rattle.report_jobs.proofs.plain_reports.write_unfinished.Goals as goal
 
-pub returns-clause-told : goal.returns-clause-told
-returns-clause-told g c clean v s desk keeps =
-    let stayed = c.unfinished_text.ensures.kept.under in
-    -- the connection is the one that the rows give back when they are let go
-    let sound : HasCleanDisk (state g.S.Store c.unfinished_text.new.rows.rows.now.conn.now) = search rules in
-    let rests = c.in-Ok.ensures.rows v (quiet_clean _ _ _ stayed.quiet sound) s desk keeps _ refl in
-    record {
-      whole = c.unfinished_text.ensures.written sound _ (c.new.ensures.going, rests);
-      front = c.unfinished_text.ensures.front sound _ (c.new.ensures.going, rests);
-    }
+pub returns : goal.returns
+returns g c = record {
+  shows = shows_rows g.S.Store c.in-Ok.ensures.quiet c.in-Ok.ensures.rows c.unfinished_text.ensures.writes.takes.kept.under.quiet (search rules)
+      (λ sound s begun. wrote_rows _ _ (c.unfinished_text.ensures.writes.wrote sound _ (c.new.ensures.going, begun _ refl)));
+}

@@ -4,14 +4,14 @@ use Rattle.sql_model.proofs.Quieting.{quiet_clean}
 use Rattle.report_jobs.specs.Jobs.{Reports}
 use Rattle.report_jobs.specs.Reporting.{IsDeskIn}
 use Rattle.report_jobs.proofs.EndLemmas.{ends_begun, ends_unopened, unopened_report}
-use Rattle.report_jobs.proofs.ReportLemmas.{still_in}
+use Rattle.report_jobs.proofs.ShowLemmas.{still_in}
 use Rattle.report_jobs.proofs.reporting.report_over.Goals as goal
 
 pub returns-clause-told : goal.returns-clause-told
 returns-clause-told g c clean v s was =
     let is : IsDeskIn g.S.Store c.in-Ok.opened s =
     record { desk = was.desk; keeps = λ at. c.in-Ok.ensures.opens.finds at v s was.stood } in
-    c.tell_report-end.ensures.told (c.into_store.ensures.sound clean) s is
+    c.tell_report-end.ensures.shows.told (c.into_store.ensures.sound clean) s is
 
 pub returns-in-Err-clause-told : goal.returns-in-Err-clause-told
 returns-in-Err-clause-told g c clean v s was =
@@ -30,7 +30,7 @@ returns-in-Err-clause-ends g c =
 -- what was opened was only read, and its connection is returned
 pub returns-clause-keeps : goal.returns-clause-keeps
 returns-clause-keeps g c =
-    let read = c.tell_report-end.ensures.kept in
+    let read = c.tell_report-end.ensures.shows.kept in
     record {
       same = λ clean v s was. (
           let is : IsDeskIn g.S.Store c.in-Ok.opened s =

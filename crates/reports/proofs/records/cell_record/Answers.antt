@@ -15,8 +15,8 @@ returns c =
     let of_cell : List ℕ → List (List ℕ) = λ night. kind_word cell.kind ∷ cell.supplier ∷ cell.product ∷ night ∷ [] in
     let night = c.as_str.ensures.value ∙ c.in_ok-night.ensures.text in
     let fields : fields_of c.put_places.new.row ≡ cell_fields (cell, places) =
-    c.in_ok-put_places.ensures.fields
-    ∙ ap (λ (before : List (List ℕ)). before ++ numbers) (c.in_ok-put_cell.ensures.fields
+    c.in_ok-put_places.ensures.adds.fields
+    ∙ ap (λ (before : List (List ℕ)). before ++ numbers) (c.in_ok-put_cell.ensures.adds.fields
     ∙ ap (λ (before : List (List ℕ)). before ++ of_cell c.as_str.result.now) c.new-row.ensures.fields
     ∙ ap of_cell night) in
     record {

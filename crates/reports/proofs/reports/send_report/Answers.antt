@@ -1,63 +1,43 @@
 -- A report is written in its parts: its head, its rows and its ending.
-use Rattle.std.proofs.Common.{◌≡◌, ◌∙◌, ◌++◌, ap, length, subst}
-use Rattle.std.specs.Io.KnownBytes.{Appends}
+use Rattle.std.proofs.Common.{◌∙◌, length, refl}
 use Rattle.std.specs.List.{flat_map}
 use Rattle.reports.specs.Parts.{ending_text}
-use Rattle.streams.specs.Written.{WroteFront}
-use Rattle.reports.proofs.FrontLemmas.{front_whole}
-use Rattle.reports.proofs.PartLemmas.{all_written, ending_begun, head_begun, rows_begun}
+use Rattle.reports.proofs.PartLemmas.{ending_cut, head_cut, none_cut, rows_cut}
+use Rattle.reports.proofs.TakeLemmas.{takes_none}
 use Rattle.reports.proofs.reports.send_report.Goals as goal
 
 -- a prefix of the head was written
-pub returns-in_err-send_text-clause-front : goal.returns-in_err-send_text-clause-front
-returns-in_err-send_text-clause-front g c = λ sound all rest.
-    let contents = g.W.Write.contents in
-    head_begun (contents c.args.out.now) (contents c.send_text.new.out)
-    c.args.head.now (flat_map (g.L.Layout.shown c.args.layout.now) all) (ending_text c.args.ending.now (length all)) c.send_text.ensures.front
+pub returns-in_err-send_text : goal.returns-in_err-send_text
+returns-in_err-send_text g c = record {
+  writes = head_cut c.args.head.now (flat_map (g.L.Layout.shown c.args.layout.now)) (ending_text c.args.ending.now) length refl c.send_text.ensures.front
+      (takes_none g.R.RowSource g.met.R.RowSource.stays c.args.rows.now) c.from_residual.result c.from_residual.ensures.0;
+}
 
 -- a prefix of the rows was written
-pub returns-in_err-count-clause-front : goal.returns-in_err-count-clause-front
-returns-in_err-count-clause-front g c = λ sound all rest.
-    let contents = g.W.Write.contents in
-    rows_begun (contents c.args.out.now) (contents c.send_text.new.out) (contents c.send_rows.new.out)
-    c.args.head.now (flat_map (g.L.Layout.shown c.args.layout.now) all) (ending_text c.args.ending.now (length all))
-    c.in_ok-send_text.ensures.sent (c.send_rows.ensures.front sound all rest)
+pub returns-in_err-count : goal.returns-in_err-count
+returns-in_err-count g c = record {
+  writes = rows_cut c.args.head.now (flat_map (g.L.Layout.shown c.args.layout.now)) (ending_text c.args.ending.now) length refl
+      c.in_ok-send_text.ensures.sent c.send_rows.ensures.writes c.from_residual-in_err-count.result c.from_residual-in_err-count.ensures.0;
+}
 
 -- out of memory for the ending
-pub returns-in_err-text-clause-front : goal.returns-in_err-text-clause-front
-returns-in_err-text-clause-front g c = λ sound all rest.
-    let contents = g.W.Write.contents in
-    rows_begun (contents c.args.out.now) (contents c.send_text.new.out) (contents c.send_rows.new.out)
-    c.args.head.now (flat_map (g.L.Layout.shown c.args.layout.now) all) (ending_text c.args.ending.now (length all))
-    c.in_ok-send_text.ensures.sent (c.send_rows.ensures.front sound all rest)
+pub returns-in_err-text : goal.returns-in_err-text
+returns-in_err-text g c = record {
+  writes = rows_cut c.args.head.now (flat_map (g.L.Layout.shown c.args.layout.now)) (ending_text c.args.ending.now) length refl
+      c.in_ok-send_text.ensures.sent c.send_rows.ensures.writes c.from_residual-in_err-text.result c.from_residual-in_err-text.ensures.0;
+}
 
 -- a prefix of the ending was written
-pub returns-in_err-send_text-2-clause-front : goal.returns-in_err-send_text-2-clause-front
-returns-in_err-send_text-2-clause-front g c = λ sound all rest.
-    let contents = g.W.Write.contents in
-    let ending = c.args.ending.now in
-    let is : c.as_str.result.now ≡ ending_text ending (length all) =
-    c.as_str.ensures.value ∙ c.in_ok-text.ensures.text ∙ ap (ending_text ending) (c.in_ok-count.ensures.number sound all rest) in
-    ending_begun (contents c.args.out.now) (contents c.send_text.new.out) (contents c.send_rows.new.out) (contents c.send_text-2.new.out)
-    c.args.head.now (flat_map (g.L.Layout.shown c.args.layout.now) all) (ending_text ending (length all))
-    c.in_ok-send_text.ensures.sent (c.in_ok-count.ensures.written sound all rest)
-    (subst (WroteFront (contents c.send_rows.new.out) (contents c.send_text-2.new.out)) is c.send_text-2.ensures.front)
+pub returns-in_err-send_text-2 : goal.returns-in_err-send_text-2
+returns-in_err-send_text-2 g c = record {
+  writes = ending_cut c.args.head.now (flat_map (g.L.Layout.shown c.args.layout.now)) (ending_text c.args.ending.now) length refl c.in_ok-count.ensures.writes
+      (c.as_str.ensures.value ∙ c.in_ok-text.ensures.text) c.in_ok-send_text.ensures.sent c.send_text-2.ensures.front
+      c.from_residual-in_err-send_text-2.result c.from_residual-in_err-send_text-2.ensures.0;
+}
 
 -- all parts were written
-pub returns-clause-written : goal.returns-clause-written
-returns-clause-written g c = λ sound all rest.
-    let contents = g.W.Write.contents in
-    let ending = c.args.ending.now in
-    let is : c.as_str.result.now ≡ ending_text ending (length all) =
-    c.as_str.ensures.value ∙ c.in_ok-text.ensures.text ∙ ap (ending_text ending) (c.in_ok-count.ensures.number sound all rest) in
-    all_written (contents c.args.out.now) (contents c.send_text.new.out) (contents c.send_rows.new.out) (contents c.send_text-2.new.out)
-    c.args.head.now (flat_map (g.L.Layout.shown c.args.layout.now) all) (ending_text ending (length all))
-    c.in_ok-send_text.ensures.sent (c.in_ok-count.ensures.written sound all rest)
-    (subst (Appends (contents c.send_rows.new.out) (contents c.send_text-2.new.out)) is c.in_ok-send_text-2.ensures.sent)
-
--- the whole report is a prefix of itself
-pub returns-clause-front : goal.returns-clause-front
-returns-clause-front g c = λ sound all rest.
-    let contents = g.W.Write.contents in
-    let bytes = c.args.head.now ++ flat_map (g.L.Layout.shown c.args.layout.now) all ++ ending_text c.args.ending.now (length all) in
-    front_whole (contents c.args.out.now) (contents c.send_text-2.new.out) bytes (returns-clause-written g c sound all rest)
+pub returns : goal.returns
+returns g c = record {
+  writes = none_cut c.args.head.now (flat_map (g.L.Layout.shown c.args.layout.now)) (ending_text c.args.ending.now) length refl c.in_ok-count.ensures.writes
+      (c.as_str.ensures.value ∙ c.in_ok-text.ensures.text) c.in_ok-send_text.ensures.sent c.in_ok-send_text-2.ensures.sent;
+}

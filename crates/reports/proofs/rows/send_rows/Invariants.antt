@@ -1,5 +1,5 @@
-use Rattle.std.proofs.Common.{◌≡◌, ◌+◌, ◌-◌, ◌^◌, List}
-use Rattle.reports.proofs.RowLemmas.{SoFar}
+use Rattle.std.proofs.Common.{◌≡◌, ◌+◌, ◌-◌, ◌^◌}
+use Rattle.reports.proofs.RowLemmas.{SoManyWritten}
 use Rattle.reports.proofs.rows.send_rows.Given as goal
 
 -- the first rows were written, as many as were counted
@@ -8,11 +8,8 @@ invariant-loop-row g l =
     let source = g.R.RowSource in
     let contents = g.W.Write.contents in
     record {
+      written : SoManyWritten source l.fn.rows l.rows (λ rows. rows) (source.rests l.rows) (g.L.Layout.shown l.fn.layout) (contents l.fn.out) (contents l.out) l.count;
       given : source.given l.rows ≡ l.count + source.given l.fn.rows;
-      kept : source.becomes l.fn.rows l.rows;
-      sound : source.is_sound l.rows → source.is_sound l.fn.rows;
-      so_far : source.is_sound l.rows → (all : List (g.row.T).Denot) → source.rests l.fn.rows all
-          → SoFar (g.L.Layout.shown l.fn.layout) (source.rests l.rows) (contents l.fn.out) (contents l.out) all l.count;
     }
 
 -- fewer rows are returned than the counter can count

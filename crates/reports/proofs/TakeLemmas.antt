@@ -1,0 +1,83 @@
+-- Rows that are taken from a source, one after another, and their text at a fault. For the loops over a source.
+use Rattle.std.proofs.Common.{◌≡◌, ◌∙◌, ◌+◌, ◌∷◌, ◌++◌, [], ap, append-nil, append_assoc, refl, sym, ℕ, List, subst, Option, Some, None, Result, Ok, Err, IsErr}
+use Rattle.saga_core.specs.RowSources.{count_of, Hands, HandsFirst}
+use Rattle.streams.specs.Written.{WroteFront}
+use Rattle.saga_core.specs.declared.row_sources.RowSource.{Ghosts}
+use Rattle.reports.specs.Writing.{Takes, WritesCounted, Wrote}
+
+-- these rows were taken, and the later ones remain
+pub record Taken {T : Type 0} (rests : List T → Type 0) (all gone : List T) : Type 0 where
+  pub later : List T
+  pub cut : all ≡ gone ++ later
+  pub rest : rests later
+
+pub taken_none : {T : Type 0} {rests : List T → Type 0} (all : List T) → rests all → Taken rests all []
+taken_none all rest = record { later = all; cut = refl; rest = rest }
+
+-- no row was returned: none remained
+pub none_left : {T : Type 0} (rests : List T → Type 0) (rows : List T) → HandsFirst rests None rows → (rows ≡ []) × rests []
+none_left rests [] told = (refl, told.1)
+none_left rests (x ∷ later) told = absurd (let no : None ≡ Some x = told.0 in cc)
+
+module _ {T : Type 0} {rested : List T → Type 0} {all gone : List T} (taken : Taken rested all gone) (rests : List T → Type 0) where
+  -- a row was returned: it was taken too
+  pub taken_more : {row : T} → Hands rested rests (Some row) → Taken rests all (gone ++ row ∷ [])
+  taken_more {row} hands = more taken.later taken.cut (hands taken.later taken.rest)
+    where
+      more : (later : List T) → all ≡ gone ++ later → HandsFirst rests (Some row) later → Taken rests all (gone ++ row ∷ [])
+      more [] cut told = absurd (let no : Some row ≡ None = told.0 in cc)
+      more (first ∷ later) cut told =
+          let same : first ≡ row = cc told.0 in
+          record { later = later; cut = cut ∙ ap (λ x. gone ++ x ∷ later) same ∙ sym (append_assoc gone (row ∷ []) later); rest = told.1 }
+
+  -- none was: all were taken
+  pub taken_all : Hands rested rests None → (all ≡ gone) × rests []
+  taken_all hands =
+      let none = none_left rests taken.later (hands taken.later taken.rest) in
+      (taken.cut ∙ ap (λ rows. gone ++ rows) none.0 ∙ append-nil gone, none.1)
+
+module _ {R T : Type 0} (source : Ghosts R T) where
+  -- where no row was taken, the source is the same
+  pub takes_none : ((s : R) → source.becomes s s) → (s : R) → Takes source s s
+  takes_none stays s = record { kept = stays s; sound = λ sound. sound }
+
+  module _ (joins : (a b c : R) → source.becomes a b → source.becomes b c → source.becomes a c) where
+    -- rows were taken, and then further ones
+    pub takes_twice : {a b c : R} → Takes source a b → Takes source b c → Takes source a c
+    takes_twice {a} {b} {c} one two = record { kept = joins a b c one.kept two.kept; sound = λ sound. one.sound (two.sound sound) }
+
+    -- rows were taken, and then a row or none
+    pub takes_next : {a b c : R} → Takes source a b → source.becomes b c → (source.is_sound c → source.is_sound b) → Takes source a c
+    takes_next one kept sound = takes_twice one (record { kept = kept; sound = sound })
+
+-- one row was returned, or none
+pub given_one : {T : Type 0} {found : Option T} {row : T} (old new : ℕ) → new ≡ count_of found + old → found ≡ Some row → new ≡ 1 + old
+given_one old new counted some = subst (λ x. new ≡ count_of x + old) some counted
+
+pub given_none : {T : Type 0} {found : Option T} (old new : ℕ) → new ≡ count_of found + old → found ≡ None → new ≡ 0 + old
+given_none old new counted none = subst (λ x. new ≡ count_of x + old) none counted
+
+module _ {R T : Type 0} {source : Ghosts R T} {old new : R} {text : List T → List ℕ} {number : List T → ℕ} {Counted : ℕ → Type 0}
+    {NoneLeft : Type 0} {held holds : Option (List ℕ)} {E : Type 0} where
+  -- a fault: a prefix of the text was written
+  pub writes_failed : (result : Result ℕ E) → IsErr result → Takes source old new
+      → (source.is_sound new → (all : List T) → source.rests old all → WroteFront held holds (text all))
+      → WritesCounted source old new text number Counted NoneLeft held holds result
+  writes_failed (Ok count) is takes front = absurd (cc)
+  writes_failed (Err fault) is takes front = record {
+    wrote = λ sound all rest. record { written = tt; number = tt; front = front sound all rest };
+    rest = λ sound all rest. tt;
+    given = tt;
+    takes = takes;
+  }
+
+  -- what was written of the rows is also this text
+  pub writes_same : {other : List T → List ℕ} {result : Result ℕ E}
+      → WritesCounted source old new text number Counted NoneLeft held holds result → ((all : List T) → text all ≡ other all)
+      → WritesCounted source old new other number Counted NoneLeft held holds result
+  writes_same {result = result} it same = record {
+    wrote = λ sound all rest. subst (λ bytes. Wrote held holds bytes (number all) result) (same all) (it.wrote sound all rest);
+    rest = it.rest;
+    given = it.given;
+    takes = it.takes;
+  }
