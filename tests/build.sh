@@ -1,11 +1,12 @@
 #!/usr/bin/env bash
 # ./build proves each crate once those below it are proved, side by side where they do not wait for each other; it can be
-# stopped and goes on where it was; it says what is kept; ./desk then runs the program. In place of rt stands a script.
+# stopped and goes on where it was; it says what is kept; ./desk then runs the program. Each command at the top may be called
+# through a link. In place of rt and python3 stand scripts.
 . "$(dirname "${BASH_SOURCE[0]}")/helping.bash"
 top=$work/repo
 export FAKE=$work/fake
 mkdir -p "$FAKE" "$top/docs"
-cp -r "$tests/../build" "$tests/../desk" "$tests/../scripts" "$top"
+cp -r "$tests"/../{build,check,bench,soak,desk,scripts} "$top"
 cp "$tests/../docs/minutes.tsv" "$top/docs"
 cd "$top" || exit 2
 
@@ -22,6 +23,7 @@ esac
 for below in $(sed -n "s/^$name:\(.*\)/\1/p" ../../crates.txt); do
   [ "$below" = sqlite ] || [ -e "../$below/out/rlib/stamp" ] || { echo "no library $below"; exit 1; }
 done
+[ "$name" != bench ] || exit 0
 grep -q wrong src/lib.rt && { echo "src/lib.rt:1:1: error: wrong"; exit 1; }
 echo "begins $name$([ -d out/incremental ] && echo ' again')" >>"$FAKE/log"
 mkdir -p out/incremental
@@ -46,7 +48,7 @@ RT
 printf '#!/bin/sh\necho 2\n' >"$FAKE/nproc"
 printf 'MemAvailable: 20000000 kB\n' >"$FAKE/memory"
 export MEMINFO=$FAKE/memory
-printf '#!/bin/sh\nexit 0\n' >"$FAKE/python3"
+printf '#!/bin/sh\necho "python3 $*"\n' >"$FAKE/python3"
 chmod +x "$FAKE"/*
 PATH=$FAKE:$PATH
 
@@ -99,7 +101,7 @@ same "what is kept" "desk" "$(find crates -path '*/out/*' -type f -printf '%f\n'
 same "the program" "proved run x.db" "$(./desk run x.db 2>"$work/err")"
 same "the program: standard error" "" "$(cat "$work/err")"
 
-# ./desk finds its own folder from wherever it is called, also through a link to a link
+# each command of the repository finds its own folder from wherever it is called, also through a link to a link
 mkdir "$work/away"
 ln -s ../repo/desk "$work/away/booking"
 ln -s away/booking "$work/desk"
@@ -108,6 +110,28 @@ same "through a link" "proved run x.db" "$(cd "$work/away" && ./booking run x.db
 same "through a link to a link, on the PATH" "proved run x.db" "$(cd / && PATH=$work:$PATH && desk run x.db 2>&1)"
 builds 0
 same "nothing is built twice" "" "$(order)"
+
+# linked NAME STATUS LAST WORD ..: the command of this name ends so, and this is its last line, by its path and by such a link
+linked() {
+  local name=$1 status=$2 last=$3 called
+  shift 3
+  ln -s "../repo/$name" "$work/away/a_$name"
+  ln -s "away/a_$name" "$work/the_$name"
+  for called in "$top/$name" "$work/away/a_$name" "$work/the_$name"; do
+    (cd / && unset RT_JOBS && "$called" "$@") >"$work/said" 2>&1
+    same "${called#"$work/"} $*: the status" "$status" $?
+    same "${called#"$work/"} $*" "$last" "$(tail -n 1 "$work/said")"
+    same "${called#"$work/"} $*: files that it lacks" "" "$(grep -i "no such file\|not found" "$work/said")"
+  done
+}
+
+mkdir -p crates/bench
+cp "$tests"/../crates/bench/*.bash crates/bench
+linked build 0 "build: the program is crates/desk/out/desk, $(du -shc crates/desk/out/desk | tail -n 1 | cut -f 1), and no source is newer"
+linked check 0 "python3 -B scripts/gate 2 --turns" --turns
+linked soak 0 "python3 $top/tests/soak.py . --help" --help
+linked bench 2 "bench: no such measure: nothing" nothing
+rm -r crates/bench
 
 # the crate on which the longest chain waits begins first: two minutes each, but for `first` and what the table has
 mkdir -p "$work/chain/docs"
@@ -184,5 +208,5 @@ touch crates/aside/src/lib.rt
 builds 0
 same "a crate that the program does not stand on" "" "$(order)"
 builds 2 --most
-same "what stands at the top" "HANDLES build crates crates.txt desk docs out scripts " "$(LC_ALL=C ls -A | tr '\n' ' ')"
+same "what stands at the top" "HANDLES bench build check crates crates.txt desk docs out scripts soak " "$(LC_ALL=C ls -A | tr '\n' ' ')"
 finish
