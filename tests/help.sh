@@ -74,6 +74,17 @@ step ID
 abort ID P
 save ID
 LINES
+
+# the requests that serve names are the routes of the program, and two that it finds without its router
+routes() {
+  tr -d '\n' <"$top/crates/http_pages/src/routes.rt" |
+    grep -oE 'add\( *&mut router, *"[^"]*", *Verb::[A-Z][a-z]*' |
+    sed -E 's/.*"(.*)".*::(.*)/\U\2\E \1/; s/\{([a-z]*)\}/\U\1/g'
+  printf '%s\n' 'GET /' 'POST /stop'
+}
+helps "serve --help" serve --help
+same "serve: its requests" "$(routes | LC_ALL=C sort)" \
+  "$(sed -n '/^Requests:$/,/^$/s/^  \([A-Z][A-Z]* [^ ]*\) .*/\1/p' err | LC_ALL=C sort)"
 same "files that help has made" "err out whole" "$(ls | tr '\n' ' ' | sed 's/ $//')"
 cd ..
 

@@ -59,6 +59,10 @@ finished or undone first, as after a crash. Then it listens on 127.0.0.1,
 prints 'ready PORT', and serves up to 256 connections at once: N in all, or,
 without --connections, until it is stopped. Standard input is not read.
 
+With --house, it also listens on the Unix socket PATH, which only its own
+user can open. A request without Desk-Agent there is the house's: it needs no
+key, sees every journey, and may stop the desk.
+
 With --page, a browser gets a page at http://127.0.0.1:PORT/, in which an
 agent works. A request to the port must then name 127.0.0.1, localhost or
 [::1] with the port as its host.
@@ -80,6 +84,7 @@ Requests:
   POST /journeys/ID/abort/P  Turn the journey back to position P
   POST /journeys/ID/save     Take a save-point where the journey is
   GET /journeys/ID           The journey with its items
+  GET /journeys/ID/plan      Its plan, in the form in which it was sent
   GET /unfinished            The agent's journeys that have not ended
   GET /mine                  The agent's journeys, ended ones too
   GET /mine/AFTER            Those with a number above AFTER
@@ -87,24 +92,27 @@ Requests:
   GET /health                The numbers of events, journeys and unfinished
                              journeys
   GET /                      With --page, the page for browsers
+  POST /stop                 At the socket of --house: the desk stops
 
 Fields:
-  Desk-Agent  Who asks, 1 to 16 of a-z and 0-9. Each request needs it, but
-              for GET /health and GET /
-  Desk-Key    1 to 32 letters, digits and '-'. Each POST needs it, and acts
-              once under it
+  Desk-Agent  Who asks, 1 to 16 of a-z and 0-9. Each request to the port
+              needs it, but for GET /health and GET /
+  Desk-Key    1 to 32 letters, digits and '-'. Each POST of an agent needs it,
+              and acts once under it
 
 Exit status:
-  0  All N connections were served
+  0  The desk was stopped by POST /stop, or all N connections were served
   1  A refusal that ends the program, on standard output, or a fault, on
      standard error
   2  Wrong usage, or help, on standard error
 
 Example:
-  $ desk serve trips.db --port 8080 --connections 1 &
+  $ desk serve trips.db --port 8080 --house house --wide &
   ready 8080
   $ curl -H 'Desk-Agent: ann' http://127.0.0.1:8080/unfinished
-  {\"unfinished\":[]}";
+  {\"unfinished\":[]}
+  $ curl --unix-socket house -X POST http://desk/stop
+  {\"state\":\"stopping\"}";
 
 /// What `recover` reads and prints.
 pub const RECOVER: &str = "\
