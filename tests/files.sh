@@ -27,6 +27,30 @@ answers "after the kills" "begin F/AL/A1/2030-06-01/1/1!0\n" "journey 4 begun"
 same "meta" "1|2|7|4" "$(rows 'SELECT * FROM meta')"
 same "the file is sound" "ok" "$(rows 'PRAGMA integrity_check')"
 
+# a file with a second hard link is refused and left as it was, and so is one whose log has one; without the link it is taken
+ln trips.db second.db
+for name in trips.db second.db; do refuses_file "a second hard link, by the name $name" "$name" "" "fault 21 Store"; done
+rm second.db
+answers "the link is gone" "" ""
+opens_desk
+asks "before a kill" "begin F/AL/A1/2030-06-01/1/1!0" "journey 5 begun"
+{ kill -9 "$desk"; closes_desk; } 2>/dev/null
+ln trips.db-wal second-wal
+refuses_file "a second hard link of the log" trips.db "" "fault 21 Store"
+rm second-wal
+answers "the link of the log is gone" "begin F/AL/A1/2030-06-01/1/1!0\n" "journey 6 begun"
+
+# a file of one byte becomes a desk, as an empty one does; one of two does not
+printf x >one.db
+: >none.db
+for name in one.db none.db; do
+  same "$name: the answer" "journey 1 begun" "$("$DESK" run "$name" <<<"begin F/AL/A1/2030-06-01/1/1!0" 2>&1)"
+  same "$name: the file is sound" "ok" "$(sqlite3 "$name" 'PRAGMA integrity_check')"
+  same "$name: the journey" "1" "$(sqlite3 "$name" 'SELECT count(*) FROM journey')"
+done
+printf xy >two.db
+refuses_file "a file of two bytes" two.db "" "fault 21 Store"
+
 # usage <WORDS>: status 2, nothing on standard output
 usage() {
   local found status

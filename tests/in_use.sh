@@ -44,6 +44,29 @@ closes_desk
 same "the first program: the status" 0 "$?"
 same "the first program: standard error" "" "$(cat desk_err)"
 
+# a report holds the file until its last row: no other call opens it, another report neither
+{ echo kind,supplier,product,night,places
+  seq -f 'room,INN,D%g,2030-06-01,4' 1 2000
+} >many.csv
+"$DESK" load many.db many.csv --batch many >/dev/null
+mkfifo report
+"$DESK" stock many.db >report 2>report_err &
+first=$!
+exec 4<report
+IFS= read -r heading <&4
+same "a report has begun" "kind" "${heading%% *}"
+for words in "stock many.db" "stock many.db --format csv" "unfinished many.db" "summary many.db" "recover many.db"; do
+  same "beside a report: $words" "fault 21 Store" "$("$DESK" $words 2>&1)"
+  same "beside a report: $words: the status" 1 "$("$DESK" $words >/dev/null 2>&1; echo $?)"
+done
+same "why" "fault 21 Store
+The file is in use. End the program that has it open, or wait for it." "$("$DESK" --explain stock many.db 2>&1)"
+same "the report goes on" "cells 2000" "$(tail -n 1 <&4)"
+exec 4<&-
+wait "$first"
+same "the report: the status" "0:" "$?:$(cat report_err)"
+same "after the report" "cells 2000" "$("$DESK" stock many.db | tail -n 1)"
+
 answers "free at last" "$line\n" "journey 6 begun"
 # six journeys were begun, and all but the last turned back by a later opening
 same "meta" "1|2|11|6" "$(rows 'SELECT * FROM meta')"
