@@ -3,6 +3,7 @@
 # that is known, and what to do. Without that a fault stays one line. An opening that recovered events says so there too. A file
 # that is no database of the desk is left as it was, without a log beside it.
 . "$(dirname "${BASH_SOURCE[0]}")/helping.bash"
+. "$tests/serving.bash"
 
 line="begin F/AL/A1/2030-06-01/1/1!0"
 
@@ -65,6 +66,26 @@ else
     "The file or its folder may not be read and written. Ask its owner for that." stock closed.db
 fi
 
+# a second hard link of the file, and of a log that a kill left
+why_link="The file or its log has a second hard link, as 'ln' and 'cp -l' make. Remove one."
+"$DESK" recover linked.db >/dev/null 2>&1
+ln linked.db second.db
+explains "a second hard link" "fault 21 Store" "$why_link" run linked.db
+explains "a report on it" "fault 21 Store" "$why_link" stock second.db
+rm second.db
+same "the link is gone" "recovered 0" "$("$DESK" --explain recover linked.db 2>&1)"
+opens_desk
+asks "before a kill" "$line" "journey 2 begun"
+{ kill -9 "$desk"; closes_desk; } 2>/dev/null
+ln trips.db-wal second-wal
+explains "a second hard link of the log" "fault 21 Store" "$why_link" run trips.db
+rm second-wal
+
+# a name that no batch may have: not what stands in the file
+"$DESK" recover trips.db >/dev/null
+explains "a bad name of a batch" "refused 4 BadBody" "The name of a batch is 1 to 24 of a-z, 0-9 and '-'." \
+  load trips.db absent_log/june.csv --batch "June 2030"
+
 # versions
 sqlite3 old.db 'CREATE TABLE meta(one INTEGER PRIMARY KEY CHECK(one = 1), version INTEGER NOT NULL,
   events INTEGER NOT NULL, journeys INTEGER NOT NULL) STRICT; INSERT INTO meta VALUES(1, 1, 0, 0)'
@@ -76,13 +97,13 @@ explains "a later version" "refused 20 UnknownSchema 9" \
 
 # a file in use
 opens_desk
-asks "in use" "$line" "journey 2 begun"
+asks "in use" "$line" "journey 3 begun"
 explains "a file in use" "fault 21 Store" \
   "The file is in use. End the program that has it open, or wait for it." run trips.db
 closes_desk
 
 # recovered events are noted once, before the answers
-same "a recovery: the answers" "journey 3 begun" "$("$DESK" --explain run trips.db 2>err <<<"$line")"
+same "a recovery: the answers" "journey 4 begun" "$("$DESK" --explain run trips.db 2>err <<<"$line")"
 same "a recovery: the note" "recovered events (see 'desk history'): 1" "$(cat err)"
 printf '%s\n%s\n' "$line" "$line" | "$DESK" run trips.db >/dev/null
 same "two events: the answers" "" "$("$DESK" --explain run trips.db 2>err </dev/null)"
@@ -128,7 +149,39 @@ for call in 20 40 60 80 100 120; do
 done
 same "a full disk is named" yes "$([ "$full" -gt 0 ] && echo yes)"
 
-# the word stands before the command only
+# sockets that cannot be listened on: the port, the path, another file at the path or beside it
+if command -v python3 >/dev/null && command -v curl >/dev/null; then
+  why_port="The port is in use. End the program that listens there, or take another port."
+  why_either="The port or the path of --house is in use. End the program that listens there."
+  why_path="A folder or another file is at the path of --house, or there with .new. Take another."
+  mkdir a_folder at.new at.new/kept
+  echo kept >a_file
+  serves_with --house house
+  free=$(free_port)
+  explains "a port in use" "fault 27 Net" "$why_port" serve b.db --port "$port"
+  explains "a port in use, and a path that is free" "fault 27 Net" "$why_port" serve b.db --port "$port" --house at
+  explains "a path in use" "fault 27 Net" "$why_either" serve b.db --port "$free" --house house
+  explains "both in use" "fault 27 Net" "$why_either" serve b.db --port "$port" --house house
+  for path in a_folder a_file at; do
+    explains "at the path: $path" "fault 27 Net" "$why_path" serve b.db --port "$free" --house "$path"
+  done
+  explains "a folder that is absent" "fault 27 Net" "" serve b.db --port "$free" --house absent/house
+  same "what stands at the paths" "a_file a_folder at.new at.new/kept" "$(find a_file a_folder at.new | LC_ALL=C sort | xargs)"
+  curl -s -d '' --unix-socket house http://desk/stop >/dev/null
+  ends_with "the desk that had the port" 0
+else
+  echo "explained.sh: there is no python3 or no curl, so no port is tried" >&2
+fi
+
+# the word stands before the command only; after it, a line below the usage says so, and the usage is as for any other word
+for command in run serve recover load stock summary holders unfinished journeys history why migrate; do
+  "$DESK" "$command" --explain x.db >out 2>err </dev/null
+  same "$command --explain: the status" "2:" "$?:$(cat out)"
+  same "$command --explain: where it belongs" "The word '--explain' stands before the command: 'desk --explain $command'." \
+    "$(tail -n 1 err)"
+  "$DESK" "$command" --explained x.db >out 2>other </dev/null
+  same "$command --explain: the usage" "$(sed 's/--explained/--explain/g' other)" "$(sed '$d' err)"
+done
 "$DESK" run trips.db --explain >out 2>err </dev/null
 same "the word after the command" "2:" "$?:$(cat out)"
 "$DESK" --explain >out 2>err </dev/null

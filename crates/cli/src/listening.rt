@@ -3,7 +3,7 @@ ghost use Rattle.std.specs.Prelude.{◌≢◌, false, None, IfErr, OnOk};
 ghost use Rattle.desk_sql.specs.Calls.{Idle};
 ghost use Rattle.saga_core.specs.Calls.{Serves};
 ghost use Rattle.http_sockets.specs.Going.{GoOnBySome};
-ghost use Rattle.program_ends.specs.Ends.{EndsJob, IfDone};
+ghost use Rattle.program_ends.specs.Ends.{EndsBadly, EndsJob, IfDone};
 ghost use Rattle.desk_jobs.specs.Notes.{MayNote};
 ghost use Rattle.cli.specs.Ends.{TellsReady};
 
@@ -13,13 +13,15 @@ use desk_files::{close_after, connect};
 use desk_jobs::{note_recovered, ready_over};
 use http_pages::HtmlPage;
 use http_sockets::{Limits, PATIENCE, Sockets, log_opening, serve_sockets};
-use program_ends::{End, Ended, ProgramFault};
+use program_ends::{End, Ended, ProgramFault, end_of_listening};
 use protocols::ServeFault;
 use recovery::Ready;
 use saga_core::Book;
 use sqlite::{Alter, Connection};
 use std::alloc::Global;
-use std::io::{ErrorKind, Write};
+use std::fs;
+use std::io::Write;
+use std::os::unix::fs::FileTypeExt;
 use streams::send;
 use tables::TableBook;
 
@@ -62,8 +64,8 @@ pub(crate) fn serve_file<O: Write, N: Write>(
         Ok(opened) => opened,
         Err(ended) => return ended,
     };
-    let (conn, sockets, end) = serve_over(rt, alloc, served, conn, out, notes);
-    let ended = close_after(rt, conn, log, &end).after(end);
+    let (conn, sockets, job) = serve_over(rt, alloc, served, conn, out, notes);
+    let ended = close_after(rt, conn, log, &job.end).after(job);
     end_sockets(sockets);
     ended
 }
@@ -83,11 +85,11 @@ fn serve_over<'a, S: Alter + Drop, O: Write, N: Write>(
     conn: Connection<S>,
     out: &mut O,
     notes: &mut N,
-) -> (Connection<S>, Option<Sockets<'a>>, End)
+) -> (Connection<S>, Option<Sockets<'a>>, Ended)
     requires idle { Idle conn }
 
-    ensures job { EndsJob result.2 }
-    ensures told { IfDone result.2
+    ensures job { EndsJob result.2.end }
+    ensures told { IfDone result.2.end
         (TellsReady served.entry.port (O.contents out.old) (O.contents out.new)) }
     ensures notes { MayNote (N.contents notes.old) (N.contents notes.new) }
 {
@@ -99,7 +101,7 @@ fn serve_over<'a, S: Alter + Drop, O: Write, N: Write>(
             }
             serve_desk(rt, alloc, served, desk, out)
         }
-        Err((conn, end)) => (conn, None, end),
+        Err((conn, end)) => (conn, None, Ended::from(end)),
     }
 }
 
@@ -111,15 +113,15 @@ fn serve_desk<'a, S: Alter + Drop, O: Write>(
     served: Served<'a>,
     desk: Ready<TableBook<S>>,
     out: &mut O,
-) -> (Connection<S>, Option<Sockets<'a>>, End)
-    ensures job { EndsJob result.2 }
-    ensures told { IfDone result.2
+) -> (Connection<S>, Option<Sockets<'a>>, Ended)
+    ensures job { EndsJob result.2.end }
+    ensures told { IfDone result.2.end
         (TellsReady served.entry.port (O.contents out.old) (O.contents out.new)) }
 {
     let mut desk = desk;
     if let Err(fault) = desk.counts() {
         let end = End::Fault(ServeFault::from(fault).into());
-        return (desk.into_inner().into_store(), None, end);
+        return (desk.into_inner().into_store(), None, Ended::from(end));
     }
     match bind(rt, alloc, served) {
         Ok(mut sockets) => {
@@ -127,31 +129,45 @@ fn serve_desk<'a, S: Alter + Drop, O: Write>(
             (
                 desk.into_inner().into_store(),
                 Some(sockets),
-                End::from(done),
+                Ended::from(End::from(done)),
             )
         }
-        Err(fault) => (desk.into_inner().into_store(), None, End::Fault(fault)),
+        Err(ended) => (desk.into_inner().into_store(), None, ended),
     }
 }
 
 /// Listens on the port, and at the Unix socket.
-fn bind<'a>(
-    rt: &'a HostRuntime,
-    alloc: Global,
-    served: Served<'a>,
-) -> Result<Sockets<'a>, ProgramFault> {
+fn bind<'a>(rt: &'a HostRuntime, alloc: Global, served: Served<'a>) -> Result<Sockets<'a>, Ended>
+    ensures end { IfErr result (λ ended. EndsBadly ended.end) }
+{
     let limits = Limits {
         connections: served.connections,
         patience: PATIENCE,
     };
     match Sockets::bind(rt, alloc, served.port, served.house, limits) {
-        Ok(sockets) => {
-            let sockets = with_log(widened(sockets, served.wide), served.log)?;
-            with_page(sockets, served.page)
-        }
-        Err(error) if error.kind() == ErrorKind::OutOfMemory => Err(ProgramFault::Memory),
-        Err(_) => Err(ProgramFault::Net),
+        Ok(sockets) => match equipped(sockets, served) {
+            Ok(sockets) => Ok(sockets),
+            Err(fault) => Err(Ended::from(End::Fault(fault))),
+        },
+        Err(error) => Err(end_of_listening(error.kind(), has_socket(rt, served.house))),
     }
+}
+
+/// Whether a socket stands at the path of the house, if there is one.
+fn has_socket(rt: &HostRuntime, house: Option<&str>) -> bool {
+    let Some(path) = house else {
+        return false;
+    };
+    match fs::symlink_metadata(rt, path) {
+        Ok(found) => found.file_type().is_socket(),
+        Err(_) => false,
+    }
+}
+
+/// The sockets, with the way of reading HTTP, the log and the page that are asked for.
+fn equipped<'a>(sockets: Sockets<'a>, served: Served<'a>) -> Result<Sockets<'a>, ProgramFault> {
+    let sockets = with_log(widened(sockets, served.wide), served.log)?;
+    with_page(sockets, served.page)
 }
 
 /// The sockets, which read HTTP as libraries, proxies and pools speak it if that is asked for.

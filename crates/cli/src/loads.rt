@@ -42,7 +42,7 @@ pub(crate) fn load_file<R: Read, O: Write, N: Write>(
         Err(ended) => return ended,
     };
     let (conn, end) = load_on(rt, alloc, csv, name, conn, reader, out, notes);
-    close_after(rt, conn, log, &end).after(end)
+    close_after(rt, conn, log, &end).after(Ended::of_load(end))
 }
 
 /// Does the same over a connection to a database of any store. Returns the connection, and the end.

@@ -36,7 +36,7 @@ pub(crate) fn migrate_file<O: Write>(
         },
         Err(fault) => {
             let end = end_of_fault(fault);
-            close_after(rt, conn, log, &end).after(end)
+            close_after(rt, conn, log, &end).after(Ended::from(end))
         }
     }
 }

@@ -205,7 +205,7 @@ fn run_file<R: Read, O: Write, N: Write>(
         Err(ended) => return ended,
     };
     let (conn, end) = run_over(alloc, conn, reader, out, notes);
-    close_after(rt, conn, log, &end).after(end)
+    close_after(rt, conn, log, &end).after(Ended::from(end))
 }
 
 /// Recovers the desk over the database in a file, and, once it is closed, prints how many events recovery made.
@@ -223,7 +223,7 @@ fn recover_file<O: Write>(rt: &HostRuntime, alloc: Global, file: &str, out: &mut
             Ended { end: End::Done, .. } => Ended::from(made.tell(alloc, out)),
             ended => ended,
         },
-        Err(end) => close_after(rt, conn, log, &end).after(end),
+        Err(end) => close_after(rt, conn, log, &end).after(Ended::from(end)),
     }
 }
 

@@ -61,7 +61,7 @@ fn close_shown(rt: &HostRuntime, conn: FileConnection, log: NewLog, end: End) ->
     let closed = close_after(rt, conn, log, &end);
     match end {
         End::Done => Ended::from(End::Done),
-        end => closed.after(end),
+        end => closed.after(Ended::from(end)),
     }
 }
 

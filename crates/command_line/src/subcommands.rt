@@ -63,7 +63,7 @@ impl Subcommand {
     }
 
     /// The word that names the subcommand.
-    fn name<'a>(self) -> &'a str
+    pub(crate) fn name<'a>(self) -> &'a str
         ensures name { result.now ≡ name_of self }
     {
         match self {

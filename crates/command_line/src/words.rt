@@ -5,6 +5,7 @@
 ghost use Rattle.std.specs.Prelude.{◌≡◌, ◌≢◌, false, true, map, All, IfOk, IsOk, is_some};
 ghost use Rattle.std.specs.String.{string_bytes};
 ghost use Rattle.clap.specs.Words.{first_value, found_of, kind_of, matches_of, rows_of};
+ghost use Rattle.command_line.specs.Explaining.{ShowsText, usage_with_place};
 ghost use Rattle.command_line.specs.Jobs.{are_refused, names_version, refuses, IsJob, IsJobOf, IsText, IsUsage};
 ghost use Rattle.command_line.specs.Subcommands.{app_for, is_refused_by, needed_for};
 
@@ -16,6 +17,9 @@ use clap::error::ErrorKind;
 use clap::{Arg, ArgAction, ArgMatches, Command, Error};
 use help_texts::PROGRAM;
 use std::alloc::{AllocError, Global};
+
+/// How `clap` begins where the word that asks for an explanation stands after a subcommand.
+const MISPLACED: &str = "error: unexpected argument '--explain' found\n";
 
 /// The job of these words, which follow the program's name. Errors are the text of a usage, and out of memory.
 pub fn job(alloc: Global, words: Vec<String>) -> Result<Job, JobFault>
@@ -71,7 +75,35 @@ fn matches_in<'a>(
     let command = subcommand.command(alloc)?;
     match command.try_get_matches_from(words) {
         Ok(matches) => Ok(matches),
-        Err(error) => Err(fault_of(alloc, &error)),
+        Err(error) => Err(fault_after(alloc, subcommand, &error)),
+    }
+}
+
+/// The fault of an error of the words after a subcommand. Where the word that asks for an explanation is among them, a line
+/// after the text of `clap` says where it belongs.
+fn fault_after(alloc: Global, subcommand: Subcommand, error: &Error) -> JobFault
+    ensures usage { IsText result → kind_of error.now ≢ ErrorKind.OutOfMemory }
+{
+    match fault_of(alloc, error) {
+        JobFault::Usage(text) => with_place(alloc, subcommand, text),
+        JobFault::Memory => JobFault::Memory,
+    }
+}
+
+/// The fault of this text of `clap`, with the line on that word if the text is about it.
+fn with_place(alloc: Global, subcommand: Subcommand, text: String) -> JobFault
+    ensures text { ShowsText (usage_with_place subcommand (string_bytes text)) result }
+{
+    if !text.as_bytes().starts_with(MISPLACED.as_bytes()) {
+        return JobFault::Usage(text);
+    }
+    let name = subcommand.name();
+    let text = format!(in alloc;
+        "{text}The word '--explain' stands before the command: 'desk --explain {name}'.\n"
+    );
+    match text {
+        Ok(text) => JobFault::Usage(text),
+        Err(_) => JobFault::Memory,
     }
 }
 

@@ -4,6 +4,7 @@ use std::alloc::Global;
 use std::fs;
 use std::fs::OpenOptions;
 use std::io::ErrorKind;
+use std::os::unix::fs::MetadataExt;
 use streams::read_some;
 
 /// The first bytes of each database file.
@@ -89,8 +90,26 @@ pub(crate) fn cause_of_path(rt: &HostRuntime, file: &str) -> Option<Cause> {
 /// Why a file that is there could not be opened.
 fn cause_of_file(rt: &HostRuntime, file: &str) -> Option<Cause> {
     match OpenOptions::new().read(true).write(true).open(rt, file) {
+        Ok(_) if has_second_link(rt, file) => Some(Cause::SecondLink),
         Ok(_) => None,
         Err(error) => cause_of_kind(error.kind()),
+    }
+}
+
+/// Whether a file that is there, or its log, has a second hard link.
+fn has_second_link(rt: &HostRuntime, file: &str) -> bool {
+    let is_log_linked = match log_of(rt, file) {
+        Some(log) => is_linked(rt, log.as_str()),
+        None => false,
+    };
+    is_log_linked || is_linked(rt, file)
+}
+
+/// Whether a file has a second hard link.
+fn is_linked(rt: &HostRuntime, file: &str) -> bool {
+    match fs::metadata(rt, file) {
+        Ok(found) => found.nlink() > 1,
+        Err(_) => false,
     }
 }
 

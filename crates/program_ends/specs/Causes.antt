@@ -30,6 +30,7 @@ cause_line cause.Absent = codes "The file is absent. Look at its name.\n"
 cause_line cause.NoFolder = codes "The folder of the file is absent. Make it, or look at its name.\n"
 cause_line cause.NotMade = codes "The file is absent and cannot be made. Its folder may be read-only, or the disk full.\n"
 cause_line cause.InUse = codes "The file is in use. End the program that has it open, or wait for it.\n"
+cause_line cause.SecondLink = codes "The file or its log has a second hard link, as 'ln' and 'cp -l' make. Remove one.\n"
 cause_line cause.NotPermitted = codes "The file or its folder may not be read and written. Ask its owner for that.\n"
 cause_line cause.NoFile = codes "This is a folder, or another thing that is no file. Name a file.\n"
 cause_line cause.NoDatabase = codes "The file is no database, and is left as it was. Look at its name.\n"
@@ -40,6 +41,10 @@ cause_line cause.FailedDisk = codes "The disk failed in a read or a write. Look 
 cause_line cause.OldVersion = codes "The database is of an older version. Make a copy of it, and run 'desk migrate'.\n"
 cause_line cause.OtherVersion = codes "The database is of an unknown version. Take the program that made it.\n"
 cause_line (cause.WrongFile fault) = csv_line fault
+cause_line cause.BadName = codes "The name of a batch is 1 to 24 of a-z, 0-9 and '-'.\n"
+cause_line cause.PortInUse = codes "The port is in use. End the program that listens there, or take another port.\n"
+cause_line cause.AddressInUse = codes "The port or the path of --house is in use. End the program that listens there.\n"
+cause_line cause.NoSocket = codes "A folder or another file is at the path of --house, or there with .new. Take another.\n"
 
 -- the cause that an end alone shows: the version before the newest or another one, or a fault of an allotment file
 abbrev pub cause_of_version : ℕ → Cause
@@ -49,6 +54,11 @@ abbrev pub cause_of_end : End → Option Cause
 cause_of_end (finish.Refused (refusal.UnknownSchema version)) = Some (cause_of_version version)
 cause_of_end (finish.Refused (refusal.BadCsv row fault)) = Some (cause.WrongFile fault)
 cause_of_end _ = None
+
+-- the cause that the end of a load shows: a load that is refused for a form has a bad name
+abbrev pub cause_of_load : End → Option Cause
+cause_of_load (finish.Refused refusal.BadBody) = Some cause.BadName
+cause_of_load e = cause_of_end e
 
 -- nothing was written without a cause, and a prefix of its line with one
 abbrev pub TellsCause : Option Cause → Option (List ℕ) → Option (List ℕ) → Type 0

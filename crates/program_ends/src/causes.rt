@@ -1,6 +1,6 @@
 //! Why the program ended as it did, in words for a user. A cause changes no number, line or status of a fault.
 ghost use Rattle.std.specs.Prelude.{◌≡◌};
-ghost use Rattle.program_ends.specs.Causes.{cause_line, cause_of_end, csv_line};
+ghost use Rattle.program_ends.specs.Causes.{cause_line, cause_of_end, cause_of_load, csv_line};
 
 use crate::ends::End;
 use commands::{CsvCause, Refusal};
@@ -17,6 +17,8 @@ pub enum Cause {
     NotMade,
     /// Another program, or another call of this one, has the file open.
     InUse,
+    /// The file, or its log, has a second hard link.
+    SecondLink,
     /// The file, or its folder, may not be read or written.
     NotPermitted,
     /// It is a folder, or another thing that is no file.
@@ -37,6 +39,14 @@ pub enum Cause {
     OtherVersion,
     /// An allotment file has this fault.
     WrongFile(CsvCause),
+    /// The name of a batch has another form.
+    BadName,
+    /// Somebody listens at the port.
+    PortInUse,
+    /// Somebody listens at the port, or at the path of the house's socket.
+    AddressInUse,
+    /// Another file, or a folder, stands at the path of the house's socket.
+    NoSocket,
 }
 
 impl Cause {
@@ -52,6 +62,17 @@ impl Cause {
         }
     }
 
+    /// The cause that the end of a load shows. A load that is refused for a form has a bad name: what is wrong with its file has
+    /// another refusal.
+    pub(crate) fn of_load(end: &End) -> Option<Cause>
+        ensures cause { result ≡ cause_of_load end.now }
+    {
+        match end {
+            End::Refused(Refusal::BadBody) => Some(Cause::BadName),
+            end => Cause::of_end(end),
+        }
+    }
+
     /// The line of the cause, with a line feed. Allocates nothing.
     pub fn line(self) -> &'static str
         ensures line { result.now ≡ cause_line self }
@@ -64,6 +85,9 @@ impl Cause {
             }
             Cause::InUse =>
                 "The file is in use. End the program that has it open, or wait for it.\n",
+            Cause::SecondLink => {
+                "The file or its log has a second hard link, as 'ln' and 'cp -l' make. Remove one.\n"
+            }
             Cause::NotPermitted => {
                 "The file or its folder may not be read and written. Ask its owner for that.\n"
             }
@@ -87,6 +111,15 @@ impl Cause {
                 "The database is of an unknown version. Take the program that made it.\n"
             }
             Cause::WrongFile(cause) => csv_line(cause),
+            Cause::BadName => "The name of a batch is 1 to 24 of a-z, 0-9 and '-'.\n",
+            Cause::PortInUse =>
+                "The port is in use. End the program that listens there, or take another port.\n",
+            Cause::AddressInUse => {
+                "The port or the path of --house is in use. End the program that listens there.\n"
+            }
+            Cause::NoSocket => {
+                "A folder or another file is at the path of --house, or there with .new. Take another.\n"
+            }
         }
     }
 }

@@ -1,8 +1,9 @@
 //! An end of the program with its cause.
 ghost use Rattle.std.specs.Prelude.{◌≡◌};
+ghost use Rattle.std.specs.Option.{option_or};
 ghost use Rattle.std.specs.Io.KnownBytes.{Keeps};
 ghost use Rattle.streams.specs.Written.{WroteFront};
-ghost use Rattle.program_ends.specs.Causes.{cause_of_end, Explains, TellsCause};
+ghost use Rattle.program_ends.specs.Causes.{cause_of_end, cause_of_load, Explains, TellsCause};
 ghost use Rattle.program_ends.specs.Ends.{end_of_both, status_of, told_out};
 
 use crate::causes::Cause;
@@ -28,15 +29,23 @@ impl From<End> for Ended {
 }
 
 impl Ended {
-    /// The end of a job; or, if all was done, this end, which came after it. The cause is this one's, or the one that the
-    /// end of the job shows.
-    pub fn after(self, job: End) -> Ended
-        ensures end { result.end ≡ end_of_both job self.end }
+    /// The end of a load, with the cause that it shows.
+    pub fn of_load(end: End) -> Ended
+        ensures end { result.end ≡ end }
+        ensures cause { result.cause ≡ cause_of_load end }
     {
-        let cause = self.cause.or(Cause::of_end(&job));
+        let cause = Cause::of_load(&end);
+        Ended { end, cause }
+    }
+
+    /// The end of a job; or, if all was done, this end, which came after it. The cause is this one's, or that of the job.
+    pub fn after(self, job: Ended) -> Ended
+        ensures end { result.end ≡ end_of_both job.end self.end }
+        ensures cause { result.cause ≡ option_or self.cause job.cause }
+    {
         Ended {
-            end: job.then(self.end),
-            cause,
+            end: job.end.then(self.end),
+            cause: self.cause.or(job.cause),
         }
     }
 

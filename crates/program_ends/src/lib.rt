@@ -1,7 +1,8 @@
 //! How the program `desk` ends: its faults, its exit statuses, and what it prints at its end.
 //!
 //! `End::tell` prints an end and returns its exit status. A refusal goes to standard output; a `ProgramFault`, and the
-//! usage, go to standard error. `end_of_arguments` is the end where the words of the command line cannot be read.
+//! usage, go to standard error. `end_of_arguments` is the end where the words of the command line cannot be read, and
+//! `end_of_listening` where the sockets cannot be listened on.
 //!
 //! A `Cause` says why, as far as that is known, and what to do. `Ended::explain` prints its line after that of the end.
 #![tactic(auto)]
@@ -11,9 +12,11 @@ mod causes;
 mod ended;
 mod ends;
 mod faults;
+mod listening;
 
 pub use arguments::end_of_arguments;
 pub use causes::Cause;
 pub use ended::Ended;
 pub use ends::End;
 pub use faults::ProgramFault;
+pub use listening::end_of_listening;

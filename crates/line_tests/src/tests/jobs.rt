@@ -259,7 +259,7 @@ fn words_name_a_job_with_its_values(rt: HostRuntime) -> Result<(), Fail> {
 
 // what the row shows, the words, and the prefix of the usage
 #[rattlefmt::skip]
-const REFUSED: [(&str, &str, &str); 44] = [
+const REFUSED: [(&str, &str, &str); 46] = [
     ("another subcommand",       "fly|x.db",       "error: unrecognized subcommand 'fly'"),
     ("a subcommand in capitals", "RUN|x.db",       "error: unrecognized subcommand 'RUN'"),
     ("a part of a subcommand",   "ru|x.db",        "error: unrecognized subcommand 'ru'"),
@@ -301,6 +301,8 @@ const REFUSED: [(&str, &str, &str); 44] = [
     ("two names",                "load|x|y|--batch|a|--batch|b", "error: the argument '--batch <NAME>' cannot be used multiple times\n\nUsage: desk load --batch <NAME> <FILE> <CSV>\n"),
     ("no allotment file",        "load|x|--batch|a", "error: the following required arguments were not provided:\n  <CSV>\n\nUsage: desk load --batch <NAME> <FILE> <CSV>\n"),
     ("two allotment files",      "load|x|y|z|--batch|a", "error: unexpected argument 'z' found\n\nUsage: desk load --batch <NAME> <FILE> <CSV>\n"),
+    ("--explain, after recover", "recover|--explain|x", "error: unexpected argument '--explain' found\n\n  tip: to pass '--explain' as a value, use '-- --explain'\n\nUsage: desk recover <FILE>\n\nFor more information, try '--help'.\nThe word '--explain' stands before the command: 'desk --explain recover'.\n"),
+    ("--explain, as a file",     "recover|x|--|--explain", "error: unexpected argument '--explain' found\n\nUsage: desk recover <FILE>\n\nFor more information, try '--help'.\nThe word '--explain' stands before the command: 'desk --explain recover'.\n"),
     ("two files to migrate",     "migrate|x|y",    "error: unexpected argument 'y' found\n\nUsage: desk migrate <FILE>\n"),
     ("help of load",             "load|--help",    "Load allotments from a CSV file, as one batch\n\nOpens the database FILE, created if absent."),
     ("load, in short",           "load|-h",        "Load allotments from a CSV file, as one batch\n\nUsage: desk load --batch <NAME> <FILE> <CSV>\n"),

@@ -71,4 +71,4 @@ returns-in-Err-clause-usage c = λ text.
     let is_app = c.in_ok-command.ensures.app in
     let words = map string_bytes c.args.words.now in
     let failed = c.in-Err.ensures.kinds (ap is_simple_and_free is_app ∙ is_free c.args.subcommand) in
-    ap (λ app. has_any (fault_of app words)) (sym is_app) ∙ kinds_of_error c.in-Err.error (fault_of (app_of c.in_ok-command.command) words) failed (c.fault_of.ensures.usage text)
+    ap (λ app. has_any (fault_of app words)) (sym is_app) ∙ kinds_of_error c.in-Err.error (fault_of (app_of c.in_ok-command.command) words) failed (c.fault_after.ensures.usage text)
