@@ -26,7 +26,7 @@ SCENES = {
         page_views.draft_is_changed, page_views.agents_are_apart, page_views.another_file, page_views.filters,
         page_rules.focus_order, page_rules.first_visit, page_office.one_question, page_office.two_windows, page_office.away_by_status,
         page_office.part_is_barred, page_office.turned_away, page_office.not_found, page_office.moved_elsewhere,
-        page_office.signed_out_in_windows, page_office.behind_a_password,
+        page_office.signed_out_in_windows, page_office.behind_a_password, page_office.signed_in, page_office.other_signed_in,
     )
 }
 
@@ -48,6 +48,20 @@ def below_a_folder(scene):
 
 
 below_a_folder.without_agent = True
+
+
+def page_office_signed_in(scene):
+    page_office.signed_in(scene)
+
+
+page_office_signed_in.without_agent = True
+
+
+def ann_then_bob(scene):
+    page_office.other_signed_in(scene)
+
+
+ann_then_bob.without_agent = True
 
 
 # what is spoiled; the old and the new text of the page; the scene that finds it, and what it then says
@@ -114,10 +128,16 @@ SPOILED = (
     ("what moved is done", ".history.join() !== seen", ".history.join() === null", page_office.moved_elsewhere, "not done"),
     ("windows that do not take turns", "return navigator.locks && seen !== undefined ?", "return false ?", page_office.two_windows,
      "the history"),
-    ("requests without a password", "credentials: 'same-origin'", "credentials: 'omit'", below_a_folder, "'Up to date' in #state"),
-    ("relative addresses", "await fetch(HOME + path, {", "await fetch(path.slice(1), {", below_a_folder, "'Up to date' in #state"),
-    ("a page at the root alone", "location.origin + FOLDER.slice(0, -1)", "location.origin", below_a_folder, "'Up to date' in #state"),
+    ("requests without a password", "credentials: 'same-origin'", "credentials: 'omit'", below_a_folder, "this did not come: #agent"),
+    ("relative addresses", "await fetch(HOME + path, {", "await fetch(path.slice(1), {", below_a_folder, "this did not come: #agent"),
+    ("a page at the root alone", "location.origin + FOLDER.slice(0, -1)", "location.origin", below_a_folder, "this did not come: #agent"),
     ("one store for all desks of an origin", "FOLDER === '/' ? 'desk.' : `desk${FOLDER}.`", "'desk.'", below_a_folder, "#agent"),
+    ("a request that does not say for whom it is meant", "...meantFor(agent), 'Desk-Key'", "'Desk-Agent': agent, 'Desk-Key'", ann_then_bob,
+     "1 request will be sent once"),
+    ("a kept request that is dropped when another agent is signed in", "if (await isAnother(why, request.agent)) return true;", "", ann_then_bob,
+     "1 request will be sent once"),
+    ("a page that asks who works where a server says so", "  isKnown = true;\n  if (!given) return;", "  isKnown = true;\n  given = '';\n  return;",
+     page_office_signed_in, "Agent ann"),
     ("a list that is left without its plans", "  delete $('list').dataset.key;\n  drawList();\n", "  drawList();\n", page_rules.large,
      "the plans"),
 )

@@ -120,12 +120,12 @@ class Network:
     """`mode` says what becomes of POSTs: each is passed on; or its page is lost once it was carried out; or it is held until it
     is let go, and then lost. `instead` is the status and the page that the next POST gets in the place of the desk's. `gets` holds
     GETs back, where that is asked for. `front` is called with each request, and may return the bytes of a page in the desk's place;
-    `before` is called once, before the next POST is passed on. The desk is served below `folder`, where that is given. With `spoil`,
-    an old and a new text, the desk's page is spoiled."""
+    `before` is called once, before the next POST is passed on. The desk is served below `folder`, where that is given, and is told
+    that `signed_in` asks, whoever a request names. With `spoil`, an old and a new text, the desk's page is spoiled."""
 
     def __init__(self, spoil=None):
         self.mode, self.posts, self.paths, self.instead = "pass", [], [], None
-        self.front, self.before, self.folder = None, None, ""
+        self.front, self.before, self.folder, self.signed_in = None, None, "", ""
         self.spoil, self.let_go, self.gets = spoil, threading.Event(), Gets()
         self.socket = socket.create_server(("127.0.0.1", 0), backlog=64)
         self.port = self.socket.getsockname()[1]
@@ -157,6 +157,9 @@ class Network:
             return html_page(404)
         path = path[len(self.folder):]
         request = request._replace(where=request.where._replace(path=path))
+        if self.signed_in:
+            others = [field for field in request.fields if field[0].lower() != "desk-agent"]
+            request = request._replace(fields=[*others, ("Desk-Agent", self.signed_in)])
         if request.method != "POST":
             if path == "/":
                 return self.passed_on(request)

@@ -279,3 +279,62 @@ def behind_a_password(scene):
 
 
 behind_a_password.without_agent = True
+
+
+def signed_in(scene):
+    """A server in front says who asks: the page takes that agent, asks nobody, and offers no change."""
+    browser, network = scene.browser, scene.network
+    network.signed_in = "ann"
+    scene.begins(agent="ann")
+    scene.begins(agent="bob", key="b2")
+    browser.open(scene.desk.url("#/who"))
+    browser.shows("Agent ann", "header")
+    browser.shows("Up to date", "#state")
+    same("no question", [], browser.all("#agent"))
+    same("no change", [], browser.names("header button"))
+    browser.press("My journeys (1)")
+    browser.press("Journey 1", "#list")
+    scene.does("Do step 1", "T1.1")
+    look_at(browser, "an agent who is signed in")
+    browser.open("about:blank")
+    network.signed_in = "bob"
+    browser.open(scene.desk.url("#/journeys/2"))
+    browser.shows("Agent bob", "header")
+    browser.named("Do step 1", ".acts")
+    same("the console", [], browser.errors())
+
+
+signed_in.without_agent = True
+
+
+def other_signed_in(scene):
+    """What ann pressed is kept, and then bob is signed in: it is not done for bob, and is done for ann once she is back."""
+    browser, network = scene.browser, scene.network
+    network.signed_in = "ann"
+    browser.open(scene.desk.url())
+    browser.shows("Agent ann", "header")
+    types_plan(scene)
+    network.front = lambda request: html_page(502)
+    browser.press("Begin the journey")
+    browser.shows("1 request will be retried", "#away")
+    # the request itself meets the other agent first
+    before, network.signed_in = len(network.posts), "bob"
+    network.front = lambda request: html_page(502) if request.method == "GET" else None
+    wait_until(lambda: len(network.posts) > before, "the request")
+    time.sleep(1)
+    network.front = None
+    browser.shows("Agent bob", "header")
+    browser.shows("1 request will be sent once the agent who made it is signed in here again: Begin a journey (ann)", "#away")
+    scene.note("You are signed in as agent bob now.")
+    time.sleep(4)
+    same("what is begun", ([], []), tuple(scene.desk.ask("GET", "/mine", agent)[1]["mine"] for agent in ("ann", "bob")))
+    same("it is kept", 1, scene.kept())
+    same("refusals", [], browser.names(".note.isbad p"))
+    network.signed_in = "ann"
+    browser.shows("Agent ann", "header")
+    comes("nothing is kept", 0, scene.kept)
+    begun = [one["journey"] for one in scene.desk.ask("GET", "/mine", "ann")[1]["mine"]]
+    same("what is begun then", ([1], []), (begun, scene.desk.ask("GET", "/mine", "bob")[1]["mine"]))
+
+
+other_signed_in.without_agent = True

@@ -2,7 +2,7 @@
 
 /// What the page may load and do: its own style and script, and requests to the desk that served it.
 pub const POLICY: &str =
-    r#"default-src 'none'; script-src 'sha256-YwPEulAwqJSfU7eMwf45Cg7+anoD/ZJ9kCFfjL6R4YA='; style-src 'sha256-bbvFO2V/nRRXjDXkhnhMW8AlP1SCRZEWsCrtSytBsKQ='; connect-src 'self'; frame-ancestors 'none'; base-uri 'none'; form-action 'none'"#;
+    r#"default-src 'none'; script-src 'sha256-56SiNrFkDP5u4m63k0SfnOWymuo5DoG8XOT2l4o/buk='; style-src 'sha256-bbvFO2V/nRRXjDXkhnhMW8AlP1SCRZEWsCrtSytBsKQ='; connect-src 'self'; frame-ancestors 'none'; base-uri 'none'; form-action 'none'"#;
 
 /// The page, in HTML.
 pub const PAGE: &str = r##"<!doctype html>
@@ -287,6 +287,7 @@ dialog .row { justify-content: flex-end; margin-top: 12px; }
 </nav>
 <p id="state" role="status"></p>
 <button id="who" type="button" class="flat" hidden></button>
+<strong id="given" hidden></strong>
 </header>
 <div id="away" role="alert" hidden></div>
 <div id="notes" aria-live="polite" role="log" aria-label="What happened"></div>
@@ -514,6 +515,8 @@ function newKey() {
 }
 
 let agent = kept(session, 'agent', kept(local, 'agent', ''));
+// the agent whom a server in front of the desk names, if one does, and whether this is known
+let given = '', isKnown = false;
 let view = 'stock', number = 0, turn = 0;
 let stockText = null, stock = new Map(), months = [];
 let own = new Map(), histories = new Map(), plans = new Map(), complete = false;
@@ -560,7 +563,32 @@ async function ask(path, is, options) {
   if (failed.why === 'out') { keep(local, 'out', true); isReached('out'); draw(); }
   throw failed;
 }
-const get = (path, is, whose = agent) => ask(path, is, { headers: { 'Desk-Agent': whose } });
+// each request says for whom it is meant, and the desk refuses it where another agent is named on its way
+const meantFor = whose => ({ 'Desk-Agent': whose, 'Desk-For': whose });
+const get = (path, is, whose = agent) => ask(path, is, { headers: meantFor(whose) });
+
+// identify(): asks, without naming an agent, which one the desk is told
+async function identify() {
+  let name = '';
+  try { ({ agent: name } = await ask('/agent', page => page.agent)); } catch (why) { if (!(why instanceof Refused)) throw why; }
+  const was = given;
+  given = name;
+  isKnown = true;
+  if (!given) return;
+  if (given !== agent) {
+    if (was || agent) say('warn', `You are signed in as agent ${given} now.`);
+    agent = given;
+    keep(session, 'agent', agent);
+    startAgent();
+  }
+  if (given !== was) { route(true); flush(); }
+}
+// isAnother(refusal, name): whether it was refused since another agent than this one is named now
+async function isAnother(why, name) {
+  if (!(why instanceof Refused && why.page.name === 'NoAgent')) return false;
+  await identify();
+  return given && given !== name;
+}
 // a report of the stock is whole: it has as many lines as it says
 const isStock = text => {
   const found = /^kind [^\n]*\n([^]*)cells (\d+)\n$/.exec(text);
@@ -574,13 +602,15 @@ async function look() {
   clearTimeout(timer);
   if (document.hidden || !agent) return;
   looking = true;
-  const mine = turn;
+  const mine = turn, whose = agent;
   let met = 'here';
   for (const part of [
     () => (view !== 'list' || stockText === null) && lookAtStock(mine), () => lookAtOwn(mine),
     () => view === 'journey' && mine === turn && lookAtOne(number, mine),
   ]) {
-    try { await part(); } catch (why) {
+    try { await part(); } catch (caught) {
+      let why = caught;
+      try { if (await isAnother(why, whose)) break; } catch (failed) { why = failed; }
       if (why instanceof Refused) { say('bad', refusalText(why.page)); break; }
       met = why.why || 'away';
       status = why.status;
@@ -712,8 +742,8 @@ function waiting() {
   return found.filter(Boolean).sort((a, b) => a.at - b.at || a.turn - b.turn);
 }
 
-// those of this window, and of windows that are closed, but for those that were set aside
-const isDue = one => !one.aside;
+// those of this window, and of windows that are closed, but for those that were set aside, and those of an agent who is not signed in
+const isDue = one => !one.aside && (!given || one.agent === given);
 async function ownWaiting() {
   const held = navigator.locks ? new Set((await navigator.locks.query()).held.map(lock => lock.name)) : new Set();
   return waiting().filter(isDue).filter(
@@ -750,7 +780,9 @@ async function sendKept(request) {
     if (!lock) return false;
     if (!kept(local, 'post.' + request.key, null)) return true;
     let page;
-    try { page = await pageOf(request); } catch (why) {
+    try { page = await pageOf(request); } catch (caught) {
+      let why = caught;
+      try { if (await isAnother(why, request.agent)) return true; } catch (failed) { why = failed; }
       if (why instanceof Refused) page = why.page;
       else if (why.why === 'barred') {
         keep(local, 'post.' + request.key, { ...request, aside: why.status });
@@ -782,7 +814,7 @@ async function pageOf(request) {
     tried(true);
     try {
       return await ask(path, page => page.journey, {
-        method: 'POST', body, headers: { 'Desk-Agent': agent, 'Desk-Key': key, 'Content-Type': 'application/json' },
+        method: 'POST', body, headers: { ...meantFor(agent), 'Desk-Key': key, 'Content-Type': 'application/json' },
       });
     } catch (why) {
       // what never came to the desk was not done
@@ -884,24 +916,27 @@ const REACH = {
 function drawState() {
   const all = waiting().filter(one => one.tab === tab || one.agent === agent), list = all.filter(isDue);
   const aside = all.filter(one => one.aside), isOut = reached === 'out';
+  const others = waiting().filter(one => given && one.agent !== given);
   const is = reached === 'barred' && status === 404 ? 'gone'
     : (!reached || reached === 'here') && isLost && list.length ? 'lost' : reached;
   const [word, what] = REACH[is] || [];
   $('state').className = word ? 'off' : '';
-  const text = !agent ? '' : word || (!reached ? 'Looking for the desk' : list.length ? 'Sending' : 'Up to date');
+  const text = word || (!agent ? '' : !reached ? 'Looking for the desk' : list.length ? 'Sending' : 'Up to date');
   if ($('state').textContent !== text) $('state').textContent = text;
   $('state').hidden = !text;
-  const lines = agent ? [
+  const lines = [
     what,
     what && list.length
       && `${count(list.length, 'request')} will be ${isOut ? 'sent then' : 'retried'}, and ${list.length === 1 ? 'takes' : 'each takes'} effect once: `
       + list.map(one => one.what).join('; ') + '.',
     isOut && button('Sign in again', 'in', () => location.reload()),
+    others.length && `${count(others.length, 'request')} will be sent once the agent who made it is signed in here again: `
+      + others.map(one => `${one.what} (${one.agent})`).join('; ') + '.',
     aside.length && 'Set aside, since the server in front of the desk turned it away: '
       + aside.map(one => `${one.what} (${one.aside})`).join('; ') + '.',
     aside.length && h('span', { class: 'row' }, button('Send again', 'aside.send', () => resume(aside)),
       button('Drop', 'aside.drop', () => resume(aside, true), { 'aria-label': 'Drop what is set aside' })),
-  ].filter(Boolean) : [];
+  ].filter(Boolean);
   const away = $('away'), key = lines.map(one => one.textContent || one).join();
   if (away.dataset.key !== key) {
     away.dataset.key = key;
@@ -1735,16 +1770,18 @@ const STARTS = { stock: 'h-stock', plan: 'h-plan', list: 'h-list', journey: 'h-o
 function route(isMoved) {
   const path = location.hash.slice(2), found = /^journeys\/([1-9]\d{0,11})$/.exec(path), before = view + number;
   number = found ? +found[1] : 0;
-  view = !agent || path === 'who' ? 'who' : found ? 'journey' : { plan: 'plan', journeys: 'list' }[path] || 'stock';
+  view = !agent || (path === 'who' && !given) ? 'who' : found ? 'journey' : { plan: 'plan', journeys: 'list' }[path] || 'stock';
   document.body.dataset.view = view;
   const title = found && agent ? `Journey ${number}` : TITLES[view];
   document.title = `${title} – Desk`;
   $('title').textContent = title;
-  $('v-who').hidden = view !== 'who';
+  $('v-who').hidden = view !== 'who' || !isKnown;
   $('book').hidden = view !== 'stock' && view !== 'plan';
   $('own').hidden = view !== 'list' && view !== 'journey';
-  $('nav').hidden = $('who').hidden = !agent;
-  $('who').textContent = `Agent ${agent}`;
+  $('nav').hidden = !agent;
+  $('who').hidden = !agent || given;
+  $('given').hidden = !given;
+  $('given').textContent = $('who').textContent = `Agent ${agent}`;
   $('who').setAttribute('aria-label', `Agent ${agent}, change`);
   for (const link of $('nav').children) if (link.dataset.for.split(' ').includes(view)) link.setAttribute(
     'aria-current', 'page'
@@ -1785,9 +1822,21 @@ addEventListener('storage', event => {
 });
 startAgent();
 route();
-if (view === 'who') $('agent').focus();
 if (local) local.removeItem(MARK + 'out');
-named.then(() => { flush(); look(); });
+// begin(): asks who works here, once it is known that no server says so
+async function begin() {
+  try { await identify(); } catch (why) {
+    isReached(why.why || 'away');
+    draw();
+    setTimeout(begin, AGAIN);
+    return;
+  }
+  route();
+  if (view === 'who') $('agent').focus();
+  flush();
+  look();
+}
+named.then(begin);
 })();
 </script>
 </body>
