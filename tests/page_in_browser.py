@@ -22,7 +22,7 @@ SCENES = {
     scene.__name__: scene for scene in (
         page_lost.nothing_twice, page_office.signed_out, page_rules.large, page_rules.rules, page_scenes.by_clicks, page_scenes.by_keys,
         page_views.not_while_hidden, page_lost.many_wait, page_lost.hang_and_kill, page_scenes.last_place,
-        page_foreign.foreign_pages, page_scenes.refused_by_the_desk, page_scenes.refusals_in_words, page_scenes.asked_twice,
+        page_foreign.foreign_pages, page_scenes.refused_by_the_desk, page_scenes.refusals_in_words, page_scenes.said_before, page_scenes.asked_twice,
         page_views.draft_is_changed, page_views.agents_are_apart, page_views.another_file, page_views.filters,
         page_rules.focus_order, page_rules.first_visit, page_office.one_question, page_office.two_windows, page_office.away_by_status,
         page_office.part_is_barred, page_office.turned_away, page_office.not_found, page_office.moved_elsewhere,
@@ -66,6 +66,9 @@ ann_then_bob.without_agent = True
 
 # what is spoiled; the old and the new text of the page; the scene that finds it, and what it then says
 SPOILED = (
+    ("a last step that is like any other", "next === plan.steps.length && h('p'", "next > 24 && h('p'", page_scenes.said_before,
+     "'This is the last step.' in .acts"),
+    ("tries that are never used up", "way.used < plan.tries ? Math", "plan.tries ? Math", page_scenes.said_before, "since no tries are left"),
     ("a new key each time", "'Desk-Key': key", "'Desk-Key': newKey()", one_row("lose", "nothing"),
      "one key and one body"),
     ("a request that is not kept", "if (!keep(local, 'post.' + request.key, request)) {",

@@ -309,6 +309,32 @@ def refused_by_the_desk(scene):
         comes("what may be done then", False, lambda: button in browser.names(".acts button"))
 
 
+SEA = option("room", "INN", "SEA", nights=2)
+TURNS, LAST = "As it is now, it would turn the journey back ", "This is the last step."
+UNDOES = TURNS + "to its start, and so undo it."
+# a plan, and what is said before each press: the item that then comes, what is said, and what is not
+SAID_BEFORE = (
+    (plan(FLIGHT), (("T1.1", LAST, TURNS),)),
+    (plan(SEA, TRANSFER), (("B0r", UNDOES, LAST),)),
+    (plan(FLIGHT, TRANSFER, SEA, saves=(1,), tries=1), (
+        ("T1.1", "Fits now", LAST), ("T2.1", "Fits now", TURNS), ("B1r", TURNS + "to save-point 1.", ", where it is"),
+        ("C2.1", "The journey goes back to save-point 1", LAST), ("T2.1", "Fits now", LAST),
+        ("B0r", TURNS + "to its start, since no tries are left, and so undo it.", "save-point"))),
+    (plan(FLIGHT, SEA, saves=(1,), tries=1), (("T1.1", "Fits now", TURNS), ("B1r", TURNS + "to save-point 1, where it is.", "undo"))),
+)
+
+
+def said_before(scene):
+    """What cannot be undone, and what comes of a step that does not fit, is said before the press; it then comes so."""
+    for identity, (body, presses) in enumerate(SAID_BEFORE, 1):
+        scene.begins(body, f"said-{identity}")
+        scene.shows_journey(identity)
+        for item, words, others in presses:
+            scene.browser.shows(words, ".acts > :last-child")
+            same(f"journey {identity}, before {item}: {others}", False, others in scene.browser.text(".acts > :last-child"))
+            scene.does(scene.browser.names(".acts button.main")[0], item, identity)
+
+
 def asked_twice(scene):
     """A question that is answered by no, and at once asked again, takes the second answer."""
     browser = scene.browser

@@ -2,7 +2,7 @@
 
 /// What the page may load and do: its own style and script, and requests to the desk that served it.
 pub const POLICY: &str =
-    r#"default-src 'none'; script-src 'sha256-56SiNrFkDP5u4m63k0SfnOWymuo5DoG8XOT2l4o/buk='; style-src 'sha256-bbvFO2V/nRRXjDXkhnhMW8AlP1SCRZEWsCrtSytBsKQ='; connect-src 'self'; frame-ancestors 'none'; base-uri 'none'; form-action 'none'"#;
+    r#"default-src 'none'; script-src 'sha256-ZaFcP43LWhkFktLUE5QGmu9iQi+5tcERtN0WGO1ka7o='; style-src 'sha256-kW1SlXKw7C+WTLs4fGHuaG9R/XwkiJgHI3xPomcyIOk='; connect-src 'self'; frame-ancestors 'none'; base-uri 'none'; form-action 'none'"#;
 
 /// The page, in HTML.
 pub const PAGE: &str = r##"<!doctype html>
@@ -229,7 +229,7 @@ table.list a { display: inline-block; min-width: 40px; min-height: 24px; font-we
 .signs svg { vertical-align: middle; margin-right: 5px; }
 .acts { margin: 10px 0 14px; }
 .acts button { min-height: 40px; }
-.acts > p { margin: 8px 0 0; }
+.acts p { margin: 8px 0 0; }
 ol.items { margin: 0; padding-left: 26px; }
 ol.items li { padding: 2px 0; }
 ol.items .code { display: inline-block; min-width: 46px; font-weight: 600; }
@@ -1654,14 +1654,23 @@ function actions(one, plan, way, sending, seen) {
   return h('div', { class: 'acts' },
     h('div', { class: 'row', role: 'group', 'aria-label': 'What may be done now' },
       isBack ? button(`Give back step ${way.pos}`, 'step', act('step', `Give back step ${way.pos} of journey ${id}`), { class: 'main', ...off })
-        : button(`Do step ${next}`, 'step', act('step', `Step ${next} of journey ${id}`), { class: 'main', ...off }),
+        : button(`Do step ${next}`, 'step', act('step', `Step ${next} of journey ${id}`), { class: 'main', 'aria-describedby': 'next', ...off }),
       canSave && button(`Take save-point ${way.pos}`, 'mark', act('save', `Save-point ${way.pos} of journey ${id}`), off),
       turns.map(p => [p, p ? `save-point ${p}` : 'the start'])
         .map(([p, to]) => button(`Turn back to ${to}`, 'turn.' + p, turnBack(p, to), off)),
       wait && h('span', { class: 'soft', role: 'status' }, 'Sending …')),
-    isBack ? backText(one.target) : nextText(next, optionAt(plan, next, way.used)));
+    isBack ? backText(one.target) : nextText(plan, way));
 }
-const nextText = (next, want) => h('p', {}, `Step ${next} will take ${wantText(want)}. `, fitText(want), '.');
+// nextText(plan, way): what the next step takes; and what of it cannot be undone, or what it does if it does not fit
+function nextText(plan, way) {
+  const next = way.pos + 1, want = optionAt(plan, next, way.used), to = way.used < plan.tries ? Math.max(0, ...way.saves) : 0;
+  const turned = to ? `to save-point ${to}${to === way.pos ? ', where it is' : ''}`
+    : `to its start${way.saves.length ? ', since no tries are left' : ''}, and so undo it. An undone journey cannot be begun again`;
+  return h('div', { id: 'next' }, h('p', {}, `Step ${next} will take ${wantText(want)}. `, stockText !== null && [fitText(want), '.']),
+    stockText !== null && !fits(want).is && h('p', { class: 'bad' }, `As it is now, it would turn the journey back ${turned}.`),
+    next === plan.steps.length && h('p', { class: 'warn' },
+      'This is the last step. Once it has its places, the journey has ended, and cannot be cancelled any more.'));
+}
 const backText = target => h('p', { class: 'warn' },
   `The journey goes back to ${target ? `save-point ${target}` : 'its start'}. Its places are held until each step is given back.`);
 // turnText(p, many): what comes of a turn to p, below which so many steps stand
