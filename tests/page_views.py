@@ -1,10 +1,12 @@
-"""The views by themselves: the stock by its filters, the plan that is changed, who works here, and a page that is hidden."""
+"""The views by themselves: the stock by its filters, the plan that is changed, own journeys by what they hold, who works here, and a
+page that is hidden."""
+import json
 import time
 
 from selenium.webdriver.common.keys import Keys
 
 from page_driving import wait_until
-from page_scenes import LINE, TRANSFER, comes, plan, same
+from page_scenes import FLIGHT, LINE, SEA, TRANSFER, comes, option, plan, same
 
 
 def draft_is_changed(scene):
@@ -109,6 +111,41 @@ def another_file(scene):
     browser.shows("transfer X", "#list")
     same("the first file's plan", False, "flight A1" in browser.text("#list"))
     same("refusals", [], browser.names(".note.isbad p"))
+
+
+def by_what_is_held(scene):
+    """Journeys are listed and found by what they hold, whatever was planned; the path names the option that is tried next."""
+    browser, desk = scene.browser, scene.desk
+    two = json.dumps({"tries": 1, "steps": [
+        {"options": [FLIGHT], "save": True},
+        {"options": [SEA, option("room", "INN", "YARD")], "save": False}, {"options": [TRANSFER], "save": False}]})
+    for n, (body, steps) in enumerate(((two, 3), (plan(option("room", "INN", "SEA")), 1), (plan(SEA), 0), (two, 1)), 1):
+        scene.begins(body, f"held-{n}", steps)
+
+    def found_by(text, *journeys):
+        browser.types('[data-f="list.text"]', Keys.CONTROL + "a" + Keys.NULL, text)
+        comes(f"found by {text}", [f"Journey {n}" for n in journeys], lambda: browser.names("#list tbody a"))
+    scene.shows_journey(4)
+    for item, word in (("T1.1", "SEA"), ("B1r", "YARD")):
+        browser.shows(item, ".path")
+        comes(f"after {item}: the option at its step, and below", (1, 1), lambda: tuple(
+            browser.script("return [...document.querySelectorAll('.path text')].filter(one => one.textContent === arguments[0]).length", text)
+            for text in (f"R INN {word}", word)))
+        browser.press("Do step 2", ".acts")
+    browser.shows("T2.2", "ol.items")
+    for n, words in ((4, "holds 1 Jun 2030 · flight A1, room YARD; to come: 1 Jun 2030 · transfer X"), (2, "holds 1 Jun 2030 · room SEA"),
+                     (3, "holds nothing; to come: 1 Jun 2030 · room SEA")):
+        comes(f"journey {n}", words, lambda n=n: browser.script(
+            "return document.querySelector(arguments[0]).closest('tr').querySelector('.plan')?.innerText", f'[data-f="to.{n}"]'))
+    found_by("sea", 2)
+    found_by("yard", 4, 1)
+    found_by("transfer")
+    desk.post("/journeys/1/step", "more")
+    comes("found once it is held", ["Journey 1"], lambda: browser.names("#list tbody a"))
+    desk.post("/journeys/4/abort/0", "back")
+    desk.post("/journeys/4/step", "give")
+    found_by("room yard", 1)
+    found_by("flight", 4, 1)
 
 
 def filters(scene):

@@ -2,7 +2,7 @@
 
 /// What the page may load and do: its own style and script, and requests to the desk that served it.
 pub const POLICY: &str =
-    r#"default-src 'none'; script-src 'sha256-ZaFcP43LWhkFktLUE5QGmu9iQi+5tcERtN0WGO1ka7o='; style-src 'sha256-kW1SlXKw7C+WTLs4fGHuaG9R/XwkiJgHI3xPomcyIOk='; connect-src 'self'; frame-ancestors 'none'; base-uri 'none'; form-action 'none'"#;
+    r#"default-src 'none'; script-src 'sha256-ruXavRzafQLI3sTMvkphdVigg7oRfmRSFnCVQxCzTuM='; style-src 'sha256-kW1SlXKw7C+WTLs4fGHuaG9R/XwkiJgHI3xPomcyIOk='; connect-src 'self'; frame-ancestors 'none'; base-uri 'none'; form-action 'none'"#;
 
 /// The page, in HTML.
 pub const PAGE: &str = r##"<!doctype html>
@@ -1447,10 +1447,17 @@ function stateText(one) {
   return one.state === 'back' ? `going back, ${one.pos} to ${one.target}` : STATES[one.state];
 }
 const stateMark = one => h('span', { class: 'is ' + one.state }, stateText(one));
-function planText(plan) {
-  return `${short(plan.steps[0].options[0].first)} · ` + plan.steps.map(
-    ({ options: [want, ...more] }) => `${want.kind} ${want.product}${more.length ? ` or ${count(more.length, 'other')}` : ''}`
-  ).join(', ');
+// isRead(one): whether the history that is known is of the journey as it is now; one at its start holds nothing, whatever came before
+const isRead = one => !one.pos || JSON.stringify((histories.get(one.journey) || {}).where) === JSON.stringify(one);
+// saidOf(one): what a journey holds, by which it is found, and what else is said of it; nothing until that is known
+function saidOf(one) {
+  const plan = plans.get(one.journey), { history } = one.pos ? histories.get(one.journey) || {} : { history: [] };
+  if (!plan || !history) return null;
+  const { stands, pos, used } = walk(history, plan), named = wants => wants.length
+    ? `${short(wants[0].first)} · ${wants.map(want => `${want.kind} ${want.product}`).join(', ')}` : 'nothing';
+  const rest = { run: 'to come', undone: 'planned' }[one.state];
+  return { held: named(stands.map(step => step.want)),
+    rest: rest && `; ${rest}: ${named(plan.steps.slice(pos).map((step, n) => optionAt(plan, pos + n + 1, used)))}` };
 }
 
 function drawList() {
@@ -1461,12 +1468,12 @@ function drawList() {
   const sum = state => all.filter(one => one.state === state).length;
   const text = sought.text.trim().toLowerCase();
   const isText = one => !text || String(one.journey).startsWith(text)
-    || (plans.get(one.journey) && planText(plans.get(one.journey)).toLowerCase().includes(text));
+    || Object(saidOf(one)).held?.toLowerCase().includes(text);
   const isState = one => !sought.state || (sought.state === 'open' ? isOpen(one) : one.state === sought.state);
   const some = all.filter(one => isState(one) && isText(one));
   const rows = some.slice(0, sought.rows);
   const key = JSON.stringify(
-    [complete, all.length, open, sought, some.length, view, number, rows.map(one => [one, Boolean(plans.get(one.journey))])]
+    [complete, all.length, open, sought, some.length, view, number, rows.map(one => [one, saidOf(one)])]
   );
   if ($('list').dataset.key === key) return;
   $('list').dataset.key = key;
@@ -1487,28 +1494,28 @@ function drawList() {
     h('div', { class: 'tools', role: 'group', 'aria-label': 'Which journeys are shown' },
       h('label', {}, 'State', h('select', { 'data-f': 'list.state', onchange: event => seek({ state: event.target.value }) },
         states.map(([value, word]) => h('option', { value, selected: value === sought.state }, word)))),
-      h('label', {}, 'Number or product', h('input', {
+      h('label', {}, 'Number, or what it holds', h('input', {
         type: 'search', value: sought.text, size: 14, 'data-f': 'list.text', oninput: event => seek({ text: event.target.value }),
       }))),
     !some.length ? h('p', {}, 'No journey matches.') : h('table', { class: 'list', 'aria-labelledby': 'h-list' },
-      h('thead', {}, h('tr', {}, h('th', { scope: 'col' }, 'Journey'), h('th', { scope: 'col' }, 'State and plan'))),
+      h('thead', {}, h('tr', {}, h('th', { scope: 'col' }, 'Journey'), h('th', { scope: 'col' }, 'State, and what it holds'))),
       h('tbody', {}, rows.map(listRow))),
     some.length > rows.length && button(`Show ${Math.min(ROWS, some.length - rows.length)} more of ${some.length}`, 'more',
       () => seek({ rows: sought.rows + ROWS })));
-  fillPlans(text && !/^\d+$/.test(text) ? all : rows);
+  fillPlans(text && !/^\d+$/.test(text) ? all.filter(one => one.pos) : rows);
 }
 
 function listRow(one) {
-  const isShown = view === 'journey' && one.journey === number, plan = plans.get(one.journey);
+  const isShown = view === 'journey' && one.journey === number, said = saidOf(one);
   return h('tr', { class: isShown && 'now' },
     h('td', {}, h('a', {
       href: '#/journeys/' + one.journey, 'data-f': 'to.' + one.journey, 'aria-label': `Journey ${one.journey}`,
       'aria-current': isShown && 'page',
     }, one.journey)),
-    h('td', {}, stateMark(one), plan && h('div', { class: 'plan small soft' }, planText(plan))));
+    h('td', {}, stateMark(one), said && h('div', { class: 'plan small' }, `holds ${said.held}`, h('span', { class: 'soft' }, said.rest))));
 }
 
-// fillPlans(rows): asks for the plans of those that are listed, one after another
+// fillPlans(rows): asks for the plans and histories of those that are listed, one after another
 let filling = false;
 async function fillPlans(rows) {
   if (filling) return;
@@ -1517,10 +1524,13 @@ async function fillPlans(rows) {
   let asked = 0;
   try {
     for (const one of rows) {
-      if (plans.get(one.journey) || document.hidden) continue;
+      const id = one.journey, isNew = !plans.get(id), isOld = !isRead(one);
+      if ((!isNew && !isOld) || document.hidden) continue;
       if (mine !== turn || (view !== 'list' && view !== 'journey')) break;
-      const plan = await get(`/journeys/${one.journey}/plan`, isPlan);
-      if (mine === turn) plans.set(one.journey, plan);
+      const plan = isNew && await get(`/journeys/${id}/plan`, isPlan), page = isOld && await get('/journeys/' + id, isJourney);
+      if (mine !== turn) break;
+      if (isNew) plans.set(id, plan);
+      if (isOld) take(id, page);
       if (++asked === ROWS) break;
     }
   } catch { /* the news say that the desk is not reached */ }
@@ -1724,7 +1734,7 @@ function pathPicture(one, plan, way) {
   for (let p = 0; p <= n; p++) {
     const isSafe = way.saves.includes(p) || (p && plan.steps[p - 1].save);
     line(isSafe ? 'safe' : 'level', `M${left} ${y(p)}H${end}`);
-    const taken = p && way.stands[p - 1], want = p && (taken ? taken.want : plan.steps[p - 1].options[0]);
+    const taken = p && way.stands[p - 1], want = p && (taken ? taken.want : optionAt(plan, p, way.used));
     text(left - 10, y(p) + 4, p, { 'text-anchor': 'end', class: 'code' });
     if (isScrolled) text(width - 8, y(p) + 4, p, { 'text-anchor': 'end', class: 'code' });
     text(
@@ -1760,11 +1770,15 @@ function pathPicture(one, plan, way) {
       'text-anchor': 'middle', class: 'dim', textLength: isLong && wide - 4, lengthAdjust: isLong && 'spacingAndGlyphs',
     });
   });
+  const next = one.state === 'run' && optionAt(plan, way.pos + 1, way.used);
+  if (next) [['next', 34, 'code'], [next.product, 51, 'dim']].forEach(([words, low, name]) => text(
+    x(at) + wide / 2, y(0) + low, words, { 'text-anchor': 'middle', class: name }
+  ));
   if (rest) line('ahead', `M${x(at)} ${y(way.pos)}L${x(at) + rest * wide / 2} ${y(goal)}`);
   steps.forEach((step, k) => kids.push(s('circle', { class: 'dot', cx: x(k), cy: y(step.from), r: 3 })));
   kids.push(s('circle', { class: 'here', cx: x(at), cy: y(way.pos), r: 6 }));
   text(x(at) + 12, y(way.pos) - 10, isOpen(one) ? 'here' : STATES[one.state], { class: 'code' });
-  const told = steps.map(step => `${step.item}: ${itemText(step)}`).join('; ');
+  const told = steps.map(step => `${step.item}: ${itemText(step)}`).concat(next ? `next: ${wantText(next)}` : []).join('; ');
   return s('svg', { width, height, viewBox: `0 0 ${width} ${height}`, role: 'img', 'aria-labelledby': 'path-title path-desc' },
     s(
       'title', { id: 'path-title' }, `The path of journey ${number}: ${stateText(one)}`
