@@ -68,6 +68,9 @@ for (const one of document.querySelectorAll('button, input, select, a')) if (see
 }
 const wide = document.documentElement.scrollWidth;
 if (wide > innerWidth) wrong.push(`the page is ${wide} wide in a window of ${innerWidth}`);
+for (const one of document.querySelectorAll('main, main section')) if (one.scrollWidth > one.clientWidth + 1) {
+  wrong.push(`${name(one)}: it is ${one.scrollWidth} wide in a window of ${innerWidth}, and has ${one.clientWidth}`);
+}
 
 // the page as a whole
 const ids = [...document.querySelectorAll('[id]')].map(one => one.id);

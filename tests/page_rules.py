@@ -107,10 +107,12 @@ def rules(scene):
 
 
 FOCUS = """const a = document.activeElement, style = getComputedStyle(a), box = a.getBoundingClientRect();
+let down = 0;
+for (let at = a; at; at = at.parentElement) down += at.scrollTop;
 if (a === document.body) return null;
 return {at: [...document.querySelectorAll('*')].indexOf(a), what: a.dataset.f || a.getAttribute('aria-label') || a.id || a.textContent,
   ring: style.outlineStyle !== 'none' && parseFloat(style.outlineWidth) >= 2, inMain: !!a.closest('main'),
-  left: box.left, top: box.top + scrollY, right: box.right, bottom: box.bottom + scrollY};"""
+  left: box.left, top: box.top + down, right: box.right, bottom: box.bottom + down};"""
 ALL = """const all = [...document.querySelectorAll('a[href], button, input, select, [tabindex="0"]')];
 return all.filter(a => a.tabIndex >= 0 && a.checkVisibility({visibilityProperty: true}))
   .map(a => a.dataset.f || a.getAttribute('aria-label') || a.id || a.textContent);"""

@@ -6,7 +6,7 @@ import time
 from selenium.webdriver.common.keys import Keys
 
 from page_driving import wait_until
-from page_scenes import FLIGHT, LINE, SEA, TRANSFER, comes, option, plan, same
+from page_scenes import FLIGHT, JUNE, LINE, SEA, TRANSFER, comes, option, plan, same
 
 
 def draft_is_changed(scene):
@@ -44,6 +44,37 @@ def draft_is_changed(scene):
     browser.press("Clear the new journey")
     browser.click_on("#sure-yes")
     comes("no step is left", 0, lambda: len(browser.all(".step")))
+
+
+# whether all of an element is in the window, and nothing is before its middle and its corners
+IN_VIEW = """const one = arguments[0], box = one.getBoundingClientRect();
+return [[0.5, 0.5], [0.05, 0.2], [0.95, 0.8]].every(([x, y]) =>
+  one.contains(document.elementFromPoint(box.left + x * box.width, box.top + y * box.height)))
+  && box.top >= 0 && box.left >= 0 && box.bottom <= innerHeight && box.right <= innerWidth"""
+SIZES = ((1366, 768), (390, 844))
+
+
+def begin_in_view(scene):
+    """Below a plan of 24 steps, wherever that is scrolled to, and with a chosen night, one sees and presses "Begin the journey"."""
+    browser = scene.browser
+    line = ";".join(["R/INN/YARD/2030-06-01/2/1|R/INN/SEA/2030-06-01/1/1*"] * 23 + ["F/AL/A1/2030-06-01/1/1"]) + "!3"
+    browser.open(scene.desk.url("#/plan"))
+    browser.types("#line", line, Keys.TAB)
+    comes("the steps", 24, lambda: len(browser.all(".step")))
+    for choice in (False, True):
+        for width, height in SIZES:
+            browser.size(width, height)
+            if choice and not browser.all("#bar"):
+                browser.open(scene.desk.url("#/stock"))
+                scene.chooses("room INN YARD", JUNE[4])
+                browser.open(scene.desk.url("#/plan"))
+            for step in (1, 8, 16, 24):
+                what = f"{width} by {height}, a choice: {choice}, at step {step}"
+                browser.script("document.querySelectorAll('.step')[arguments[0] - 1].scrollIntoView({block: 'center'})", step)
+                same(what, True, browser.script(IN_VIEW, browser.named("Begin the journey")))
+                same(f"{what}: the step", True, browser.script(IN_VIEW, browser.named(f"Remove step {step}")))
+    browser.one('[data-f="begin"]').click()
+    browser.shows("Journey 1", "#h-one")
 
 
 def titles(scene):

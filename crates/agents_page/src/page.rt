@@ -2,7 +2,7 @@
 
 /// What the page may load and do: its own style and script, and requests to the desk that served it.
 pub const POLICY: &str =
-    r#"default-src 'none'; script-src 'sha256-ruXavRzafQLI3sTMvkphdVigg7oRfmRSFnCVQxCzTuM='; style-src 'sha256-kW1SlXKw7C+WTLs4fGHuaG9R/XwkiJgHI3xPomcyIOk='; connect-src 'self'; frame-ancestors 'none'; base-uri 'none'; form-action 'none'"#;
+    r#"default-src 'none'; script-src 'sha256-95E7D8e2Xr4pGMNR9DOgd0U3uBPgtICl+bQ3jttOK8M='; style-src 'sha256-AQQgJQVm2AFJz+BtYBxBYXx0q1MvND1nzDwxXU7g21g='; connect-src 'self'; frame-ancestors 'none'; base-uri 'none'; form-action 'none'"#;
 
 /// The page, in HTML.
 pub const PAGE: &str = r##"<!doctype html>
@@ -37,9 +37,8 @@ pub const PAGE: &str = r##"<!doctype html>
 }
 * { box-sizing: border-box; }
 [hidden] { display: none !important; }
-html { scroll-padding-top: 64px; }
 body {
-  margin: 0; background: var(--ground); color: var(--ink);
+  display: flex; flex-direction: column; height: 100dvh; margin: 0; background: var(--ground); color: var(--ink);
   font: 15px/1.45 system-ui, "Segoe UI", Roboto, "Liberation Sans", Arial, sans-serif;
 }
 h1 { margin: 0; }
@@ -85,8 +84,7 @@ label { display: inline-flex; align-items: center; gap: 6px; }
 .card { background: var(--card); border: 1px solid var(--line); border-radius: 10px; padding: 14px; }
 
 header {
-  position: sticky; top: 0; z-index: 5; background: var(--card); border-bottom: 1px solid var(--line);
-  display: flex; flex-wrap: wrap; align-items: center; gap: 2px 14px; padding: 6px 16px;
+  background: var(--card); border-bottom: 1px solid var(--line); display: flex; flex-wrap: wrap; align-items: center; gap: 2px 14px; padding: 6px 16px;
 }
 .brand { font-size: 18px; letter-spacing: .02em; }
 nav { display: flex; gap: 2px; }
@@ -111,8 +109,12 @@ body.chosen #notes { bottom: 112px; }
 .note.iswarn { border-left-color: var(--warn); }
 .note p { margin: 4px 0; overflow-wrap: anywhere; }
 
-main { padding: 16px; max-width: 1900px; margin: 0 auto; }
-.desk { display: grid; gap: 16px; grid-template-columns: minmax(0, 1fr); }
+/* what scrolls is between the header and the bar */
+main { flex: 1; min-height: 0; overflow-y: auto; padding: 16px 16px 0; width: 100%; max-width: 1900px; margin: 0 auto; }
+main, .desk > section { scroll-padding: 8px 0 64px; }
+main .side { padding-bottom: 0; }
+#list { padding-bottom: 14px; }
+.desk { display: grid; gap: 16px; padding-bottom: 16px; grid-template-columns: minmax(0, 1fr); }
 .tools { display: flex; flex-wrap: wrap; gap: 10px 14px; align-items: end; margin: 8px 0 14px; }
 .tools label { flex-direction: column; align-items: flex-start; gap: 2px; font-size: 13px; color: var(--soft); }
 .tools select, .tools input { color: var(--ink); font-size: 15px; }
@@ -158,7 +160,7 @@ main { padding: 16px; max-width: 1900px; margin: 0 auto; }
 .kind.cover { background: var(--cover); }
 
 #bar {
-  position: sticky; bottom: 0; z-index: 4; margin: 0 16px; background: var(--card); border: 2px solid var(--accent);
+  margin: 0 16px; background: var(--card); border: 2px solid var(--accent);
   border-bottom: 0; border-radius: 10px 10px 0 0; padding: 10px 14px; box-shadow: 0 -4px 16px rgb(0 0 0 / .2);
 }
 #bar h2 { margin: 0 0 6px; font-size: 15px; }
@@ -183,6 +185,7 @@ main { padding: 16px; max-width: 1900px; margin: 0 auto; }
 .save label { min-height: 26px; }
 .last { height: 8px; }
 #line { width: 100%; font-size: 13px; }
+.begin { position: sticky; bottom: 0; z-index: 2; background: var(--card); padding: 8px 0; border-top: 1px solid var(--line); }
 .hint { font-size: 13px; color: var(--soft); margin: 4px 0 8px; }
 
 table.list { width: 100%; border-collapse: collapse; }
@@ -257,11 +260,14 @@ dialog .row { justify-content: flex-end; margin-top: 12px; }
 @media (min-width: 1080px) {
   .desk.book { grid-template-columns: minmax(0, 1fr) 440px; }
   .desk.own { grid-template-columns: 460px minmax(0, 1fr); }
-  .side { position: sticky; top: 64px; align-self: start; max-height: calc(100vh - 80px); overflow-y: auto; }
+  .desk { height: 100%; grid-template-rows: minmax(0, 1fr); }
+  .desk > section { overflow-y: auto; }
+  .side { align-self: start; max-height: 100%; }
+  #v-stock { margin: 0 -6px; padding: 0 6px; }
 }
 @media (max-width: 480px) {
   body.chosen #notes { bottom: 190px; }
-  main { padding: 12px 10px; }
+  main { padding: 12px 10px 0; }
   header { padding: 6px 10px; }
   .brand { display: none; }
   nav { width: 100%; justify-content: space-between; }
@@ -270,6 +276,7 @@ dialog .row { justify-content: flex-end; margin-top: 12px; }
   .card { padding: 10px; }
   .cal { padding: 8px 4px; }
 }
+@media (max-height: 479px) { body, .desk { display: block; height: auto; } }
 @media (prefers-reduced-motion: no-preference) {
   .night i { transition: height .3s; }
 }
@@ -1349,7 +1356,7 @@ function drawPlan() {
     wholeField('Tries', 'tries', 0, 9, draft.tries, tries => setDraft({ ...draft, tries }), { 'aria-describedby': 'tries-say' }),
     h('p', { class: 'hint', id: 'tries-say' }, triesText(hasSave)),
     lineInput(),
-    h('div', { class: 'row' },
+    h('div', { class: 'row begin' },
       button(isSent ? 'Sending …' : 'Begin the journey', 'begin',
         () => isSent || send('/journeys', bodyOf(draft), 'Begin a journey', 'new'),
         { class: 'main', 'aria-disabled': isSent && 'true' }),
@@ -1811,7 +1818,7 @@ function route(isMoved) {
   ); else link.removeAttribute('aria-current');
   draw();
   if (view === 'who') drawWho();
-  if (isMoved && before !== view + number) { $(STARTS[view]).focus({ preventScroll: true }); scrollTo(0, 0); look(); }
+  if (isMoved && before !== view + number) { $(STARTS[view]).focus({ preventScroll: true }); $('main').scrollTop = $(STARTS[view]).closest('section').scrollTop = 0; look(); }
 }
 function draw() {
   drawState();
