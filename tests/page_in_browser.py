@@ -21,7 +21,7 @@ from parts import IN_PART, PARTS, Deal
 SCENES = {
     scene.__name__: scene for scene in (
         page_lost.nothing_twice, page_office.signed_out, page_rules.large, page_rules.rules, page_scenes.by_clicks, page_scenes.by_keys,
-        page_views.not_while_hidden, page_lost.many_wait, page_lost.hang_and_kill, page_scenes.last_place,
+        page_views.not_while_hidden, page_lost.many_wait, page_lost.hang_and_kill, page_lost.after_restart, page_scenes.last_place,
         page_foreign.foreign_pages, page_scenes.refused_by_the_desk, page_scenes.refusals_in_words, page_scenes.said_before, page_scenes.asked_twice,
         page_views.draft_is_changed, page_views.agents_are_apart, page_views.another_file, page_views.by_what_is_held, page_views.filters, page_views.begin_in_view,
         page_rules.focus_order, page_rules.first_visit, page_office.one_question, page_office.two_windows, page_office.away_by_status,
@@ -74,6 +74,8 @@ SPOILED = (
     ("a path that names the first option", "taken.want : optionAt(plan, p, way.used)", "taken.want : plan.steps[p - 1].options[0]",
      page_views.by_what_is_held, "the option at its step"),
     ("a plan that hides how it is begun", ".begin { position: sticky;", ".begin {", page_views.begin_in_view, "at step 1"),
+    ("a refusal of what the restart did", "(!page || page.refused) && await", "!page && await", page_lost.after_restart, "refusals, and"),
+    ("a restart of many that is told of some", "gone.length > 200", "gone.length > 8", page_lost.after_restart, "what it did"),
     ("a new key each time", "'Desk-Key': key", "'Desk-Key': newKey()", one_row("lose", "nothing"),
      "one key and one body"),
     ("a request that is not kept", "if (!keep(local, 'post.' + request.key, request)) {",

@@ -2,7 +2,7 @@
 
 /// What the page may load and do: its own style and script, and requests to the desk that served it.
 pub const POLICY: &str =
-    r#"default-src 'none'; script-src 'sha256-95E7D8e2Xr4pGMNR9DOgd0U3uBPgtICl+bQ3jttOK8M='; style-src 'sha256-AQQgJQVm2AFJz+BtYBxBYXx0q1MvND1nzDwxXU7g21g='; connect-src 'self'; frame-ancestors 'none'; base-uri 'none'; form-action 'none'"#;
+    r#"default-src 'none'; script-src 'sha256-6SXQnd4Jn1HL/wbzolhm3gPg7waR8PA16+L+Tgcq6PI='; style-src 'sha256-6hgbY9AavNgnEC2pXWHmWDzJzAbvTG4PPV8K+1mwjWE='; connect-src 'self'; frame-ancestors 'none'; base-uri 'none'; form-action 'none'"#;
 
 /// The page, in HTML.
 pub const PAGE: &str = r##"<!doctype html>
@@ -107,7 +107,7 @@ body.chosen #notes { bottom: 112px; }
 }
 .note.isbad { border-left-color: var(--bad); }
 .note.iswarn { border-left-color: var(--warn); }
-.note p { margin: 4px 0; overflow-wrap: anywhere; }
+.note p { margin: 4px 0; white-space: pre-line; overflow-wrap: anywhere; }
 
 /* what scrolls is between the header and the bar */
 main { flex: 1; min-height: 0; overflow-y: auto; padding: 16px 16px 0; width: 100%; max-width: 1900px; margin: 0 auto; }
@@ -531,7 +531,7 @@ let draft = null, chosen = null, into = 0, badStep = 0, places = 1;
 // journeys of which a page came, until it is known how they are now
 let settling = new Map();
 // reached: 'here', 'slow', 'away', 'out' (signed out), 'barred' (not allowed); null until this is known
-let reached = null, status = 0, timer = 0, looking = false, lookAgain = false, line = new AbortController();
+let reached = null, wasAway = false, status = 0, timer = 0, looking = false, lookAgain = false, line = new AbortController();
 let filter = kept(session, 'filter', { kind: '', supplier: '', product: '', month: '' });
 let sought = { state: '', text: '', ...kept(session, 'sought', {}), rows: ROWS };
 
@@ -626,6 +626,7 @@ async function look() {
     }
   }
   isReached(met);
+  wasAway = met !== 'here';
   looking = false;
   if (mine === turn) draw();
   if (waiting().length && !isLost) flush();
@@ -664,13 +665,15 @@ async function lookAtOwn(mine) {
   if (mine !== turn) return;
   const most = Math.max(0, ...own.keys());
   if (open.some(one => one.journey <= most && !isOpen(own.get(one.journey) || { state: '' }))) return lookAnew(mine);
+  const before = [...own.values()].filter(isOpen), gone = before.map(one => one.journey).filter(id => !now.has(id));
   for (const one of open) own.set(one.journey, one);
-  const gone = [...own.values()].filter(one => isOpen(one) && !now.has(one.journey)).map(one => one.journey);
-  if (gone.length > 8) await readMine(Math.min(...gone) - 1, own, mine);
+  // once the desk is reached again, and all that were open are over, the desk was started anew
+  const isAnew = wasAway && gone.length === before.length;
+  if (gone.length > 200) await readMine(Math.min(...gone) - 1, own, mine);
   else for (const id of gone) {
     const one = await unlessAbsent(get('/journeys/' + id, isJourney));
     if (mine !== turn) return;
-    if (one) take(id, one);
+    if (one) take(id, one, isAnew);
   }
   if (mine !== turn) return;
   if (gone.some(id => isOpen(own.get(id)))) return lookAnew(mine);
@@ -699,9 +702,37 @@ async function readMine(after, into, mine) {
   }
 }
 
-function take(id, { history, ...where }) {
+// take(.., isAnew): with `isAnew`, the desk was started anew since this journey was read
+function take(id, { history, ...where }, isAnew) {
+  const was = own.get(id);
+  if (was && isOpen(was) && !isOpen(where)) tellRestart(id, history, where, Object(histories.get(id)).history, isAnew);
   own.set(id, where);
   if (history) histories.set(id, { history, where });
+}
+
+// tellRestart(id, history, where, known, isAnew): whether a restart of the desk finished or undid this journey, of which this much
+// was known; then what came of it is told
+const restarted = new Map(), isRestart = item => /^B\d+s/.test(item);
+const standing = items => items.reduce((all, item) => ({ T: [...all, item], C: all.slice(0, -1) })[item[0]] || all, []);
+function tellRestart(id, history, where, known = history, isAnew = false) {
+  const at = history.findIndex(isRestart);
+  if (at < 0 ? !isAnew : known !== history && known.some(isRestart)) return false;
+  const stood = standing(at < 0 ? known : history.slice(0, at));
+  const done = standing(history).filter(item => !stood.includes(item)).map(item => item.slice(1).split('.')[0]);
+  if (!restarted.size) restarted.time = new Date().toTimeString().slice(0, 5);
+  restarted.set(id, where.state === 'undone' ? `journey ${id} was undone` : !done[0] ? `journey ${id} has ended`
+    : `step${done[1] ? 's' : ''} ${new Intl.ListFormat('en-GB').format(done)} of journey ${id} ${done[1] ? 'were' : 'was'} done`);
+  const lines = [...restarted].sort(([a], [b]) => a - b).map(([, text]) => '\n' + text);
+  say('warn', `Restarted (seen at ${restarted.time}):${lines.join('')}`, 'restart');
+  return true;
+}
+// wasRestarted(request): the same of the journey that it is about, as it was shown when it was made
+async function wasRestarted({ about, agent: whose, seen }) {
+  if (seen === undefined || whose !== agent) return false;
+  try {
+    const { history, ...where } = await get('/journeys/' + about, isJourney);
+    return whose === agent && tellRestart(about, history, where, seen.split(','));
+  } catch { return false; }
 }
 
 async function lookAtOne(id, mine) {
@@ -802,10 +833,12 @@ async function sendKept(request) {
         return false;
       }
     }
+    // what a restart did is told by itself, and is no refusal
+    const isTold = (!page || page.refused) && await wasRestarted(request);
     local.removeItem(POST + request.key);
     isLost = false;
     isReached('here');
-    hear(request, page);
+    hear(request, page, isTold);
     return true;
   };
   return navigator.locks ? navigator.locks.request(POST + request.key, { ifAvailable: true }, go) : go(true);
@@ -832,10 +865,11 @@ async function pageOf(request) {
   return navigator.locks && seen !== undefined ? navigator.locks.request(`${MARK}journey.${about}`, go) : go();
 }
 
-// hear(request, page): what the desk answered
-function hear(request, page) {
+// hear(request, page, isTold): what the desk answered; with `isTold`, what became of it is told
+function hear(request, page, isTold) {
   const isOwn = request.agent === agent, whose = isOwn ? '' : ` (for ${request.agent})`;
-  if (!page) {
+  if (isTold) settling.set(request.about, request.key);
+  else if (!page) {
     if (isOwn) settling.set(request.about, request.key);
     say('warn', `${request.what}${whose}: not done, since journey ${request.about} has moved since it was shown.`);
   } else if (page.refused) {
@@ -879,12 +913,13 @@ function itemSaid({ item, state, target }, plan) {
 // ---- what is said
 
 const told = [];
-function say(word, text, time = 9000) {
-  const same = told.find(note => note.text === text);
+// say(.., of): with `of`, in the place of what was said of the same before
+function say(word, text, of = text, time = 9000) {
+  const same = told.find(note => note.of === of);
   if (same) drop(same);
-  while (told.length > 2) drop(told[0]);
-  const note = { text, node: h('div', { class: 'note is' + word }, h('p', {}, word === 'bad' ? h('strong', {}, 'Refused. ') : '', text),
-    button('Close', '', () => drop(note), { class: 'flat', 'aria-label': `Close: ${text}` })) };
+  while (told.length > 2) drop(told[+(told[0].of === 'restart')]);
+  const note = { of, node: h('div', { class: 'note is' + word }, h('p', {}, word === 'bad' ? h('strong', {}, 'Refused. ') : '', text),
+    button('Close', '', () => { drop(note); if (of === 'restart') restarted.clear(); }, { class: 'flat', 'aria-label': `Close: ${text}` })) };
   told.push(note);
   $('notes').append(note.node);
   if (word === 'good') setTimeout(() => drop(note), time);
@@ -990,7 +1025,7 @@ function setAgent(name) {
 }
 function startAgent() {
   turn++;
-  own = new Map(); histories = new Map(); plans = new Map(); complete = false; settling = new Map(); chosen = null; badStep = 0; stockText = null;
+  own = new Map(); histories = new Map(); plans = new Map(); complete = false; settling = new Map(); restarted.clear(); chosen = null; badStep = 0; stockText = null;
   draft = agent ? kept(local, 'draft.' + agent, { steps: [], tries: 0 }) : { steps: [], tries: 0 };
 }
 function drawWho() {
@@ -1299,14 +1334,14 @@ $('bar').addEventListener('keydown', event => { if (event.key === 'Escape') { ev
 function addStep() {
   const text = wantText(chosen);
   draft.steps.push({ options: [chosen], save: false });
-  say('good', `Step ${draft.steps.length} of the new journey: ${text}.`, 4000);
+  say('good', `Step ${draft.steps.length} of the new journey: ${text}.`, undefined, 4000);
   added();
 }
 function addOption(into) {
   const step = draft.steps[into - 1];
   if (step.options.length > 7) { say('bad', 'A step has at most 8 options.'); return; }
   step.options.push(chosen);
-  say('good', `Option ${step.options.length} of step ${into}: ${wantText(chosen)}.`, 4000);
+  say('good', `Option ${step.options.length} of step ${into}: ${wantText(chosen)}.`, undefined, 4000);
   added();
 }
 function added() {
