@@ -6,6 +6,7 @@ import time
 from selenium.webdriver.common.keys import Keys
 
 from page_driving import wait_until
+from page_network import html_page
 from page_scenes import FLIGHT, JUNE, LINE, SEA, TRANSFER, comes, option, plan, same
 
 
@@ -75,6 +76,98 @@ def begin_in_view(scene):
                 same(f"{what}: the step", True, browser.script(IN_VIEW, browser.named(f"Remove step {step}")))
     browser.one('[data-f="begin"]').click()
     browser.shows("Journey 1", "#h-one")
+
+
+# the controls that are seen, at whose middle a note lies
+UNDER_NOTES = """return [...document.querySelectorAll('main button, main a, main input, main select, header a, header button, #bar button')].filter(one => {
+  const box = one.getBoundingClientRect(), x = box.left + box.width / 2, y = box.top + box.height / 2;
+  // what is scrolled out of its view is not seen
+  for (let at = one; (at = at.parentElement);) {
+    const view = at.getBoundingClientRect();
+    if (getComputedStyle(at).overflowY !== 'visible' && (y < view.top || y > view.bottom)) return false;
+  }
+  return one.checkVisibility() && document.elementFromPoint(x, y)?.closest('#notes');
+}).map(one => one.dataset.f || one.textContent)"""
+
+
+def notes_cover_nothing(scene):
+    """Three notes at once, beside a chosen night and without: nothing that can be pressed is below one, wherever it is scrolled to."""
+    browser = scene.browser
+    scene.begins(steps=1)
+    browser.open(scene.desk.url("#/plan"))
+    browser.types("#line", LINE, Keys.TAB)
+    scene.network.instead = (409, {"name": "Finished", "refused": 10})
+    scene.shows_journey(1)
+    browser.press("Do step 2", ".acts")
+    scene.note("cannot be changed any more")
+    scene.network.instead = (400, {"cause": "night", "name": "BadPlan", "refused": 5, "step": 2})
+    browser.open(scene.desk.url("#/plan"))
+    browser.press("Begin the journey")
+    browser.one(".step.isbad")
+    scene.network.front = lambda request: html_page(502)
+    browser.shows("The desk cannot be reached", "#away")
+    scene.network.front = None
+    scene.note("The desk can be reached again.")
+    for path in ("stock", "plan", "journeys", "journeys/1"):
+        browser.script("location.hash = arguments[0]", f"#/{path}")
+        for width, height in SIZES:
+            browser.size(width, height)
+            for part in (0, 0.5, 1):
+                browser.script("for (const one of document.querySelectorAll('main, main section')) one.scrollTop = arguments[0] * one.scrollHeight", part)
+                same(f"{path}, {width} by {height}, scrolled to {part}: what is below a note", [], browser.script(UNDER_NOTES))
+        same(f"{path}: notes", True, len(browser.all(".note")) > 1)
+        if path == "stock":
+            scene.chooses("room INN YARD", JUNE[0])
+
+
+def notes_end(scene):
+    """A note ends with what it speaks of: the plan is changed, the journey goes on or is moved elsewhere, the agent is another."""
+    browser, desk, network = scene.browser, scene.desk, scene.network
+
+    def ends(what, words):
+        # what goes by itself goes later
+        time.sleep(0.7)
+        same(f"{what}: the note", False, words in browser.text("#notes"))
+    scene.chooses("transfer BUS X", JUNE[0])
+    browser.press("Add as step 1")
+    scene.note("Step 1 of the new journey")
+    browser.press("Remove step 1")
+    ends("the step is removed", "Step 1")
+    browser.types("#line", "F/AL", Keys.TAB)
+    scene.note("A plan line ends with")
+    browser.types("#line", Keys.CONTROL + "a" + Keys.NULL, LINE, Keys.TAB)
+    comes("the steps", 3, lambda: len(browser.all(".step")))
+    ends("the line is another", "A plan line")
+    browser.press("Begin the journey")
+    scene.note("Journey 1 is begun.")
+    network.instead = (409, {"name": "Limit", "refused": 15})
+    browser.press("Do step 1", ".acts")
+    scene.note("The desk cannot hold any more events.")
+    ends("it was pressed", "Journey 1 is begun")
+    network.gets.hold()
+    browser.press("Do step 1", ".acts")
+    ends("it is pressed again", "cannot hold")
+    network.gets.release()
+    browser.shows("T1.1", "ol.items")
+    scene.does("Do step 2", "B1r")
+    scene.note("the step found no place")
+    desk.post("/journeys/1/step", "elsewhere")
+    browser.shows("T2.2", "ol.items")
+    ends("it is moved elsewhere", "no place")
+    for status in (502, 0, 502):
+        network.front = (lambda request: html_page(502)) if status else None
+        browser.shows("The desk cannot be reached" if status else "The desk can be reached again.")
+    ends("it is away again", "reached again")
+    network.front = None
+    scene.note("The desk can be reached again.")
+    browser.press("Agent ann, change")
+    browser.types("#agent", "No Agent\n")
+    scene.note("An agent is 1 to 16 small letters and digits.")
+    browser.one("#agent").clear()
+    browser.types("#agent", "bob\n")
+    browser.shows("Agent bob", "#who")
+    ends("there is an agent", "An agent")
+    same("no note is left", [], browser.names(".note p"))
 
 
 def titles(scene):

@@ -2,7 +2,7 @@
 
 /// What the page may load and do: its own style and script, and requests to the desk that served it.
 pub const POLICY: &str =
-    r#"default-src 'none'; script-src 'sha256-6SXQnd4Jn1HL/wbzolhm3gPg7waR8PA16+L+Tgcq6PI='; style-src 'sha256-6hgbY9AavNgnEC2pXWHmWDzJzAbvTG4PPV8K+1mwjWE='; connect-src 'self'; frame-ancestors 'none'; base-uri 'none'; form-action 'none'"#;
+    r#"default-src 'none'; script-src 'sha256-d2H2ocO5snS/6F2g5EOmnQRIMAbV85K1B/slDVcoVSE='; style-src 'sha256-ML4vp7SgeN6ylXDtPF3XNfaOaFQhRtadWLeaasc9qlI='; connect-src 'self'; frame-ancestors 'none'; base-uri 'none'; form-action 'none'"#;
 
 /// The page, in HTML.
 pub const PAGE: &str = r##"<!doctype html>
@@ -99,15 +99,14 @@ nav a[aria-current] { background: var(--chosen); font-weight: 600; box-shadow: i
 #state.off::before { background: transparent; border: 2px solid var(--bad); }
 #away { background: var(--full); border-bottom: 1px solid var(--line); padding: 8px 16px; }
 #away p { margin: 0; }
-#notes { position: fixed; z-index: 6; left: 12px; bottom: 14px; width: min(440px, calc(100vw - 24px)); display: grid; gap: 8px; }
-body.chosen #notes { bottom: 112px; }
+#notes { display: flex; flex-wrap: wrap; align-items: start; max-height: 25dvh; overflow-y: auto; padding: 0 16px; gap: 0 16px; font-size: 14px; }
 .note {
-  display: flex; gap: 8px; align-items: flex-start; justify-content: space-between; background: var(--card); padding: 8px 8px 8px 12px;
-  border: 1px solid var(--edge); border-left: 6px solid var(--good); border-radius: 8px; box-shadow: 0 4px 16px rgb(0 0 0 / .25);
+  flex: 0 1 430px; margin: 6px 0; display: flex; gap: 8px; align-items: start; justify-content: space-between; background: var(--card); padding: 8px 8px 8px 12px;
+  border: 1px solid var(--edge); border-left: 6px solid var(--good); border-radius: 8px;
 }
 .note.isbad { border-left-color: var(--bad); }
 .note.iswarn { border-left-color: var(--warn); }
-.note p { margin: 4px 0; white-space: pre-line; overflow-wrap: anywhere; }
+.note p { margin: 2px 0; white-space: pre-line; overflow-wrap: anywhere; }
 
 /* what scrolls is between the header and the bar */
 main { flex: 1; min-height: 0; overflow-y: auto; padding: 16px 16px 0; width: 100%; max-width: 1900px; margin: 0 auto; }
@@ -266,7 +265,6 @@ dialog .row { justify-content: flex-end; margin-top: 12px; }
   #v-stock { margin: 0 -6px; padding: 0 6px; }
 }
 @media (max-width: 480px) {
-  body.chosen #notes { bottom: 190px; }
   main { padding: 12px 10px 0; }
   header { padding: 6px 10px; }
   .brand { display: none; }
@@ -297,7 +295,6 @@ dialog .row { justify-content: flex-end; margin-top: 12px; }
 <strong id="given" hidden></strong>
 </header>
 <div id="away" role="alert" hidden></div>
-<div id="notes" aria-live="polite" role="log" aria-label="What happened"></div>
 <main id="main" tabindex="-1">
 <h1 id="title" class="unseen" tabindex="-1">Desk</h1>
 <noscript><p>This page works with its script, which this browser does not run.</p></noscript>
@@ -336,6 +333,7 @@ another agent.</p>
 </div>
 </main>
 <section id="bar" aria-labelledby="h-bar" hidden></section>
+<div id="notes" aria-live="polite" role="log" aria-label="What happened"></div>
 <dialog id="sure" aria-labelledby="sure-title"><h2 id="sure-title"></h2><p id="sure-text"></p>
 <div class="row"><button type="button" id="sure-no">Leave it</button><button type="button" class="main" id="sure-yes"></button></div></dialog>
 <script>
@@ -583,10 +581,11 @@ async function identify() {
   isKnown = true;
   if (!given) return;
   if (given !== agent) {
-    if (was || agent) say('warn', `You are signed in as agent ${given} now.`);
+    const isOther = was || agent;
     agent = given;
     keep(session, 'agent', agent);
     startAgent();
+    if (isOther) say('warn', `You are signed in as agent ${given} now.`, 'who');
   }
   if (given !== was) { route(true); flush(); }
 }
@@ -610,7 +609,7 @@ async function look() {
   if (document.hidden || !agent) return;
   looking = true;
   const mine = turn, whose = agent;
-  let met = 'here';
+  let met = 'here', bad = '';
   for (const part of [
     () => (view !== 'list' || stockText === null) && lookAtStock(mine), () => lookAtOwn(mine),
     () => view === 'journey' && mine === turn && lookAtOne(number, mine),
@@ -618,7 +617,7 @@ async function look() {
     try { await part(); } catch (caught) {
       let why = caught;
       try { if (await isAnother(why, whose)) break; } catch (failed) { why = failed; }
-      if (why instanceof Refused) { say('bad', refusalText(why.page)); break; }
+      if (why instanceof Refused) { bad = refusalText(why.page); break; }
       met = why.why || 'away';
       status = why.status;
       // what is not allowed leaves the other parts
@@ -627,6 +626,7 @@ async function look() {
   }
   isReached(met);
   wasAway = met !== 'here';
+  if (bad) say('bad', bad, 'look'); else end('look');
   looking = false;
   if (mine === turn) draw();
   if (waiting().length && !isLost) flush();
@@ -704,26 +704,28 @@ async function readMine(after, into, mine) {
 
 // take(.., isAnew): with `isAnew`, the desk was started anew since this journey was read
 function take(id, { history, ...where }, isAnew) {
-  const was = own.get(id);
-  if (was && isOpen(was) && !isOpen(where)) tellRestart(id, history, where, Object(histories.get(id)).history, isAnew);
+  const was = own.get(id), known = Object(histories.get(id)).history;
+  // it was moved elsewhere
+  if (known && known.join() !== history.join() && !settling.has(id)) end(id);
+  if (was && isOpen(was) && !isOpen(where)) tellRestart(id, history, where, known, isAnew);
   own.set(id, where);
   if (history) histories.set(id, { history, where });
 }
 
 // tellRestart(id, history, where, known, isAnew): whether a restart of the desk finished or undid this journey, of which this much
 // was known; then what came of it is told
-const restarted = new Map(), isRestart = item => /^B\d+s/.test(item);
+const isRestart = item => /^B\d+s/.test(item);
 const standing = items => items.reduce((all, item) => ({ T: [...all, item], C: all.slice(0, -1) })[item[0]] || all, []);
 function tellRestart(id, history, where, known = history, isAnew = false) {
   const at = history.findIndex(isRestart);
   if (at < 0 ? !isAnew : known !== history && known.some(isRestart)) return false;
   const stood = standing(at < 0 ? known : history.slice(0, at));
   const done = standing(history).filter(item => !stood.includes(item)).map(item => item.slice(1).split('.')[0]);
-  if (!restarted.size) restarted.time = new Date().toTimeString().slice(0, 5);
-  restarted.set(id, where.state === 'undone' ? `journey ${id} was undone` : !done[0] ? `journey ${id} has ended`
+  const { did, time } = told.find(note => note.of === 'restart') || { did: new Map(), time: new Date().toTimeString().slice(0, 5) };
+  did.set(id, where.state === 'undone' ? `journey ${id} was undone` : !done[0] ? `journey ${id} has ended`
     : `step${done[1] ? 's' : ''} ${new Intl.ListFormat('en-GB').format(done)} of journey ${id} ${done[1] ? 'were' : 'was'} done`);
-  const lines = [...restarted].sort(([a], [b]) => a - b).map(([, text]) => '\n' + text);
-  say('warn', `Restarted (seen at ${restarted.time}):${lines.join('')}`, 'restart');
+  const lines = [...did].sort(([a], [b]) => a - b).map(([, text]) => '\n' + text);
+  Object.assign(say('warn', `Restarted (seen at ${time}):${lines.join('')}`, 'restart'), { did, time });
   return true;
 }
 // wasRestarted(request): the same of the journey that it is about, as it was shown when it was made
@@ -791,10 +793,11 @@ async function ownWaiting() {
 
 // send(.., seen): with `seen`, what is shown of the journey
 async function send(path, body, what, about, seen) {
+  end(about);
   await named;
   const request = { key: newKey(), tab, at: Date.now(), turn: sent++, agent, path, body, what, about, seen };
   if (!keep(local, 'post.' + request.key, request)) {
-    say('bad', 'This browser cannot keep the request, so it was not sent. Allow this page to store data, or free some space.');
+    say('bad', 'This browser cannot keep the request, so it was not sent. Allow this page to store data, or free some space.', about);
     return;
   }
   draw();
@@ -871,12 +874,12 @@ function hear(request, page, isTold) {
   if (isTold) settling.set(request.about, request.key);
   else if (!page) {
     if (isOwn) settling.set(request.about, request.key);
-    say('warn', `${request.what}${whose}: not done, since journey ${request.about} has moved since it was shown.`);
+    say('warn', `${request.what}${whose}: not done, since journey ${request.about} has moved since it was shown.`, request.about);
   } else if (page.refused) {
     if (isOwn && request.about === 'new' && page.step) badStep = page.step;
-    say('bad', `${request.what}${whose}: ${refusalText(page)}`);
+    say('bad', `${request.what}${whose}: ${refusalText(page)}`, request.about);
   } else if (request.about === 'new') {
-    say('good', `Journey ${page.journey} is begun${whose}.`);
+    say('good', `Journey ${page.journey} is begun${whose}.`, page.journey);
     if (isOwn) {
       own.set(page.journey, { journey: page.journey, pos: 0, state: 'run' });
       if (request.body === bodyOf(draft)) setDraft({ steps: [], tries: draft.tries });
@@ -885,7 +888,7 @@ function hear(request, page, isTold) {
   } else {
     if (isOwn) settling.set(page.journey, request.key);
     const plan = plans.get(page.journey), { word, text } = itemSaid(page, isOwn ? plan : null);
-    say(word, `Journey ${page.journey}${whose}: ${text}`);
+    say(word, `Journey ${page.journey}${whose}: ${text}`, page.journey);
   }
   draw();
   look();
@@ -913,17 +916,19 @@ function itemSaid({ item, state, target }, plan) {
 // ---- what is said
 
 const told = [];
-// say(.., of): with `of`, in the place of what was said of the same before
-function say(word, text, of = text, time = 9000) {
-  const same = told.find(note => note.of === of);
-  if (same) drop(same);
+// say(.., of): what it speaks of, in the place of what was said of that before
+function say(word, text, of, time = 9000) {
+  end(of);
   while (told.length > 2) drop(told[+(told[0].of === 'restart')]);
   const note = { of, node: h('div', { class: 'note is' + word }, h('p', {}, word === 'bad' ? h('strong', {}, 'Refused. ') : '', text),
-    button('Close', '', () => { drop(note); if (of === 'restart') restarted.clear(); }, { class: 'flat', 'aria-label': `Close: ${text}` })) };
+    button('Close', '', () => drop(note), { class: 'flat', 'aria-label': `Close: ${text}` })) };
   told.push(note);
   $('notes').append(note.node);
   if (word === 'good') setTimeout(() => drop(note), time);
+  return note;
 }
+// end(of): what was said of this is over
+const end = of => told.filter(note => note.of === of).forEach(drop);
 function drop(note) {
   const at = told.indexOf(note);
   if (at < 0) return;
@@ -938,7 +943,8 @@ function isReached(now) {
   if (reached === now || reached === 'out') return;
   const was = reached;
   reached = now;
-  if (now === 'here' && was) { say('good', 'The desk can be reached again.'); look(); }
+  if (now === 'here' && was) { say('good', 'The desk can be reached again.', 'reach'); look(); }
+  if (now !== 'here') end('reach');
 }
 // isSignedIn(): this page was loaded, here or in another window, so the browser is signed in
 function isSignedIn() {
@@ -1025,7 +1031,8 @@ function setAgent(name) {
 }
 function startAgent() {
   turn++;
-  own = new Map(); histories = new Map(); plans = new Map(); complete = false; settling = new Map(); restarted.clear(); chosen = null; badStep = 0; stockText = null;
+  [...told].forEach(drop);
+  own = new Map(); histories = new Map(); plans = new Map(); complete = false; settling = new Map(); chosen = null; badStep = 0; stockText = null;
   draft = agent ? kept(local, 'draft.' + agent, { steps: [], tries: 0 }) : { steps: [], tries: 0 };
 }
 function drawWho() {
@@ -1040,7 +1047,7 @@ $('who-form').addEventListener('submit', event => {
   const name = $('agent').value.trim();
   if (/^[a-z0-9]{1,16}$/.test(name)) { $('agent').removeAttribute('aria-invalid'); setAgent(name); return; }
   $('agent').setAttribute('aria-invalid', 'true');
-  say('bad', 'An agent is 1 to 16 small letters and digits.');
+  say('bad', 'An agent is 1 to 16 small letters and digits.', 'who');
   $('agent').focus();
 });
 
@@ -1293,7 +1300,6 @@ function paintChosen() {
 function drawBar() {
   const bar = $('bar'), is = chosen && (view === 'stock' || view === 'plan');
   bar.hidden = !is;
-  document.body.classList.toggle('chosen', Boolean(is));
   if (!is) { bar.replaceChildren(); delete bar.dataset.key; return; }
   const key = JSON.stringify([chosen, draft.steps.map(step => step.options.length), fits(chosen)]);
   if (bar.dataset.key === key) { enterBar(bar); return; }
@@ -1334,15 +1340,16 @@ $('bar').addEventListener('keydown', event => { if (event.key === 'Escape') { ev
 function addStep() {
   const text = wantText(chosen);
   draft.steps.push({ options: [chosen], save: false });
-  say('good', `Step ${draft.steps.length} of the new journey: ${text}.`, undefined, 4000);
   added();
+  say('good', `Step ${draft.steps.length} of the new journey: ${text}.`, 'new', 4000);
 }
 function addOption(into) {
   const step = draft.steps[into - 1];
-  if (step.options.length > 7) { say('bad', 'A step has at most 8 options.'); return; }
+  if (step.options.length > 7) { say('bad', 'A step has at most 8 options.', 'new'); return; }
+  const text = wantText(chosen);
   step.options.push(chosen);
-  say('good', `Option ${step.options.length} of step ${into}: ${wantText(chosen)}.`, undefined, 4000);
   added();
+  say('good', `Option ${step.options.length} of step ${into}: ${text}.`, 'new', 4000);
 }
 function added() {
   setDraft(draft);
@@ -1356,6 +1363,7 @@ function added() {
 
 const bodyOf = plan => JSON.stringify(plan);
 function setDraft(next) {
+  end('new');
   draft = next;
   badStep = 0;
   if (draft.steps.length) draft.steps[draft.steps.length - 1].save = false;
@@ -1420,7 +1428,7 @@ function lineInput() {
     if (typed === text) return;
     try { setDraft(typed ? readLine(typed) : { steps: [], tries: 0 }); } catch (why) {
       if (typeof why !== 'string') throw why;
-      say('bad', why);
+      say('bad', why, 'new');
       event.target.setAttribute('aria-invalid', 'true');
     }
   };
