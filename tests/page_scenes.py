@@ -126,7 +126,8 @@ def is_ended(scene):
     same("the picture: stands, undone, given back, turns, turns that lead lower", [3, 1, 1, 2, 1], counts)
     said = browser.script("return document.querySelector('.path desc').textContent")
     for words in (
-        "B1r: turned back to save-point 1: no place was found for step 2 (room INN SEA, 1 Jun 2030, 2 nights, 1 place)",
+        "B1r: turned back to save-point 1: no place was found for step 2 (room INN SEA, 1 Jun 2030, 2 nights, "
+        "leaving Mon 3 June, 1 place)",
         "T2.2: step 2 done with option 2", "S2: save-point taken at 2", "B1a: turned back to save-point 1: as asked",
         "C2.2: step 2 given back",
     ):
@@ -219,7 +220,7 @@ def by_keys(scene):
     tab_to(browser, "room INN YARD 2030-06-01")
     browser.keys_with_shift(Keys.ARROW_RIGHT)
     browser.keys(Keys.ENTER)
-    browser.shows("room INN YARD, 1 Jun 2030, 2 nights", "#bar")
+    browser.shows("room INN YARD, Sat 1 Jun 2030, 2 nights, leaving Mon 3 June", "#bar")
     tab_to(browser, "bar.option")
     browser.keys(Keys.ENTER)
     tab_to(browser, "transfer BUS X 2030-06-01")

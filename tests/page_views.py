@@ -47,6 +47,35 @@ def draft_is_changed(scene):
     comes("no step is left", 0, lambda: len(browser.all(".step")))
 
 
+# wants of a plan line, and how they are spoken of
+IN_WORDS = (
+    ("R/INN/YARD/2030-06-10/3/2", "room INN YARD, Mon 10 Jun 2030, 3 nights, leaving Thu 13 June"),
+    ("R/INN/YARD/2030-06-30/1/1", "room INN YARD, Sun 30 Jun 2030, 1 night, leaving Mon 1 July"),
+    ("R/INN/YARD/2030-12-31/1/1", "room INN YARD, Tue 31 Dec 2030, 1 night, leaving Wed 1 January"),
+    ("R/INN/YARD/2032-02-28/2/1", "room INN YARD, Sat 28 Feb 2032, 2 nights, leaving Mon 1 March"),
+    ("R/INN/YARD/2099-12-31/1/1", "room INN YARD, Thu 31 Dec 2099, 1 night, leaving Fri 1 January"),
+    ("C/CO/TRIP/2030-06-10/3/2", "cover CO TRIP, Mon 10 Jun 2030, 3 nights"), ("F/AL/A1/2030-06-01/1/1", "flight AL A1, Sat 1 Jun 2030"),
+)
+
+
+def nights_in_words(scene):
+    """Beside its nights a room has the day on which it is left: in the plan, in the bar, before a step and in what happened."""
+    browser = scene.browser
+    browser.types("#line", ";".join(line for line, _ in IN_WORDS) + "!0", Keys.TAB)
+    comes("the plan", [words for _, words in IN_WORDS], lambda: [one.text for one in browser.all(".options .what")])
+    browser.types('[data-f="nights.0.0"]', Keys.BACKSPACE, "5", Keys.TAB)
+    browser.shows("5 nights, leaving Sat 15 June", ".step .what")
+    scene.chooses("room INN YARD", JUNE[28])
+    scene.chooses("room INN YARD", JUNE[29])
+    browser.shows("room INN YARD, Sat 29 Jun 2030, 2 nights, leaving Mon 1 July", "#bar")
+    scene.begins(plan(option("room", "INN", "YARD", nights=3), FLIGHT))
+    scene.shows_journey(1)
+    for css in ("#next", ".planned"):
+        browser.shows("INN YARD, 1 Jun 2030, 3 nights, leaving Tue 4 June, 1 place", css)
+    scene.does("Do step 1", "T1.1")
+    browser.shows("step 1 done (room INN YARD, 1 Jun 2030, 3 nights, leaving Tue 4 June, 1 place)", "ol.items")
+
+
 # whether all of an element is in the window, and nothing is before its middle and its corners
 IN_VIEW = """const one = arguments[0], box = one.getBoundingClientRect();
 return [[0.5, 0.5], [0.05, 0.2], [0.95, 0.8]].every(([x, y]) =>

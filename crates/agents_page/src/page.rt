@@ -2,7 +2,7 @@
 
 /// What the page may load and do: its own style and script, and requests to the desk that served it.
 pub const POLICY: &str =
-    r#"default-src 'none'; script-src 'sha256-d2H2ocO5snS/6F2g5EOmnQRIMAbV85K1B/slDVcoVSE='; style-src 'sha256-ML4vp7SgeN6ylXDtPF3XNfaOaFQhRtadWLeaasc9qlI='; connect-src 'self'; frame-ancestors 'none'; base-uri 'none'; form-action 'none'"#;
+    r#"default-src 'none'; script-src 'sha256-0nsq2OaZclReoelFjv7oAGDc5XxnFzgCW1w19jHAOXc='; style-src 'sha256-ML4vp7SgeN6ylXDtPF3XNfaOaFQhRtadWLeaasc9qlI='; connect-src 'self'; frame-ancestors 'none'; base-uri 'none'; form-action 'none'"#;
 
 /// The page, in HTML.
 pub const PAGE: &str = r##"<!doctype html>
@@ -360,10 +360,10 @@ const long = n => `${+n.slice(8)} ${MONTHS[n.slice(5, 7) - 1]} ${n.slice(0, 4)}`
 const short = n => `${+n.slice(8)} ${MONTHS[n.slice(5, 7) - 1].slice(0, 3)} ${n.slice(0, 4)}`;
 const count = (n, one, more = one + 's') => `${n.toLocaleString('en')} ${n === 1 ? one : more}`;
 const productOf = w => `${w.kind} ${w.supplier} ${w.product}`;
-const spanOf = w => w.nights === 1 ? short(w.first) : `${short(w.first)}, ${count(w.nights, 'night')}`;
 const weekday = n => DAYS[(new Date(n).getUTCDay() + 6) % 7].slice(0, 3);
-// daysOf(want): the weekdays of its first night and its last
-const daysOf = w => weekday(w.first) + (w.nights === 1 ? '' : ` to ${weekday(plus(w.first, w.nights - 1))}`);
+// spanOf(want): its first night, how many, and when a room is left
+const spanOf = w => short(w.first) + (w.nights > 1 || w.kind === 'room' ? `, ${count(w.nights, 'night')}` : '')
+  + (w.kind === 'room' ? `, leaving ${weekday(plus(w.first, w.nights))} ${long(plus(w.first, w.nights)).slice(0, -5)}` : '');
 const wantText = w => `${productOf(w)}, ${spanOf(w)}, ${count(w.count, 'place')}`;
 const optionText = w => [LETTER[w.kind], w.supplier, w.product, w.first, w.nights, w.count].join('/');
 const planLine = plan => plan.steps.map(
@@ -431,7 +431,7 @@ function build(node, props, kids) {
   for (const [name, value] of Object.entries(props || {})) {
     if (value === undefined || value === null || value === false) continue;
     if (name.startsWith('on')) node.addEventListener(name.slice(2), value);
-    else if (name === 'value') node.value = node.drawn = value;
+    else if (name === 'value') node.value = node.drawn = String(value);
     else if (name === 'checked') node.checked = value;
     else node.setAttribute(name, value === true ? '' : value);
   }
@@ -445,7 +445,7 @@ const button = (text, f, onclick, props) => h('button', { type: 'button', 'data-
 const wholeField = (word, f, low, high, value, set, props) => h('label', {}, word, h('input', {
   type: 'number', min: low, max: high, value, 'data-f': f, ...props,
   onchange: ({ target }) => {
-    target.value = target.drawn = Math.min(high, Math.max(low, Math.round(+target.value) || low));
+    target.value = target.drawn = String(Math.min(high, Math.max(low, Math.round(+target.value) || low)));
     set(+target.value);
   },
 }));
@@ -1312,7 +1312,7 @@ function drawBar() {
     drawBar();
   };
   if (!(into >= 1 && into <= steps)) into = steps;
-  paint(bar, h('h2', { id: 'h-bar' }, 'Chosen: ', product(chosen), `, ${spanOf(chosen)} (${daysOf(chosen)})`),
+  paint(bar, h('h2', { id: 'h-bar' }, 'Chosen: ', product(chosen), `, ${weekday(chosen.first)} ${spanOf(chosen)}`),
     h('div', { class: 'row' },
       most > 1 && wholeField('Nights', 'bar.nights', 1, most, chosen.nights, set('nights')),
       wholeField('Places', 'bar.count', 1, 50, chosen.count, set('count')),
@@ -1473,7 +1473,7 @@ function optionItem(step, at, want, n) {
   return h('li', {},
     h('div', { class: 'row' },
       many && h('span', { class: 'soft' }, `${n + 1}.`),
-      h('span', { class: 'what' }, product(want), `, ${spanOf(want)} (${daysOf(want)})`),
+      h('span', { class: 'what' }, product(want), `, ${weekday(want.first)} ${spanOf(want)}`),
       many && n > 0 && button('↑', 'prefer.' + f, prefer, small(`Prefer ${name} to the one before`)),
       many && button('✕', 'drop.' + f, remove, small(`Remove ${name}`))),
     h('div', { class: 'row' },
