@@ -149,7 +149,7 @@ def hang_and_kill(scene):
     scene.desk.kill()
     browser.shows("The desk cannot be reached", "#away")
     scene.desk.start()
-    scene.may("Do step 1", "Turn back to the start")
+    scene.may("Do step 1", "Do all 2 steps that are left", "Turn back to the start")
     same("one journey", [{"journey": 1, "pos": 0, "state": "run"}], scene.desk.ask("GET", "/mine")[1]["mine"])
 
 

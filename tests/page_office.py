@@ -262,7 +262,7 @@ def behind_a_password(scene):
     browser.types("#line", Keys.CONTROL + "a" + Keys.NULL, LINE, Keys.TAB)
     before = len(network.paths)
     browser.press("Begin the journey")
-    scene.may("Do step 1", "Turn back to the start")
+    scene.may("Do step 1", "Do all 2 steps that are left", "Turn back to the start")
     scene.does("Do step 1", "T1.1")
     scene.does("Do step 2", "T2.1")
     same("all that is asked for is below the folder", [], [

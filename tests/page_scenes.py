@@ -154,12 +154,13 @@ def by_clicks(scene):
     browser.types('[data-f="tries"]', Keys.BACKSPACE, "1", Keys.TAB)
     comes("the plan line", LINE, lambda: browser.one("#line").get_attribute("value"))
     browser.press("Begin the journey")
-    scene.may("Do step 1", START)
+    scene.may("Do step 1", "Do all 3 steps that are left", START)
     same("the plan", LINE.count(";"), browser.text(".planned").count("Step") - 1)
     scene.does("Do step 1", "T1.1")
     scene.may("Do step 2", "Turn back to save-point 1", START)
     scene.does("Do step 2", "B1r")
     scene.note("the step found no place: it turns back to save-point 1. It is there.")
+    scene.may("Do step 2", "Do all 2 steps that are left", "Turn back to save-point 1", START)
     scene.does("Do step 2", "T2.2")
     scene.may("Do step 3", "Take save-point 2", "Turn back to save-point 1", START)
     scene.does("Take save-point 2", "S2")
@@ -272,7 +273,7 @@ def refusals_in_words(scene):
         text = wait_until(lambda: next((text for text in browser.names(".note.isbad p") if text not in said), ""), f"words for {name}")
         same(f"{name} is put in words", False, name in text or "The desk refused it" in text)
         said.add(text)
-        scene.may("Do step 1", START)
+        scene.may("Do step 1", "Do all 2 steps that are left", START)
     same("nothing is kept to be retried", 0, scene.kept())
     browser.open(scene.desk.url("#/plan"))
     browser.types("#line", "F/AL/A1/2030-06-01/1/1!0", Keys.TAB)
@@ -334,6 +335,43 @@ def said_before(scene):
             scene.browser.shows(words, ".acts > :last-child")
             same(f"journey {identity}, before {item}: {others}", False, others in scene.browser.text(".acts > :last-child"))
             scene.does(scene.browser.names(".acts button.main")[0], item, identity)
+
+
+def all_steps(scene):
+    """All steps that are left are done after a question, up to the first that does not fit, or that found no place."""
+    browser, desk, network = scene.browser, scene.desk, scene.network
+    yard, last = option("room", "INN", "YARD"), option("flight", "AL", "LAST")
+    three = option("room", "INN", "SEA", count=3)
+    # a plan; what comes of all its steps; what is said then
+    rows = ((plan(FLIGHT, yard, TRANSFER), "T1.1,T2.1,T3.1", "All steps are done: the journey has ended."),
+            (plan(FLIGHT, SEA, TRANSFER, saves=(1,), tries=1), "T1.1",
+             "Stopped before step 2, which does not fit now: none free on 2 Jun 2030."),
+            (plan(three, three), "T1.1", "Stopped before step 2, which does not fit now: only 1 free on 1 Jun 2030."),
+            (plan(FLIGHT, last, TRANSFER, saves=(1,), tries=1), "T1.1,B1r", "It is there. Stopped."))
+
+    def takes_last(request):
+        # after the last look at the stock, before the step
+        if request.where.path == "/journeys/4/step" and desk.history(4):
+            network.front = None
+            desk.post(f"/journeys/{scene.begins(plan(last), 'other', agent='bob')}/step", "other-1", "", "bob")
+    for identity, (body, items, words) in enumerate(rows, 1):
+        scene.begins(body, f"all-{identity}")
+        scene.shows_journey(identity)
+        network.front, before = takes_last, len(network.posts)
+        for answer in ("#sure-no", "#sure-yes"):
+            same("nothing is done unasked", [], desk.history(identity))
+            browser.press(f"Do all {body.count('options')} steps that are left", ".acts")
+            browser.shows("which then cannot be cancelled any more", "dialog[open]")
+            same("what is known not to fit", identity == 2, "which is step 2 now" in browser.text("dialog"))
+            browser.click_on(answer)
+        scene.note(words)
+        same(f"journey {identity}: the history", items.split(","), desk.history(identity))
+        posts = network.posts[before:]
+        same(f"journey {identity}: each step has its key", len(items.split(",")), len({post[2] for post in posts}))
+        same(f"journey {identity}: once", len(posts), len({post[2] for post in posts}))
+    desk.post("/journeys/2/abort/0", "all-back")
+    scene.shows_journey(2)
+    scene.may("Give back step 1")
 
 
 def asked_twice(scene):

@@ -2,7 +2,7 @@
 
 /// What the page may load and do: its own style and script, and requests to the desk that served it.
 pub const POLICY: &str =
-    r#"default-src 'none'; script-src 'sha256-0nsq2OaZclReoelFjv7oAGDc5XxnFzgCW1w19jHAOXc='; style-src 'sha256-ML4vp7SgeN6ylXDtPF3XNfaOaFQhRtadWLeaasc9qlI='; connect-src 'self'; frame-ancestors 'none'; base-uri 'none'; form-action 'none'"#;
+    r#"default-src 'none'; script-src 'sha256-sL78K7VI04Gc4QYO3cUCyKwbdH8+sQwKpfAzpj8dNNk='; style-src 'sha256-ML4vp7SgeN6ylXDtPF3XNfaOaFQhRtadWLeaasc9qlI='; connect-src 'self'; frame-ancestors 'none'; base-uri 'none'; form-action 'none'"#;
 
 /// The page, in HTML.
 pub const PAGE: &str = r##"<!doctype html>
@@ -791,11 +791,11 @@ async function ownWaiting() {
   );
 }
 
-// send(.., seen): with `seen`, what is shown of the journey
-async function send(path, body, what, about, seen) {
+// send(.., seen, all): with `seen`, what is shown of the journey; with `all`, the steps after this one are meant too
+async function send(path, body, what, about, seen, all) {
   end(about);
   await named;
-  const request = { key: newKey(), tab, at: Date.now(), turn: sent++, agent, path, body, what, about, seen };
+  const request = { key: newKey(), tab, at: Date.now(), turn: sent++, agent, path, body, what, about, seen, all };
   if (!keep(local, 'post.' + request.key, request)) {
     say('bad', 'This browser cannot keep the request, so it was not sent. Allow this page to store data, or free some space.', about);
     return;
@@ -889,9 +889,19 @@ function hear(request, page, isTold) {
     if (isOwn) settling.set(page.journey, request.key);
     const plan = plans.get(page.journey), { word, text } = itemSaid(page, isOwn ? plan : null);
     say(word, `Journey ${page.journey}${whose}: ${text}`, page.journey);
+    if (request.all && page.state !== 'ended') goOn(request, page, text);
   }
   draw();
   look();
+}
+
+// goOn(request, page, text): does the next of all steps that are left, if this one was done, as the text says, and that one fits
+async function goOn({ about, seen, agent: whose, tab: of }, { item, pos }, text) {
+  try { await lookAtStock(turn); } catch { /* by the stock that is known */ }
+  const plan = whose === agent && of === tab && item[0] === 'T' && plans.get(about), history = seen ? [seen, item] : [item];
+  const { is, why } = plan ? fits(optionAt(plan, pos + 1, walk(history.join().split(','), plan).used)) : {};
+  if (is) send(`/journeys/${about}/step`, '', `Step ${pos + 1} of journey ${about}`, about, history.join(), true);
+  else say('warn', `Journey ${about}: ${text} Stopped${why ? ` before step ${pos + 1}, which does not fit now: ${why}` : ''}.`, about);
 }
 
 function itemSaid({ item, state, target }, plan) {
@@ -1703,7 +1713,13 @@ function actions(one, plan, way, sending, seen) {
   const off = { 'aria-disabled': wait && 'true' }, next = way.pos + 1, isBack = one.state === 'back';
   // the second click of two quick ones was not meant for what stands here since the first
   const isQuick = event => event && event.detail > 1 && performance.now() - drawnAt < 400;
-  const act = (path, what) => event => wait || isQuick(event) || send(`/journeys/${id}/${path}`, '', what, id, seen);
+  const act = (path, what, all) => event => wait || isQuick(event) || send(`/journeys/${id}/${path}`, '', what, id, seen, all);
+  const left = plan.steps.length - way.pos, doAll = async () => {
+    const bad = plan.steps.findIndex((step, at) => at >= way.pos && !fits(optionAt(plan, at + 1, way.used)).is) + 1;
+    if (!wait && await sure(`Do all ${left} steps that are left?`, 'They are done one after another, up to the first one that does not fit'
+      + `${bad ? `, which is step ${bad} now` : ''}. The last one ends the journey, which then cannot be cancelled any more.`, 'Do them')
+    ) act('step', `Step ${next} of journey ${id}`, true)();
+  };
   const turnBack = (p, to) => async () => {
     if (wait) return;
     const is = await sure(`Turn journey ${id} back to ${to}?`, turnText(p, way.pos - p), `Turn back to ${to}`);
@@ -1715,6 +1731,7 @@ function actions(one, plan, way, sending, seen) {
     h('div', { class: 'row', role: 'group', 'aria-label': 'What may be done now' },
       isBack ? button(`Give back step ${way.pos}`, 'step', act('step', `Give back step ${way.pos} of journey ${id}`), { class: 'main', ...off })
         : button(`Do step ${next}`, 'step', act('step', `Step ${next} of journey ${id}`), { class: 'main', 'aria-describedby': 'next', ...off }),
+      !isBack && left > 1 && fits(optionAt(plan, next, way.used)).is && button(`Do all ${left} steps that are left`, 'all', doAll, off),
       canSave && button(`Take save-point ${way.pos}`, 'mark', act('save', `Save-point ${way.pos} of journey ${id}`), off),
       turns.map(p => [p, p ? `save-point ${p}` : 'the start'])
         .map(([p, to]) => button(`Turn back to ${to}`, 'turn.' + p, turnBack(p, to), off)),
