@@ -40,12 +40,12 @@ def is_silent(scene, what, seconds):
     same(f"{what}: requests meanwhile", [], scene.network.paths[before:])
 
 
-def from_the_stock_on(page):
-    """A server that answers by this page from the next request for the stock on."""
+def from_a_look_on(page):
+    """A server that answers by this page from the next look on."""
     seen = []
 
     def front(request):
-        if request.where.path == "/stock":
+        if request.where.path == "/health":
             seen.append(request)
         return page() if seen else None
     return front
@@ -56,7 +56,7 @@ def signed_out(scene, rows=SIGNED_OUT):
     browser, network = scene.browser, scene.network
     for n, (what, page) in enumerate(rows, 1):
         types_plan(scene)
-        network.front = from_the_stock_on(page)
+        network.front = from_a_look_on(page)
         browser.shows("You are signed out", "#away")
         browser.shows("Signed out", "#state")
         browser.press("Begin the journey")
@@ -162,8 +162,8 @@ def not_found(scene):
 def part_is_barred(scene):
     """The stock is not allowed to be seen: that is told, and own journeys are shown."""
     browser, network = scene.browser, scene.network
-    scene.begins()
     network.front = lambda request: html_page(403) if request.where.path == "/stock" else None
+    scene.begins()
     browser.shows("The server in front of the desk does not allow you to see this", "#away")
     browser.shows("Not allowed", "#state")
     browser.named("My journeys (1)")

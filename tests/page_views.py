@@ -1,5 +1,6 @@
 """The views by themselves: the stock by its filters, the plan that is changed, own journeys by what they hold, who works here, and a
 page that is hidden."""
+import collections
 import json
 import time
 
@@ -7,7 +8,7 @@ from selenium.webdriver.common.keys import Keys
 
 from page_driving import wait_until
 from page_network import html_page
-from page_scenes import FLIGHT, JUNE, LINE, SEA, TRANSFER, comes, option, plan, same
+from page_scenes import FLIGHT, JUNE, LINE, SEA, TRANSFER, TWO, comes, option, plan, same
 
 
 def draft_is_changed(scene):
@@ -204,13 +205,48 @@ def titles(scene):
     return [one["title"] for one in scene.browser.driver.execute_cdp_cmd("Target.getTargets", {})["targetInfos"]]
 
 
+def nothing_is_fetched(scene):
+    """While the desk does nothing, the page asks how much it has and for nothing else; once it did something, for what is shown, once."""
+    browser, network = scene.browser, scene.network
+    scene.begins(TWO, "silent", 1)
+    scene.begins(plan(TRANSFER), "silent-2")
+
+    def asked_for(seconds):
+        """How often each path is asked for meanwhile."""
+        before = len(network.paths)
+        time.sleep(seconds)
+        return collections.Counter(path for _, path, _ in network.paths[before:])
+    scene.shows_journey(1)
+    browser.shows("holds 1 Jun 2030 · flight A1", "#list")
+    time.sleep(0.5)
+    asked = asked_for(5)
+    same("while nothing happens", {"/health"}, set(asked))
+    same("every four seconds", True, 1 <= asked["/health"] <= 2)
+    scene.begins(plan(TRANSFER), "silent-3", agent="bob")
+    asked = asked_for(5)
+    del asked["/health"]
+    same("after an event of another agent", {"/stock": 1, "/unfinished": 1, "/mine/2": 1, "/journeys/1": 1}, dict(asked))
+    before = len(network.paths)
+    browser.press("Journey 2", "#list")
+    browser.named("Do step 1", ".acts")
+    time.sleep(4.5)
+    same("another journey is read, and nothing else", {"/health", "/journeys/2"}, {path for _, path, _ in network.paths[before:]})
+    scene.desk.post("/journeys/2/step", "silent-4")
+    browser.shows("T1.1", "ol.items")
+    browser.shows("ended", "#list")
+    network.front = lambda request: html_page(403) if request.where.path == "/health" else None
+    asked = asked_for(4.5)
+    same("where a server hides how much it has, all is asked for", True, asked["/health"] >= 1 <= asked["/stock"])
+    browser.shows("Up to date", "#state")
+
+
 def not_while_hidden(scene):
     """News come every few seconds, and none are asked for while another tab hides the page."""
     browser, driver = scene.browser, scene.browser.driver
     first = driver.current_window_handle
     asked = lambda: len(scene.network.paths)
     before = asked()
-    wait_until(lambda: asked() > before + 2, "news")
+    wait_until(lambda: asked() > before + 1, "news")
     browser.script("document.addEventListener('visibilitychange', () => document.title = `hidden ${document.hidden}`)")
     driver.switch_to.new_window("tab")
     wait_until(lambda: "hidden true" in titles(scene), "the page is hidden")

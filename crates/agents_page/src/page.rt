@@ -2,7 +2,7 @@
 
 /// What the page may load and do: its own style and script, and requests to the desk that served it.
 pub const POLICY: &str =
-    r#"default-src 'none'; script-src 'sha256-sL78K7VI04Gc4QYO3cUCyKwbdH8+sQwKpfAzpj8dNNk='; style-src 'sha256-ML4vp7SgeN6ylXDtPF3XNfaOaFQhRtadWLeaasc9qlI='; connect-src 'self'; frame-ancestors 'none'; base-uri 'none'; form-action 'none'"#;
+    r#"default-src 'none'; script-src 'sha256-4t61fOjwj/jvdgj2gOG1JHKkhpXgbwF2qpXeMGXnsd0='; style-src 'sha256-ML4vp7SgeN6ylXDtPF3XNfaOaFQhRtadWLeaasc9qlI='; connect-src 'self'; frame-ancestors 'none'; base-uri 'none'; form-action 'none'"#;
 
 /// The page, in HTML.
 pub const PAGE: &str = r##"<!doctype html>
@@ -602,19 +602,27 @@ const isStock = text => {
 };
 const isPlan = page => Array.isArray(page.steps), isJourney = page => Array.isArray(page.history);
 
-// look(): asks what is new, and draws it; goes on every few seconds while the page can be seen
+// look(): asks how much the desk has, then what is new since that was so, and draws it; goes on every few seconds while the page can be
+// seen. read: at how much the desk had, each part was read
+const read = new Map();
 async function look() {
   if (looking) { lookAgain = true; return; }
   clearTimeout(timer);
   if (document.hidden || !agent) return;
   looking = true;
   const mine = turn, whose = agent;
-  let met = 'here', bad = '';
-  for (const part of [
-    () => (view !== 'list' || stockText === null) && lookAtStock(mine), () => lookAtOwn(mine),
-    () => view === 'journey' && mine === turn && lookAtOne(number, mine),
-  ]) {
-    try { await part(); } catch (caught) {
+  let met = 'here', bad = '', now = '';
+  for (const [name, part] of Object.entries({
+    health: async () => {
+      if (given && waiting().some(one => one.agent !== given)) await identify();
+      // where a server in front hides it, all is asked for each time
+      try { now = JSON.stringify(await ask('/health', page => page.events >= 0)); } catch (why) { if (why.why !== 'barred') throw why; }
+    },
+    stock: (view !== 'list' || stockText === null) && lookAtStock, own: lookAtOwn,
+    [`one ${number}`]: view === 'journey' && (() => lookAtOne(number, mine)),
+  })) {
+    if (!part || mine !== turn || (now && read.get(name) === now && !settling.has(number))) continue;
+    try { await part(mine); if (mine === turn) read.set(name, now); } catch (caught) {
       let why = caught;
       try { if (await isAnother(why, whose)) break; } catch (failed) { why = failed; }
       if (why instanceof Refused) { bad = refusalText(why.page); break; }
@@ -626,6 +634,7 @@ async function look() {
   }
   isReached(met);
   wasAway = met !== 'here';
+  if (wasAway) read.clear();
   if (bad) say('bad', bad, 'look'); else end('look');
   looking = false;
   if (mine === turn) draw();
@@ -679,10 +688,13 @@ async function lookAtOwn(mine) {
   if (gone.some(id => isOpen(own.get(id)))) return lookAnew(mine);
   await readMine(most, own, mine);
 }
+function forget() {
+  own = new Map(); histories = new Map(); plans = new Map(); complete = false;
+  read.clear();
+}
 // lookAnew(): the desk has another file now, or an older one: nothing that was known is
 function lookAnew(mine) {
-  complete = false;
-  own = new Map(); histories = new Map(); plans = new Map();
+  forget();
   return lookAtOwn(mine);
 }
 // unlessAbsent(page): null where there is no such journey
@@ -1042,7 +1054,8 @@ function setAgent(name) {
 function startAgent() {
   turn++;
   [...told].forEach(drop);
-  own = new Map(); histories = new Map(); plans = new Map(); complete = false; settling = new Map(); chosen = null; badStep = 0; stockText = null;
+  forget();
+  settling = new Map(); chosen = null; badStep = 0; stockText = null;
   draft = agent ? kept(local, 'draft.' + agent, { steps: [], tries: 0 }) : { steps: [], tries: 0 };
 }
 function drawWho() {
