@@ -18,6 +18,8 @@ TOP = os.path.dirname(os.path.dirname(os.path.abspath(__file__)))
 os.environ.setdefault("DESK", os.path.join(TOP, "crates/desk/out/desk"))
 os.environ["LANGUAGE"] = "en_GB"
 sys.path.insert(0, os.path.join(TOP, "tests"))
+from selenium.webdriver.common.keys import Keys
+
 from drawing.palette import with_palette
 from page_driving import Browser, Desk, wait_until
 from page_network import Network
@@ -79,6 +81,10 @@ class Agency:
         return identity
 
 
+# gives a day to a field as a browser gives it
+GIVE = """arguments[0].value = arguments[1]; arguments[0].dispatchEvent(new Event('change', {bubbles: true}))"""
+
+
 class Camera:
     """A browser that keeps what it shows."""
 
@@ -110,6 +116,15 @@ def take(camera, network):
     browser.works_as(agency.desk.url(), "ann")
     browser.one('.night[data-of="room FJORD SUITE"]')
     camera.keeps("stock")
+    browser.click_on('[data-f="filter.table"]')
+    browser.types('[data-f="filter.places"]', Keys.CONTROL + "a" + Keys.NULL, "2", Keys.TAB)
+    for name, day in (("from", "2030-06-10"), ("to", "2030-06-13")):
+        browser.script(GIVE, browser.one(f'[data-f="filter.{name}"]'), day)
+    browser.shows("2 places free from Mon 10 June 2030 to Thu 13 June 2030", "#cals")
+    camera.keeps("table", 1366, 480)
+    browser.script(GIVE, browser.one('[data-f="filter.from"]'), "")
+    browser.types('[data-f="filter.places"]', Keys.CONTROL + "a" + Keys.NULL, "1", Keys.TAB)
+    browser.click_on('[data-f="filter.table"]')
     for night in ("2030-06-10", "2030-06-12"):
         browser.click_on(f'.night[data-of="room FJORD SUITE"][data-night="{night}"]')
     camera.keeps("chosen")

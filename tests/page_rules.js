@@ -62,7 +62,7 @@ for (const one of document.querySelectorAll('button, input, select, a')) if (see
   const box = one.getBoundingClientRect(), tall = one.closest('label');
   const least = one.type === 'checkbox' ? Math.max(box.height, tall.getBoundingClientRect().height) : Math.min(box.width, box.height);
   if (least < 24) wrong.push(`${name(one)}: it is ${Math.round(box.width)} by ${Math.round(box.height)}`);
-  if (!one.closest('.path') && (box.right > innerWidth + 1 || box.left < -1)) {
+  if (!one.closest('.path, .grid') && (box.right > innerWidth + 1 || box.left < -1)) {
     wrong.push(`${name(one)}: it stands out of the window, at ${Math.round(box.left)} to ${Math.round(box.right)}`);
   }
 }

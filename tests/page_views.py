@@ -337,6 +337,80 @@ def by_what_is_held(scene):
     found_by("flight", 4, 1)
 
 
+def types_day(scene, name, day):
+    """A day is given to a field as a browser gives it."""
+    scene.browser.script("""const [one, day] = arguments;
+      one.value = day;
+      one.dispatchEvent(new Event('change', {bubbles: true}));""", scene.browser.one(f'[data-f="filter.{name}"]'), day)
+
+
+def free_in(stock, least, first, last):
+    """The products with so many places: rooms and cover on each night before the last day, others on a day."""
+    cells = {}
+    for line in stock.splitlines()[1:-1]:
+        kind, supplier, product, night, _, _, free = line.split()
+        cells.setdefault(f"{kind} {supplier} {product}", {})[night] = int(free) >= least
+    days = [night for night in JUNE if first <= night <= last]
+    return [name for name, free in cells.items() if (
+        all(free.get(night) for night in days[:-1]) if name.startswith(("room", "cover")) else any(free.get(night) for night in days))]
+
+
+def as_table(scene):
+    """40 products in one table: each night as in the calendars, by mouse and by keys; a search; and all that stays in view."""
+    browser, desk = scene.browser, scene.desk
+    rows = [f"{('room', 'flight', 'cover', 'transfer')[n % 4]},S{n:02},PRODUCT{n % 7},{night},{(n * 5 + at * 3) % 11 + n % 3}"
+            for n in range(35) for at, night in enumerate(JUNE) if (n + at) % 17]
+    desk.load("many", rows)
+    labels = "return Object.fromEntries([...document.querySelectorAll('.night')].map(one => [one.dataset.f, one.ariaLabel]))"
+    comes("the calendars", 40, lambda: len(browser.all(".cal")))
+    nights = browser.script(labels)
+    browser.click_on('[data-f="filter.table"]')
+    comes("the products", 40, lambda: len(browser.all(".grid tbody tr")))
+    same("each night as in the calendars", nights, browser.script(labels))
+    for width, height in SIZES:
+        browser.size(width, height)
+        for across, down in ((0, 0), (9e3, 9e3), (300, 200)):
+            what = f"{width} by {height}, scrolled to {across} and {down}"
+            browser.script("for (const one of document.querySelectorAll('main, main section, #cals')) one.scrollTo(...arguments)", across, down)
+            for name in ("filter.kind", "month", "filter.places", "filter.from", "filter.to", "filter.table"):
+                same(f"{what}: {name} is in view", True, browser.script(IN_VIEW, browser.one(f'[data-f="{name}"]')))
+            same(f"{what}: nights, each below its day and beside its product", [], browser.script("""
+                const head = document.querySelector('.grid thead th').getBoundingClientRect(), at = (x, y) => document.elementFromPoint(x, y);
+                const seen = [...document.querySelectorAll('.night')].filter(one => {
+                  const box = one.getBoundingClientRect();
+                  one.x = box.left + box.width / 2;
+                  one.y = box.top + box.height / 2;
+                  return one.contains(at(one.x, one.y));
+                });
+                const wrong = seen.filter(({x, y, dataset}) => at(head.left + 40, y).closest('th')?.textContent.slice(2) !== dataset.of.split(' ').slice(1).join(' ')
+                  || !at(x, head.bottom - 6).closest('th')?.textContent.endsWith(+dataset.night.slice(8)));
+                return seen.length < 60 ? [seen.length] : wrong.map(one => one.dataset.f)"""))
+    browser.size(1366, 768)
+    scene.chooses("room INN YARD", JUNE[9])
+    scene.chooses("room INN YARD", JUNE[11])
+    browser.shows("room INN YARD, Mon 10 Jun 2030, 3 nights, leaving Thu 13 June", "#bar")
+    browser.press("Drop the choice")
+    same("where it was", f"room INN YARD {JUNE[9]}", browser.focus())
+    browser.keys(Keys.ARROW_UP, Keys.ARROW_RIGHT)
+    same("the product above, the next night", ["room INN SEA", JUNE[9]], browser.focus().rsplit(" ", 1))
+    browser.keys(Keys.ARROW_DOWN, Keys.ARROW_LEFT, Keys.ENTER)
+    browser.shows("room INN YARD, Sun 9 Jun 2030, 1 night", "#bar")
+    browser.keys(Keys.ESCAPE)
+    browser.types('[data-f="filter.places"]', Keys.CONTROL + "a" + Keys.NULL, "2", Keys.TAB)
+    for first, last in ((JUNE[9], JUNE[12]), (JUNE[19], JUNE[20]), (JUNE[0], JUNE[3])):
+        types_day(scene, "from", first)
+        types_day(scene, "to", last)
+        expected = free_in(desk.ask("GET", "/stock")[1], 2, first, last)
+        comes(f"2 places from {first} to {last}", sorted(expected), lambda: sorted({one.rsplit(" ", 1)[0] for one in browser.script(labels)}))
+        browser.shows(f"{len(expected)} products, rooms and cover on each night", "#cals")
+    scene.chooses("room INN YARD", JUNE[0])
+    same("the places that were sought", "2", browser.one('[data-f="bar.count"]').get_attribute("value"))
+    browser.driver.refresh()
+    comes("they stay after a reload", len(expected), lambda: len(browser.all(".grid tbody tr")))
+    types_day(scene, "from", "")
+    comes("all products", 40, lambda: len(browser.all(".grid tbody tr")))
+
+
 def filters(scene):
     """The stock is shown by kind, supplier, product and month."""
     browser = scene.browser

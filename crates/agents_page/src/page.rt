@@ -2,7 +2,7 @@
 
 /// What the page may load and do: its own style and script, and requests to the desk that served it.
 pub const POLICY: &str =
-    r#"default-src 'none'; script-src 'sha256-4t61fOjwj/jvdgj2gOG1JHKkhpXgbwF2qpXeMGXnsd0='; style-src 'sha256-ML4vp7SgeN6ylXDtPF3XNfaOaFQhRtadWLeaasc9qlI='; connect-src 'self'; frame-ancestors 'none'; base-uri 'none'; form-action 'none'"#;
+    r#"default-src 'none'; script-src 'sha256-JgerIAw4MT66j40lFbbmvNB9vfJgnntXsy/A+0viri0='; style-src 'sha256-GXqnipVFM0FpM0xZ+//cNv9XkVaAXQJdrh4G8GcHjOM='; connect-src 'self'; frame-ancestors 'none'; base-uri 'none'; form-action 'none'"#;
 
 /// The page, in HTML.
 pub const PAGE: &str = r##"<!doctype html>
@@ -16,14 +16,14 @@ pub const PAGE: &str = r##"<!doctype html>
 :root {
   color-scheme: light dark;
   --ground: light-dark(#f2f4f7, #10151b);
-  --card: light-dark(#ffffff, #19202a);
+  --card: light-dark(#fff, #19202a);
   --sunk: light-dark(#e9edf2, #131920);
   --ink: light-dark(#17202a, #e8edf2);
   --soft: light-dark(#4a5663, #abb7c3);
   --line: light-dark(#d3d9e0, #323d49);
   --edge: light-dark(#74808c, #7f8c99);
   --accent: light-dark(#14589a, #86bdf9);
-  --on-accent: light-dark(#ffffff, #0b1118);
+  --on-accent: light-dark(#fff, #0b1118);
   --chosen: light-dark(#dcebfb, #1d3a58);
   --good: light-dark(#1a6a35, #80d195);
   --warn: light-dark(#874a00, #f1b562);
@@ -39,7 +39,7 @@ pub const PAGE: &str = r##"<!doctype html>
 [hidden] { display: none !important; }
 body {
   display: flex; flex-direction: column; height: 100dvh; margin: 0; background: var(--ground); color: var(--ink);
-  font: 15px/1.45 system-ui, "Segoe UI", Roboto, "Liberation Sans", Arial, sans-serif;
+  font: 15px/1.45 system-ui, sans-serif;
 }
 h1 { margin: 0; }
 h2 { font-size: 17px; line-height: 1.3; margin: 0 0 8px; }
@@ -48,7 +48,7 @@ h3 { font-size: 15px; line-height: 1.3; margin: 0; }
 #one > h3 { margin: 16px 0 6px; }
 h1:focus, h2:focus, main:focus { outline: none; }
 p { margin: 0 0 8px; }
-code, .code { font-family: ui-monospace, "DejaVu Sans Mono", "Liberation Mono", Menlo, Consolas, monospace; }
+code, .code { font-family: ui-monospace, monospace; }
 .soft { color: var(--soft); }
 .small { font-size: 13px; }
 .good { color: var(--good); }
@@ -113,8 +113,11 @@ main { flex: 1; min-height: 0; overflow-y: auto; padding: 16px 16px 0; width: 10
 main, .desk > section { scroll-padding: 8px 0 64px; }
 main .side { padding-bottom: 0; }
 #list { padding-bottom: 14px; }
-.desk { display: grid; gap: 16px; padding-bottom: 16px; grid-template-columns: minmax(0, 1fr); }
-.tools { display: flex; flex-wrap: wrap; gap: 10px 14px; align-items: end; margin: 8px 0 14px; }
+.desk { display: grid; gap: 16px; height: 100%; padding-bottom: 16px; grid-template: minmax(0, 1fr) / minmax(0, 1fr); }
+.desk > section { overflow-y: auto; }
+.side { align-self: start; max-height: 100%; }
+#v-stock { display: flex; flex-direction: column; overflow: hidden; margin: 0 -6px; padding: 0 6px; }
+.tools { display: flex; flex-wrap: wrap; gap: 6px 12px; align-items: end; margin: 0 0 10px; }
 .tools label { flex-direction: column; align-items: flex-start; gap: 2px; font-size: 13px; color: var(--soft); }
 .tools select, .tools input { color: var(--ink); font-size: 15px; }
 .turn { display: flex; gap: 4px; align-items: end; }
@@ -126,7 +129,7 @@ main .side { padding-bottom: 0; }
 }
 .key i.half { background: linear-gradient(to top, var(--taken) 50%, transparent 50%); }
 .key i.isfull { background: var(--full); }
-.cals { display: grid; gap: 12px; grid-template-columns: repeat(auto-fill, minmax(min(100%, 300px), 1fr)); }
+.cals { display: grid; gap: 12px; align-content: start; overflow: auto; flex: 1; min-height: 0; scroll-padding: 40px 0 0 110px; grid-template-columns: repeat(auto-fill, minmax(min(100%, 300px), 1fr)); }
 .cal { padding: 10px 10px 8px; content-visibility: auto; contain-intrinsic-size: auto 390px; }
 .cal .top { display: flex; justify-content: space-between; align-items: baseline; gap: 8px; margin-bottom: 4px; }
 .cal table { width: 100%; border-collapse: separate; border-spacing: 2px; table-layout: fixed; }
@@ -152,6 +155,17 @@ main .side { padding-bottom: 0; }
   content: ""; position: absolute; inset: -1px; border: 3px solid var(--accent); border-radius: 6px;
 }
 .night:focus-visible { outline-offset: 1px; z-index: 1; }
+.cals > :not(.cal) { grid-column: 1 / -1; margin: 0; }
+.grid { width: max-content; min-width: 100%; padding: 0; }
+.grid table { width: 100%; border-spacing: 0; font-size: 12px; }
+.grid th { position: sticky; left: 0; z-index: 2; padding: 0 4px 0 0; background: var(--card); font-weight: 500; text-align: left; }
+.grid thead th { top: 0; z-index: 3; padding: 0; text-align: center; line-height: 1.2; color: var(--soft); }
+.grid th:not(:first-child) { left: auto; z-index: 2; }
+.grid .kind { padding: 0 4px; font-size: 12px; }
+.grid td { min-width: 24px; height: 24px; padding: 0; }
+.grid .night { height: 24px; padding: 0; border-radius: 0; }
+.grid .day, .grid .of { display: none; }
+.grid .night .free { font-size: 11px; font-weight: 400; }
 .kind { display: inline-block; padding: 0 7px; border-radius: 5px; font-size: 13px; font-weight: 500; color: var(--ink); }
 .kind.flight { background: var(--flight); }
 .kind.room { background: var(--room); }
@@ -183,7 +197,7 @@ main .side { padding-bottom: 0; }
 .save.on { border-left: 3px dashed var(--accent); }
 .save label { min-height: 26px; }
 .last { height: 8px; }
-#line { width: 100%; font-size: 13px; }
+#line { width: 100%; margin-bottom: 8px; font-size: 13px; }
 .begin { position: sticky; bottom: 0; z-index: 2; background: var(--card); padding: 8px 0; border-top: 1px solid var(--line); }
 .hint { font-size: 13px; color: var(--soft); margin: 4px 0 8px; }
 
@@ -209,8 +223,8 @@ table.list a { display: inline-block; min-width: 40px; min-height: 24px; font-we
 .path { overflow-x: auto; border: 1px solid var(--line); border-radius: 8px; background: var(--card); margin: 0 0 6px; }
 .path svg { display: block; }
 .drawn path { fill: none; }
-.path text { fill: var(--ink); font: 12px system-ui, "Segoe UI", Roboto, "Liberation Sans", Arial, sans-serif; }
-.path .code { font: 600 12px ui-monospace, "DejaVu Sans Mono", "Liberation Mono", monospace; }
+.path text { fill: var(--ink); font-size: 12px; }
+.path .code { font-weight: 600; }
 .path .dim { fill: var(--soft); }
 .drawn .level { stroke: var(--line); }
 .drawn .safe { stroke: var(--accent); stroke-width: 1.5; stroke-dasharray: 3 4; }
@@ -259,10 +273,6 @@ dialog .row { justify-content: flex-end; margin-top: 12px; }
 @media (min-width: 1080px) {
   .desk.book { grid-template-columns: minmax(0, 1fr) 440px; }
   .desk.own { grid-template-columns: 460px minmax(0, 1fr); }
-  .desk { height: 100%; grid-template-rows: minmax(0, 1fr); }
-  .desk > section { overflow-y: auto; }
-  .side { align-self: start; max-height: 100%; }
-  #v-stock { margin: 0 -6px; padding: 0 6px; }
 }
 @media (max-width: 480px) {
   main { padding: 12px 10px 0; }
@@ -273,6 +283,9 @@ dialog .row { justify-content: flex-end; margin-top: 12px; }
   #bar { margin: 0; border-radius: 0; border-left: 0; border-right: 0; }
   .card { padding: 10px; }
   .cal { padding: 8px 4px; }
+  .tools select, .tools input { font-size: 14px; padding: 2px 4px; }
+  .tools [type="number"] { width: 50px; }
+  #h-stock { position: absolute; clip-path: inset(50%); }
 }
 @media (max-height: 479px) { body, .desk { display: block; height: auto; } }
 @media (prefers-reduced-motion: no-preference) {
@@ -358,7 +371,7 @@ const night = time => new Date(time).toISOString().slice(0, 10);
 const plus = (from, days) => night(Date.parse(from) + days * 864e5);
 const long = n => `${+n.slice(8)} ${MONTHS[n.slice(5, 7) - 1]} ${n.slice(0, 4)}`;
 const short = n => `${+n.slice(8)} ${MONTHS[n.slice(5, 7) - 1].slice(0, 3)} ${n.slice(0, 4)}`;
-const count = (n, one, more = one + 's') => `${n.toLocaleString('en')} ${n === 1 ? one : more}`;
+const count = (n, one) => `${n.toLocaleString('en')} ${one}${n === 1 ? '' : 's'}`;
 const productOf = w => `${w.kind} ${w.supplier} ${w.product}`;
 const weekday = n => DAYS[(new Date(n).getUTCDay() + 6) % 7].slice(0, 3);
 // spanOf(want): its first night, how many, and when a room is left
@@ -477,6 +490,8 @@ listen('change', ({ target }) => {
 listen('input', ({ target }) => { if (target.type === 'search') target.drawn = target.value; });
 listen('focusout', ({ target }) => { if (target.isTyped) { target.isTyped = false; setTimeout(draw); } });
 
+// isDrawn(box, key): whether the box shows this; now it does
+const isDrawn = (box, key) => box.dataset.key === key || void (box.dataset.key = key);
 // paint(box, kids): the box has these; what had the focus has it again, by its data-f
 function paint(box, ...kids) {
   const at = document.activeElement, had = at !== box && box.contains(at), f = had && at.dataset.f;
@@ -530,7 +545,7 @@ let draft = null, chosen = null, into = 0, badStep = 0, places = 1;
 let settling = new Map();
 // reached: 'here', 'slow', 'away', 'out' (signed out), 'barred' (not allowed); null until this is known
 let reached = null, wasAway = false, status = 0, timer = 0, looking = false, lookAgain = false, line = new AbortController();
-let filter = kept(session, 'filter', { kind: '', supplier: '', product: '', month: '' });
+let filter = { kind: '', supplier: '', product: '', month: '', from: '', places: 1, ...kept(session, 'filter', {}) };
 let sought = { state: '', text: '', ...kept(session, 'sought', {}), rows: ROWS };
 
 const isOpen = journey => journey.state === 'run' || journey.state === 'back';
@@ -602,8 +617,8 @@ const isStock = text => {
 };
 const isPlan = page => Array.isArray(page.steps), isJourney = page => Array.isArray(page.history);
 
-// look(): asks how much the desk has, then what is new since that was so, and draws it; goes on every few seconds while the page can be
-// seen. read: at how much the desk had, each part was read
+// look(): asks how much the desk has, then for what is new, and draws it; goes on every few seconds while the page can be seen. read:
+// how much it had when each part was read
 const read = new Map();
 async function look() {
   if (looking) { lookAgain = true; return; }
@@ -724,8 +739,7 @@ function take(id, { history, ...where }, isAnew) {
   if (history) histories.set(id, { history, where });
 }
 
-// tellRestart(id, history, where, known, isAnew): whether a restart of the desk finished or undid this journey, of which this much
-// was known; then what came of it is told
+// tellRestart(id, history, where, known, isAnew): whether a restart finished or undid this journey since this was known; that is told
 const isRestart = item => /^B\d+s/.test(item);
 const standing = items => items.reduce((all, item) => ({ T: [...all, item], C: all.slice(0, -1) })[item[0]] || all, []);
 function tellRestart(id, history, where, known = history, isAnew = false) {
@@ -907,7 +921,7 @@ function hear(request, page, isTold) {
   look();
 }
 
-// goOn(request, page, text): does the next of all steps that are left, if this one was done, as the text says, and that one fits
+// goOn(request, page, text): does the next of all steps that are left, if this one was done and that one fits
 async function goOn({ about, seen, agent: whose, tab: of }, { item, pos }, text) {
   try { await lookAtStock(turn); } catch { /* by the stock that is known */ }
   const plan = whose === agent && of === tab && item[0] === 'T' && plans.get(about), history = seen ? [seen, item] : [item];
@@ -975,12 +989,13 @@ function isSignedIn() {
   flush();
 }
 
+const OLD = ' What you see may be old.';
 const REACH = {
   slow: ['No answer yet', 'The desk has not answered yet. If the browser asks for your name and password, sign in.'],
-  away: ['Not reached', 'The desk cannot be reached. This page tries again every two seconds. What you see may be old.'],
-  out: ['Signed out', 'You are signed out. Nothing is sent until you sign in again. What you see may be old.'],
-  barred: ['Not allowed', 'The server in front of the desk does not allow you to see this. What you see may be old.'],
-  gone: ['Not found', 'The server in front of the desk does not find it at this address. What you see may be old.'],
+  away: ['Not reached', 'The desk cannot be reached. This page tries again every two seconds.', OLD],
+  out: ['Signed out', 'You are signed out. Nothing is sent until you sign in again.', OLD],
+  barred: ['Not allowed', 'The server in front of the desk does not allow you to see this.', OLD],
+  gone: ['Not found', 'The server in front of the desk does not find it at this address.', OLD],
   lost: ['Not reached', 'A request got no answer. This page retries it every two seconds.'],
 };
 function drawState() {
@@ -989,13 +1004,13 @@ function drawState() {
   const others = waiting().filter(one => given && one.agent !== given);
   const is = reached === 'barred' && status === 404 ? 'gone'
     : (!reached || reached === 'here') && isLost && list.length ? 'lost' : reached;
-  const [word, what] = REACH[is] || [];
+  const [word, what, old = ''] = REACH[is] || [];
   $('state').className = word ? 'off' : '';
   const text = word || (!agent ? '' : !reached ? 'Looking for the desk' : list.length ? 'Sending' : 'Up to date');
   if ($('state').textContent !== text) $('state').textContent = text;
   $('state').hidden = !text;
   const lines = [
-    what,
+    what && what + old,
     what && list.length
       && `${count(list.length, 'request')} will be ${isOut ? 'sent then' : 'retried'}, and ${list.length === 1 ? 'takes' : 'each takes'} effect once: `
       + list.map(one => one.what).join('; ') + '.',
@@ -1008,10 +1023,7 @@ function drawState() {
       button('Drop', 'aside.drop', () => resume(aside, true), { 'aria-label': 'Drop what is set aside' })),
   ].filter(Boolean);
   const away = $('away'), key = lines.map(one => one.textContent || one).join();
-  if (away.dataset.key !== key) {
-    away.dataset.key = key;
-    paint(away, lines.map(one => h('p', {}, one)));
-  }
+  if (!isDrawn(away, key)) paint(away, lines.map(one => h('p', {}, one)));
   away.hidden = !lines.length;
 }
 // resume(aside, isDropped): what was set aside is sent again, or dropped
@@ -1056,7 +1068,7 @@ function startAgent() {
   [...told].forEach(drop);
   forget();
   settling = new Map(); chosen = null; badStep = 0; stockText = null;
-  draft = agent ? kept(local, 'draft.' + agent, { steps: [], tries: 0 }) : { steps: [], tries: 0 };
+  draft = kept(local, 'draft.' + agent, { steps: [], tries: 0 });
 }
 function drawWho() {
   const known = kept(local, 'agents', []);
@@ -1078,14 +1090,12 @@ $('who-form').addEventListener('submit', event => {
 
 const places2 = n => n < 10000 ? String(n) : `${Math.floor(n / 1000)}k`;
 const monthText = month => `${MONTHS[month.slice(5) - 1]} ${month.slice(0, 4)}`;
-const cellAt = (w, when) => { const one = stock.get(productOf(w)); return one && one.nights.get(when); };
-const partOf = ({ allot, free }) => allot ? Math.round(100 * (allot - free) / allot) : 100;
 
 // fits(want): whether it has its places now, and why
 function fits(want) {
   let least = Infinity, at = '';
   for (let n = 0; n < want.nights; n++) {
-    const when = plus(want.first, n), cell = cellAt(want, when);
+    const when = plus(want.first, n), cell = stock.get(productOf(want))?.nights.get(when);
     if (!cell) return { is: false, why: `nothing is allotted on ${short(when)}` };
     if (cell.free < want.count) return { is: false, why: `${cell.free ? `only ${cell.free}` : 'none'} free on ${short(when)}` };
     if (cell.free < least) { least = cell.free; at = when; }
@@ -1097,102 +1107,88 @@ const fitText = want => {
   return h('span', { class: is ? 'good' : 'bad' }, `${is ? 'Fits now' : 'Does not fit now'}: ${why}`);
 };
 
+const NAMES = ['kind', 'supplier', 'product'];
+// isShown(one): whether the filters, or the first ones of them, let a product through
+const isShown = (one, names = NAMES) => names.every(name => !filter[name] || filter[name] === one[name]);
+// isFree(one): whether it has the places that are sought: rooms and cover on each night before the last day, others on some day
+function isFree({ kind, nights }) {
+  const { from, to, places: least } = filter, days = [];
+  for (let day = from; from && day <= to; day = plus(day, 1)) days.push(nights.has(day) && nights.get(day).free >= least);
+  return !from || (MOST[kind] > 1 ? days.slice(0, -1).every(Boolean) : days.includes(true));
+}
+
 function setFilter(change) {
   Object.assign(filter, change);
+  const { from, to } = filter;
+  // the last day is from one to sixty days later
+  filter.to = from && [plus(from, 1), to, plus(from, 60)].sort()[1];
+  if (change.from) filter.month = from.slice(0, 7);
+  if (change.places) places = change.places;
   keep(session, 'filter', filter);
   drawStock();
+  if (change.from) $('cals').querySelector(`[data-night="${from}"]`)?.scrollIntoView({ block: 'nearest', inline: 'start' });
 }
 
 function drawFilters() {
-  const all = [...stock.values()], named = (name, some) => [...new Set(some.map(one => one[name]))].sort();
-  const pick = (name, word, values) => h('label', {}, word, h('select',
-    { 'data-f': 'filter.' + name, onchange: event => setFilter({ [name]: event.target.value }) },
+  const at = months.indexOf(filter.month), values = NAMES.map((name, n) => [...new Set(
+    [...stock.values()].filter(one => isShown(one, NAMES.slice(0, n))).map(one => one[name]))].sort());
+  const key = JSON.stringify([filter, values, months.length, months[0]]);
+  if (isDrawn($('filters'), key)) return;
+  const field = (word, name, tag, props, ...kids) => h('label', {}, word, h(tag, { 'data-f': 'filter.' + name, ...props }, kids));
+  const set = name => ({ target }) => setFilter({ [name]: target.type === 'checkbox' ? target.checked : target.value });
+  const pick = (name, n) => field(name[0].toUpperCase() + name.slice(1), name, 'select', { onchange: set(name) },
     h('option', { value: '', selected: !filter[name] }, 'all'),
-    values.map(value => h('option', { value, selected: value === filter[name] }, value))));
-  const kinds = KINDS.filter(kind => all.some(one => one.kind === kind));
-  const suppliers = named('supplier', all.filter(one => !filter.kind || one.kind === filter.kind));
-  const products = named(
-    'product',
-    all.filter(one => (!filter.kind || one.kind === filter.kind) && (!filter.supplier || one.supplier === filter.supplier))
-  );
-  const at = months.indexOf(filter.month);
+    values[n].map(value => h('option', { value, selected: value === filter[name] }, value)));
+  const day = (word, name) => field(word, name, 'input', { type: 'date', min: FIRST, max: LAST, value: filter[name] || '', onchange: set(name) });
   const move = (by, word, sign) => button(sign, 'month' + by, () => months[at + by] && setFilter({ month: months[at + by] }),
     { class: 'sign', 'aria-label': word, 'aria-disabled': !months[at + by] && 'true' });
-  const key = JSON.stringify([filter, kinds, suppliers, products, months.length, months[0]]);
-  if ($('filters').dataset.key === key) return;
-  $('filters').dataset.key = key;
   paint($('filters'), h('div', { class: 'tools', role: 'group', 'aria-label': 'What is shown' },
     h('div', { class: 'turn' }, move(-1, 'Month before', '‹'),
-      h('label', {}, 'Month', h('select', { 'data-f': 'month', onchange: event => setFilter({ month: event.target.value }) },
+      h('label', {}, 'Month', h('select', { 'data-f': 'month', onchange: set('month') },
         months.map(month => h('option', { value: month, selected: month === filter.month }, monthText(month))))),
       move(1, 'Month after', '›')),
-    pick('kind', 'Kind', kinds), pick('supplier', 'Supplier', suppliers), pick('product', 'Product', products)),
-  h(
-    'div', { class: 'key' }, h('span', {}, 'In each night: free places of those allotted.'),
-    h('span', {}, h('i', { class: 'half' }), 'taken in part'), h('span', {}, h('i', { class: 'isfull' }), 'nothing free')
-  ));
+    NAMES.map(pick),
+    wholeField('Free places', 'filter.places', 1, 50, filter.places, places => setFilter({ places })), day('From', 'from'), day('To', 'to'),
+    field('Table', 'table', 'input', { type: 'checkbox', checked: filter.table, onchange: set('table') })));
 }
 
 // settleFilter(): the filter names what there is
 function settleFilter() {
   const all = [...stock.values()];
-  const has = test => all.some(test);
-  if (filter.kind && !has(one => one.kind === filter.kind)) filter.kind = '';
-  if (
-    filter.supplier && !has(one => one.supplier === filter.supplier && (!filter.kind || one.kind === filter.kind))
-  ) filter.supplier = '';
-  if (
-    filter.product && !has(
-      one => one.product === filter.product && (!filter.supplier || one.supplier === filter.supplier)
-        && (!filter.kind || one.kind === filter.kind)
-    )
-  ) filter.product = '';
+  NAMES.forEach((name, n) => { if (!all.some(one => isShown(one, NAMES.slice(0, n + 1)))) filter[name] = ''; });
   if (!months.includes(filter.month)) {
     const today = night(Date.now()).slice(0, 7);
-    filter.month = months.find(
-      month => month >= today && has(one => [...one.nights.keys()].some(when => when.startsWith(month)))
-    ) || months[months.length - 1] || '';
+    filter.month = months.find(month => month >= today && all.some(one => [...one.nights.keys()].some(when => when.startsWith(month))))
+      || months[months.length - 1] || '';
   }
 }
 
 function drawStock() {
   if (isHeld()) return;
-  if (stockText === null) {
-    if (!$('cals').childElementCount) $('cals').replaceChildren(h('p', { class: 'soft' }, 'Looking at the stock …'));
-    return;
-  }
-  if (!stock.size) {
+  if (stockText === null || !stock.size) {
     $('filters').replaceChildren();
     delete $('filters').dataset.key;
-    $('cals').replaceChildren(
-      h(
-        'p', {},
-        'The desk has no places yet. They come with the allotment files of suppliers, which whoever runs the desk loads.'
-      )
-    );
+    $('cals').replaceChildren(h('p', {}, stockText === null ? 'Looking at the stock …'
+      : 'The desk has no places yet. They come with the allotment files of suppliers, which whoever runs the desk loads.'));
     return;
   }
   settleFilter();
   drawFilters();
-  const shown = [...stock.values()].filter(
-    one => (!filter.kind || one.kind === filter.kind) && (!filter.supplier || one.supplier === filter.supplier)
-      && (!filter.product || one.product === filter.product)
-  );
-  const inMonth = shown.map(
-    one => ({ one, nights: [...one.nights].filter(([when]) => when.startsWith(filter.month)) })
-  ).filter(({ nights }) => nights.length);
+  const shown = [...stock.values()].filter(one => isShown(one) && isFree(one)), dayOf = name => `${weekday(filter[name])} ${long(filter[name])}`;
+  const inMonth = shown.map(one => ({ one, nights: [...one.nights].filter(([when]) => when.startsWith(filter.month)) }))
+    .filter(({ nights }) => nights.length);
   const old = new Map([...$('cals').children].map(card => [card.dataset.key, card]));
-  const cards = inMonth.map(({ one, nights }) => {
-    const key = productOf(one) + filter.month + JSON.stringify(nights);
-    return old.get(key) || calendar(one, nights, key);
-  });
+  const said = (filter.from ? `${count(filter.places, 'place')} free from ${dayOf('from')} to ${dayOf('to')}: `
+    + `${count(shown.length, 'product')}, rooms and cover on each night, others on one of these days. ` : '') + 'In each night: free places of those allotted.';
+  const cards = [h('p', { class: 'key', 'data-key': said }, said, h('span', {}, h('i', { class: 'half' }), 'taken in part'),
+    h('span', {}, h('i', { class: 'isfull' }), 'nothing free'))];
+  const add = (key, make) => cards.push(old.get(key) || make(key));
+  if (filter.table && inMonth.length) add('table' + filter.month + JSON.stringify(inMonth), key => denseTable(inMonth, key));
+  else inMonth.forEach(({ one, nights }) => add(productOf(one) + filter.month + JSON.stringify(nights), key => calendar(one, nights, key)));
   const others = shown.length - inMonth.length;
-  if (others) cards.push(
-    h(
-      'p', { class: 'soft', 'data-key': 'others' + others },
-      `${count(others, inMonth.length ? 'other product' : 'product')} ${others === 1 ? 'has' : 'have'} no night in ${monthText(filter.month)}.`
-    )
-  );
+  if (others) cards.push(h('p', { class: 'soft', 'data-key': 'others' + others },
+    `${count(others, 'product')} without a night in ${monthText(filter.month)}.`));
+  cards[0] = old.get(said) || cards[0];
   const now = [...$('cals').children];
   if (cards.length !== now.length || cards.some((card, n) => card !== now[n])) {
     const at = document.activeElement, f = $('cals').contains(at) && at.dataset.f;
@@ -1204,23 +1200,27 @@ function drawStock() {
   paintChosen();
 }
 
+const daysIn = month => [...Array(new Date(Date.UTC(month.slice(0, 4), month.slice(5), 0)).getUTCDate()).keys()].map(n => plus(month + '-01', n));
+// denseTable(all, key): products by nights of the month
+const denseTable = (all, key) => h('div', { class: 'card grid', 'data-key': key },
+  h('table', { role: 'grid', 'aria-label': 'Free places', 'aria-multiselectable': 'true' },
+    h('thead', {}, h('tr', {}, h('th', {}), daysIn(filter.month).map(when => h('th', { scope: 'col' }, weekday(when).slice(0, 2), h('br'), +when.slice(8))))),
+    h('tbody', {}, all.map(({ one, nights }, row) => h('tr', {}, h('th', { scope: 'row' }, h('span', { class: 'kind ' + one.kind }, LETTER[one.kind]), ` ${one.supplier} ${one.product}`), daysIn(filter.month).map(when => {
+      const cell = one.nights.get(when);
+      return h('td', { 'aria-selected': cell && 'false' }, cell && nightButton(one, when, cell, !row && when === nights[0][0]));
+    }))))));
+
 // calendar(one, nights, key): a product's nights of the month, Monday first
 function calendar(one, nights, key) {
   const month = filter.month, title = 'cal ' + productOf(one), id = title.replace(/ /g, '-');
-  const known = new Map(nights), first = month + '-01', gap = (new Date(first).getUTCDay() + 6) % 7;
-  const days = new Date(Date.UTC(month.slice(0, 4), month.slice(5), 0)).getUTCDate();
+  const known = new Map(nights), days = daysIn(month), gap = (new Date(days[0]).getUTCDay() + 6) % 7;
   const free = nights.reduce((sum, [, cell]) => sum + cell.free, 0);
   const rows = [];
-  for (let at = -gap; at < days; at += 7) {
-    rows.push(h('tr', {}, [0, 1, 2, 3, 4, 5, 6].map(n => {
-      const day = at + n + 1;
-      if (day < 1 || day > days) return h('td', {});
-      const when = `${month}-${String(day).padStart(2, '0')}`, cell = known.get(when);
-      return cell
-        ? h('td', { 'aria-selected': 'false' }, nightButton(one, when, cell, when === nights[0][0]))
-        : h('td', { class: 'none' }, day);
-    })));
-  }
+  for (let at = -gap; at < days.length; at += 7) rows.push(h('tr', {}, [0, 1, 2, 3, 4, 5, 6].map(n => {
+    const when = days[at + n], cell = known.get(when);
+    return cell ? h('td', { 'aria-selected': 'false' }, nightButton(one, when, cell, when === nights[0][0]))
+      : h('td', { class: 'none' }, when && +when.slice(8));
+  })));
   return h('article', { class: 'card cal', 'data-key': key, 'aria-labelledby': id },
     h('div', { class: 'top' }, h('h3', { id }, product(one)), h('span', { class: 'soft small' }, `${count(free, 'place')} free`)),
     h('table', { role: 'grid', 'aria-labelledby': id, 'aria-multiselectable': 'true' },
@@ -1229,14 +1229,12 @@ function calendar(one, nights, key) {
 }
 
 function nightButton(one, when, cell, isFirst) {
-  const part = partOf(cell), isFull = !cell.free;
-  const fill = h('i', {});
+  const { allot, free } = cell, part = allot ? Math.round(100 * (allot - free) / allot) : 100, fill = h('i', {});
   fill.style.setProperty('--part', part + '%');
   return h('button', {
-    type: 'button', class: 'night' + (isFull ? ' isfull' : ''), tabindex: isFirst ? 0 : -1,
-    'data-night': when, 'data-of': productOf(one),
-    'data-f': `${productOf(one)} ${when}`, 'aria-label': `${long(when)}, ${cell.free} of ${cell.allot} free, ${part} % taken`,
-  }, fill, h('span', { class: 'day' }, +when.slice(8)), h('span', { class: 'free' }, places2(cell.free)), h('span', { class: 'of' }, 'of ' + places2(cell.allot)));
+    type: 'button', class: 'night' + (free ? '' : ' isfull'), tabindex: isFirst ? 0 : -1, 'data-night': when, 'data-of': productOf(one),
+    'data-f': `${productOf(one)} ${when}`, 'aria-label': `${long(when)}, ${free} of ${allot} free, ${part} % taken`,
+  }, fill, h('span', { class: 'day' }, +when.slice(8)), h('span', { class: 'free' }, places2(free)), h('span', { class: 'of' }, 'of ' + places2(allot)));
 }
 
 function focusNight(button) {
@@ -1256,11 +1254,13 @@ $('cals').addEventListener('click', event => {
 $('cals').addEventListener('keydown', event => {
   const at = event.target.closest('.night');
   if (!at) return;
-  const all = [...at.closest('table').querySelectorAll('.night')], when = at.dataset.night;
+  const table = at.closest('table'), when = at.dataset.night, all = [...table.querySelectorAll(`[data-of="${at.dataset.of}"]`)];
+  // in the table, up and down lead to other products
+  const same = [...table.querySelectorAll(`[data-night="${when}"]`)], rows = same.length > 1 && (by => same[same.indexOf(at) + by]);
   const near = by => by < 0
     ? all.filter(one => one.dataset.night <= plus(when, by)).pop() : all.find(one => one.dataset.night >= plus(when, by));
   const to = {
-    ArrowLeft: () => near(-1), ArrowRight: () => near(1), ArrowUp: () => near(-7), ArrowDown: () => near(7),
+    ArrowLeft: () => near(-1), ArrowRight: () => near(1), ArrowUp: () => rows ? rows(-1) : near(-7), ArrowDown: () => rows ? rows(1) : near(7),
     Home: () => all[0], End: () => all[all.length - 1]
   }[event.key];
   if (to) {
@@ -1310,12 +1310,10 @@ function unchoose() {
   if (had) if (back && back.offsetParent) focusNight(back); else $('title').focus();
 }
 function paintChosen() {
-  const is = at => chosen && at.dataset.of === productOf(chosen) && at.dataset.night >= chosen.first && at.dataset.night <= plus(
-    chosen.first, chosen.nights - 1
-  );
-  for (const at of $('cals').querySelectorAll('.night')) {
-    const now = String(Boolean(is(at)));
-    if (at.parentNode.getAttribute('aria-selected') !== now) at.parentNode.setAttribute('aria-selected', now);
+  const last = chosen && plus(chosen.first, chosen.nights - 1), of = chosen && productOf(chosen);
+  for (const { dataset: at, parentNode } of $('cals').querySelectorAll('.night')) {
+    const now = String(at.of === of && at.night >= chosen.first && at.night <= last);
+    if (parentNode.ariaSelected !== now) parentNode.ariaSelected = now;
   }
 }
 
@@ -1325,8 +1323,7 @@ function drawBar() {
   bar.hidden = !is;
   if (!is) { bar.replaceChildren(); delete bar.dataset.key; return; }
   const key = JSON.stringify([chosen, draft.steps.map(step => step.options.length), fits(chosen)]);
-  if (bar.dataset.key === key) { enterBar(bar); return; }
-  bar.dataset.key = key;
+  if (isDrawn(bar, key)) { enterBar(bar); return; }
   const most = MOST[chosen.kind], steps = draft.steps.length;
   const set = name => value => {
     chosen[name] = value;
@@ -1340,7 +1337,7 @@ function drawBar() {
       most > 1 && wholeField('Nights', 'bar.nights', 1, most, chosen.nights, set('nights')),
       wholeField('Places', 'bar.count', 1, 50, chosen.count, set('count')),
       fitText(chosen),
-      steps < 24 && button(`Add as step ${steps + 1}`, 'bar.step', () => addStep(), { class: 'main' }),
+      steps < 24 && button(`Add as step ${steps + 1}`, 'bar.step', addStep, { class: 'main' }),
       steps > 0 && h('span', { class: 'row' },
         button('Add as an option of', 'bar.option', () => addOption(into),
           { 'aria-label': 'Add as an option of the step that is named next' }),
@@ -1375,11 +1372,9 @@ function addOption(into) {
   say('good', `Option ${step.options.length} of step ${into}: ${text}.`, 'new', 4000);
 }
 function added() {
-  setDraft(draft);
-  const want = chosen;
-  chosen = { ...want };
+  chosen = { ...chosen };
   unchoose();
-  draw();
+  setDraft(draft);
 }
 
 // ---- the journey that is put together
@@ -1391,7 +1386,7 @@ function setDraft(next) {
   badStep = 0;
   if (draft.steps.length) draft.steps[draft.steps.length - 1].save = false;
   keep(local, 'draft.' + agent, draft);
-  drawPlan();
+  draw();
 }
 const moved = (list, from, to) => { const all = [...list], [one] = all.splice(from, 1); all.splice(to, 0, one); return all; };
 
@@ -1399,9 +1394,7 @@ function drawPlan() {
   const isSent = waiting().some(one => isDue(one) && one.about === 'new' && one.agent === agent);
   const key = JSON.stringify([draft, isSent, badStep, stockText && stockText.length])
     + draft.steps.map(step => step.options.map(want => fits(want).why)).join();
-  $('steps-in-plan').textContent = draft.steps.length ? ` (${draft.steps.length})` : '';
-  if ($('plan').dataset.key === key) return;
-  $('plan').dataset.key = key;
+  if (isDrawn($('plan'), key)) return;
   const steps = draft.steps, hasSave = steps.some(step => step.save);
   if (!steps.length) {
     paint($('plan'),
@@ -1457,18 +1450,17 @@ function lineInput() {
   };
   return h('div', {},
     h('p', { class: 'hint' }, h('label', { for: 'line' }, 'As a plan line (it can be changed here, or pasted)')),
-    h('div', { class: 'row' }, h('input', {
+    h('input', {
       id: 'line', class: 'code', value: text, 'data-f': 'line', spellcheck: 'false', autocomplete: 'off',
       autocapitalize: 'characters', onchange,
-    })), h('p', {}));
+    }));
 }
 
 function stepItem(step, at) {
   const steps = draft.steps, name = `step ${at + 1}`;
   const before = steps.slice(0, at).some(one => one.save);
-  const sign = (text, f, word, is, act) => button(
-    text, `${f}.${at}`, () => is && act(), { class: 'flat sign', 'aria-label': word, 'aria-disabled': !is && 'true' }
-  );
+  const sign = (text, f, word, is, act) => button(text, `${f}.${at}`, () => is && act(),
+    { class: 'flat sign', 'aria-label': word, 'aria-disabled': !is && 'true' });
   const order = to => {
     const last = steps.length - 1;
     setDraft({ ...draft, steps: moved(steps, at, to).map((one, n) => n === last ? { ...one, save: false } : one) });
@@ -1480,10 +1472,8 @@ function stepItem(step, at) {
       sign('✕', 'remove', `Remove ${name}`, true, () => setDraft({ ...draft, steps: steps.filter((one, n) => n !== at) }))),
     badStep === at + 1 && h('p', { class: 'bad' }, 'The desk refused this step. The message says why.'),
     h('ul', { class: 'options' }, step.options.map((want, n) => optionItem(step, at, want, n))),
-    step.options.length > 1 && !before && h(
-      'p', { class: 'hint' },
-      'Without a save-point before this step, its further options are not tried: a refusal leads to the start.'
-    ));
+    step.options.length > 1 && !before && h('p', { class: 'hint' },
+      'Without a save-point before this step, its further options are not tried: a refusal leads to the start.'));
 }
 
 function optionItem(step, at, want, n) {
@@ -1520,9 +1510,9 @@ function stateText(one) {
   return one.state === 'back' ? `going back, ${one.pos} to ${one.target}` : STATES[one.state];
 }
 const stateMark = one => h('span', { class: 'is ' + one.state }, stateText(one));
-// isRead(one): whether the history that is known is of the journey as it is now; one at its start holds nothing, whatever came before
+// isRead(one): whether what is known of its history is new; at its start it holds nothing anyway
 const isRead = one => !one.pos || JSON.stringify((histories.get(one.journey) || {}).where) === JSON.stringify(one);
-// saidOf(one): what a journey holds, by which it is found, and what else is said of it; nothing until that is known
+// saidOf(one): what a journey holds, by which it is found, and what else is said of it, once that is known
 function saidOf(one) {
   const plan = plans.get(one.journey), { history } = one.pos ? histories.get(one.journey) || {} : { history: [] };
   if (!plan || !history) return null;
@@ -1540,16 +1530,12 @@ function drawList() {
   if (view !== 'list' && view !== 'journey') return;
   const sum = state => all.filter(one => one.state === state).length;
   const text = sought.text.trim().toLowerCase();
-  const isText = one => !text || String(one.journey).startsWith(text)
-    || Object(saidOf(one)).held?.toLowerCase().includes(text);
+  const isText = one => !text || String(one.journey).startsWith(text) || saidOf(one)?.held.toLowerCase().includes(text);
   const isState = one => !sought.state || (sought.state === 'open' ? isOpen(one) : one.state === sought.state);
   const some = all.filter(one => isState(one) && isText(one));
   const rows = some.slice(0, sought.rows);
-  const key = JSON.stringify(
-    [complete, all.length, open, sought, some.length, view, number, rows.map(one => [one, saidOf(one)])]
-  );
-  if ($('list').dataset.key === key) return;
-  $('list').dataset.key = key;
+  const key = JSON.stringify([complete, all.length, open, sought, some.length, view, number, rows.map(one => [one, saidOf(one)])]);
+  if (isDrawn($('list'), key)) return;
   if (!all.length) {
     paint($('list'),
       h('p', {}, complete ? 'You have no journey yet. Put one together from the stock.' : 'Looking at your journeys …'),
@@ -1661,11 +1647,8 @@ function drawOne() {
   if (view !== 'journey') { if (view === 'list') drawNone(); return; }
   const plan = plans.get(number), { history, where: one } = histories.get(number) || {};
   const sending = waiting().filter(request => isDue(request) && request.about === number && request.agent === agent);
-  const key = JSON.stringify(
-    [number, one, history, plan && 1, plan === null, sending.map(request => request.key), settling.has(number)]
-  ) + (plan && one && isOpen(one) && plan.steps.map(step => step.options.map(want => fits(want).why)).join());
-  if ($('one').dataset.key === key) return;
-  $('one').dataset.key = key;
+  const key = JSON.stringify([number, one, history, plan && 1, plan === null, sending.map(request => request.key), settling.has(number)]) + (plan && one && isOpen(one) && plan.steps.map(step => step.options.map(want => fits(want).why)).join());
+  if (isDrawn($('one'), key)) return;
   $('h-one').textContent = `Journey ${number}`;
   if (plan === null) {
     paint($('one'), h('p', {}, `${agent} has no journey ${number}.`), h('p', {}, h('a', { href: '#/journeys' }, 'To my journeys')));
@@ -1698,21 +1681,13 @@ function drawOne() {
   }
 }
 function drawNone() {
-  if ($('one').dataset.key === 'none') return;
-  $('one').dataset.key = 'none';
+  if (isDrawn($('one'), 'none')) return;
   $('h-one').textContent = 'One journey';
-  paint(
-    $('one'),
-    h('p', { class: 'soft' }, 'Choose a journey from the list: its path, its plan and what may be done now are shown here.')
-  );
+  paint($('one'), h('p', { class: 'soft' }, 'Choose a journey from the list: its path, its plan and what may be done now are shown here.'));
 }
 async function useAgain(plan) {
-  if (
-    draft.steps.length && !await sure(
-      'Replace the new journey?', `The ${count(draft.steps.length, 'step')} that you have put together will be dropped.`,
-      'Replace them'
-    )
-  ) return;
+  const text = `The ${count(draft.steps.length, 'step')} that you have put together will be dropped.`;
+  if (draft.steps.length && !await sure('Replace the new journey?', text, 'Replace them')) return;
   setDraft(JSON.parse(JSON.stringify(plan)));
   location.hash = '#/plan';
 }
@@ -1751,7 +1726,7 @@ function actions(one, plan, way, sending, seen) {
       wait && h('span', { class: 'soft', role: 'status' }, 'Sending …')),
     isBack ? backText(one.target) : nextText(plan, way));
 }
-// nextText(plan, way): what the next step takes; and what of it cannot be undone, or what it does if it does not fit
+// nextText(plan, way): what the next step takes, what of it cannot be undone, and what it does if it does not fit
 function nextText(plan, way) {
   const next = way.pos + 1, want = optionAt(plan, next, way.used), to = way.used < plan.tries ? Math.max(0, ...way.saves) : 0;
   const turned = to ? `to save-point ${to}${to === way.pos ? ', where it is' : ''}`
@@ -1775,29 +1750,17 @@ function planned(step, at, one, plan, way) {
   const was = !done && way.steps.some(item => item.letter === 'T' && item.a === at + 1);
   const word = done ? 'stands' : isNext ? 'comes next' : was ? 'undone' : one.state === 'undone' ? 'not done' : 'to come';
   return h('li', { class: done ? 'isdone' : isNext ? 'isnext' : '' }, h('b', {}, `Step ${at + 1}`), ` ${word}`, way.saves.includes(at + 1) ? ', save-point after it' : step.save && ', a save-point once it is done',
-    h(
-      'ul', {},
-      step.options.map(
-        (want, n) => h(
-          'li', {}, product(want), `, ${spanOf(want)}, ${count(want.count, 'place')}`,
-          done && +done.b === n + 1
-            ? h('b', { class: 'good' }, ' – taken')
-            : next === want && step.options.length > 1 && h('b', {}, ' – tried next')
-        )
-      )
-    ));
+    h('ul', {}, step.options.map((want, n) => h('li', {}, product(want), `, ${spanOf(want)}, ${count(want.count, 'place')}`,
+      done && +done.b === n + 1 ? h('b', { class: 'good' }, ' – taken')
+        : next === want && step.options.length > 1 && h('b', {}, ' – tried next')))));
 }
 
 const SIGNS = [
   ['stands', 'done, and stands'], ['gone', 'done, and undone later'], ['down', 'given back'],
   ['turning', 'turned back'], ['safe', 'save-point'], ['ahead', 'to come']
 ];
-const signs = () => h(
-  'ul', { class: 'signs drawn', 'aria-hidden': 'true' },
-  SIGNS.map(
-    ([name, text]) => h('li', {}, s('svg', { width: 30, height: 10 }, s('path', { class: name, d: 'M3 5H27' })), text)
-  )
-);
+const signs = () => h('ul', { class: 'signs drawn', 'aria-hidden': 'true' }, SIGNS.map(
+  ([name, text]) => h('li', {}, s('svg', { width: 30, height: 10 }, s('path', { class: name, d: 'M3 5H27' })), text)));
 
 // pathPicture: the journey over its steps, up and down between save-points
 function pathPicture(one, plan, way) {
@@ -1817,14 +1780,8 @@ function pathPicture(one, plan, way) {
     const taken = p && way.stands[p - 1], want = p && (taken ? taken.want : optionAt(plan, p, way.used));
     text(left - 10, y(p) + 4, p, { 'text-anchor': 'end', class: 'code' });
     if (isScrolled) text(width - 8, y(p) + 4, p, { 'text-anchor': 'end', class: 'code' });
-    text(
-      8, y(p) + 4,
-      p
-        ? left < 148
-        ? `${LETTER[want.kind]} ${want.product}` : `${LETTER[want.kind]} ${want.supplier} ${want.product}`.slice(0, 17)
-        : 'start',
-      { class: taken ? '' : 'dim' }
-    );
+    const name = p && `${LETTER[want.kind]} ${left < 148 ? '' : want.supplier + ' '}${want.product}`.slice(0, 17);
+    text(8, y(p) + 4, name || 'start', { class: taken ? '' : 'dim' });
     if (isSafe) kids.push(s('path', { class: 'flag', d: `M${left - 4} ${y(p) + 5}v-13l9 3.5l-9 3.5` }));
   }
   steps.forEach((step, k) => {
@@ -1860,9 +1817,7 @@ function pathPicture(one, plan, way) {
   text(x(at) + 12, y(way.pos) - 10, isOpen(one) ? 'here' : STATES[one.state], { class: 'code' });
   const told = steps.map(step => `${step.item}: ${itemText(step)}`).concat(next ? `next: ${wantText(next)}` : []).join('; ');
   return s('svg', { width, height, viewBox: `0 0 ${width} ${height}`, role: 'img', 'aria-labelledby': 'path-title path-desc' },
-    s(
-      'title', { id: 'path-title' }, `The path of journey ${number}: ${stateText(one)}`
-    ), s('desc', { id: 'path-desc' }, told || 'Nothing happened yet.'), kids);
+    s('title', { id: 'path-title' }, `The path of journey ${number}: ${stateText(one)}`), s('desc', { id: 'path-desc' }, told || 'Nothing happened yet.'), kids);
 }
 
 // ---- the whole
@@ -1886,9 +1841,7 @@ function route(isMoved) {
   $('given').hidden = !given;
   $('given').textContent = $('who').textContent = `Agent ${agent}`;
   $('who').setAttribute('aria-label', `Agent ${agent}, change`);
-  for (const link of $('nav').children) if (link.dataset.for.split(' ').includes(view)) link.setAttribute(
-    'aria-current', 'page'
-  ); else link.removeAttribute('aria-current');
+  for (const link of $('nav').children) link.ariaCurrent = link.dataset.for.split(' ').includes(view) ? 'page' : null;
   draw();
   if (view === 'who') drawWho();
   if (isMoved && before !== view + number) { $(STARTS[view]).focus({ preventScroll: true }); $('main').scrollTop = $(STARTS[view]).closest('section').scrollTop = 0; look(); }
@@ -1909,9 +1862,10 @@ $('one').addEventListener('keydown', event => { if (event.repeat && event.target
 addEventListener('hashchange', route);
 document.addEventListener('visibilitychange', () => { if (!document.hidden) { look(); flush(); } });
 let resized = 0;
-addEventListener(
-  'resize', () => { clearTimeout(resized); resized = setTimeout(() => { delete $('one').dataset.key; drawOne(); }, 150); }
-);
+addEventListener('resize', () => {
+  clearTimeout(resized);
+  resized = setTimeout(() => { delete $('one').dataset.key; drawOne(); }, 150);
+});
 addEventListener('online', () => {
   line.abort();
   line = new AbortController();
@@ -1920,7 +1874,7 @@ addEventListener('online', () => {
 });
 addEventListener('storage', event => {
   if (event.key === MARK + 'out') if (event.newValue) { isReached('out'); draw(); } else isSignedIn();
-  if (event.key === MARK + 'draft.' + agent) { draft = kept(local, 'draft.' + agent, draft); drawPlan(); }
+  if (event.key === MARK + 'draft.' + agent) { draft = kept(local, 'draft.' + agent, draft); draw(); }
   if (event.key && event.key.startsWith(POST)) draw();
 });
 startAgent();
