@@ -1,6 +1,7 @@
 """The views by themselves: the stock by its filters, the plan that is changed, own journeys by what they hold, who works here, and a
 page that is hidden."""
 import collections
+import datetime
 import json
 import time
 
@@ -9,6 +10,12 @@ from selenium.webdriver.common.keys import Keys
 from page_driving import wait_until
 from page_network import html_page
 from page_scenes import FLIGHT, JUNE, LINE, SEA, TRANSFER, TWO, comes, option, plan, same
+
+
+# the plan of LINE
+LINE_PLAN = json.dumps({"tries": 1, "steps": [
+    {"options": [FLIGHT], "save": True}, {"options": [SEA, option("room", "INN", "YARD", nights=2)], "save": False},
+    {"options": [TRANSFER], "save": False}]})
 
 
 def draft_is_changed(scene):
@@ -50,12 +57,13 @@ def draft_is_changed(scene):
 
 # wants of a plan line, and how they are spoken of
 IN_WORDS = (
-    ("R/INN/YARD/2030-06-10/3/2", "room INN YARD, Mon 10 Jun 2030, 3 nights, leaving Thu 13 June"),
-    ("R/INN/YARD/2030-06-30/1/1", "room INN YARD, Sun 30 Jun 2030, 1 night, leaving Mon 1 July"),
-    ("R/INN/YARD/2030-12-31/1/1", "room INN YARD, Tue 31 Dec 2030, 1 night, leaving Wed 1 January"),
-    ("R/INN/YARD/2032-02-28/2/1", "room INN YARD, Sat 28 Feb 2032, 2 nights, leaving Mon 1 March"),
-    ("R/INN/YARD/2099-12-31/1/1", "room INN YARD, Thu 31 Dec 2099, 1 night, leaving Fri 1 January"),
-    ("C/CO/TRIP/2030-06-10/3/2", "cover CO TRIP, Mon 10 Jun 2030, 3 nights"), ("F/AL/A1/2030-06-01/1/1", "flight AL A1, Sat 1 Jun 2030"),
+    ("R/INN/YARD/2030-06-10/3/2", "room INN YARD, Mon 10 Jun 2030, 3 nights, leaving Thu 13 June, 2 places"),
+    ("R/INN/YARD/2030-06-30/1/1", "room INN YARD, Sun 30 Jun 2030, 1 night, leaving Mon 1 July, 1 place"),
+    ("R/INN/YARD/2030-12-31/1/1", "room INN YARD, Tue 31 Dec 2030, 1 night, leaving Wed 1 January, 1 place"),
+    ("R/INN/YARD/2032-02-28/2/1", "room INN YARD, Sat 28 Feb 2032, 2 nights, leaving Mon 1 March, 1 place"),
+    ("R/INN/YARD/2099-12-31/1/1", "room INN YARD, Thu 31 Dec 2099, 1 night, leaving Fri 1 January, 1 place"),
+    ("C/CO/TRIP/2030-06-10/3/2", "cover CO TRIP, Mon 10 Jun 2030, 3 nights, 2 places"),
+    ("F/AL/A1/2030-06-01/1/1", "flight AL A1, Sat 1 Jun 2030, 1 place"),
 )
 
 
@@ -335,6 +343,47 @@ def by_what_is_held(scene):
     desk.post("/journeys/4/step", "give")
     found_by("room yard", 1)
     found_by("flight", 4, 1)
+
+
+# what is no content of a sheet
+CONTROLS = "header, nav, #state, button:not(.night), input, select, [role=group], label:not(.save.on label), dialog, #notes"
+
+
+def printed(scene):
+    """Each view as a sheet: with the agent and the date, of the stock the month too; without controls, in light colours, and whole."""
+    browser, today = scene.browser, datetime.date.today()
+    agent = f"Agent ann, {today.day} {today:%B} {today.year}"
+    scene.begins(LINE_PLAN, "printed", 2)
+    browser.types("#line", LINE, Keys.TAB)
+    comes("the steps", 3, lambda: len(browser.all(".step")))
+    scene.chooses("flight AL A1", JUNE[0])
+    sheets = (
+        ("stock", f"{agent}: June 2030", ("room INN YARD", "In each night", "of 4"), ("New journey", "My journeys")),
+        ("plan", agent, ("Step 2", "INN YARD, Sat 1 Jun 2030, 2 nights, leaving Mon 3 June, 1 place", "Save-point after step 1"),
+         ("Save-point after step 2", "Tries", "Stock")),
+        ("journeys", agent, ("My journeys", "holds 1 Jun 2030 · flight A1", "to come"), ("Number", "One journey")),
+        ("journeys/1", agent, ("Journey 1", "under way, at 1 of 3", "T1.1", "no place was found for step 2"), ("Turn back to", "Do step", "My journeys")),
+    )
+    for path, head, has, has_not in sheets:
+        browser.script("location.hash = arguments[0]", f"#/{path}")
+        browser.shows(has[0], "main")
+        browser.driver.execute_cdp_cmd("Emulation.setEmulatedMedia", {
+            "media": "print", "features": [{"name": "prefers-color-scheme", "value": "dark"}]})
+        browser.size(718, 600)
+        same(f"{path}: agent, date and month", head, browser.text("#sheet"))
+        same(f"{path}: controls", [], browser.names(CONTROLS))
+        text = browser.text("main")
+        same(f"{path}: what it has", [], [words for words in has if words not in text.replace("\n", " ")])
+        same(f"{path}: what it has not", [], [words for words in has_not if words in text])
+        same(f"{path}: its ground", "rgb(255, 255, 255)", browser.script("return getComputedStyle(document.body).backgroundColor"))
+        same(f"{path}: what is cut", [], browser.script("""return [...document.querySelectorAll('main, main *')].filter(one => {
+            const is = getComputedStyle(one);
+            // what scrolls is not broken over pages
+            return one.checkVisibility() && is.overflowY !== 'visible' && !one.matches('.night, .unseen, .plan')
+              && (one.matches('main, section, #cals') || one.scrollHeight > one.clientHeight + 1);
+          }).map(one => one.id || one.className)"""))
+        browser.driver.execute_cdp_cmd("Emulation.setEmulatedMedia", {"media": "", "features": []})
+        browser.size(1280, 900)
 
 
 def types_day(scene, name, day):

@@ -2,7 +2,7 @@
 
 /// What the page may load and do: its own style and script, and requests to the desk that served it.
 pub const POLICY: &str =
-    r#"default-src 'none'; script-src 'sha256-JgerIAw4MT66j40lFbbmvNB9vfJgnntXsy/A+0viri0='; style-src 'sha256-GXqnipVFM0FpM0xZ+//cNv9XkVaAXQJdrh4G8GcHjOM='; connect-src 'self'; frame-ancestors 'none'; base-uri 'none'; form-action 'none'"#;
+    r#"default-src 'none'; script-src 'sha256-F/gxXy/mfWmmxX+U+0Dx/5yfB3U4tit8TecgXAdnuD8='; style-src 'sha256-xq06gEqact7JtCgqt1wf+yApFl5HFGEblhA5XZg0urY='; connect-src 'self'; frame-ancestors 'none'; base-uri 'none'; form-action 'none'"#;
 
 /// The page, in HTML.
 pub const PAGE: &str = r##"<!doctype html>
@@ -48,7 +48,7 @@ h3 { font-size: 15px; line-height: 1.3; margin: 0; }
 #one > h3 { margin: 16px 0 6px; }
 h1:focus, h2:focus, main:focus { outline: none; }
 p { margin: 0 0 8px; }
-code, .code { font-family: ui-monospace, monospace; }
+.code { font-family: ui-monospace, monospace; }
 .soft { color: var(--soft); }
 .small { font-size: 13px; }
 .good { color: var(--good); }
@@ -75,10 +75,10 @@ button.main:not([aria-disabled]):hover { text-decoration: underline; color: var(
 button.flat:not([aria-disabled]) { border-color: transparent; background: transparent; color: var(--accent); padding: 4px 8px; }
 button.flat:not([aria-disabled]):hover { border-color: var(--accent); }
 button.sign { min-width: 34px; padding: 2px 6px; }
-button:disabled, [aria-disabled="true"] {
+[aria-disabled="true"] {
   color: var(--soft); border: 1px dashed var(--edge); background: transparent; cursor: default; font-weight: 400;
 }
-button:disabled:hover, [aria-disabled="true"]:hover { color: var(--soft); text-decoration: none; border-color: var(--edge); }
+[aria-disabled="true"]:hover { color: var(--soft); text-decoration: none; border-color: var(--edge); }
 label { display: inline-flex; align-items: center; gap: 6px; }
 .row { display: flex; flex-wrap: wrap; gap: 8px; align-items: center; }
 .card { background: var(--card); border: 1px solid var(--line); border-radius: 10px; padding: 14px; }
@@ -86,7 +86,7 @@ label { display: inline-flex; align-items: center; gap: 6px; }
 header {
   background: var(--card); border-bottom: 1px solid var(--line); display: flex; flex-wrap: wrap; align-items: center; gap: 2px 14px; padding: 6px 16px;
 }
-.brand { font-size: 18px; letter-spacing: .02em; }
+.brand { font-size: 18px; }
 nav { display: flex; gap: 2px; }
 nav a { padding: 7px 11px; border-radius: 6px; color: var(--ink); text-decoration: none; white-space: nowrap; }
 nav a:hover { background: var(--sunk); }
@@ -110,12 +110,10 @@ nav a[aria-current] { background: var(--chosen); font-weight: 600; box-shadow: i
 
 /* what scrolls is between the header and the bar */
 main { flex: 1; min-height: 0; overflow-y: auto; padding: 16px 16px 0; width: 100%; max-width: 1900px; margin: 0 auto; }
-main, .desk > section { scroll-padding: 8px 0 64px; }
-main .side { padding-bottom: 0; }
 #list { padding-bottom: 14px; }
 .desk { display: grid; gap: 16px; height: 100%; padding-bottom: 16px; grid-template: minmax(0, 1fr) / minmax(0, 1fr); }
-.desk > section { overflow-y: auto; }
-.side { align-self: start; max-height: 100%; }
+.desk > section { overflow-y: auto; scroll-padding: 8px 0 64px; }
+main .side { align-self: start; max-height: 100%; padding-bottom: 0; }
 #v-stock { display: flex; flex-direction: column; overflow: hidden; margin: 0 -6px; padding: 0 6px; }
 .tools { display: flex; flex-wrap: wrap; gap: 6px 12px; align-items: end; margin: 0 0 10px; }
 .tools label { flex-direction: column; align-items: flex-start; gap: 2px; font-size: 13px; color: var(--soft); }
@@ -161,7 +159,6 @@ main .side { padding-bottom: 0; }
 .grid th { position: sticky; left: 0; z-index: 2; padding: 0 4px 0 0; background: var(--card); font-weight: 500; text-align: left; }
 .grid thead th { top: 0; z-index: 3; padding: 0; text-align: center; line-height: 1.2; color: var(--soft); }
 .grid th:not(:first-child) { left: auto; z-index: 2; }
-.grid .kind { padding: 0 4px; font-size: 12px; }
 .grid td { min-width: 24px; height: 24px; padding: 0; }
 .grid .night { height: 24px; padding: 0; border-radius: 0; }
 .grid .day, .grid .of { display: none; }
@@ -198,7 +195,8 @@ main .side { padding-bottom: 0; }
 .save label { min-height: 26px; }
 .last { height: 8px; }
 #line { width: 100%; margin-bottom: 8px; font-size: 13px; }
-.begin { position: sticky; bottom: 0; z-index: 2; background: var(--card); padding: 8px 0; border-top: 1px solid var(--line); }
+.begin { position: sticky; bottom: 0; background: var(--card); padding: 8px 0; border-top: 1px solid var(--line); }
+#sheet { display: none; }
 .hint { font-size: 13px; color: var(--soft); margin: 4px 0 8px; }
 
 table.list { width: 100%; border-collapse: collapse; }
@@ -265,12 +263,12 @@ dialog::backdrop { background: rgb(0 0 0 / .45); }
 dialog .row { justify-content: flex-end; margin-top: 12px; }
 #v-who .card { max-width: 480px; margin: 5vh auto; }
 
-@media (max-width: 1079px) {
+@media print, (max-width: 1079px) {
   [data-view="stock"] #v-plan, [data-view="plan"] #v-stock, [data-view="journey"] #v-list, [data-view="list"] #v-one {
     display: none;
   }
 }
-@media (min-width: 1080px) {
+@media screen and (min-width: 1080px) {
   .desk.book { grid-template-columns: minmax(0, 1fr) 440px; }
   .desk.own { grid-template-columns: 460px minmax(0, 1fr); }
 }
@@ -284,14 +282,21 @@ dialog .row { justify-content: flex-end; margin-top: 12px; }
   .card { padding: 10px; }
   .cal { padding: 8px 4px; }
   .tools select, .tools input { font-size: 14px; padding: 2px 4px; }
-  .tools [type="number"] { width: 50px; }
   #h-stock { position: absolute; clip-path: inset(50%); }
 }
-@media (max-height: 479px) { body, .desk { display: block; height: auto; } }
-@media (prefers-reduced-motion: no-preference) {
-  .night i { transition: height .3s; }
+@media print, (max-height: 479px) { body, .desk { display: block; height: auto; } }
+@media print {
+  :root { --ground: #fff; color-scheme: light; print-color-adjust: exact; }
+  header, #away, #bar, #notes, .acts, .tools, .begin, button:not(.night), input, .options label, #plan > label, .hint label, .save:not(.on) {
+    display: none !important;
+  }
+  main, .desk > section, .cals, .path { overflow: visible !important; max-height: none; }
+  #v-stock { display: block; }
+  .cal, .step, .planned > li { content-visibility: visible; break-inside: avoid; }
+  .path svg { max-width: 100%; height: auto; }
+  .grid { width: auto; zoom: .75; }
+  #sheet { display: block; }
 }
-@media print { header, #bar, #notes, .acts, .tools { display: none !important; } }
 </style>
 </head>
 <body>
@@ -310,6 +315,7 @@ dialog .row { justify-content: flex-end; margin-top: 12px; }
 <div id="away" role="alert" hidden></div>
 <main id="main" tabindex="-1">
 <h1 id="title" class="unseen" tabindex="-1">Desk</h1>
+<p id="sheet"></p>
 <noscript><p>This page works with its script, which this browser does not run.</p></noscript>
 <section id="v-who" aria-labelledby="h-who" hidden>
 <form class="card" id="who-form" novalidate>
@@ -369,7 +375,8 @@ const MARK = FOLDER === '/' ? 'desk.' : `desk${FOLDER}.`;
 const $ = id => document.getElementById(id);
 const night = time => new Date(time).toISOString().slice(0, 10);
 const plus = (from, days) => night(Date.parse(from) + days * 864e5);
-const long = n => `${+n.slice(8)} ${MONTHS[n.slice(5, 7) - 1]} ${n.slice(0, 4)}`;
+const monthText = month => `${MONTHS[month.slice(5, 7) - 1]} ${month.slice(0, 4)}`;
+const long = n => `${+n.slice(8)} ${monthText(n)}`;
 const short = n => `${+n.slice(8)} ${MONTHS[n.slice(5, 7) - 1].slice(0, 3)} ${n.slice(0, 4)}`;
 const count = (n, one) => `${n.toLocaleString('en')} ${one}${n === 1 ? '' : 's'}`;
 const productOf = w => `${w.kind} ${w.supplier} ${w.product}`;
@@ -465,8 +472,8 @@ const wholeField = (word, f, low, high, value, set, props) => h('label', {}, wor
 const kindOf = w => h('span', { class: 'kind ' + w.kind }, w.kind);
 const product = w => [kindOf(w), ` ${w.supplier} ${w.product}`];
 
-// nothing is drawn anew between the press of a button and its release, since the click has to find it, nor while a field tells its
-// change, since the focus is on its way to the next one. A press that is never released holds nothing back for long
+// nothing is drawn anew between the press of a button and its release, which has to find it, nor while a field tells its change and the
+// focus is on its way. A press that is never released holds nothing back for long
 let pressed = -Infinity, isChanging = false;
 const isHeld = () => isChanging || performance.now() - pressed < 2000;
 const listen = (names, act) => names.split(' ').forEach(name => document.addEventListener(name, act, true));
@@ -500,10 +507,9 @@ function paint(box, ...kids) {
   if (isHeld() || isTyped) { delete box.dataset.key; return; }
   const from = had && at.selectionStart, to = had && at.selectionEnd;
   // what was scrolled to its end stays there
-  const scrolled = [...box.querySelectorAll('[data-scroll]')]
-    .map(one => one.scrollLeft + one.clientWidth >= one.scrollWidth - 2 ? 1e5 : one.scrollLeft);
+  const path = box.querySelector('.path'), left = path && (path.scrollLeft + path.clientWidth > path.scrollWidth - 3 ? 1e5 : path.scrollLeft);
   box.replaceChildren(...kids.flat(9).filter(Boolean));
-  box.querySelectorAll('[data-scroll]').forEach((one, n) => { if (scrolled[n] !== undefined) one.scrollLeft = scrolled[n]; });
+  if (path) box.querySelector('.path')?.scrollTo(left, 0);
   if (had) {
     const same = f && box.querySelector(`[data-f="${CSS.escape(f)}"]`);
     const next = same || box.querySelector('[data-rest]') || $('title');
@@ -563,8 +569,8 @@ class Failed extends Error {
 const whyOf = status => status < 400 || [401, 407, 511].includes(status) ? 'out'
   : status > 499 || [408, 425, 429].includes(status) ? 'away' : 'barred';
 
-// ask(path, is, options): the page of the desk, which `is` knows by its form. Nothing is asked for while the browser is signed out,
-// and a request is let wait, since the browser may be asking for a password meanwhile
+// ask(path, is, options): the page of the desk, which `is` knows by its form. Nothing is asked for while signed out, and a
+// request is let wait, since the browser may be asking for a password
 async function ask(path, is, options) {
   if (reached === 'out') throw new Failed('out');
   const slow = setTimeout(() => { isReached('slow'); draw(); }, SLOW);
@@ -808,7 +814,7 @@ function waiting() {
   return found.filter(Boolean).sort((a, b) => a.at - b.at || a.turn - b.turn);
 }
 
-// those of this window, and of windows that are closed, but for those that were set aside, and those of an agent who is not signed in
+// those of this window and of closed ones, but for what was set aside, and those of an agent who is not signed in
 const isDue = one => !one.aside && (!given || one.agent === given);
 async function ownWaiting() {
   const held = navigator.locks ? new Set((await navigator.locks.query()).held.map(lock => lock.name)) : new Set();
@@ -908,7 +914,7 @@ function hear(request, page, isTold) {
     say('good', `Journey ${page.journey} is begun${whose}.`, page.journey);
     if (isOwn) {
       own.set(page.journey, { journey: page.journey, pos: 0, state: 'run' });
-      if (request.body === bodyOf(draft)) setDraft({ steps: [], tries: draft.tries });
+      if (request.body === JSON.stringify(draft)) setDraft({ steps: [], tries: draft.tries });
       if (request.tab === tab && (view === 'plan' || view === 'stock')) location.hash = '#/journeys/' + page.journey;
     }
   } else {
@@ -953,14 +959,14 @@ function itemSaid({ item, state, target }, plan) {
 
 const told = [];
 // say(.., of): what it speaks of, in the place of what was said of that before
-function say(word, text, of, time = 9000) {
+function say(word, text, of) {
   end(of);
   while (told.length > 2) drop(told[+(told[0].of === 'restart')]);
   const note = { of, node: h('div', { class: 'note is' + word }, h('p', {}, word === 'bad' ? h('strong', {}, 'Refused. ') : '', text),
     button('Close', '', () => drop(note), { class: 'flat', 'aria-label': `Close: ${text}` })) };
   told.push(note);
   $('notes').append(note.node);
-  if (word === 'good') setTimeout(() => drop(note), time);
+  if (word === 'good') setTimeout(() => drop(note), 9000);
   return note;
 }
 // end(of): what was said of this is over
@@ -1089,7 +1095,6 @@ $('who-form').addEventListener('submit', event => {
 // ---- the stock
 
 const places2 = n => n < 10000 ? String(n) : `${Math.floor(n / 1000)}k`;
-const monthText = month => `${MONTHS[month.slice(5) - 1]} ${month.slice(0, 4)}`;
 
 // fits(want): whether it has its places now, and why
 function fits(want) {
@@ -1357,29 +1362,23 @@ function enterBar(bar) {
 }
 $('bar').addEventListener('keydown', event => { if (event.key === 'Escape') { event.preventDefault(); unchoose(); } });
 
-function addStep() {
-  const text = wantText(chosen);
-  draft.steps.push({ options: [chosen], save: false });
-  added();
-  say('good', `Step ${draft.steps.length} of the new journey: ${text}.`, 'new', 4000);
-}
-function addOption(into) {
-  const step = draft.steps[into - 1];
-  if (step.options.length > 7) { say('bad', 'A step has at most 8 options.', 'new'); return; }
-  const text = wantText(chosen);
-  step.options.push(chosen);
-  added();
-  say('good', `Option ${step.options.length} of step ${into}: ${text}.`, 'new', 4000);
-}
-function added() {
-  chosen = { ...chosen };
+// add(list, one, what): what is chosen goes to the steps, or to the options of one; that is said
+function add(list, one, what) {
+  const text = `${what}: ${wantText(chosen)}.`;
+  list.push(one);
   unchoose();
   setDraft(draft);
+  say('good', text, 'new');
+}
+const addStep = () => add(draft.steps, { options: [chosen], save: false }, `Step ${draft.steps.length + 1} of the new journey`);
+function addOption(into) {
+  const { options } = draft.steps[into - 1];
+  if (options.length > 7) say('bad', 'A step has at most 8 options.', 'new');
+  else add(options, chosen, `Option ${options.length + 1} of step ${into}`);
 }
 
 // ---- the journey that is put together
 
-const bodyOf = plan => JSON.stringify(plan);
 function setDraft(next) {
   end('new');
   draft = next;
@@ -1417,7 +1416,7 @@ function drawPlan() {
     lineInput(),
     h('div', { class: 'row begin' },
       button(isSent ? 'Sending …' : 'Begin the journey', 'begin',
-        () => isSent || send('/journeys', bodyOf(draft), 'Begin a journey', 'new'),
+        () => isSent || send('/journeys', JSON.stringify(draft), 'Begin a journey', 'new'),
         { class: 'main', 'aria-disabled': isSent && 'true' }),
       button('Clear', 'clear', clear, { 'aria-label': 'Clear the new journey' })));
 }
@@ -1486,7 +1485,7 @@ function optionItem(step, at, want, n) {
   return h('li', {},
     h('div', { class: 'row' },
       many && h('span', { class: 'soft' }, `${n + 1}.`),
-      h('span', { class: 'what' }, product(want), `, ${weekday(want.first)} ${spanOf(want)}`),
+      h('span', { class: 'what' }, product(want), `, ${weekday(want.first)} ${spanOf(want)}, ${count(want.count, 'place')}`),
       many && n > 0 && button('↑', 'prefer.' + f, prefer, small(`Prefer ${name} to the one before`)),
       many && button('✕', 'drop.' + f, remove, small(`Remove ${name}`))),
     h('div', { class: 'row' },
@@ -1662,7 +1661,7 @@ function drawOne() {
     h('p', {}, stateMark(one), ' ', h('span', { class: 'soft' }, steps)),
     actions(one, plan, way, sending, history.join()),
     h('div', {
-      class: 'path drawn', tabindex: 0, role: 'region', 'data-scroll': true, 'data-f': 'path',
+      class: 'path drawn', tabindex: 0, role: 'region', 'data-f': 'path',
       'aria-label': `Path of journey ${number}, can be scrolled sideways`,
     }, pathPicture(one, plan, way)),
     signs(),
@@ -1683,7 +1682,7 @@ function drawOne() {
 function drawNone() {
   if (isDrawn($('one'), 'none')) return;
   $('h-one').textContent = 'One journey';
-  paint($('one'), h('p', { class: 'soft' }, 'Choose a journey from the list: its path, its plan and what may be done now are shown here.'));
+  paint($('one'), h('p', { class: 'soft' }, 'Choose a journey from the list: here are then its path, its plan and what may be done.'));
 }
 async function useAgain(plan) {
   const text = `The ${count(draft.steps.length, 'step')} that you have put together will be dropped.`;
@@ -1710,8 +1709,8 @@ function actions(one, plan, way, sending, seen) {
   };
   const turnBack = (p, to) => async () => {
     if (wait) return;
-    const is = await sure(`Turn journey ${id} back to ${to}?`, turnText(p, way.pos - p), `Turn back to ${to}`);
-    if (is) act('abort/' + p, `Turn journey ${id} back to ${to}`)();
+    const what = `Turn journey ${id} back to ${to}`;
+    if (await sure(what + '?', turnText(p, way.pos - p), `Turn back to ${to}`)) act('abort/' + p, what)();
   };
   const canSave = !isBack && way.pos > 0 && !way.saves.includes(way.pos);
   const turns = [0, ...way.saves].filter(p => !isBack || p < one.target).sort((a, b) => b - a);
@@ -1731,8 +1730,9 @@ function nextText(plan, way) {
   const next = way.pos + 1, want = optionAt(plan, next, way.used), to = way.used < plan.tries ? Math.max(0, ...way.saves) : 0;
   const turned = to ? `to save-point ${to}${to === way.pos ? ', where it is' : ''}`
     : `to its start${way.saves.length ? ', since no tries are left' : ''}, and so undo it. An undone journey cannot be begun again`;
-  return h('div', { id: 'next' }, h('p', {}, `Step ${next} will take ${wantText(want)}. `, stockText !== null && [fitText(want), '.']),
-    stockText !== null && !fits(want).is && h('p', { class: 'bad' }, `As it is now, it would turn the journey back ${turned}.`),
+  const isKnown = stockText !== null;
+  return h('div', { id: 'next' }, h('p', {}, `Step ${next} will take ${wantText(want)}. `, isKnown && [fitText(want), '.']),
+    isKnown && !fits(want).is && h('p', { class: 'bad' }, `As it is now, it would turn the journey back ${turned}.`),
     next === plan.steps.length && h('p', { class: 'warn' },
       'This is the last step. Once it has its places, the journey has ended, and cannot be cancelled any more.'));
 }
@@ -1799,7 +1799,7 @@ function pathPicture(one, plan, way) {
     if (step.letter === 'S') kids.push(s('path', { class: 'flag', d: `M${mid - 2} ${y0}v-17l11 4.5l-11 4.5` }));
     text(mid, y(0) + 34, step.item, { 'text-anchor': 'middle', class: 'code' });
     const words = {
-      T: step.want && step.want.product, C: 'given back', S: 'saved', B: { r: 'no place', s: 'restart', a: 'asked' }[step.b],
+      T: step.want?.product, C: 'given back', S: 'saved', B: { r: 'no place', s: 'restart', a: 'asked' }[step.b],
     }[step.letter] || '';
     // longer words are set as narrow as the column is
     const isLong = words.length * (step.letter === 'T' ? 8.4 : 6.4) > wide - 4;
@@ -1844,7 +1844,7 @@ function route(isMoved) {
   for (const link of $('nav').children) link.ariaCurrent = link.dataset.for.split(' ').includes(view) ? 'page' : null;
   draw();
   if (view === 'who') drawWho();
-  if (isMoved && before !== view + number) { $(STARTS[view]).focus({ preventScroll: true }); $('main').scrollTop = $(STARTS[view]).closest('section').scrollTop = 0; look(); }
+  if (isMoved && before !== view + number) { $(STARTS[view]).focus({ preventScroll: true }); $(STARTS[view]).closest('section').scrollTop = 0; look(); }
 }
 function draw() {
   drawState();
@@ -1852,6 +1852,8 @@ function draw() {
   drawBar();
   drawList();
   drawOne();
+  $('sheet').textContent = `Agent ${agent}, ${new Date().toLocaleDateString('en-GB', { dateStyle: 'long' })}`
+    + (view === 'stock' && filter.month ? `: ${monthText(filter.month)}` : '');
   $('steps-in-plan').textContent = draft.steps.length ? ` (${draft.steps.length})` : '';
 }
 
