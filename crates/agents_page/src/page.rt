@@ -2,7 +2,7 @@
 
 /// What the page may load and do: its own style and script, and requests to the desk that served it.
 pub const POLICY: &str =
-    r#"default-src 'none'; script-src 'sha256-F/gxXy/mfWmmxX+U+0Dx/5yfB3U4tit8TecgXAdnuD8='; style-src 'sha256-xq06gEqact7JtCgqt1wf+yApFl5HFGEblhA5XZg0urY='; connect-src 'self'; frame-ancestors 'none'; base-uri 'none'; form-action 'none'"#;
+    r#"default-src 'none'; script-src 'sha256-FXLgC/H8c2qaz+p4pb6SmPD9EJx0EaPGmDS35EQU2BE='; style-src 'sha256-VaT9aXyUTPNlmCHucGRWh1t6nHAGW5iN/NXZESOo7OE='; connect-src 'self'; frame-ancestors 'none'; base-uri 'none'; form-action 'none'"#;
 
 /// The page, in HTML.
 pub const PAGE: &str = r##"<!doctype html>
@@ -284,7 +284,10 @@ dialog .row { justify-content: flex-end; margin-top: 12px; }
   .tools select, .tools input { font-size: 14px; padding: 2px 4px; }
   #h-stock { position: absolute; clip-path: inset(50%); }
 }
-@media print, (max-height: 479px) { body, .desk { display: block; height: auto; } }
+@media print, (max-height: 479px) {
+  body { display: block; }
+  body, .desk { height: auto; grid-template-rows: auto; }
+}
 @media print {
   :root { --ground: #fff; color-scheme: light; print-color-adjust: exact; }
   header, #away, #bar, #notes, .acts, .tools, .begin, button:not(.night), input, .options label, #plan > label, .hint label, .save:not(.on) {
@@ -469,8 +472,7 @@ const wholeField = (word, f, low, high, value, set, props) => h('label', {}, wor
     set(+target.value);
   },
 }));
-const kindOf = w => h('span', { class: 'kind ' + w.kind }, w.kind);
-const product = w => [kindOf(w), ` ${w.supplier} ${w.product}`];
+const product = w => [h('span', { class: 'kind ' + w.kind }, w.kind), ` ${w.supplier} ${w.product}`];
 
 // nothing is drawn anew between the press of a button and its release, which has to find it, nor while a field tells its change and the
 // focus is on its way. A press that is never released holds nothing back for long
@@ -631,7 +633,7 @@ async function look() {
   clearTimeout(timer);
   if (document.hidden || !agent) return;
   looking = true;
-  const mine = turn, whose = agent;
+  const mine = turn, whose = agent, id = number;
   let met = 'here', bad = '', now = '';
   for (const [name, part] of Object.entries({
     health: async () => {
@@ -640,9 +642,9 @@ async function look() {
       try { now = JSON.stringify(await ask('/health', page => page.events >= 0)); } catch (why) { if (why.why !== 'barred') throw why; }
     },
     stock: (view !== 'list' || stockText === null) && lookAtStock, own: lookAtOwn,
-    [`one ${number}`]: view === 'journey' && (() => lookAtOne(number, mine)),
+    [`one ${id}`]: view === 'journey' && (() => lookAtOne(id, mine)),
   })) {
-    if (!part || mine !== turn || (now && read.get(name) === now && !settling.has(number))) continue;
+    if (!part || mine !== turn || (now && read.get(name) === now && !settling.has(id))) continue;
     try { await part(mine); if (mine === turn) read.set(name, now); } catch (caught) {
       let why = caught;
       try { if (await isAnother(why, whose)) break; } catch (failed) { why = failed; }
@@ -654,7 +656,7 @@ async function look() {
     }
   }
   isReached(met);
-  wasAway = met !== 'here';
+  wasAway = met === 'away';
   if (wasAway) read.clear();
   if (bad) say('bad', bad, 'look'); else end('look');
   looking = false;
@@ -694,7 +696,7 @@ async function lookAtOwn(mine) {
   const now = new Set(open.map(one => one.journey));
   if (mine !== turn) return;
   const most = Math.max(0, ...own.keys());
-  if (open.some(one => one.journey <= most && !isOpen(own.get(one.journey) || { state: '' }))) return lookAnew(mine);
+  if (open.some(one => one.journey <= most && !isOpen(own.get(one.journey) || {}))) return lookAnew(mine);
   const before = [...own.values()].filter(isOpen), gone = before.map(one => one.journey).filter(id => !now.has(id));
   for (const one of open) own.set(one.journey, one);
   // once the desk is reached again, and all that were open are over, the desk was started anew
@@ -737,7 +739,7 @@ async function readMine(after, into, mine) {
 
 // take(.., isAnew): with `isAnew`, the desk was started anew since this journey was read
 function take(id, { history, ...where }, isAnew) {
-  const was = own.get(id), known = Object(histories.get(id)).history;
+  const was = own.get(id), known = histories.get(id)?.history;
   // it was moved elsewhere
   if (known && known.join() !== history.join() && !settling.has(id)) end(id);
   if (was && isOpen(was) && !isOpen(where)) tellRestart(id, history, where, known, isAnew);
@@ -1510,10 +1512,10 @@ function stateText(one) {
 }
 const stateMark = one => h('span', { class: 'is ' + one.state }, stateText(one));
 // isRead(one): whether what is known of its history is new; at its start it holds nothing anyway
-const isRead = one => !one.pos || JSON.stringify((histories.get(one.journey) || {}).where) === JSON.stringify(one);
+const isRead = one => !one.pos || JSON.stringify(histories.get(one.journey)?.where) === JSON.stringify(one);
 // saidOf(one): what a journey holds, by which it is found, and what else is said of it, once that is known
 function saidOf(one) {
-  const plan = plans.get(one.journey), { history } = one.pos ? histories.get(one.journey) || {} : { history: [] };
+  const plan = plans.get(one.journey), history = one.pos ? histories.get(one.journey)?.history : [];
   if (!plan || !history) return null;
   const { stands, pos, used } = walk(history, plan), named = wants => wants.length
     ? `${short(wants[0].first)} · ${wants.map(want => `${want.kind} ${want.product}`).join(', ')}` : 'nothing';
