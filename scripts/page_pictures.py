@@ -121,6 +121,7 @@ def take(camera, network):
     for name, day in (("from", "2030-06-10"), ("to", "2030-06-13")):
         browser.script(GIVE, browser.one(f'[data-f="filter.{name}"]'), day)
     browser.shows("2 places free from Mon 10 June 2030 to Thu 13 June 2030", "#cals")
+    browser.script("document.activeElement.blur()")
     camera.keeps("table", 1366, 480)
     browser.script(GIVE, browser.one('[data-f="filter.from"]'), "")
     browser.types('[data-f="filter.places"]', Keys.CONTROL + "a" + Keys.NULL, "1", Keys.TAB)
@@ -132,6 +133,7 @@ def take(camera, network):
     browser.script("document.querySelector('#line').value = arguments[0]; document.querySelector('#line').dispatchEvent(new Event('change'))",
                    "F/AL/OSLO1/2030-06-10/1/2*;R/FJORD/SUITE/2030-06-10/3/2|R/FJORD/DBL/2030-06-10/3/2;T/BUS/PIER/2030-06-11/1/2!1")
     wait_until(lambda: len(browser.all(".step")) == 3, "three steps")
+    browser.script("document.querySelector('#cals').scrollTo(0, 0)")
     camera.keeps("plan", 1280, 1030)
     camera.opens("#/journeys", "all (10)")
     time.sleep(1)
@@ -150,6 +152,7 @@ def take(camera, network):
     browser.scheme("dark")
     camera.keeps("dark", 1280, 900)
     camera.opens("#/stock", "FJORD DBL", "#cals")
+    browser.script("document.querySelector('#cals').scrollTo(0, 0)")
     camera.keeps("narrow", 360, 720)
     browser.scheme("light")
     camera.opens(f"#/journeys/{agency.path}", "C3.1")

@@ -2,7 +2,7 @@
 
 /// What the page may load and do: its own style and script, and requests to the desk that served it.
 pub const POLICY: &str =
-    r#"default-src 'none'; script-src 'sha256-FXLgC/H8c2qaz+p4pb6SmPD9EJx0EaPGmDS35EQU2BE='; style-src 'sha256-VaT9aXyUTPNlmCHucGRWh1t6nHAGW5iN/NXZESOo7OE='; connect-src 'self'; frame-ancestors 'none'; base-uri 'none'; form-action 'none'"#;
+    r#"default-src 'none'; script-src 'sha256-rBd7lIiXZ0E8wr9BoXJWMUEKBJ+OMgFL02GuF7lFyU0='; style-src 'sha256-VaT9aXyUTPNlmCHucGRWh1t6nHAGW5iN/NXZESOo7OE='; connect-src 'self'; frame-ancestors 'none'; base-uri 'none'; form-action 'none'"#;
 
 /// The page, in HTML.
 pub const PAGE: &str = r##"<!doctype html>
@@ -1155,8 +1155,9 @@ function drawFilters() {
         months.map(month => h('option', { value: month, selected: month === filter.month }, monthText(month))))),
       move(1, 'Month after', '›')),
     NAMES.map(pick),
-    wholeField('Free places', 'filter.places', 1, 50, filter.places, places => setFilter({ places })), day('From', 'from'), day('To', 'to'),
-    field('Table', 'table', 'input', { type: 'checkbox', checked: filter.table, onchange: set('table') })));
+    field('Table', 'table', 'input', { type: 'checkbox', checked: filter.table, onchange: set('table') }),
+    h('div', { class: 'row' }, wholeField('Free places', 'filter.places', 1, 50, filter.places, places => setFilter({ places })),
+      day('From', 'from'), day('To', 'to'))));
 }
 
 // settleFilter(): the filter names what there is
@@ -1684,7 +1685,7 @@ function drawOne() {
 function drawNone() {
   if (isDrawn($('one'), 'none')) return;
   $('h-one').textContent = 'One journey';
-  paint($('one'), h('p', { class: 'soft' }, 'Choose a journey from the list: here are then its path, its plan and what may be done.'));
+  paint($('one'), h('p', { class: 'soft' }, 'Choose a journey from the list: its path, its plan and what may be done now are shown here.'));
 }
 async function useAgain(plan) {
   const text = `The ${count(draft.steps.length, 'step')} that you have put together will be dropped.`;
