@@ -101,6 +101,8 @@ SPOILED = (
     ("a sheet that ends with the window", "  main, .desk > section, .cals, .path { overflow: visible !important; max-height: none; }\n", "",
      page_views.printed, "what is cut"),
     ("a sheet without its month", "view === 'stock' && filter.month ?", "view === 'sheet' ?", page_views.printed, "agent, date and month"),
+    ("a refusal that goes by itself", "  if (isOwn && request.seen !== undefined) settling.set(request.about, request.key);\n", "",
+     page_scenes.refused_by_the_desk, "it is still told"),
     ("a new key each time", "'Desk-Key': key", "'Desk-Key': newKey()", one_row("lose", "nothing"),
      "one key and one body"),
     ("a request that is not kept", "if (!keep(local, 'post.' + request.key, request)) {",

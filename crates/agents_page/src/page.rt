@@ -2,7 +2,7 @@
 
 /// What the page may load and do: its own style and script, and requests to the desk that served it.
 pub const POLICY: &str =
-    r#"default-src 'none'; script-src 'sha256-rBd7lIiXZ0E8wr9BoXJWMUEKBJ+OMgFL02GuF7lFyU0='; style-src 'sha256-VaT9aXyUTPNlmCHucGRWh1t6nHAGW5iN/NXZESOo7OE='; connect-src 'self'; frame-ancestors 'none'; base-uri 'none'; form-action 'none'"#;
+    r#"default-src 'none'; script-src 'sha256-F/A/iVYjD6YdxbO+bPKqtz+sOu6kMOB40PzAg29ARQ0='; style-src 'sha256-VaT9aXyUTPNlmCHucGRWh1t6nHAGW5iN/NXZESOo7OE='; connect-src 'self'; frame-ancestors 'none'; base-uri 'none'; form-action 'none'"#;
 
 /// The page, in HTML.
 pub const PAGE: &str = r##"<!doctype html>
@@ -905,9 +905,9 @@ async function pageOf(request) {
 // hear(request, page, isTold): what the desk answered; with `isTold`, what became of it is told
 function hear(request, page, isTold) {
   const isOwn = request.agent === agent, whose = isOwn ? '' : ` (for ${request.agent})`;
-  if (isTold) settling.set(request.about, request.key);
-  else if (!page) {
-    if (isOwn) settling.set(request.about, request.key);
+  if (isOwn && request.seen !== undefined) settling.set(request.about, request.key);
+  if (isTold) { draw(); look(); return; }
+  if (!page) {
     say('warn', `${request.what}${whose}: not done, since journey ${request.about} has moved since it was shown.`, request.about);
   } else if (page.refused) {
     if (isOwn && request.about === 'new' && page.step) badStep = page.step;
@@ -920,7 +920,6 @@ function hear(request, page, isTold) {
       if (request.tab === tab && (view === 'plan' || view === 'stock')) location.hash = '#/journeys/' + page.journey;
     }
   } else {
-    if (isOwn) settling.set(page.journey, request.key);
     const plan = plans.get(page.journey), { word, text } = itemSaid(page, isOwn ? plan : null);
     say(word, `Journey ${page.journey}${whose}: ${text}`, page.journey);
     if (request.all && page.state !== 'ended') goOn(request, page, text);
