@@ -164,7 +164,7 @@ SPOILED = (
     ("a focus that is not seen", ":focus-visible { outline: 3px solid var(--accent);",
      ":focus-visible { outline: 0 solid var(--accent);", page_rules.focus_order, "one sees that the focus is at"),
     ("own journeys end with a page", "if (page.length < PAGE) return true;", "return true;", page_rules.large,
-     "'all (1000)' in #list"),
+     "'My journeys (100)'"),
     ("an answer that an older question gets", "if (!box.open) then(is);", "then(is);", page_scenes.asked_twice, "the item"),
     ("a login page that is taken for a stock", "get('/stock', isStock)", "get('/stock', () => true)", signed_out_by(1),
      "a login page: the stock"),

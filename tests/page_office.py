@@ -11,12 +11,13 @@ from page_scenes import FLIGHT, TRANSFER, comes, plan, same
 
 LINE = "F/AL/A1/2030-06-01/1/1*;T/BUS/X/2030-06-01/1/1!0"
 QUESTION = ("WWW-Authenticate", 'Basic realm="desk"')
-# what stands between a login service and the page; a redirect to elsewhere, and one to the same origin
+# what stands between a login service and the page; a redirect to elsewhere, and one to the same origin. The last word: whether it lets
+# everybody see how much the desk has
 SIGNED_OUT = (
-    ("401 without a question", lambda: html_page(401)), ("a login page", lambda: html_page(200)),
-    ("a redirect to a login service", lambda: html_page(302, fields=[("Location", "http://login.invalid/")])),
-    ("a redirect to a login page", lambda: html_page(303, fields=[("Location", "/login")])),
-    ("a login in JSON", lambda: html_page(200, '{"login":"/login"}', [("Content-Type", "application/json")])),
+    ("401 without a question", lambda: html_page(401), False), ("a login page", lambda: html_page(200), True),
+    ("a redirect to a login service", lambda: html_page(302, fields=[("Location", "http://login.invalid/")]), False),
+    ("a redirect to a login page", lambda: html_page(303, fields=[("Location", "/login")]), False),
+    ("a login in JSON", lambda: html_page(200, '{"login":"/login"}', [("Content-Type", "application/json")]), True),
 )
 
 
@@ -54,9 +55,13 @@ def from_a_look_on(page):
 def signed_out(scene, rows=SIGNED_OUT):
     """Who is signed out is told so. Nothing is sent until the page is loaded again, and then what was pressed takes effect once."""
     browser, network = scene.browser, scene.network
-    for n, (what, page) in enumerate(rows, 1):
+    for n, (what, page, is_open) in enumerate(rows, 1):
         types_plan(scene)
-        network.front = from_a_look_on(page)
+        if is_open:
+            network.front = lambda request, page=page: None if request.where.path == "/health" else page()
+            scene.begins(agent="bob", key=f"news-{n}")
+        else:
+            network.front = from_a_look_on(page)
         browser.shows("You are signed out", "#away")
         browser.shows("Signed out", "#state")
         browser.press("Begin the journey")
@@ -71,7 +76,7 @@ def signed_out(scene, rows=SIGNED_OUT):
         browser.press("Sign in again")
         comes(f"{what}: nothing is left to be sent", 0, scene.kept)
         mine = scene.desk.ask("GET", "/mine")[1]["mine"]
-        same(f"{what}: the journeys", list(range(1, n + 1)), [one["journey"] for one in mine])
+        same(f"{what}: the journeys", n, len(mine))
         browser.shows("Up to date", "#state")
 
 
