@@ -21,16 +21,38 @@ HERE = os.path.dirname(os.path.abspath(__file__))
 LINE = "F/AL/A1/2030-06-01/1/1*;T/BUS/X/2030-06-01/1/1!0"
 # a line of HAProxy's user list, and one of nginx's file
 USER = {"haproxy": "  user {0} password {1}\n", "nginx": "{0}:{1}\n"}
+NO_AGENT = '{"name":"NoAgent","refused":2}'
 TRUSTING = ssl.create_default_context()
 TRUSTING.check_hostname, TRUSTING.verify_mode = False, ssl.CERT_NONE
 
 
+def printed():
+    """The page with the recipes."""
+    with open(os.path.join(os.path.dirname(HERE), "docs", "OPERATING.md"), encoding="utf-8") as page:
+        return page.read()
+
+
 def recipe(proxy):
     """The recipe of a proxy, as it is printed."""
-    with open(os.path.join(os.path.dirname(HERE), "docs", "OPERATING.md"), encoding="utf-8") as page:
-        blocks = re.findall(r"^```text\n(.*?)^```$", page.read(), re.MULTILINE | re.DOTALL)
+    blocks = re.findall(r"^```text\n(.*?)^```$", printed(), re.MULTILINE | re.DOTALL)
     marks = {"haproxy": "userlist agents", "nginx": "auth_basic_user_file"}
     return next(block for block in blocks if marks[proxy] in block)
+
+
+def quoted(begin):
+    """What the page has in backticks that begins so."""
+    return re.search(f"`({re.escape(begin)}[^`]*)`", printed())[1]
+
+
+def with_names(proxy, folder):
+    """The recipe of a proxy that maps the names of users to agents, as it is printed; for HAProxy in a file of the folder."""
+    if proxy == "haproxy":
+        with open(f"{folder}/agents", "w", encoding="utf-8") as file:
+            file.write(quoted("ann.miller@") + "\n")
+        old, new = "set-header Desk-Agent %[http_auth_user]", quoted("set-header Desk-Agent %[http_auth_user,")
+        return recipe(proxy).replace(old, new)
+    old, new = "proxy_set_header Desk-Agent $remote_user", quoted("proxy_set_header Desk-Agent $agent")
+    return quoted("map $remote_user") + "\n" + recipe(proxy).replace(old, new)
 
 
 def hash_of(password):
@@ -43,13 +65,14 @@ class Proxy:
 
     def __init__(self, folder, name, desk_port):
         self.folder, self.name, self.desk_port, self.port, self.process = folder, name, desk_port, free_port(), None
+        self.text = recipe(name)
         self.passwords({"ann": "secret-a", "bob": "secret-b"})
         self.start()
 
     def passwords(self, of):
         """Who may come in from now on; HAProxy has to be started again for it."""
         users = "".join(USER[self.name].format(user, hash_of(password)) for user, password in of.items())
-        text = recipe(self.name).replace("127.0.0.1:8080", f"127.0.0.1:{self.desk_port}")
+        text = self.text.replace("127.0.0.1:8080", f"127.0.0.1:{self.desk_port}")
         if self.name == "haproxy":
             text = re.sub(r"(  user \S+ password \S+\n)+", lambda _: users, text)
             text = text.replace("bind :443", f"bind 127.0.0.1:{self.port}").replace("/etc/haproxy", self.folder)
@@ -91,6 +114,14 @@ class Proxy:
         self.process.wait()
 
 
+def maps_names(proxy):
+    """The names of users are no agents."""
+    proxy.text = with_names(proxy.name, proxy.folder)
+    proxy.changes({"ann.miller@office.example": "secret-a", "bob": "secret-b"})
+    same("a user who is mapped", (200, '{"agent":"ann"}'), proxy.ask("/agent", "ann.miller@office.example", "secret-a"))
+    same("one who is not", (400, NO_AGENT), proxy.ask("/agent", "bob", "secret-b", **{"Desk-Agent": "bob"}))
+
+
 def comes_in(browser, proxy, user, password):
     """Opens the page with a name and a password in its address: it takes the agent whom the proxy names."""
     # an address that differs behind its # alone would not be loaded
@@ -117,6 +148,9 @@ def in_office(proxy, desk, ann, bob):
     same("the page needs one", 401, proxy.ask("/")[0])
     same("a wrong one", 401, proxy.ask("/mine", "ann", "secret-b")[0])
     same("nobody acts for another", (200, '{"mine":[]}'), proxy.ask("/mine", "ann", "secret-a", **{"Desk-Agent": "bob"}))
+    same("who asks", (200, '{"agent":"ann"}'), proxy.ask("/agent", "ann", "secret-a", **{"Desk-Agent": "bob"}))
+    same("meant for who asks", (200, '{"mine":[]}'), proxy.ask("/mine", "ann", "secret-a", **{"Desk-For": "ann"}))
+    same("meant for another", (400, NO_AGENT), proxy.ask("/mine", "ann", "secret-a", **{"Desk-Agent": "bob", "Desk-For": "bob"}))
     comes_in(ann, proxy, "ann", "secret-a")
     comes_in(bob, proxy, "bob", "secret-b")
     begins(ann)
@@ -158,6 +192,7 @@ def run(folder, name):
         for agent in ("ann", "bob"):
             browsers.append(Browser(f"{folder}/{name}-{agent}", words=["--ignore-certificate-errors"]))
         in_office(proxy, desk, *browsers)
+        maps_names(proxy)
         return ""
     except AssertionError as wrong:
         return f"{name}: {wrong}"

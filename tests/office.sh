@@ -1,7 +1,7 @@
 #!/usr/bin/env bash
 # The two recipes of OPERATING.md for an office, as printed but for ports, files and passwords: HAProxy and nginx with TLS and
 # passwords before a desk with its page, and headless Chromium before them. Two agents book at once, the desk is killed and started
-# again, and a password is changed. A proxy that is absent is left out.
+# again, a password is changed, and names are mapped to agents. A proxy that is absent is left out.
 . "$(dirname "${BASH_SOURCE[0]}")/helping.bash"
 . "$(dirname "$tests")/scripts/needs.bash"
 

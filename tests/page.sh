@@ -28,7 +28,7 @@ unknown='{"name":"UnknownPath","refused":7}'
 policy="default-src 'none'; script-src $(allowed script); style-src $(allowed style); connect-src 'self'"
 policy="$policy; frame-ancestors 'none'; base-uri 'none'; form-action 'none'"
 
-serves 19 --page || { echo "page.sh: no desk" >&2; exit 1; }
+serves 23 --page || { echo "page.sh: no desk" >&2; exit 1; }
 desk_at=http://127.0.0.1:$port
 page "the page" 200 "$(cat "$shown")" -D head "$desk_at/"
 cmp -s got "$shown" || same "the bytes of the page" "those of web/desk.html" "others"
@@ -51,6 +51,10 @@ page "a page of another origin asks first" 405 '{"name":"WrongMethod","refused":
 same "what it is allowed" "" "$(tr -d '\r' <head | grep -i '^access-control')"
 page "how much a new desk has" 200 '{"events":0,"journeys":0,"unfinished":0}' "$desk_at/health"
 page "the same, asked by an agent" 200 '{"events":0,"journeys":0,"unfinished":0}' -H 'Desk-Agent: ann' "$desk_at/health"
+page "who asks" 200 '{"agent":"ann"}' -H 'Desk-Agent: ann' "$desk_at/agent"
+page "nobody asks" 400 '{"name":"NoAgent","refused":2}' "$desk_at/agent"
+page "meant for who asks" 200 '{"mine":[]}' -H 'Desk-Agent: ann' -H 'Desk-For: ann' "$desk_at/mine"
+page "meant for another" 400 '{"name":"NoAgent","refused":2}' -H 'Desk-Agent: ann' -H 'Desk-For: bob' "$desk_at/mine"
 page "no own journeys" 200 '{"mine":[]}' -H 'Desk-Agent: ann' "$desk_at/mine"
 page "nobody's" 400 '{"name":"NoAgent","refused":2}' "$desk_at/mine"
 ends_well "with a page"
@@ -58,7 +62,7 @@ ends_well "with a page"
 # the house has begun journey 1, which an opening undoes; ann begins journey 2, and the house journey 3
 answers "the house" 'begin F/AL/A1/2030-06-01/1/1!0\n' 'journey 1 begun'
 plan='{"steps":[{"options":[{"count":1,"first":"2030-06-01","kind":"flight","nights":1,"product":"A1","supplier":"AL"}],"save":false}],"tries":0}'
-serves 14 --page --house "$work/desk.sock" || exit 1
+serves 16 --page --house "$work/desk.sock" || exit 1
 desk_at=http://127.0.0.1:$port
 at_house=(--unix-socket "$work/desk.sock")
 page "a begin by ann" 200 '{"journey":2}' -H 'Desk-Agent: ann' -H 'Desk-Key: k1' --data-binary "$plan" "$desk_at/journeys"
@@ -72,6 +76,8 @@ page "the house's journeys, the undone one too" 200 \
 page "those above the first" 200 '{"mine":[{"agent":"desk","journey":3,"pos":0,"state":"run"}]}' "${at_house[@]}" http://desk/mine/1
 page "how much there is" 200 '{"events":4,"journeys":3,"unfinished":2}' "$desk_at/health"
 page "the same at the house's door" 200 '{"events":4,"journeys":3,"unfinished":2}' "${at_house[@]}" http://desk/health
+page "who asks at the house's door" 200 '{"agent":"desk"}' "${at_house[@]}" http://desk/agent
+page "meant for an agent at the house's door" 400 '{"name":"NoAgent","refused":2}' "${at_house[@]}" -H 'Desk-For: desk' http://desk/mine
 page "the page at the house's door" 404 "$unknown" "${at_house[@]}" http://desk/
 page "the page again" 200 "$(cat "$shown")" "$desk_at/"
 page "another host" 400 "$bad_head" -H 'Host: desk' "$desk_at/health"

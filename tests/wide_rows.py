@@ -65,6 +65,7 @@ STEPPED = page(b"200 OK", b'{"item":"B0r","journey":1,"pos":0,"state":"undone"}'
 SHOWN = page(b"200 OK", b'{"history":["B0r"],"journey":1,"pos":0,"state":"undone"}')
 UNFINISHED = page(b"200 OK", b'{"unfinished":[]}')
 STOCK = report(b"kind     supplier product  night       allot   held   free\ncells 0\n")
+OF_ANN = page(b"200 OK", b'{"agent":"ann"}')
 NO_AGENT = page(b"400 Bad Request", b'{"name":"NoAgent","refused":2}')
 NO_KEY = page(b"400 Bad Request", b'{"name":"NoKey","refused":3}')
 BAD_BODY = page(b"400 Bad Request", b'{"name":"BadBody","refused":4}')
@@ -195,6 +196,14 @@ ONE = {
     "Expect without a body": (request(b"GET /unfinished HTTP/1.1", HOST, BOB, EXPECT), UNFINISHED),
     "Expect in HTTP/1.0": (request(b"POST /journeys HTTP/1.0", HOST, ANN, K1, SIZE, EXPECT, body=PLAN), closing(BEGUN), PLAIN_BAD_HEAD),
     "Expect with an empty body": (request(STEP, HOST, ANN, EXPECT, S1, b"Content-Length: 0"), STEPPED),
+    # who asks, and for whom a request is meant
+    "who asks": (request(b"GET /agent HTTP/1.1", HOST, ANN), OF_ANN),
+    "HEAD of who asks": (request(b"HEAD /agent HTTP/1.1", HOST, ANN), head_of(OF_ANN), head_of(NOT_POST_PLAINLY)),
+    "meant for who asks": (request(BEGIN, HOST, ANN, b"desk-for:ann", K1, SIZE, body=PLAN), BEGUN),
+    "meant for another": (request(BEGIN, HOST, BOB, b"Desk-For: ann", K1, SIZE, body=PLAN), NO_AGENT),
+    "meant for another, in chunks": (request(BEGIN, b"Desk-For: ann", HOST, BOB, K1, CHUNKED, body=chunks(PLAN)), NO_AGENT,
+                                     PLAIN_BAD_HEAD),
+    "meant twice": (request(STEP, HOST, ANN, b"Desk-For: ann", b"Desk-For: ann", S1, b"Content-Length: 0"), NO_AGENT),
     # as before
     "no agent": (request(b"GET /unfinished HTTP/1.1", HOST), NO_AGENT),
     "no key": (request(STEP, HOST, ANN, b"Content-Length: 0"), NO_KEY),

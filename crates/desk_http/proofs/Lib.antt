@@ -5,4 +5,5 @@ pub mod AnswerLemmas
 pub mod ServeLemmas
 pub mod AgainLemmas
 pub mod AskLemmas
+pub mod MeantLemmas
 pub mod WorldLemmas

@@ -23,7 +23,7 @@ use Rattle.http_pages.specs.declared.routes.Denied.{Denied}
 use Rattle.http_pages.specs.declared.answers.HtmlPage.{HtmlPage}
 use Rattle.http_pages.specs.declared.routes.Verb.TheVariants.{Get}
 use Rattle.http_pages.specs.declared.routes.Route.{Route}
-use Rattle.http_pages.specs.declared.routes.Route.TheVariants.{LoadBatch, Begin, Step, Abort, Save, ShowJourney, ShowPlan, ShowUnfinished, ShowStock, ShowMine, ShowHealth}
+use Rattle.http_pages.specs.declared.routes.Route.TheVariants.{LoadBatch, Begin, Step, Abort, Save, ShowJourney, ShowPlan, ShowUnfinished, ShowStock, ShowMine, ShowHealth, ShowAgent}
 use Rattle.saga_core.specs.Runs as runs
 use Rattle.saga_core.specs.Runs.{Asks}
 use Rattle.saga_core.specs.Worlds.{KeepLimits, StandsAtEnd, EndsAmong}
@@ -95,6 +95,7 @@ demanded_within ShowUnfinished sender c = λ same. cc
 demanded_within ShowStock sender c = λ same. cc
 demanded_within (ShowMine after) sender c = λ same. cc
 demanded_within ShowHealth sender c = λ same. cc
+demanded_within ShowAgent sender c = λ same. cc
 
 -- a request without an agent makes no command
 nobody_within : (route : Route) (c : Command) → asked_by_nobody route ≡ Ok (Carry c.0 c.1) → IsTrue (is_request c.0)
@@ -109,6 +110,7 @@ nobody_within (ShowPlan id) c = λ same. cc
 nobody_within ShowUnfinished c = λ same. cc
 nobody_within ShowStock c = λ same. cc
 nobody_within (ShowMine after) c = λ same. cc
+nobody_within ShowAgent c = λ same. cc
 
 -- those of agents
 asked_within : (found : Result Route Denied) (parts : Parts) (body : List ℕ) (c : Command)

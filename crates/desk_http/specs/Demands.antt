@@ -22,7 +22,7 @@ use Rattle.http_pages.specs.Routes.{route_of}
 use Rattle.http_pages.specs.declared.routes.Denied.{Denied}
 use Rattle.http_pages.specs.declared.answers.HtmlPage.{HtmlPage}
 use Rattle.http_pages.specs.declared.routes.Route.{Route}
-use Rattle.http_pages.specs.declared.routes.Route.TheVariants.{LoadBatch, Begin, Step, Abort, Save, ShowJourney, ShowPlan, ShowUnfinished, ShowStock, ShowMine, ShowHealth}
+use Rattle.http_pages.specs.declared.routes.Route.TheVariants.{LoadBatch, Begin, Step, Abort, Save, ShowJourney, ShowPlan, ShowUnfinished, ShowStock, ShowMine, ShowHealth, ShowAgent}
 use Rattle.http_pages.specs.declared.routes.Verb.TheVariants.{Get}
 use Rattle.desk_http.specs.declared.doors.Asker.{Asker}
 use Rattle.desk_http.specs.declared.doors.Asker.TheVariants as who
@@ -68,6 +68,7 @@ pub data Demand : Type 0 where
   SeeMine : (asker : Asker) (after : ℕ) → Demand
   SeeStock : Demand
   SeeHealth : Demand
+  SeeAgent : (asker : Asker) → Demand
   SeePage : (page : HtmlPage) → Demand
   Stop : Demand
 
@@ -107,6 +108,7 @@ demanded ShowUnfinished sender = Ok (SeeUnfinished sender.asker)
 demanded ShowStock sender = Ok SeeStock
 demanded (ShowMine after) sender = Ok (SeeMine sender.asker after)
 demanded ShowHealth sender = Ok SeeHealth
+demanded ShowAgent sender = Ok (SeeAgent sender.asker)
 
 -- a refusal that does not depend on the method
 abbrev pub denied_by : {X : Type 0} → Result X Refusal → Result X Denied

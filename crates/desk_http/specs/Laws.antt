@@ -1,12 +1,12 @@
--- Idempotence of a message that made an event, and how long the text of an ask is.
-use Rattle.std.specs.Prelude.{◌≡◌, ◌≤◌, ◌+◌, ℕ, List, length, Some, is_some, IsTrue}
+-- Idempotence of a message that made an event, how long the text of an ask is, and for whom a command is carried out.
+use Rattle.std.specs.Prelude.{◌≡◌, ⊤, ◌≤◌, ◌+◌, ℕ, List, [], ◌∷◌, length, Option, None, Some, is_some, IsTrue}
 use Rattle.commands.specs.Asks.{Asked}
 use Rattle.commands.specs.Limits.{most_bytes}
 use Rattle.commands.specs.Request.{Request}
 use Rattle.ledger.specs.Answer.{State, outcome}
 use Rattle.ledger.specs.World.{Moment, after}
-use Rattle.http_messages.specs.Heads.{most_head_bytes}
-use Rattle.http_messages.specs.Messages.{Message, BeginsWith}
+use Rattle.http_messages.specs.Heads.{meant_agents, most_head_bytes, parts_of}
+use Rattle.http_messages.specs.Messages.{Message, NoHead, Asks, BeginsWith}
 use Rattle.desk_http.specs.Pages.{IsPage, command_in, state_after}
 use Rattle.desk_http.specs.declared.doors.Door.{Door}
 
@@ -42,3 +42,20 @@ HasShortAsk door m =
 -- so it is of each message of a stream, at each door
 abbrev pub AsksAreShort : Type 0
 AsksAreShort = (door : Door) (stream rest : List ℕ) (m : Message) → BeginsWith stream m rest → HasShortAsk door m
+
+-- of these who are meant, there is none, or the agent of this ask alone
+abbrev pub MeansAsk : List (List ℕ) → Option Asked → Type 0
+MeansAsk [] ask = ⊤
+MeansAsk (agent ∷ later) None = ⊥
+MeansAsk (agent ∷ later) (Some ask) = (agent ≡ ask.agent) × (later ≡ [])
+
+-- a command that the message makes is that of the agent for whom the message is meant, if it is meant for any
+abbrev pub IsForWhomIsMeant : Door → Message → Type 0
+IsForWhomIsMeant door NoHead = ⊤
+IsForWhomIsMeant door (Asks h body) =
+    (asked : Request) (ask : Option Asked) → command_in door (Asks h body) ≡ Some (asked, ask)
+    → MeansAsk (meant_agents (parts_of h)) ask
+
+-- so it is of each message, at each door
+abbrev pub CommandsAreForWhomIsMeant : Type 0
+CommandsAreForWhomIsMeant = (door : Door) (m : Message) → IsForWhomIsMeant door m

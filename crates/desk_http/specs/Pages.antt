@@ -14,14 +14,14 @@ use Rattle.saga_core.specs.declared.records.Brief.{Brief}
 use Rattle.saga_core.specs.declared.records.Record.{Record}
 use Rattle.http_messages.specs.Heads.{Parts, asks_to_close, is_method, is_unnamed, parts_of}
 use Rattle.http_messages.specs.Messages.{Message, NoHead, Asks}
-use Rattle.http_pages.specs.Bodies.{health_data, journey_data, mine_data, stopping_data, unfinished_data}
+use Rattle.http_pages.specs.Bodies.{agent_data, health_data, journey_data, mine_data, stopping_data, unfinished_data}
 use Rattle.http_pages.specs.declared.bodies.Owners.TheVariants.{Hidden, Shown}
 use Rattle.serde_json.specs.Data.{Data}
 use Rattle.plan.specs.PlanData.{plan_data}
 use Rattle.http_pages.specs.Pages.{Paged, browsed_page, denied_page, page_text, refused_page, reply_page, report_page, value_page}
 use Rattle.http_pages.specs.declared.routes.Denied.{Denied}
 use Rattle.reports.specs.Layouts.{stock_report}
-use Rattle.desk_http.specs.Demands.{Demand, Carry, SeeJourney, SeePlan, SeeUnfinished, SeeMine, SeeStock, SeeHealth, SeePage, Stop, asks_to_stop, demand_of}
+use Rattle.desk_http.specs.Demands.{Demand, Carry, SeeJourney, SeePlan, SeeUnfinished, SeeMine, SeeStock, SeeHealth, SeeAgent, SeePage, Stop, asks_to_stop, demand_of}
 use Rattle.desk_http.specs.Hosts.{refusal_at}
 use Rattle.desk_http.specs.declared.doors.Asker.{Asker}
 use Rattle.desk_http.specs.declared.doors.Asker.TheVariants as who
@@ -97,6 +97,7 @@ Says s (Ok (SeeMine asker after)) page =
     page ≡ value_page (mine_shown asker (mine_of s.ledger asker after))
 Says s (Ok SeeStock) page = ShowsStock s.ledger page
 Says s (Ok SeeHealth) page = page ≡ value_page (health_data (counts_of s.ledger))
+Says s (Ok (SeeAgent asker)) page = page ≡ value_page (agent_data (owner_of asker))
 Says s (Ok (SeePage html)) page = page ≡ browsed_page html.text.now html.policy.now
 Says s (Ok Stop) page = page ≡ value_page stopping_data
 
@@ -144,6 +145,7 @@ command_by (Ok (SeeUnfinished asker)) = None
 command_by (Ok (SeeMine asker after)) = None
 command_by (Ok SeeStock) = None
 command_by (Ok SeeHealth) = None
+command_by (Ok (SeeAgent asker)) = None
 command_by (Ok (SeePage html)) = None
 command_by (Ok Stop) = None
 command_by (Err denied) = None

@@ -15,7 +15,7 @@ ghost use Rattle.desk_http.specs.Pages.{closes, stops};
 use crate::demands::{Demand, Unmet, asks_to_stop, demand_in};
 use crate::doors::{Door, refusal_at};
 use crate::mine::see_mine;
-use crate::showing::{see_health, see_journey, see_plan, see_stock, see_unfinished};
+use crate::showing::{see_agent, see_health, see_journey, see_plan, see_stock, see_unfinished};
 use commands::Refusal;
 use http_messages::{Message, Request};
 use http_pages::{
@@ -183,6 +183,7 @@ fn meet<B: Book>(alloc: Global, demand: &Demand, book: &mut B) -> Result<Page, S
         Demand::SeeMine(asker, after) => see_mine(alloc, book, asker, *after),
         Demand::SeeStock => see_stock(alloc, book),
         Demand::SeeHealth => see_health(alloc, book),
+        Demand::SeeAgent(asker) => Ok(see_agent(alloc, asker)?),
         Demand::SeePage(page) => Ok(shown_page(Body::Html(*page))),
         Demand::Stop => Ok(shown_page(Body::Json(stopping_body(alloc)?))),
     }

@@ -33,6 +33,8 @@ pub(crate) enum Demand {
     SeeStock,
     /// Show how many events and journeys there are.
     SeeHealth,
+    /// Show who asks.
+    SeeAgent(Asker),
     /// Show the page for browsers.
     SeePage(HtmlPage),
     /// Stop the desk.
@@ -229,6 +231,7 @@ fn demand_by(alloc: Global, route: Route, sender: &Sender<'_>) -> Result<Demand,
         Route::ShowStock => Ok(Demand::SeeStock),
         Route::ShowMine(after) => Ok(Demand::SeeMine(sender.asker, after)),
         Route::ShowHealth => Ok(Demand::SeeHealth),
+        Route::ShowAgent => Ok(Demand::SeeAgent(sender.asker)),
     }
 }
 

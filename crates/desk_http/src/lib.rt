@@ -20,6 +20,6 @@ mod showing;
 
 pub use answering::{Answer, answer_to};
 pub use doors::{Door, Site};
-pub use law_examples::{step_has_a_short_ask, step_is_retried};
-pub use laws::{again, asks_are_short};
+pub use law_examples::{step_has_a_short_ask, step_is_for_whom_it_is_meant, step_is_retried};
+pub use laws::{again, asks_are_short, commands_are_for_whom_is_meant};
 pub use protocols::ServeFault;

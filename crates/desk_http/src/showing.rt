@@ -4,8 +4,8 @@ ghost use Rattle.commands.specs.Orders.{request_of};
 ghost use Rattle.desk_http.specs.Answering.{Shows};
 ghost use Rattle.desk_http.specs.DemandValues.{AsksFor, ReadsAs};
 ghost use Rattle.desk_http.specs.Demands.{bare, begin_by, load_of, value_in};
-ghost use Rattle.desk_http.specs.Pages.{journey_page, plan_page, own_journey, own_unfinished, unfinished_shown, ShowsStock};
-ghost use Rattle.http_pages.specs.Bodies.{health_data};
+ghost use Rattle.desk_http.specs.Pages.{journey_page, owner_of, plan_page, own_journey, own_unfinished, unfinished_shown, ShowsStock};
+ghost use Rattle.http_pages.specs.Bodies.{agent_data, health_data};
 ghost use Rattle.http_pages.specs.Pages.{page_said, value_page};
 ghost use Rattle.ledger.specs.Answer.{State};
 ghost use Rattle.saga_core.specs.Calls.{Serves};
@@ -21,7 +21,7 @@ use crate::plan_texts::plan_in;
 use allotment_csv::{CsvFault, read_batch};
 use commands::{Command, Name, Refusal};
 use http_pages::{
-    Body, Owners, Page, health_body, journey_body, plan_body, refused_page, shown_page,
+    Body, Owners, Page, agent_body, health_body, journey_body, plan_body, refused_page, shown_page,
     unfinished_body,
 };
 use plan::{Plan, PlanFault, json_is_read_back};
@@ -163,6 +163,15 @@ pub(crate) fn see_health<B: Book>(alloc: Global, book: &mut B) -> Result<Page, S
 {
     let counts = book.counts()?;
     let body = health_body(alloc, counts)?;
+    Ok(shown_page(Body::Json(body)))
+}
+
+/// The page of who asks: an agent, or the house as the agent whose journeys are its own. The only fault is out of memory.
+pub(crate) fn see_agent(alloc: Global, asker: &Asker) -> Result<Page, AllocError>
+    ensures page { IfOk result (λ page.
+        page_said page ≡ value_page (agent_data (owner_of asker.now))) }
+{
+    let body = agent_body(alloc, asker.owner())?;
     Ok(shown_page(Body::Json(body)))
 }
 

@@ -132,13 +132,27 @@ the_text (text ∷ other ∷ later) = []
 abbrev pub host_of : Parts → List ℕ
 host_of parts = the_text (values_named (codes "host") parts.fields)
 
--- who asks: the value of the one field `Desk-Agent`, where it is good
-abbrev pub agent_of : Parts → Option (List ℕ)
-agent_of parts = option_and_then (keep_if is_agent) (the_one (values_named (codes "desk-agent") parts.fields))
+-- the agent that a head names: the value of the one field `Desk-Agent`, where it is good
+abbrev pub named_agent : Parts → Option (List ℕ)
+named_agent parts = option_and_then (keep_if is_agent) (the_one (values_named (codes "desk-agent") parts.fields))
 
--- nobody is named: there is no field `Desk-Agent`
+-- the agents whom a request is meant for, as fields `Desk-For` name them
+abbrev pub meant_agents : Parts → List (List ℕ)
+meant_agents parts = values_named (codes "desk-for") parts.fields
+
+-- a request is meant for an agent: these name nobody, or this agent once
+abbrev pub is_meant : List (List ℕ) → List ℕ → Bool
+is_meant [] agent = true
+is_meant (text ∷ []) agent = bytes_eq text agent
+is_meant (text ∷ other ∷ later) agent = false
+
+-- who asks: the agent that a head names, where the request is meant for that agent
+abbrev pub agent_of : Parts → Option (List ℕ)
+agent_of parts = option_and_then (keep_if (is_meant (meant_agents parts))) (named_agent parts)
+
+-- nobody is named: there is no field `Desk-Agent`, and no field `Desk-For`
 abbrev pub is_unnamed : Parts → Bool
-is_unnamed parts = length (values_named (codes "desk-agent") parts.fields) == 0
+is_unnamed parts = (length (values_named (codes "desk-agent") parts.fields) == 0) && (length (meant_agents parts) == 0)
 
 -- the key: the value of the one field `Desk-Key`, where it is good
 abbrev pub key_of : Parts → Option (List ℕ)

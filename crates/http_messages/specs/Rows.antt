@@ -1,8 +1,8 @@
 -- Worked rows of prefixes and heads, computed.
-use Rattle.std.specs.Prelude.{◌≡◌, ℕ, ◌∷◌, [], List, codes, Some, None, refl}
+use Rattle.std.specs.Prelude.{◌≡◌, ℕ, ◌∷◌, [], List, codes, Some, None, false, refl}
 use Rattle.httparse.specs.Grammar.{Field, crlf, trim_ows}
 use Rattle.commands.specs.declared.replies.Refusal.TheVariants.{BadHead, TooLarge, NoLength}
-use Rattle.http_messages.specs.Heads.{Parts, agent_of, body_length, head_refusals, host_of, key_of, parts_of}
+use Rattle.http_messages.specs.Heads.{Parts, agent_of, body_length, head_refusals, host_of, is_unnamed, key_of, parts_of}
 use Rattle.http_messages.specs.Messages.{first_told}
 
 -- a field line
@@ -67,6 +67,28 @@ nine_digits = refl
 pub ann : agent_of (asked (codes "GET") (codes "/") by_ann) ≡ Some (codes "ann")
 unfolding trim_ows
 ann = refl
+
+-- the request is meant for ann, who asks
+pub ann_is_meant : agent_of (asked (codes "GET") (codes "/") (field (codes "desk-for") (codes " ann ") ∷ by_ann)) ≡ Some (codes "ann")
+unfolding trim_ows
+ann_is_meant = refl
+
+-- the request is meant for bob, and ann asks: nobody does
+pub bob_is_meant : agent_of (asked (codes "GET") (codes "/") (field (codes "Desk-For") (codes "bob") ∷ by_ann)) ≡ None
+unfolding trim_ows
+bob_is_meant = refl
+
+-- the request is meant for ann twice
+pub ann_is_meant_twice : agent_of (asked (codes "GET") (codes "/")
+    (field (codes "Desk-For") (codes "ann") ∷ field (codes "Desk-For") (codes "ann") ∷ by_ann))
+    ≡ None
+unfolding trim_ows
+ann_is_meant_twice = refl
+
+-- a request that is meant for somebody is not nobody's
+pub meant_is_named : is_unnamed (asked (codes "GET") (codes "/") (field (codes "Desk-For") (codes "ann") ∷ [])) ≡ false
+unfolding trim_ows
+meant_is_named = refl
 
 -- the host that is asked
 pub host : host_of (asked (codes "GET") (codes "/") by_ann) ≡ codes "d"

@@ -27,6 +27,7 @@ pub(crate) struct Head {
 impl Head {
     ghost use Rattle.std.specs.Prelude.{◌≡◌, ◌≤◌, length, IfSome, IfNone, IfOk, Some, [], take};
     ghost use Rattle.http_messages.specs.Heads.{values_named, asks_to_close, agent_of, host_of, is_unnamed, key_of, lengths};
+    ghost use Rattle.http_messages.specs.Heads.{is_meant, meant_agents, named_agent};
     ghost use Rattle.http_messages.specs.Heads.{is_plain, is_method, complaint_of, body_length};
     ghost use Rattle.http_messages.specs.Places.{IsToldAt};
     ghost use Rattle.http_messages.specs.Fields.{IsFound, IsNoHead, IsSomeHeadAt, LiesIn, Tells, parts_in};
@@ -133,18 +134,42 @@ impl Head {
         requires { LiesIn front.now self.now }
         ensures agent { result ≡ agent_of (parts_in front.now self.now) }
     {
+        match self.named_agent(front) {
+            Some(agent) if self.is_meant(front, agent) => Some(agent),
+            _ => None,
+        }
+    }
+
+    /// The agent that it names.
+    fn named_agent(&self, front: &[u8]) -> Option<Agent>
+        requires { LiesIn front.now self.now }
+        ensures agent { result ≡ named_agent (parts_in front.now self.now) }
+    {
         match self.find(front, b"desk-agent") {
             Found::Once(value) => agent_in(value.of(front)),
             Found::Absent | Found::Again => None,
         }
     }
 
-    /// Whether no field says who asks.
+    /// Whether its fields `Desk-For` mean this agent: there is none, or one that names the agent.
+    fn is_meant(&self, front: &[u8], agent: Agent) -> bool
+        requires { LiesIn front.now self.now }
+        ensures meant { result ≡ is_meant (meant_agents (parts_in front.now self.now)) agent }
+    {
+        match self.find(front, b"desk-for") {
+            Found::Absent => true,
+            Found::Once(value) => value.of(front) == agent.as_str().as_bytes(),
+            Found::Again => false,
+        }
+    }
+
+    /// Whether no field says who asks, or for whom.
     fn is_unnamed(&self, front: &[u8]) -> bool
         requires { LiesIn front.now self.now }
         ensures unnamed { result ≡ is_unnamed (parts_in front.now self.now) }
     {
         matches!(self.find(front, b"desk-agent"), Found::Absent)
+            && matches!(self.find(front, b"desk-for"), Found::Absent)
     }
 
     /// Under which key.

@@ -24,9 +24,9 @@ pub struct Request {
     pub target: Vec<u8>,
     /// The value of the one field `Host`; empty where there is none, or more than one.
     pub host: Vec<u8>,
-    /// Who asks: the value of the one field `Desk-Agent`, where it is good.
+    /// Who asks: the value of the one field `Desk-Agent`, where it is good, and no field `Desk-For` means another agent.
     pub agent: Option<Agent>,
-    /// Whether there is no field `Desk-Agent`, good or not.
+    /// Whether there is no field `Desk-Agent` and no field `Desk-For`, good or not.
     pub is_unnamed: bool,
     /// The value of the one field `Desk-Key`, where it is good.
     pub key: Option<Key>,

@@ -93,6 +93,10 @@ health_data counts =
     json ((codes "events", whole counts.events) ∷ (codes "journeys", whole counts.journeys)
     ∷ (codes "unfinished", whole counts.unfinished) ∷ [])
 
+-- the agent who asks
+abbrev pub agent_data : List ℕ → Data
+agent_data agent = json ((codes "agent", string agent) ∷ [])
+
 -- the desk stops
 abbrev pub stopping_data : Data
 stopping_data = json ((codes "state", string (codes "stopping")) ∷ [])

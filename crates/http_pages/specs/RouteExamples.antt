@@ -7,7 +7,7 @@ use Rattle.matchit.proofs.OnLiterals.{matchit_on_literals}
 use Rattle.commands.specs.declared.replies.Refusal.TheVariants as refusal
 use Rattle.http_pages.specs.Admitting.{admitted, plain}
 use Rattle.http_pages.specs.Routes.{routes, route_of}
-use Rattle.http_pages.specs.declared.routes.Route.TheVariants.{LoadBatch, Step, Abort, Save, ShowJourney, ShowPlan, ShowStock}
+use Rattle.http_pages.specs.declared.routes.Route.TheVariants.{LoadBatch, Step, Abort, Save, ShowJourney, ShowPlan, ShowStock, ShowAgent}
 use Rattle.http_pages.specs.declared.routes.Unrouted.TheVariants.{UnknownPath, WrongMethod, BadPart}
 use Rattle.http_pages.specs.declared.routes.Verb.TheVariants.{Get}
 
@@ -42,6 +42,11 @@ journey_is_found = refl
 pub plan_is_found : route_of (codes "GET") (codes "/journeys/1/plan") ≡ Ok (ShowPlan 1)
 unfolding routes digits is_utf8 chars encode matchit_on_literals
 plan_is_found = refl
+
+-- the agent who asks
+pub agent_is_found : route_of (codes "GET") (codes "/agent") ≡ Ok ShowAgent
+unfolding routes digits is_utf8 chars encode matchit_on_literals
+agent_is_found = refl
 
 -- Targets without one.
 
@@ -86,6 +91,10 @@ agent_comes_before_the_key = refl
 -- the missing key is reported next
 pub key_comes_before_the_number : admitted (Err BadPart) true false true ≡ Err (plain refusal.NoKey)
 key_comes_before_the_number = refl
+
+-- who asks which agent asks must be one
+pub agent_is_shown_to_agents : admitted (Ok ShowAgent) false false false ≡ Err (plain refusal.NoAgent)
+agent_is_shown_to_agents = refl
 
 -- a GET needs no key
 pub get_needs_no_key : admitted (Ok ShowStock) true false false ≡ Ok ShowStock

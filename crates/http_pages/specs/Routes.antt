@@ -15,7 +15,7 @@ use Rattle.http_pages.specs.declared.routes.Entry.{Entry}
 use Rattle.http_pages.specs.declared.routes.Place.{Place}
 use Rattle.http_pages.specs.declared.routes.Place.TheVariants as place
 use Rattle.http_pages.specs.declared.routes.Route.{Route}
-use Rattle.http_pages.specs.declared.routes.Route.TheVariants.{LoadBatch, Begin, Step, Abort, Save, ShowJourney, ShowPlan, ShowUnfinished, ShowStock, ShowMine, ShowHealth}
+use Rattle.http_pages.specs.declared.routes.Route.TheVariants.{LoadBatch, Begin, Step, Abort, Save, ShowJourney, ShowPlan, ShowUnfinished, ShowStock, ShowMine, ShowHealth, ShowAgent}
 use Rattle.http_pages.specs.declared.routes.Unrouted.{Unrouted}
 use Rattle.http_pages.specs.declared.routes.Unrouted.TheVariants.{UnknownPath, WrongMethod, BadPart}
 use Rattle.http_pages.specs.declared.routes.Verb.TheVariants.{Get, Post}
@@ -49,6 +49,7 @@ table =
     ∷ get (codes "/mine") place.Mine
     ∷ get (codes "/mine/{after}") place.MineAfter
     ∷ get (codes "/health") place.Health
+    ∷ get (codes "/agent") place.Agent
     ∷ []
 
 -- the paths in which `matchit` looks up a target
@@ -124,6 +125,7 @@ asked place.Stock target = Some ShowStock
 asked place.Mine target = Some (ShowMine 0)
 asked place.MineAfter target = option_map ShowMine (after_at target)
 asked place.Health target = Some ShowHealth
+asked place.Agent target = Some ShowAgent
 
 -- what was asked for, or that a part is malformed
 abbrev pub good_parts : Option Route → Result Route Unrouted

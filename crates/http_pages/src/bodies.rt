@@ -3,15 +3,15 @@ ghost use Rattle.std.specs.Prelude.{◌≡◌, IfOk};
 ghost use Rattle.std.specs.String.{string_bytes};
 ghost use Rattle.serde_json.specs.Written.{compact_text};
 ghost use Rattle.http_pages.specs.Bodies.{refusal_data, reply_data, journey_data, unfinished_data};
-ghost use Rattle.http_pages.specs.Bodies.{health_data, mine_data, stopping_data};
+ghost use Rattle.http_pages.specs.Bodies.{agent_data, health_data, mine_data, stopping_data};
 ghost use Rattle.plan.specs.PlanData.{plan_data};
 
 use crate::plans::plan_value;
 use crate::values::{
-    health_value, journey_value, mine_value, refusal_value, reply_value, stopping_value,
-    unfinished_value,
+    agent_value, health_value, journey_value, mine_value, refusal_value, reply_value,
+    stopping_value, unfinished_value,
 };
-use commands::{Cursor, Item, Refusal, Reply};
+use commands::{Agent, Cursor, Item, Refusal, Reply};
 use plan::Plan;
 use saga_core::{Brief, Counts};
 use std::alloc::{AllocError, Global};
@@ -95,6 +95,14 @@ pub fn health_body(alloc: Global, counts: Counts) -> Result<String, AllocError>
     ensures body { IfOk result (λ body. string_bytes body ≡ compact_text (health_data counts)) }
 {
     let value = health_value(alloc, counts)?;
+    value.to_string(alloc)
+}
+
+/// The body that shows the agent who asks, as `{"agent":"ann"}`. The only fault is out of memory.
+pub fn agent_body(alloc: Global, agent: Agent) -> Result<String, AllocError>
+    ensures body { IfOk result (λ body. string_bytes body ≡ compact_text (agent_data agent)) }
+{
+    let value = agent_value(alloc, agent)?;
     value.to_string(alloc)
 }
 

@@ -17,7 +17,7 @@ mod values;
 
 pub use answers::{Body, HtmlPage, Page, denied_page, refused_page, reply_page, shown_page};
 pub use bodies::{
-    Owners, health_body, journey_body, mine_body, plan_body, refusal_body, reply_body,
+    Owners, agent_body, health_body, journey_body, mine_body, plan_body, refusal_body, reply_body,
     stopping_body, unfinished_body,
 };
 pub use heads::{Status, page_bytes};

@@ -36,6 +36,8 @@ pub enum Route {
     ShowMine(u64),
     /// Show how many events and journeys there are, to anybody.
     ShowHealth,
+    /// Show which agent asks.
+    ShowAgent,
 }
 
 /// Why a method and a target ask for nothing.
@@ -109,6 +111,7 @@ impl Paths {
         add(&mut router, "/mine", Verb::Get, Place::Mine)?;
         add(&mut router, "/mine/{after}", Verb::Get, Place::MineAfter)?;
         add(&mut router, "/health", Verb::Get, Place::Health)?;
+        add(&mut router, "/agent", Verb::Get, Place::Agent)?;
         Ok(Paths { router })
     }
 
@@ -232,6 +235,8 @@ pub enum Place {
     MineAfter,
     /// How many events and journeys there are.
     Health,
+    /// The agent who asks.
+    Agent,
 }
 
 /// The one method that a path has, and what stands there.
@@ -259,6 +264,7 @@ impl Place {
             Place::Mine => Some(Route::ShowMine(0)),
             Place::MineAfter => after_at(target).map(Route::ShowMine),
             Place::Health => Some(Route::ShowHealth),
+            Place::Agent => Some(Route::ShowAgent),
         }
     }
 }

@@ -3,11 +3,11 @@ ghost use Rattle.std.specs.Prelude.{◌≡◌, IfOk, OnOk, map};
 ghost use Rattle.serde_json.specs.View.{view, members_view};
 ghost use Rattle.http_pages.specs.Bodies.{item_data, moved_data, refusal_data, reply_data, list};
 ghost use Rattle.http_pages.specs.Bodies.{journey_data, brief_data, mine_data, unfinished_data};
-ghost use Rattle.http_pages.specs.Bodies.{health_data, stopping_data};
+ghost use Rattle.http_pages.specs.Bodies.{agent_data, health_data, stopping_data};
 ghost use Rattle.http_pages.specs.Members.{with_standing};
 
 use crate::bodies::Owners;
-use commands::{Cursor, Item, Phase, Refusal, Reply};
+use commands::{Agent, Cursor, Item, Phase, Refusal, Reply};
 use plan::BadPlan;
 use saga_core::{Brief, Counts};
 use serde_json::{Map, Value, json, put};
@@ -153,6 +153,13 @@ pub fn health_value(alloc: Global, counts: Counts) -> Result<Value, AllocError>
         unfinished,
     } = counts;
     json!(in alloc; {"events": events, "journeys": journeys, "unfinished": unfinished})
+}
+
+/// The value of the agent who asks.
+pub fn agent_value(alloc: Global, agent: Agent) -> Result<Value, AllocError>
+    ensures value { IfOk result (λ value. view value ≡ agent_data agent) }
+{
+    json!(in alloc; {"agent": agent.as_str()})
 }
 
 /// The value that says that the desk stops.

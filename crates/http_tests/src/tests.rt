@@ -7,6 +7,7 @@ mod faults;
 mod heads;
 mod keys;
 mod limits;
+mod meant;
 mod moves;
 mod orders;
 mod own;

@@ -11,7 +11,7 @@ use Rattle.httparse.proofs.TrimLemmas.{AllPass-reverse, trim_ows_space}
 use Rattle.http1.specs.Head.{starts_visible}
 use Rattle.http1.specs.Text.{numeral}
 use Rattle.http1.proofs.NumeralLemmas.{decimal_is_trimmed}
-use Rattle.http_messages.specs.Heads.{Named, host_of, is_alike, parts_of, the_text, values_named}
+use Rattle.http_messages.specs.Heads.{Named, host_of, is_alike, meant_agents, parts_of, the_text, values_named}
 use Rattle.http_wide.specs.Wide.{ends_after}
 use Rattle.http_wide_messages.specs.Plain.{are_digits, close_if, fields_of, is_uuid, plain_fields, plain_key, plain_method, plain_parts, plain_target, uuid_digits}
 
@@ -140,11 +140,13 @@ plain_are_fields : (h : RequestHead) (body : List ℕ) → AreFields (plain_fiel
 plain_are_fields h body =
     let asked = parts_of h in
     let agents = values_trimmed (codes "desk-agent") h.fields in
+    let meant = values_trimmed (codes "desk-for") h.fields in
     let keys = keys_trimmed (values_named (codes "desk-key") asked.fields) (values_trimmed (codes "desk-key") h.fields) in (
       text_trimmed (values_named (codes "host") asked.fields) (values_trimmed (codes "host") h.fields),
       named_fields (codes "Desk-Agent") (values_named (codes "desk-agent") asked.fields) _ agents
+          (named_fields (codes "Desk-For") (meant_agents asked) _ meant
           (named_fields (codes "Desk-Key") (map plain_key (values_named (codes "desk-key") asked.fields)) _ keys
-          (numeral_trimmed (length body), close_fields (ends_after asked))),
+          (numeral_trimmed (length body), close_fields (ends_after asked)))),
     )
 
 -- a head of the profile with the same meaning

@@ -16,7 +16,7 @@ use Rattle.allotment.specs.Texts.{keep_if}
 use Rattle.commands.specs.Limits.{most_bytes}
 use Rattle.commands.specs.Names.{is_agent, is_key}
 use Rattle.commands.specs.declared.replies.Refusal.TheVariants as refusal
-use Rattle.http_messages.specs.Heads.{Named, Parts, are_lengths, asks_to_close, complaint_of, first_of, host_of, is_alike, is_length, is_method, is_plain, length_in, lengths, tells_length, the_one, the_text, values_named}
+use Rattle.http_messages.specs.Heads.{Named, Parts, are_lengths, asks_to_close, complaint_of, first_of, host_of, is_alike, is_length, is_meant, is_method, is_plain, length_in, lengths, meant_agents, tells_length, the_one, the_text, values_named}
 use Rattle.http_messages.specs.Requests.{IsRequest}
 use Rattle.http_messages.specs.declared.requests.Request.{Request}
 use Rattle.http_messages.proofs.ListFacts.{and_make}
@@ -43,6 +43,9 @@ module _ (asked : Parts) (body : List ℕ) where
   abbrev pub agents : List (List ℕ)
   agents = values_named (codes "desk-agent") asked.fields
 
+  abbrev pub meant : List (List ℕ)
+  meant = meant_agents asked
+
   abbrev pub keys : List (List ℕ)
   keys = map plain_key (values_named (codes "desk-key") asked.fields)
 
@@ -53,11 +56,16 @@ module _ (asked : Parts) (body : List ℕ) where
   abbrev pub key_fields : List Named
   key_fields = fields_of (codes "Desk-Key") keys ++ last_fields (ends_after asked)
 
-  -- what comes after the agents and keys
-  after_both : (name : List ℕ) → is_alike (codes "Desk-Agent") name ≡ false → is_alike (codes "Desk-Key") name ≡ false
-      → values_named name (fields_of (codes "Desk-Agent") agents ++ key_fields) ≡ values_named name (last_fields (ends_after asked))
-  after_both name agent key =
-      named_past name (codes "Desk-Agent") key_fields agent agents
+  abbrev pub meant_fields : List Named
+  meant_fields = fields_of (codes "Desk-For") meant ++ key_fields
+
+  -- what comes after the agents, those who are meant, and the keys
+  after_all : (name : List ℕ) → is_alike (codes "Desk-Agent") name ≡ false → is_alike (codes "Desk-For") name ≡ false
+      → is_alike (codes "Desk-Key") name ≡ false
+      → values_named name (fields_of (codes "Desk-Agent") agents ++ meant_fields) ≡ values_named name (last_fields (ends_after asked))
+  after_all name agent whom key =
+      named_past name (codes "Desk-Agent") meant_fields agent agents
+      ∙ named_past name (codes "Desk-For") key_fields whom meant
       ∙ named_past name (codes "Desk-Key") (last_fields (ends_after asked)) key keys
 
   no_host : (ends : Bool) → values_named (codes "host") (last_fields ends) ≡ []
@@ -67,6 +75,10 @@ module _ (asked : Parts) (body : List ℕ) where
   no_agent : (ends : Bool) → values_named (codes "desk-agent") (last_fields ends) ≡ []
   no_agent true = refl
   no_agent false = refl
+
+  no_meant : (ends : Bool) → values_named (codes "desk-for") (last_fields ends) ≡ []
+  no_meant true = refl
+  no_meant false = refl
 
   no_key : (ends : Bool) → values_named (codes "desk-key") (last_fields ends) ≡ []
   no_key true = refl
@@ -88,31 +100,48 @@ module _ (asked : Parts) (body : List ℕ) where
   fields = plain_fields asked body
 
   pub host_is : values_named (codes "host") fields ≡ host_of asked ∷ []
-  host_is = ap (λ z. host_of asked ∷ z) (after_both (codes "host") refl refl ∙ no_host (ends_after asked))
+  host_is = ap (λ z. host_of asked ∷ z) (after_all (codes "host") refl refl refl ∙ no_host (ends_after asked))
 
   pub agents_are : values_named (codes "desk-agent") fields ≡ agents
   agents_are =
-      named_first (codes "desk-agent") (codes "Desk-Agent") key_fields refl agents
-      ∙ ap (λ z. agents ++ z) (named_past (codes "desk-agent") (codes "Desk-Key") (last_fields (ends_after asked)) refl keys ∙ no_agent (ends_after asked))
+      named_first (codes "desk-agent") (codes "Desk-Agent") meant_fields refl agents
+      ∙ ap (λ z. agents ++ z) (named_past (codes "desk-agent") (codes "Desk-For") key_fields refl meant
+      ∙ named_past (codes "desk-agent") (codes "Desk-Key") (last_fields (ends_after asked)) refl keys ∙ no_agent (ends_after asked))
       ∙ append-nil agents
+
+  pub meant_are : values_named (codes "desk-for") fields ≡ meant
+  meant_are =
+      named_past (codes "desk-for") (codes "Desk-Agent") meant_fields refl agents
+      ∙ named_first (codes "desk-for") (codes "Desk-For") key_fields refl meant
+      ∙ ap (λ z. meant ++ z) (named_past (codes "desk-for") (codes "Desk-Key") (last_fields (ends_after asked)) refl keys ∙ no_meant (ends_after asked))
+      ∙ append-nil meant
 
   pub keys_are : values_named (codes "desk-key") fields ≡ keys
   keys_are =
-      named_past (codes "desk-key") (codes "Desk-Agent") key_fields refl agents
+      named_past (codes "desk-key") (codes "Desk-Agent") meant_fields refl agents
+      ∙ named_past (codes "desk-key") (codes "Desk-For") key_fields refl meant
       ∙ named_first (codes "desk-key") (codes "Desk-Key") (last_fields (ends_after asked)) refl keys
       ∙ ap (λ z. keys ++ z) (no_key (ends_after asked))
       ∙ append-nil keys
 
   pub no_coding_is : values_named (codes "transfer-encoding") fields ≡ []
-  no_coding_is = after_both (codes "transfer-encoding") refl refl ∙ no_coding (ends_after asked)
+  no_coding_is = after_all (codes "transfer-encoding") refl refl refl ∙ no_coding (ends_after asked)
 
   pub length_is : values_named (codes "content-length") fields ≡ numeral 10 (length body) ∷ []
-  length_is = after_both (codes "content-length") refl refl ∙ one_length (ends_after asked)
+  length_is = after_all (codes "content-length") refl refl refl ∙ one_length (ends_after asked)
 
   pub closes_is : asks_to_close (plain_parts asked body) ≡ ends_after asked
   closes_is =
-      ap (λ values. list_any (λ value. is_alike value (codes "close")) values) (after_both (codes "connection") refl refl)
+      ap (λ values. list_any (λ value. is_alike value (codes "close")) values) (after_all (codes "connection") refl refl refl)
       ∙ closing (ends_after asked)
+
+-- what follows from who is named and who is meant is the same
+by_both : {X : Type 0} (asked : Parts) (body : List ℕ) (of : List (List ℕ) → List (List ℕ) → X)
+    → of (values_named (codes "desk-agent") (plain_fields asked body)) (values_named (codes "desk-for") (plain_fields asked body))
+    ≡ of (agents asked body) (meant asked body)
+by_both asked body of =
+    ap (λ z. of z (values_named (codes "desk-for") (plain_fields asked body))) (agents_are asked body)
+    ∙ ap (of (agents asked body)) (meant_are asked body)
 
 -- The length of a body.
 
@@ -176,8 +205,8 @@ as_request r asked body short says = record {
   method = says.method;
   target = says.target;
   host = says.host ∙ sym (ap the_text (host_is asked body));
-  agent = says.agent ∙ sym (ap (λ z. option_and_then (keep_if is_agent) (the_one z)) (agents_are asked body));
-  is_unnamed = says.is_unnamed ∙ sym (ap (λ z. length z == 0) (agents_are asked body));
+  agent = says.agent ∙ sym (by_both asked body (λ named whom. option_and_then (keep_if (is_meant whom)) (option_and_then (keep_if is_agent) (the_one named))));
+  is_unnamed = says.is_unnamed ∙ sym (by_both asked body (λ named whom. (length named == 0) && (length whom == 0)));
   key = says.key ∙ sym (ap (λ z. option_and_then (keep_if is_key) (the_one z)) (keys_are asked body));
   body = says.body;
   closes = says.closes ∙ sym (closes_is asked body);

@@ -5,7 +5,7 @@ use Rattle.std.specs.Char.{is_ascii_hexdigit}
 use Rattle.http1.specs.Text.{numeral}
 use Rattle.allotment.specs.Texts.{keep_if}
 use Rattle.commands.specs.Names.{is_key}
-use Rattle.http_messages.specs.Heads.{Named, Parts, agent_of, host_of, is_alike, is_unnamed, the_one, values_named}
+use Rattle.http_messages.specs.Heads.{Named, Parts, agent_of, host_of, is_alike, is_unnamed, meant_agents, the_one, values_named}
 use Rattle.http_messages.specs.declared.requests.Request.{Request}
 use Rattle.http_wide.specs.Wide.{ends_after}
 
@@ -90,13 +90,15 @@ abbrev pub close_if : Bool → List Named
 close_if true = (codes "Connection", codes "close") ∷ []
 close_if false = []
 
--- the fields of the profile: one host, the agents and the keys, the length of the body, and whether the connection ends
+-- the fields of the profile: one host, the agents, those who are meant, the keys, the length of the body, and whether the
+-- connection ends
 abbrev pub plain_fields : Parts → List ℕ → List Named
 plain_fields asked body =
     (codes "Host", host_of asked)
     ∷ (fields_of (codes "Desk-Agent") (values_named (codes "desk-agent") asked.fields)
+    ++ (fields_of (codes "Desk-For") (meant_agents asked)
     ++ (fields_of (codes "Desk-Key") (map plain_key (values_named (codes "desk-key") asked.fields))
-    ++ ((codes "Content-Length", numeral 10 (length body)) ∷ close_if (ends_after asked))))
+    ++ ((codes "Content-Length", numeral 10 (length body)) ∷ close_if (ends_after asked)))))
 
 -- the head of the profile with the same meaning
 abbrev pub plain_parts : Parts → List ℕ → Parts

@@ -40,7 +40,7 @@ impl Head {
     ghost use Rattle.http1.specs.Fields.{known_fields};
     ghost use Rattle.commands.specs.Limits.{most_bytes};
     ghost use Rattle.http_messages.specs.Fields.{IsFound};
-    ghost use Rattle.http_messages.specs.Heads.{agent_of, host_of, is_unnamed, values_named};
+    ghost use Rattle.http_messages.specs.Heads.{agent_of, host_of, is_meant, is_unnamed, meant_agents, named_agent, values_named};
     ghost use Rattle.http_messages.specs.Places.{IsToldAt};
     ghost use Rattle.http_messages.specs.Requests.{IsRequest};
     ghost use Rattle.http_wide.specs.Framing.{IsWithinLimit, asked_kind, has_host, head_kind};
@@ -163,18 +163,42 @@ impl Head {
         requires { LiesIn front.now self.now }
         ensures agent { result ≡ agent_of (parts_in front.now self.now) }
     {
+        match self.named_agent(front) {
+            Some(agent) if self.is_meant(front, agent) => Some(agent),
+            _ => None,
+        }
+    }
+
+    /// The agent that it names.
+    fn named_agent(&self, front: &[u8]) -> Option<Agent>
+        requires { LiesIn front.now self.now }
+        ensures agent { result ≡ named_agent (parts_in front.now self.now) }
+    {
         match self.find(front, b"desk-agent") {
             Found::Once(value) => agent_in(value.of(front)),
             Found::Absent | Found::Again => None,
         }
     }
 
-    /// Whether no field says who asks.
+    /// Whether its fields `Desk-For` mean this agent: there is none, or one that names the agent.
+    fn is_meant(&self, front: &[u8], agent: Agent) -> bool
+        requires { LiesIn front.now self.now }
+        ensures meant { result ≡ is_meant (meant_agents (parts_in front.now self.now)) agent }
+    {
+        match self.find(front, b"desk-for") {
+            Found::Absent => true,
+            Found::Once(value) => value.of(front) == agent.as_str().as_bytes(),
+            Found::Again => false,
+        }
+    }
+
+    /// Whether no field says who asks, or for whom.
     fn is_unnamed(&self, front: &[u8]) -> bool
         requires { LiesIn front.now self.now }
         ensures unnamed { result ≡ is_unnamed (parts_in front.now self.now) }
     {
         matches!(self.find(front, b"desk-agent"), Found::Absent)
+            && matches!(self.find(front, b"desk-for"), Found::Absent)
     }
 
     /// Under which key.

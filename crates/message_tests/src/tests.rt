@@ -76,7 +76,7 @@ fn messages_are_told_one_by_one(rt: HostRuntime) {
 
 // the lines of a head after `HTTP/1.1`, or all of it, with the method and the messages
 #[rattlefmt::skip]
-const HEADS: [(&str, &[u8], &str); 28] = [
+const HEADS: [(&str, &[u8], &str); 34] = [
     ("two hosts",            b"GET / HTTP/1.1\r\nHost: d\r\nhost: d\r\n\r\n",                         "GET / - -  open 1;"),
     ("an empty host",        b"GET / HTTP/1.1\r\nHost:\r\n\r\n",                                      "GET / - -  open;"),
     ("no host",              b"GET / HTTP/1.1\r\n\r\n",                                               "GET / - -  open 1;"),
@@ -103,6 +103,12 @@ const HEADS: [(&str, &[u8], &str); 28] = [
     ("a long agent",         b"GET / HTTP/1.1\r\nHost: d\r\nDesk-Agent: abcdefghijklmnopq\r\n\r\n",   "GET / - -  open;"),
     ("two agents",           b"GET / HTTP/1.1\r\nHost: d\r\nDesk-Agent: ann\r\nDesk-Agent: Bob\r\n\r\n", "GET / - -  open;"),
     ("an agent of no text",  b"GET / HTTP/1.1\r\nHost: d\r\nDesk-Agent: a\xff\r\n\r\n",               "GET / - -  open;"),
+    ("meant for who asks",   b"GET / HTTP/1.1\r\nHost: d\r\nDesk-Agent: ann\r\nDESK-FOR: ann\r\n\r\n",   "GET / ann -  open;"),
+    ("meant for another",    b"GET / HTTP/1.1\r\nHost: d\r\nDesk-Agent: ann\r\nDesk-For: bob\r\n\r\n",   "GET / - -  open;"),
+    ("meant for a longer name", b"GET / HTTP/1.1\r\nHost: d\r\nDesk-Agent: ann\r\nDesk-For: anna\r\n\r\n", "GET / - -  open;"),
+    ("meant for no text",    b"GET / HTTP/1.1\r\nHost: d\r\nDesk-Agent: ann\r\nDesk-For: an\xff\r\n\r\n", "GET / - -  open;"),
+    ("meant twice",          b"GET / HTTP/1.1\r\nHost: d\r\nDesk-Agent: ann\r\nDesk-For: ann\r\nDesk-For: ann\r\n\r\n", "GET / - -  open;"),
+    ("meant, and nobody asks", b"GET / HTTP/1.1\r\nHost: d\r\nDesk-For: ann\r\n\r\n",                   "GET / - -  open;"),
     ("a key",                b"GET / HTTP/1.1\r\nHost: d\r\nDESK-KEY: K-9\r\n\r\n",                   "GET / - K-9  open;"),
     ("a space before a colon", b"GET / HTTP/1.1\r\nHost : d\r\n\r\n",                                 "none;"),
 ];

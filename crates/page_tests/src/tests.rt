@@ -32,7 +32,7 @@ fn asks(rt: &impl Abort, paths: &Paths, method: &str, target: &[u8], expected: F
 
 // the method, the target, what they ask for
 #[rattlefmt::skip]
-const ROUTES: [(&str, &str, Route); 15] = [
+const ROUTES: [(&str, &str, Route); 16] = [
     ("POST", "/journeys",                   Route::Begin),
     ("POST", "/journeys/1/step",            Route::Step(1)),
     ("POST", "/journeys/999999999999/step", Route::Step(999_999_999_999)),
@@ -48,6 +48,7 @@ const ROUTES: [(&str, &str, Route); 15] = [
     ("GET",  "/mine/17",                    Route::ShowMine(17)),
     ("GET",  "/mine/999999999999",          Route::ShowMine(999_999_999_999)),
     ("GET",  "/health",                     Route::ShowHealth),
+    ("GET",  "/agent",                      Route::ShowAgent),
 ];
 
 /// Stops the test where the method and the target of a row ask for something else than its last column says.

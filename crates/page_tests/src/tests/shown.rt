@@ -1,7 +1,7 @@
 //! What is shown of own journeys, of how the desk fares, and to browsers.
 use super::{AT_ONE, AT_THE_END, goes_out, reads};
 use commands::{Agent, Cursor};
-use http_pages::{Body, HtmlPage, Owners, Page, health_body, mine_body, shown_page};
+use http_pages::{Body, HtmlPage, Owners, Page, agent_body, health_body, mine_body, shown_page};
 use saga_core::{Brief, Counts};
 use std::alloc::AllocError;
 
@@ -40,6 +40,13 @@ fn the_desk_says_how_much_it_has(rt: HostRuntime) {
     };
     let expected = r#"{"events":12,"journeys":5,"unfinished":2}"#;
     reads(&rt, health_body(rt.alloc(), counts), expected, 41);
+}
+
+#[test]
+fn the_desk_says_who_asks(rt: HostRuntime) {
+    let longest = Agent::parse("abcdefghijklm123").expect(&rt, "an agent");
+    let expected = r#"{"agent":"abcdefghijklm123"}"#;
+    reads(&rt, agent_body(rt.alloc(), longest), expected, 28);
 }
 
 /// A page for browsers.

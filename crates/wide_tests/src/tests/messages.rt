@@ -36,7 +36,7 @@ fn both(alloc: Global, bytes: &[u8], more: &[u8]) -> Result<Vec<u8>, AllocError>
 // a request, what comes after it, and what it asks: for what, then the method, target, host, agent, key and body of the
 // request that stands for it, whether the connection ends, and how many bytes it has
 #[rattlefmt::skip]
-const REQUESTS: [(&str, &[u8], &[u8], &str); 33] = [
+const REQUESTS: [(&str, &[u8], &[u8], &str); 36] = [
     ("a body by its length", b"POST /journeys HTTP/1.1\r\nHost: d\r\nDesk-Agent: ann\r\nDesk-Key: k1\r\nContent-Length: 4\r\n\r\nabcd",
         b"",
         "post POST /journeys d ann k1 abcd open 90"),
@@ -112,6 +112,15 @@ const REQUESTS: [(&str, &[u8], &[u8], &str); 33] = [
     ("field names in small letters", b"GET /stock HTTP/1.1\r\nhost: d\r\ndesk-agent: ann\r\n\r\n",
         b"",
         "get GET /stock d ann -  open 49"),
+    ("meant for who asks", b"GET /stock HTTP/1.1\r\nHost: d\r\nDesk-Agent: ann\r\nDesk-For: ann\r\n\r\n",
+        b"",
+        "get GET /stock d ann -  open 64"),
+    ("meant for another", b"GET /stock HTTP/1.1\r\nHost: d\r\nDesk-Agent: ann\r\nDesk-For: bob\r\n\r\n",
+        b"",
+        "get GET /stock d - -  open 64"),
+    ("meant twice", b"GET /stock HTTP/1.1\r\nHost: d\r\nDesk-Agent: ann\r\nDesk-For: ann\r\nDesk-For: ann\r\n\r\n",
+        b"",
+        "get GET /stock d - -  open 79"),
     ("empty lines before it", b"\r\n\nGET /stock HTTP/1.1\r\nHost: d\r\n\r\n",
         b"",
         "get GET /stock d - -  open 35"),

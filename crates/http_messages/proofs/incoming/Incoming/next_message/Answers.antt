@@ -25,6 +25,15 @@ returns-in_err-wait_for-clause-at_once g c has =
     c.in-Some-read.ensures.head c.body_length.ensures.length has still.0 in
     (c.in_err-wait_for.ensures.at_once enough).1 ∙ still.1
 
+-- what was read is still there
+pub returns-in_err-wait_for-clause-fault : goal.returns-in_err-wait_for-clause-fault
+returns-in_err-wait_for-clause-fault g c =
+    let left = g.R.Read.remaining in
+    on_err c.from_residual-in_err-wait_for.result _
+    (reads_keep c.args.self.now c.wait_for.new.self (left c.args.reader.now) (left c.wait_for.new.reader)
+    (reads_more c.args.self.now c.find_front.new.self c.wait_for.new.self (left c.args.reader.now) (left c.find_front.new.reader) (left c.wait_for.new.reader)
+    c.in_ok-end.ensures.reads c.in_err-wait_for.ensures.reads))
+
 -- the message is cut off
 pub returns-then-not-branch-clause-next : goal.returns-then-not-branch-clause-next
 returns-then-not-branch-clause-next g c =

@@ -8,7 +8,8 @@ use Rattle.http_pages.proofs.routes.Paths.new.Goals as goal
 pub invariant_of-result : goal.invariant_of-result
 unfolding routes
 invariant_of-result c = record {
-  whole = c.in_ok-add-12.ensures.added
+  whole = c.in_ok-add-13.ensures.added
+      ∙ ap (with_line (get (codes "/agent") place.Agent)) (c.in_ok-add-12.ensures.added
       ∙ ap (with_line (get (codes "/health") place.Health)) (c.in_ok-add-11.ensures.added
       ∙ ap (with_line (get (codes "/mine/{after}") place.MineAfter)) (c.in_ok-add-10.ensures.added
       ∙ ap (with_line (get (codes "/mine") place.Mine)) (c.in_ok-add-9.ensures.added
@@ -20,5 +21,5 @@ invariant_of-result c = record {
       ∙ ap (with_line (post (codes "/journeys/{id}/abort/{p}") place.Abort)) (c.in_ok-add-3.ensures.added
       ∙ ap (with_line (post (codes "/journeys/{id}/step") place.Step)) (c.in_ok-add-2.ensures.added
       ∙ ap (with_line (post (codes "/journeys") place.Journeys)) (c.in_ok-add.ensures.added
-      ∙ ap (with_line (post (codes "/batches/{name}") place.Batch)) c.new-router.ensures)))))))))));
+      ∙ ap (with_line (post (codes "/batches/{name}") place.Batch)) c.new-router.ensures))))))))))));
 }
