@@ -7,7 +7,7 @@ use Rattle.desk_http.proofs.showing.see_stock.Goals as goal
 pub returns-in-Ok-clause-page : goal.returns-in-Ok-clause-page
 returns-in-Ok-clause-page g c = λ sound s stood.
     let rows = c.in_ok-rows.rows.items in
-    let written = c.in-Ok.ensures.written tt rows (sym c.deref.ensures.value ∙ c.new.ensures.rows) in (
+    let written = (c.in-Ok.ensures.writes.wrote tt rows (sym c.deref.ensures.value ∙ c.new.ensures.rows)).written in (
       record {
         rows = rows;
         are = c.in_ok-rows.ensures.stock sound s stood;
