@@ -51,15 +51,6 @@ for command in $commands; do
   same "$command -h is shorter" 1 "$(($(wc -l <err) < $(wc -l <whole)))"
 done
 
-# routes_of_page: the method and path of each route, as the page has them, in the words of the help
-routes_of_page() {
-  sed -n 's/^| \(GET\|POST\) | \(`\/[^|]*\) |.*/\1 \2/p' "$top/docs/HTTP.md" | tr -d '`,' |
-    awk '{ for (i = 2; i <= NF; i++) print $1, $i }' | sed 's/{\([a-z]*\)}/\U\1/g'
-}
-helps "serve --help" serve --help
-same "the routes of serve" "$(routes_of_page | sort)" "$(sed -n 's/^  \(GET\|POST\) \(\/[^ ]*\)  .*/\1 \2/p' err | sort)"
-same "a route of the page" 1 "$(routes_of_page | grep -cx 'GET /agent')"
-
 # the version, which is that of the newest numbered heading of CHANGES.md
 newest=$(sed -n 's/^## \([0-9][0-9]*\.[0-9][0-9]*\.[0-9][0-9]*\).*/\1/p' "$top/CHANGES.md" | sed -n 1p)
 for words in --version -V "--version run x.db"; do

@@ -84,7 +84,7 @@ Requests:
   POST /journeys/ID/abort/P  Turn the journey back to position P
   POST /journeys/ID/save     Take a save-point where the journey is
   GET /journeys/ID           The journey with its items
-  GET /journeys/ID/plan      The plan of the journey
+  GET /journeys/ID/plan      Its plan, in the form in which it was sent
   GET /unfinished            The agent's journeys that have not ended
   GET /mine                  The agent's journeys, ended ones too
   GET /mine/AFTER            Those with a number above AFTER
@@ -96,12 +96,12 @@ Requests:
   POST /stop                 At the socket of --house: the desk stops
 
 Fields:
-  Desk-Agent  Who asks, 1 to 16 of a-z and 0-9. Each request needs it, but
-              for GET /health and GET /
+  Desk-Agent  Who asks, 1 to 16 of a-z and 0-9. Each request to the port
+              needs it, but for GET /health and GET /
   Desk-For    For whom the request is meant: it is refused, if who asks is
               another agent
-  Desk-Key    1 to 32 letters, digits and '-'. Each POST needs it, and acts
-              once under it
+  Desk-Key    1 to 32 letters, digits and '-'. Each POST of an agent needs it,
+              and acts once under it
 
 Exit status:
   0  The desk was stopped by POST /stop, or all N connections were served
