@@ -81,10 +81,6 @@ class Agency:
         return identity
 
 
-# gives a day to a field as a browser gives it
-GIVE = """arguments[0].value = arguments[1]; arguments[0].dispatchEvent(new Event('change', {bubbles: true}))"""
-
-
 class Camera:
     """A browser that keeps what it shows."""
 
@@ -119,19 +115,18 @@ def take(camera, network):
     browser.click_on('[data-f="filter.table"]')
     browser.types('[data-f="filter.places"]', Keys.CONTROL + "a" + Keys.NULL, "2", Keys.TAB)
     for name, day in (("from", "2030-06-10"), ("to", "2030-06-13")):
-        browser.script(GIVE, browser.one(f'[data-f="filter.{name}"]'), day)
+        browser.gives(f'[data-f="filter.{name}"]', day)
     browser.shows("2 places free from Mon 10 June 2030 to Thu 13 June 2030", "#cals")
     browser.script("document.activeElement.blur()")
     camera.keeps("table", 1366, 480)
-    browser.script(GIVE, browser.one('[data-f="filter.from"]'), "")
+    browser.gives('[data-f="filter.from"]', "")
     browser.types('[data-f="filter.places"]', Keys.CONTROL + "a" + Keys.NULL, "1", Keys.TAB)
     browser.click_on('[data-f="filter.table"]')
     for night in ("2030-06-10", "2030-06-12"):
         browser.click_on(f'.night[data-of="room FJORD SUITE"][data-night="{night}"]')
     camera.keeps("chosen")
     browser.press("Drop the choice")
-    browser.script("document.querySelector('#line').value = arguments[0]; document.querySelector('#line').dispatchEvent(new Event('change'))",
-                   "F/AL/OSLO1/2030-06-10/1/2*;R/FJORD/SUITE/2030-06-10/3/2|R/FJORD/DBL/2030-06-10/3/2;T/BUS/PIER/2030-06-11/1/2!1")
+    browser.gives("#line", "F/AL/OSLO1/2030-06-10/1/2*;R/FJORD/SUITE/2030-06-10/3/2|R/FJORD/DBL/2030-06-10/3/2;T/BUS/PIER/2030-06-11/1/2!1")
     wait_until(lambda: len(browser.all(".step")) == 3, "three steps")
     browser.script("document.querySelector('#cals').scrollTo(0, 0)")
     camera.keeps("plan", 1280, 1030)

@@ -163,12 +163,7 @@ def notes_end(scene):
     ends("it is away again", "reached again")
     network.front = None
     scene.note("The desk can be reached again.")
-    browser.press("Agent ann, change")
-    browser.types("#agent", "No Agent\n")
-    scene.note("An agent is 1 to 16 small letters and digits.")
-    browser.one("#agent").clear()
-    browser.types("#agent", "bob\n")
-    browser.shows("Agent bob", "#who")
+    scene.becomes("bob")
     ends("there is an agent", "An agent")
     same("no note is left", [], browser.names(".note p"))
 
@@ -285,13 +280,6 @@ def printed(scene):
         browser.size(1280, 900)
 
 
-def types_day(scene, name, day):
-    """A day is given to a field as a browser gives it."""
-    scene.browser.script("""const [one, day] = arguments;
-      one.value = day;
-      one.dispatchEvent(new Event('change', {bubbles: true}));""", scene.browser.one(f'[data-f="filter.{name}"]'), day)
-
-
 def free_in(stock, least, first, last):
     """The products with so many places: rooms and cover on each night before the last day, others on a day."""
     cells = {}
@@ -347,8 +335,8 @@ def as_table(scene):
     browser.keys(Keys.ESCAPE)
     browser.types('[data-f="filter.places"]', Keys.CONTROL + "a" + Keys.NULL, "2", Keys.TAB)
     for first, last in ((JUNE[9], JUNE[12]), (JUNE[19], JUNE[20]), (JUNE[0], JUNE[3])):
-        types_day(scene, "from", first)
-        types_day(scene, "to", last)
+        scene.browser.gives('[data-f="filter.from"]', first)
+        scene.browser.gives('[data-f="filter.to"]', last)
         expected = free_in(desk.ask("GET", "/stock")[1], 2, first, last)
         comes(f"2 places from {first} to {last}", sorted(expected), lambda: sorted({one.rsplit(" ", 1)[0] for one in browser.script(labels)}))
         browser.shows(f"{len(expected)} products, rooms and cover on each night", "#cals")
@@ -356,5 +344,5 @@ def as_table(scene):
     same("the places that were sought", "2", browser.one('[data-f="bar.count"]').get_attribute("value"))
     browser.driver.refresh()
     comes("they stay after a reload", len(expected), lambda: len(browser.all(".grid tbody tr")))
-    types_day(scene, "from", "")
+    scene.browser.gives('[data-f="filter.from"]', "")
     comes("all products", 40, lambda: len(browser.all(".grid tbody tr")))

@@ -178,6 +178,12 @@ class Browser:
                 return False
         wait_until(done, "a field to type to")
 
+    def gives(self, css, value):
+        """Gives a whole value to a field, as a browser does whose own window chose a day."""
+        self.script("""const [one, value] = arguments;
+          one.value = value;
+          one.dispatchEvent(new Event('change', {bubbles: true}));""", self.one(css), value)
+
     def picks(self, css, value):
         """Picks a value from a list."""
         def done():

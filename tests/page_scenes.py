@@ -81,6 +81,16 @@ class Scene:
     def note(self, text):
         self.browser.shows(text, "#notes")
 
+    def becomes(self, agent):
+        """Another agent works here than ann, once a name that is no agent's was refused."""
+        browser = self.browser
+        browser.press("Agent ann, change")
+        browser.types("#agent", "No Agent\n")
+        self.note("An agent is 1 to 16 small letters and digits.")
+        browser.one("#agent").clear()
+        browser.types("#agent", f"{agent}\n")
+        browser.shows(f"Agent {agent}", "#who")
+
     def may(self, *names):
         """The buttons of the journey that is shown are these, and no others."""
         comes("what may be done now", list(names), lambda: self.browser.names(".acts button:not([aria-disabled])"))

@@ -1,14 +1,12 @@
 -- Quiet calls, one after another, are quiet, and a transaction that goes on after each of two writes goes on after both. For the
 -- functions that read or write, here and in the crates above.
-use Rattle.std.proofs.Common.{◌≡◌, ◌≤◌, ◌⊎◌, ◌+◌, ℕ, List, inl, inr, true, false, refl, sym, ◌∙◌, IsTrue, Result, Ok, Err, arith, min, ◌^◌, ◌-◌, OnOk}
-use Rattle.std.specs.Borrow.{MutBor}
+use Rattle.std.proofs.Common.{◌≡◌, ◌≤◌, ◌⊎◌, ◌+◌, ℕ, List, inl, inr, true, false, refl, sym, ◌∙◌, IsTrue, arith, min, ◌^◌, ◌-◌}
 use Rattle.std.proofs.lemmas.Bool.{cases_Bool}
 use Rattle.sqlite.specs.Order.{Row}
 use Rattle.sqlite.specs.Store.{Ghosts}
 use Rattle.sqlite.specs.Held.{Held, state}
 use Rattle.sqlite.specs.State.{State, HasCleanDisk, IsUnchanged, IsRolledBack, KeepsCounts, Survives, CommitsShowing}
-use Rattle.sqlite.specs.declared.error.Error.{Error}
-use Rattle.desk_sql.specs.Calls.{ChangesNothing, Quiet, GoesOn}
+use Rattle.desk_sql.specs.Calls.{ChangesNothing, Quiet}
 use Rattle.desk_sql.specs.Causes.{HasFaulted}
 use Rattle.desk_sql.specs.Queries.{IsSelect}
 use Rattle.desk_sql.specs.RemainingRows.{Starts}
@@ -157,21 +155,3 @@ quiet_twice g a b c one two = record {
   mode = λ out. two.mode (one.mode out);
   survives = survives_twice (state g a) (state g b) (state g c) one.survives two.survives;
 }
-
--- A transaction that goes on after one write goes on after the next, and one that failed has failed whatever it was to return.
-module _ {S : Type 0} (g : Ghosts S) (a b c : MutBor (Held S)) {V W : Type 0} (v : V) (r : Result W Error) where
-  always : {A : Type 0} → A → (q : Result W Error) → OnOk q A
-  always it (Ok w) = it
-  always it (Err e) = tt
-
-  pub goes_twice : GoesOn g a b (Ok v) → GoesOn g b c r → GoesOn g a c r
-  goes_twice one two =
-      let mid : HasCleanDisk (state g c.now) → HasCleanDisk (state g b.now) = λ clean. omega (arith, two.survives.clean, clean) in
-      record {
-        same_reference = two.same_reference ∙ one.same_reference;
-        inside = λ clean within. two.inside clean (one.inside (mid clean) within);
-        live = λ clean within. always (one.live (mid clean) within) r;
-        commit = λ clean within. (let first = one.commit (mid clean) within in let second = two.commit clean (one.inside (mid clean) within) in
-            record { was_open = λ live. first.was_open (second.was_open live); committed = λ live. second.committed live ∙ first.committed (second.was_open live) });
-        survives = survives_twice (state g a.now) (state g b.now) (state g c.now) one.survives two.survives;
-      }

@@ -15,12 +15,12 @@ use Rattle.sqlite_rules.specs.Lists.{Has}
 use Rattle.sqlite_rules.specs.Edit.{without_all, are_fresh, left_by}
 use Rattle.sqlite_rules.specs.Calls.{ids_of}
 use Rattle.sqlite_rules.proofs.PlaceLemmas.{given}
-use Rattle.sqlite_rules.proofs.ProbeLemmas.{has_mapped, mapped_has}
+use Rattle.sqlite_rules.proofs.ProbeLemmas.{has_mapped}
 use Rattle.desk_sql.specs.Lists.{numbered_row, IsTableOf, changed}
 use Rattle.desk_sql.specs.Meanings.{every_row}
 use Rattle.desk_sql.proofs.Reading.{passes, shown_of, lists, lists_any}
 use Rattle.desk_sql.proofs.Keyed.{is_table, changed_rows, filter_rows}
-use Rattle.desk_sql.proofs.Tables.{id_of, value_of, replaced_values, kept_values}
+use Rattle.desk_sql.proofs.Tables.{id_of, kept_values}
 use Rattle.desk_sql.proofs.Replacing.{removed, replaced}
 
 module _ {X : Type 0} (f : X → Row) (id : X → ℤ) (keyed : (x : X) → rowid (f x) ≡ Int (id x)) (db : Trees) (table : Table)
@@ -65,25 +65,6 @@ module _ {X : Type 0} (f : X → Row) (id : X → ℤ) (keyed : (x : X) → rowi
       ∙ keyed (change x.0) ∙ ap Int (id_kept x.0) ∙ sym (ap rowid x.2 ∙ keyed x.0))
       fresh_too in
       rw (has, news_are) (it ∙ changed_rows f id keyed test_of test (λ z. write (shows z)) change test_is xs change_is)
-
--- A table whose rowids are free, after an UPDATE.
-module _ {X : Type 0} (columns : X → Row) (db : Trees) (table : Table) (xs : List X) (it : IsTableOf columns (db table.tree) xs)
-    (seen : overlay db [] table.tree ≡ db table.tree) (tests project : List Term) (params : Row) (answer : List Row)
-    (test : X → Bool) (change : X → X)
-    (test_is : (p : ℤ × X) → passes tests params (numbered_row columns p) ≡ test p.1)
-    (id_shown : (p : ℤ × X) → rowid (shown_of project params (numbered_row columns p)) ≡ Int p.0)
-    (change_is : (p : ℤ × X) → Has xs p.1 → test p.1 ≡ true
-    → cast_row table (drop 1 (shown_of project params (numbered_row columns p))) ≡ numbered_row columns (p.0, change p.1)) where
-  value_has : (p : ℤ × X) → Has it.numbered p → Has xs p.1
-  value_has p h = subst (λ ys. Has ys p.1) (sym it.values_are) (mapped_has value_of it.numbered p h)
-
-  pub table_updated : IsAnswer (every_row table.tree tests project) (overlay db []) params answer
-      → are_fresh (left_by db (edit_of db table (ids_of answer) Given 1 answer)) (edit_of db table (ids_of answer) Given 1 answer).news ≡ true
-      → IsTableOf columns (edited db (edit_of db table (ids_of answer) Given 1 answer)) (changed test change xs)
-  table_updated a fresh =
-      replaced_values columns (db table.tree) _ xs test change it
-      (updated (numbered_row columns) id_of (λ _. refl) db table it.numbered it.rise it.rows_are seen tests project params answer
-      (λ p. test p.1) (λ p. (p.0, change p.1)) test_is id_shown (λ _. refl) (λ p h passed. change_is p (value_has p h) passed) a fresh)
 
 -- A table whose rowids are free, after a DELETE.
 module _ {X : Type 0} (columns : X → Row) (db : Trees) (table : Table) (xs : List X) (it : IsTableOf columns (db table.tree) xs)

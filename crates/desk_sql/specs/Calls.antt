@@ -1,5 +1,5 @@
 -- What the contract of a statement may say of the connection that it ran on.
-use Rattle.std.specs.Prelude.{◌≡◌, ◌⊎◌, ℕ, false, [], None, Result, OnOk, IfOk, IsTrue, ⊤}
+use Rattle.std.specs.Prelude.{◌≡◌, ◌⊎◌, ℕ, false, [], None, Result, OnOk, IfOk, IsTrue}
 use Rattle.std.specs.Borrow.{MutBor}
 use Rattle.std.specs.List.{AllByRecursion}
 use Rattle.sqlite_schema.specs.declared.schema.Schema.{Schema}
@@ -91,10 +91,6 @@ module _ {S : Type 0} (g : Ghosts S) (old new : Held S) where
       HasCleanDisk (state g new) → (t : Tables) → MayRun (state g old) t → Fits t
       → OnOk result (Makes (state g old) (state g new) (after t))
 
-  -- the same, whatever the rows are
-  abbrev pub Writes : Result ℕ Error → (Tables → Tables) → Type 0
-  Writes result after = WritesWhere (λ _. ⊤) result after
-
   -- texts that create tables: from these tables, without rows, a success leads to those, without rows
   abbrev pub BuildsOn : Schema → {V : Type 0} → Result V Error → Schema → Type 0
   BuildsOn before result after =
@@ -134,14 +130,6 @@ module _ {S : Type 0} (g : Ghosts S) (old new : Held S) where
   ReadsIn v result Finds =
       HasCleanDisk (state g new) → (t : Tables) → MaySeeIn v (state g old) t
       → IfOk result (λ found. IsUnchanged (state g old) (state g new) × Finds t found)
-
-  -- the same, on tables of the newest version
-  abbrev pub Reads : {V : Type 0} → Result V Error → (Tables → V → Type 0) → Type 0
-  Reads result Finds = ReadsIn Two result Finds
-
-  -- the same, on tables of each version
-  abbrev pub ReadsEach : {V : Type 0} → Result V Error → (Tables → V → Type 0) → Type 0
-  ReadsEach result Finds = (v : Version) → ReadsIn v result Finds
 
   -- A read, whatever its answer: nothing changes, or the transaction of the call is rolled back; none is begun; and a crash leaves
   -- no more than before.

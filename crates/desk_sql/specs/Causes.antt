@@ -9,7 +9,6 @@ use Rattle.sqlite.specs.declared.error.Error.{Error}
 use Rattle.sqlite.specs.declared.error.Error.TheVariants.{SqliteFailure}
 use Rattle.sqlite.specs.declared.error.ErrorCode.TheVariants.{OutOfMemory}
 use Rattle.desk_sql.specs.declared.versions.Version.{Version}
-use Rattle.desk_sql.specs.declared.versions.Version.TheVariants.{Two}
 use Rattle.sqlite_schema.specs.declared.schema.Schema.{Schema}
 use Rattle.desk_sql.specs.Calls.{MaySeeIn, MayRun, MayBuild}
 use Rattle.desk_sql.specs.Rows.{Tables}
@@ -37,10 +36,6 @@ module _ {S : Type 0} (g : Ghosts S) (old new : Held S) where
   FailsForReasonIn v result Fits =
       HasCleanDisk (state g new) → (t : Tables) → MaySeeIn v (state g old) t → Fits t → IsUp (state g old)
       → IfErr result (HasReason (state g old) (state g new))
-
-  -- on tables of the newest version
-  abbrev pub FailsForReason : {V : Type 0} → Result V Error → (Tables → Type 0) → Type 0
-  FailsForReason result Fits = FailsForReasonIn Two result Fits
 
   -- on tables of each version
   abbrev pub FailsForReasonEach : {V : Type 0} → Result V Error → (Tables → Type 0) → Type 0

@@ -36,8 +36,8 @@ module _ {S : Type 0} (g : Ghosts S) (old new : MutBor (Held S)) (result : Resul
     pub reason : FailsToWrite g old.now new.now result Permits
     pub rowids : KeepsRowids g old.now new.now result
 
-  -- A write of rows whose rowids the store chooses. It adds so many: as many rowids must be left, and a success takes them from rows
-  -- that are such as are left.
+  -- A write of rows whose rowids the store chooses, of which it adds so many. The same, but that a failure has a reason where as many
+  -- rowids are left; a success takes so many of them, on rows that are `Left`.
   pub record WritesNumbered (Left : Tables → Type 0) (added : ℕ) (after : Tables → Tables) : Type 0 where
     pub goes : GoesOn g old new result
     pub made : WritesWhere g old.now new.now Fits result after

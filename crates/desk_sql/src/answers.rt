@@ -67,7 +67,8 @@ pub fn insert_answer<'x, S: Alter>(
     reply: &'x str,
 ) -> Result<usize, Error>
     ensures writes { WritesNumbered S.Store tx.old.conn tx.new.conn result
-        Any (MayKeep (kept agent.now mark.now ask.now reply.now)) Any 1 (adds_answer (kept agent.now mark.now ask.now reply.now)) }
+        Any (MayKeep (kept agent.now mark.now ask.now reply.now)) Any 1
+        (adds_answer (kept agent.now mark.now ask.now reply.now)) }
 {
     tx.execute(
         "INSERT INTO answer VALUES (?1, ?2, ?3, ?4)",

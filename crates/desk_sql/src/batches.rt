@@ -62,7 +62,8 @@ pub fn insert_batch<'x, S: Alter>(
     requires { num < 2 ^ 63 }
 
     ensures writes { WritesNumbered S.Store tx.old.conn tx.new.conn result
-        Any (MayAddBatch (record { name = name.now; num = num; content = content.now })) Any 1 (adds_batch (record { name = name.now; num = num; content = content.now })) }
+        Any (MayAddBatch (record { name = name.now; num = num; content = content.now })) Any 1
+        (adds_batch (record { name = name.now; num = num; content = content.now })) }
 {
     tx.execute(
         "INSERT INTO batch VALUES (?1, ?2, ?3)",

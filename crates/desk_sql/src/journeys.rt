@@ -172,7 +172,8 @@ pub fn insert_journey<S: Alter>(
     requires tries { tries < 2 ^ 63 }
 
     ensures writes { WritesKeyed S.Store tx.old.conn tx.new.conn result
-        (AreJourneysBelow id) (MayAddJourney (begun id num agent.now steps tries)) (adds_journey (begun id num agent.now steps tries)) }
+        (AreJourneysBelow id) (MayAddJourney (begun id num agent.now steps tries))
+        (adds_journey (begun id num agent.now steps tries)) }
 {
     tx.execute(
         "INSERT INTO journey VALUES (?1, ?2, ?3, ?4, ?5, ?6, ?7, ?8, ?9)",

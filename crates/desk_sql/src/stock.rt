@@ -133,7 +133,8 @@ pub fn take_nights<S: Alter>(
     requires count { count < 2 ^ 63 }
 
     ensures writes { WritesNumbered S.Store tx.old.conn tx.new.conn result
-        (HaveFree range.entry count) (MayTakeNights range.entry count) (HaveFree range.entry count) 0 (takes_nights range.entry count) }
+        (HaveFree range.entry count) (MayTakeNights range.entry count) (HaveFree range.entry count)
+        0 (takes_nights range.entry count) }
 {
     tx.execute(
         "UPDATE stock SET free = free - ?4 WHERE kind = ?1 AND supplier = ?2 AND product = ?3 AND night BETWEEN ?5 AND ?6",
@@ -167,7 +168,8 @@ pub fn give_nights<S: Alter>(
     requires count { count < 2 ^ 63 }
 
     ensures writes { WritesNumbered S.Store tx.old.conn tx.new.conn result
-        (HaveRoom range.entry count) (MayGiveNights range.entry count) (HaveRoom range.entry count) 0 (gives_nights range.entry count) }
+        (HaveRoom range.entry count) (MayGiveNights range.entry count) (HaveRoom range.entry count)
+        0 (gives_nights range.entry count) }
 {
     tx.execute(
         "UPDATE stock SET free = free - ?4 WHERE kind = ?1 AND supplier = ?2 AND product = ?3 AND night BETWEEN ?5 AND ?6",

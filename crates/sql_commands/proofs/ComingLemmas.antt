@@ -1,5 +1,5 @@
 -- What the rows of a step imply for the answer of the rules. For `step_outcome`.
-use Rattle.std.proofs.Common.{◌≡◌, ℕ, ◌+◌, ◌<◌, ◌≤◌, List, Option, Some, None, true, false, Bool, refl, sym, ap, subst, ◌∙◌, arith, option_map, if◌then◌else◌, nat_lt, Result, Ok, Err}
+use Rattle.std.proofs.Common.{◌≡◌, ℕ, ◌+◌, ◌<◌, ◌≤◌, List, Option, Some, None, true, false, Bool, refl, sym, ap, subst, ◌∙◌, arith, option_map, if◌then◌else◌, nat_lt, Result, Ok}
 use Rattle.std.specs.FinSet as set
 use Rattle.std.specs.Ordering.{nat_cmp}
 use Rattle.plan.specs.PlanModel.{Planned, step_count, want_at}
@@ -13,8 +13,7 @@ use Rattle.saga_core.specs.Rulings.{turn_said, Fits}
 use Rattle.commands.specs.declared.items.Cursor.{Cursor}
 use Rattle.commands.specs.declared.items.Item.{Item}
 use Rattle.commands.specs.declared.items.Item.TheVariants as item
-use Rattle.commands.specs.declared.items.Phase.{Phase}
-use Rattle.commands.specs.declared.items.Phase.TheVariants.{Run, Back, Ended, Undone}
+use Rattle.commands.specs.declared.items.Phase.TheVariants.{Run, Back}
 use Rattle.ledger.specs.Answer.{State, asker, answer_within, kept_for}
 use Rattle.commands.specs.Asks.{Asked}
 use Rattle.commands.specs.Request as request
@@ -23,8 +22,8 @@ use Rattle.sql_commands.specs.Answering.{Counts}
 use Rattle.sql_commands.specs.declared.moves.Motion.{Motion}
 use Rattle.sql_commands.specs.declared.moves.Motion.TheVariants as motion
 use Rattle.commands.specs.declared.replies.Refusal.{Refusal}
-use Rattle.commands.specs.declared.replies.Refusal.TheVariants.{Finished, NoSavePoint}
-use Rattle.ledger.specs.History.{is_finished, is_open, position_of}
+use Rattle.commands.specs.declared.replies.Refusal.TheVariants.{NoSavePoint}
+use Rattle.ledger.specs.History.{is_finished, position_of}
 use Rattle.ledger.specs.Ledger.{Journey, fits, history}
 use Rattle.ledger.specs.Replies.{Answer, sees, seen_journey, answer_move, abort_choices, step_choices}
 use Rattle.ledger_transitions.proofs.Histories.{follows}
@@ -211,27 +210,6 @@ module _ (s : State) (desk : IsDesk s) (who : Option (List ℕ)) (id : ℕ) (r :
       (λ below next fit run.
       let chosen = next (begun_as r) is.at (omega arith) (omega arith) in
       fit ∙ ap (fits s.ledger) (sym chosen.1) ∙ ap (λ n. fits s.ledger (want_at r.plan (r.cursor.pos + 1) n)) chosen.0)
-
-  -- no step, if the journey has finished
-  pub nothing_comes : (stand : Stand) → stand_of r ≡ stand → is_finished stand.cursor.phase ≡ true
-      → ComesFor id stand s r answered coming.Nothing
-  nothing_comes stand same finished =
-      let now : is_finished r.cursor.phase ≡ true = ap (λ (x : Stand). is_finished x.cursor.phase) same ∙ finished in
-      step_next s desk.legal who id r is false (not_running r.cursor.phase now) move.Nothing (none_named now)
-      ((λ e. now), (λ e. refl)) (Err Finished) refl
-    where
-      not_running : (p : Phase) → is_finished p ≡ true → p ≡ Run
-          → false ≡ fits s.ledger (rules.next_want r.plan r.cursor.pos r.cursor.used)
-      not_running p e run = absurd (let bad : true ≡ false = sym e ∙ ap is_finished run in cc)
-
-      finished_open : (p : Phase) → is_finished p ≡ true → is_open p ≡ true → ⊥
-      finished_open Run e goes = cc
-      finished_open (Back q) e goes = cc
-      finished_open Ended e goes = cc
-      finished_open Undone e goes = cc
-
-      none_named : is_finished r.cursor.phase ≡ true → NamesStep r.plan r.marks r.cursor false move.Nothing
-      none_named e h here goes = absurd (finished_open r.cursor.phase e goes)
 
 -- the outcome of a step of a journey that the caller sees is made
 pub made_step : (s : State) (ask : Option Asked) (counts : Meta) (id : ℕ) (r : Record) (m : Made) → IsDesk s → kept_for s ask ≡ None

@@ -108,10 +108,6 @@ module _ {S : Type 0} (g : Ghosts S) (old new : Held S) where
   abbrev pub KeepsEach : Type 0
   KeepsEach = (v : Version) (s : State) → KeepsIn v (state g old) s → KeepsIn v (state g new) s
 
-  -- the same, in tables of the newest version
-  abbrev pub KeepsOn : Type 0
-  KeepsOn = (s : State) → Keeps (state g old) s → Keeps (state g new) s
-
   -- a crash leaves nothing that it could not have left before
   abbrev pub LeavesAsBefore : Type 0
   LeavesAsBefore =

@@ -29,7 +29,7 @@ use Rattle.sql_model.proofs.Orders.{Rises, one_order}
 use Rattle.sql_model.proofs.Quieting.{quiet_clean, quiet_up}
 use Rattle.sql_model.proofs.Staying.{fails_twice}
 use Rattle.sql_reads.specs.Reading.{TellsBrief, row_of}
-use Rattle.sql_reads.specs.RemainingRows.{StaysUnder, stays_alone, stays_twice}
+use Rattle.sql_reads.specs.RemainingRows.{StaysUnder, stays_twice}
 use Rattle.sql_lists.specs.ListedRows.{AreGoodBriefsRest, BriefsRest}
 use Rattle.sql_reads.proofs.HandedBriefs.{brief_in, brief_same, briefs, kept_alike, unfinished_phase}
 use Rattle.sql_reads.proofs.HandedGood.{brief_good, briefs_text}
@@ -129,13 +129,6 @@ module _ {S : Type 0} (g : Ghosts S) where
     pub kept : StaysUnder g first now
     pub so_far : HasCleanDisk (state g now.now) → (all : List Brief) → BriefsRest g first.now all → Remain (BriefsRest g now.now) taken all
     pub good : HasCleanDisk (state g now.now) → AreGoodBriefsRest g first.now → AreGoodBriefsRest g now.now
-
-  pub none_so_far : (first : MutBor (Held S)) (taken : List Brief) → taken ≡ [] → AreSoFar first first taken
-  none_so_far first taken none = record {
-    kept = stays_alone first;
-    so_far = λ clean all rests. (all, rests, sym (ap (λ bs. bs ++ all) none));
-    good = λ clean good. good;
-  }
 
   module _ (first old new : MutBor (Held S)) (taken : List Brief) (so : AreSoFar first old taken) (look : StaysUnder g old new) where
     pub look_kept : StaysUnder g first new
