@@ -1,5 +1,6 @@
 #!/usr/bin/env bash
-# The file is changed by hand: items that were written are not read again, and the last event is the 999,999,999,999th.
+# The file is changed by hand: items that were written are not read again, the last event is the 999,999,999,999th, and indexes are
+# dropped and made.
 . "$(dirname "${BASH_SOURCE[0]}")/helping.bash"
 
 a1=F/AL/A1/2030-06-01
@@ -50,4 +51,21 @@ refused 9 NoJourney"
 same "the last event: meta" "1|2|999999999999|1" "$(rows 'SELECT * FROM meta')"
 same "the last event: its number" "999999999999" "$(rows 'SELECT num FROM journey')"
 same "the file is sound" "ok" "$(rows 'PRAGMA integrity_check')"
+
+# a new desk has the index on the agents of the journeys; a file without it, or with another one beside it, is used the same way
+index="CREATE INDEX journey_agent ON journey(agent, id)"
+rm -f trips.db trips.db-*
+answers "a new desk" "set a $a1 5\nbegin $a1/1/1!0\nstep 1\n" "loaded a 1
+journey 1 begun
+journey 1 T1.1 ended 1"
+same "its index" "$index" "$(rows "SELECT sql FROM sqlite_schema WHERE type = 'index' AND sql IS NOT NULL")"
+id=1
+for change in "DROP INDEX journey_agent" "$index; CREATE INDEX item_journey ON entry2(journey, num)"; do
+  id=$((id + 1))
+  rows "$change"
+  answers "after $change" "begin $a1/1/1!0\nstep $id\n" "journey $id begun
+journey $id T1.1 ended 1"
+done
+same "the items of each" "3|1 5|2 7|3" "$(rows 'SELECT num, journey FROM entry2 ORDER BY num')"
+same "the file is sound, with two indexes" "ok" "$(rows 'PRAGMA integrity_check')"
 finish

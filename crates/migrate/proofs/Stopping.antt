@@ -93,7 +93,7 @@ module _ {S : Type 0} (g : Ghosts S) (old mid : Held S) where
     bare_not_old bare clean live s stood =
         let found : IsFound One (state g old) s = stood (at_first clean) in
         let desk : SeesOf One (state g old) s = found.sees live in
-        not_bare (sym desk.schema ∙ bare)
+        not_bare (sym desk.schema.is ∙ bare)
 
   -- so no refusal comes on tables of version 1
   pub refuses_others : Quiet g old mid → (why : MigrateFault) → Tells g old mid why → IsRefusal why → WasNotOld g old mid
