@@ -1,6 +1,5 @@
 #!/usr/bin/env bash
-# The file is changed by hand: items that were written are not read again, the last event is the 999,999,999,999th, and indexes are
-# dropped and made.
+# The file is changed by hand: items that were written are not read again, and the last event is the 999,999,999,999th.
 . "$(dirname "${BASH_SOURCE[0]}")/helping.bash"
 
 a1=F/AL/A1/2030-06-01
@@ -51,37 +50,4 @@ refused 9 NoJourney"
 same "the last event: meta" "1|2|999999999999|1" "$(rows 'SELECT * FROM meta')"
 same "the last event: its number" "999999999999" "$(rows 'SELECT num FROM journey')"
 same "the file is sound" "ok" "$(rows 'PRAGMA integrity_check')"
-
-# a new desk has the index on the agents of the journeys; a file without it, or with another one beside it, is used the same way
-index="CREATE INDEX journey_agent ON journey(agent, id)"
-rm -f trips.db trips.db-*
-answers "a new desk" "set a $a1 5\nbegin $a1/1/1!0\nstep 1\n" "loaded a 1
-journey 1 begun
-journey 1 T1.1 ended 1"
-same "its index" "$index" "$(rows "SELECT sql FROM sqlite_schema WHERE type = 'index' AND sql IS NOT NULL")"
-ends_next() { # ends_next WHAT NUMBER: one more journey of this number is made
-  answers "$1" "begin $a1/1/1!0\nstep $2\n" "journey $2 begun
-journey $2 T1.1 ended 1"
-}
-indexes() { # indexes WHAT OUTPUT: what `index` says of trips.db
-  same "$1" "$2" "$("$DESK" index trips.db 2>&1 </dev/null)"
-}
-indexes "index, of a new desk" "already indexed journeys 1"
-rows 'DROP INDEX journey_agent'
-ends_next "without the index" 2
-indexes "index, where there is none" "indexed journeys 2"
-same "the index that was added" "$index" "$(rows "SELECT sql FROM sqlite_schema WHERE type = 'index' AND sql IS NOT NULL")"
-indexes "index, a second time" "already indexed journeys 2"
-ends_next "with the index that was added" 3
-rows 'CREATE INDEX item_journey ON entry2(journey, num)'
-ends_next "with an index on the items too" 4
-same "the items of each" "3|1 5|2 7|3 9|4" "$(rows 'SELECT num, journey FROM entry2 ORDER BY num')"
-same "the file is sound, with two indexes" "ok" "$(rows 'PRAGMA integrity_check')"
-rows 'UPDATE meta SET version = 3'
-indexes "index, of an unknown version" "refused 20 UnknownSchema 3"
-rm -f trips.db trips.db-*
-: >trips.db
-indexes "index, of a file without tables" "refused 20 UnknownSchema 0"
-rm -f trips.db trips.db-*
-indexes "index, of an absent file" "fault 26 File"
 finish

@@ -8,7 +8,7 @@ program=$DESK
 say() { printf 'help.sh: %s\n' "$*" >&2; }
 . "$top/scripts/manual.bash"
 
-commands="run serve recover load stock summary holders unfinished journeys history why migrate index"
+commands="run serve recover load stock summary holders unfinished journeys history why migrate"
 
 # helps WHAT WORDS: the program prints a help on standard error, into the file err, and ends with 2
 helps() {
@@ -93,7 +93,7 @@ old_file() {
   { echo 'set june F/AL/A1/2030-06-01 9'
     for id in 1 2 3; do printf 'begin F/AL/A1/2030-06-01/1/1!0\nstep %s\n' "$id"; done
   } | "$DESK" run old.db >/dev/null
-  sqlite3 old.db "INSERT INTO entry SELECT * FROM entry2; DROP TABLE entry2; DROP TABLE mark; DROP INDEX journey_agent; UPDATE meta SET version = 1"
+  sqlite3 old.db "INSERT INTO entry SELECT * FROM entry2; DROP TABLE entry2; DROP TABLE mark; UPDATE meta SET version = 1"
 }
 
 # shown_by EXAMPLE: what its commands print, on standard output; after one in the background it waits for a line
@@ -117,7 +117,7 @@ for command in "" $commands; do
   port=$(free_port)
   example=$(help_of $command | sed '1,/^Example:$/d; s/^  //' | sed "s/8080/$port/")
   mkdir "example-$command" && cd "example-$command" || exit 2
-  case $command in migrate | index) old_file ;; esac
+  [ "$command" != migrate ] || old_file
   : >printed
   same "the example of ${command:-desk}" "$(grep -v '^\$ ' <<<"$example")" "$(PATH=$work/path:$PATH shown_by "$example")"
   cd ..

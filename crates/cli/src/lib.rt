@@ -8,7 +8,6 @@
 
 mod listening;
 mod loads;
-mod indexes;
 mod migrations;
 mod programs;
 mod telling;

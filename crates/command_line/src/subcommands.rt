@@ -21,12 +21,11 @@ pub(crate) enum Subcommand {
     History,
     Why,
     Migrate,
-    Index,
 }
 
 impl Subcommand {
     /// All subcommands, in the order of the usage.
-    pub(crate) const ALL: [Subcommand; 13] = [
+    pub(crate) const ALL: [Subcommand; 12] = [
         Subcommand::Run,
         Subcommand::Serve,
         Subcommand::Recover,
@@ -39,7 +38,6 @@ impl Subcommand {
         Subcommand::History,
         Subcommand::Why,
         Subcommand::Migrate,
-        Subcommand::Index,
     ];
 
     /// The subcommand that a word names. Returns `None` if the word names none.
@@ -60,7 +58,6 @@ impl Subcommand {
             "history" => Some(Subcommand::History),
             "why" => Some(Subcommand::Why),
             "migrate" => Some(Subcommand::Migrate),
-            "index" => Some(Subcommand::Index),
             _ => None,
         }
     }
@@ -82,7 +79,6 @@ impl Subcommand {
             Subcommand::History => "history",
             Subcommand::Why => "why",
             Subcommand::Migrate => "migrate",
-            Subcommand::Index => "index",
         }
     }
 
@@ -101,7 +97,6 @@ impl Subcommand {
             Subcommand::History => "desk history",
             Subcommand::Why => "desk why",
             Subcommand::Migrate => "desk migrate",
-            Subcommand::Index => "desk index",
         }
     }
 
@@ -120,7 +115,6 @@ impl Subcommand {
             Subcommand::History => "Print what happened to a journey, oldest first",
             Subcommand::Why => "Print why a journey stands where it does",
             Subcommand::Migrate => "Migrate a database from schema 1 to schema 2, in one commit",
-            Subcommand::Index => "Add the index by which an agent's journeys are found",
         }
     }
 
@@ -137,8 +131,7 @@ impl Subcommand {
             | Subcommand::Journeys
             | Subcommand::History
             | Subcommand::Why
-            | Subcommand::Migrate
-            | Subcommand::Index => "The database file, which must exist",
+            | Subcommand::Migrate => "The database file, which must exist",
         }
     }
 
