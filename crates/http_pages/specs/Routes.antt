@@ -1,4 +1,5 @@
 -- The routes of the desk: one table of paths, and what a method and a target ask for.
+use Rattle.std.specs.Borrow.{Bor}
 use Rattle.std.specs.Prelude.{ℕ, List, [], ◌∷◌, bytes_eq, slice_get, codes, if◌then◌else◌, Option, Some, None, option_map, option_and_then, Result, Ok, Err}
 use Rattle.std.specs.Str.{is_utf8}
 use Rattle.matchit.specs.Order.{placed}
@@ -18,6 +19,7 @@ use Rattle.http_pages.specs.declared.routes.Route.{Route}
 use Rattle.http_pages.specs.declared.routes.Route.TheVariants.{LoadBatch, Begin, Step, Abort, Save, ShowJourney, ShowPlan, ShowUnfinished, ShowStock, ShowMine, ShowHealth, ShowAgent}
 use Rattle.http_pages.specs.declared.routes.Unrouted.{Unrouted}
 use Rattle.http_pages.specs.declared.routes.Unrouted.TheVariants.{UnknownPath, WrongMethod, BadPart}
+use Rattle.http_pages.specs.declared.routes.Verb.{Verb}
 use Rattle.http_pages.specs.declared.routes.Verb.TheVariants.{Get, Post}
 
 -- The table.
@@ -25,6 +27,10 @@ use Rattle.http_pages.specs.declared.routes.Verb.TheVariants.{Get, Post}
 -- a path, the one method that it has, and what stands there
 abbrev pub Line : Type 0
 Line = List ℕ × Entry
+
+-- the line of a path, a method and what stands there
+abbrev pub line_of : Bor (List ℕ) × Verb × Place → Line
+line_of x = (x.0.now, record { verb = x.1; place = x.2 })
 
 -- a path with the method GET
 abbrev pub get : List ℕ → Place → Line

@@ -1,10 +1,10 @@
 //! What stands at the paths of the desk, what a method and a target ask for there, and whether it may be asked.
 
 ghost use Rattle.http_pages.specs.Admitting.{admitted, is_of_method, needs_agent, plain};
-ghost use Rattle.http_pages.specs.Routes.{routes, with_line, found_route, asked_by, route_of, piece, name_at, journey_at, after_at, position_at, asked};
+ghost use Rattle.http_pages.specs.Routes.{line_of, routes, with_line, with_lines, found_route, asked_by, route_of, piece, name_at, journey_at, after_at, position_at, asked};
 ghost use Rattle.http_pages.specs.Verbs.{verb_text};
 ghost use Rattle.matchit.specs.Seek.{first};
-ghost use Rattle.std.specs.Prelude.{◌≡◌, IfOk, OnOk, is_some, IfErr, option_map};
+ghost use Rattle.std.specs.Prelude.{◌≡◌, IfOk, OnOk, is_some, IfErr, option_map, map};
 
 use commands::{MOST_EVENTS, MOST_NAMED_POSITION, Name, Refusal, number_between};
 use matchit::Router;
@@ -90,28 +90,39 @@ fn add(router: &mut Router<Entry>, path: &str, verb: Verb, place: Place) -> Resu
     }
 }
 
+/// Adds the paths of these lines, one after another.
+fn add_all(router: &mut Router<Entry>, lines: &[(&str, Verb, Place)]) -> Result<(), AllocError>
+    ensures added { OnOk result (router.new ≡ with_lines router.old (map line_of lines.now)) }
+{
+    for line in lines {
+        add(router, line.0, line.1, line.2)?;
+    }
+    Ok(())
+}
+
+/// The paths of the desk: each with the one method that it has, and what stands there. What stands in braces matches one
+/// piece between slashes.
+static LINES: [(&str, Verb, Place); 13] = [
+    ("/batches/{name}", Verb::Post, Place::Batch),
+    ("/journeys", Verb::Post, Place::Journeys),
+    ("/journeys/{id}/step", Verb::Post, Place::Step),
+    ("/journeys/{id}/abort/{p}", Verb::Post, Place::Abort),
+    ("/journeys/{id}/save", Verb::Post, Place::Save),
+    ("/journeys/{id}", Verb::Get, Place::Journey),
+    ("/journeys/{id}/plan", Verb::Get, Place::Plan),
+    ("/unfinished", Verb::Get, Place::Unfinished),
+    ("/stock", Verb::Get, Place::Stock),
+    ("/mine", Verb::Get, Place::Mine),
+    ("/mine/{after}", Verb::Get, Place::MineAfter),
+    ("/health", Verb::Get, Place::Health),
+    ("/agent", Verb::Get, Place::Agent),
+];
+
 impl Paths {
     /// All paths of the desk. The only fault is out of memory.
     pub fn new(alloc: Global) -> Result<Paths, AllocError> {
         let mut router = Router::new(alloc);
-        add(&mut router, "/batches/{name}", Verb::Post, Place::Batch)?;
-        add(&mut router, "/journeys", Verb::Post, Place::Journeys)?;
-        add(&mut router, "/journeys/{id}/step", Verb::Post, Place::Step)?;
-        add(
-            &mut router,
-            "/journeys/{id}/abort/{p}",
-            Verb::Post,
-            Place::Abort,
-        )?;
-        add(&mut router, "/journeys/{id}/save", Verb::Post, Place::Save)?;
-        add(&mut router, "/journeys/{id}", Verb::Get, Place::Journey)?;
-        add(&mut router, "/journeys/{id}/plan", Verb::Get, Place::Plan)?;
-        add(&mut router, "/unfinished", Verb::Get, Place::Unfinished)?;
-        add(&mut router, "/stock", Verb::Get, Place::Stock)?;
-        add(&mut router, "/mine", Verb::Get, Place::Mine)?;
-        add(&mut router, "/mine/{after}", Verb::Get, Place::MineAfter)?;
-        add(&mut router, "/health", Verb::Get, Place::Health)?;
-        add(&mut router, "/agent", Verb::Get, Place::Agent)?;
+        add_all(&mut router, &LINES)?;
         Ok(Paths { router })
     }
 

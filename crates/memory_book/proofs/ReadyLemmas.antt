@@ -20,6 +20,7 @@ use Rattle.ledger.specs.Ledger.{history}
 use Rattle.ledger.specs.Answer.{State}
 use Rattle.ledger_transitions.specs.JourneyChanges.{cursor_after}
 use Rattle.ledger_transitions.specs.Cursors.{cursor_of}
+use Rattle.saga_core.specs.Cursors.{IsWithin}
 use Rattle.memory_book.specs.MemoryAnswers.{kept_in, AreKeptAlike}
 use Rattle.memory_book.specs.MemoryJourneys.{IsPlaced, IsNext, taken_after, stands_after}
 use Rattle.memory_book.specs.MemoryNext.{save_said}
@@ -80,6 +81,15 @@ in_plan plan cursor taken (Compensation i c) placed next =
     above_start Undone e back = cc
 in_plan plan cursor taken (Turn p cause) placed next = tt
 in_plan plan cursor taken (Save p) placed next = tt
+
+-- an item that is next is within the numbers of the plan
+pub next_within : (plan : Planned) (cursor : Cursor) (taken : List ℕ) (x : Item)
+    → IsPlaced plan cursor taken → IsNext plan cursor x → IsWithin (step_count plan) cursor x
+next_within plan cursor taken (Transaction i c) placed next = placed.running next.0
+next_within plan cursor taken (Compensation i c) placed next =
+    let step = in_plan plan cursor taken (Compensation i c) placed next in omega (arith, next.1, step.0)
+next_within plan cursor taken (Turn p cause) placed next = tt
+next_within plan cursor taken (Save p) placed next = tt
 
 -- After an item.
 

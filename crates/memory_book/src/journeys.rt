@@ -1,13 +1,11 @@
 //! One journey, with all that its next move needs beside its items.
-ghost use Rattle.std.specs.Prelude.{◌≡◌, ℕ, ◌<◌, ◌≤◌, ◌^◌, length};
-ghost use Rattle.memory_book.specs.MemoryJourneys.{IsPlaced, IsNext};
-ghost use Rattle.ledger_transitions.specs.JourneyChanges.{phase_down as phase_down_rule, cursor_after as after_rule};
-ghost use Rattle.plan.specs.PlanModel.{step_count};
+ghost use Rattle.std.specs.Prelude.{◌≤◌, length};
+ghost use Rattle.memory_book.specs.MemoryJourneys.{IsPlaced};
 
 use allotment::Want;
-use commands::{Agent, Ask, Cause, Cursor, Item, Phase};
+use commands::{Agent, Ask, Cursor, Item, Phase};
 use plan::Plan;
-use saga_core::{Brief, Record};
+use saga_core::{Brief, Record, cursor_after};
 use savepoints::{Marks, option_at};
 use std::alloc::{AllocError, Global};
 
@@ -146,6 +144,7 @@ impl Journey {
     }
 
     /// Makes one more item. The precondition says that there is capacity for it.
+    #[tactic(auto, using(crate::proofs::ReadyLemmas::next_within))]
     pub fn make(&mut self, item: Item)
         requires room { HasRoom self.old }
         requires next { IsNext self.old.plan self.old.cursor item }
@@ -168,59 +167,5 @@ impl Journey {
             Item::Save { position } => self.marks.add(position),
         }
         self.items.push_reserved(item);
-    }
-}
-
-/// The phase of a journey that went back to this position.
-fn phase_down(target: usize, pos: usize) -> Phase
-    ensures down { result ≡ phase_down_rule target pos }
-{
-    if target < pos {
-        Phase::Back(target)
-    } else if target == 0 {
-        Phase::Undone
-    } else {
-        Phase::Run
-    }
-}
-
-/// The cursor of a journey with this plan after one more item.
-pub fn cursor_after(plan: &Plan, cursor: Cursor, item: Item) -> Cursor
-    requires counted { cursor.used < 2 ^ 63 }
-    requires within { cursor.pos ≤ step_count plan.now }
-    requires next { IsNext plan.now cursor item }
-    requires above { (p : ℕ) → cursor.phase ≡ Phase.Back p → p < cursor.pos }
-
-    ensures after { result ≡ after_rule plan.now cursor item }
-{
-    let Cursor { pos, phase, used } = cursor;
-    match item {
-        Item::Transaction { .. } => Cursor {
-            pos: pos + 1,
-            phase: if pos + 1 == plan.steps() {
-                Phase::Ended
-            } else {
-                Phase::Run
-            },
-            used,
-        },
-        Item::Compensation { .. } => Cursor {
-            pos: pos - 1,
-            phase: match phase {
-                Phase::Back(target) => phase_down(target, pos - 1),
-                other => other,
-            },
-            used,
-        },
-        Item::Turn { target, cause } => Cursor {
-            pos,
-            phase: phase_down(target, pos),
-            used: if cause == Cause::Refused {
-                used + 1
-            } else {
-                used
-            },
-        },
-        Item::Save { .. } => cursor,
     }
 }

@@ -4,6 +4,7 @@ pub mod Runs
 pub mod Reasons
 pub mod RowSources
 pub mod Rulings
+pub mod Cursors
 pub mod Worlds
 pub mod Chains
 pub mod ChainExamples

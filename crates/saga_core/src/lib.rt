@@ -5,6 +5,7 @@
 #![tactic(auto)]
 
 mod books;
+mod cursors;
 mod deciding;
 mod laws;
 mod records;
@@ -17,6 +18,7 @@ pub use commands::{
     Agent, Ask, BadBatch, Batch, Cause, Command, CsvCause, Cursor, Fault, Item, Key, Name, Phase,
     Refusal, Reply,
 };
+pub use cursors::{cursor_after, cursor_down, cursor_turned, cursor_up};
 pub use deciding::{Move, decide};
 pub use laws::{chains, session_that_crashes};
 pub use ledger;

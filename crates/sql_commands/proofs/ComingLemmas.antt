@@ -42,7 +42,8 @@ use Rattle.sql_reads.specs.declared.reads.Stand.{Stand}
 use Rattle.sql_writes.specs.declared.events.Event.TheVariants as event
 use Rattle.sql_reads.specs.OptionChoice.{IsNextChoice, IsLastChoice}
 use Rattle.sql_commands.specs.Moving.{IsStepUp, IsStepDown, IsTurnedToStart, LeadsToStart, FitsIn, IsNextMade, IsMade, ComesFor, IsLastOption, FitsNext, IsEventOf, IsUnfit, IsNext, IsDue, IsRead, Runs, asked_for}
-use Rattle.sql_commands.specs.Placing.{begun_as, IsSeen, SeesStand, StandsAt, turned_to_start}
+use Rattle.saga_core.specs.Cursors.{turned_to}
+use Rattle.sql_commands.specs.Placing.{begun_as, IsSeen, SeesStand, StandsAt}
 use Rattle.sql_commands.specs.declared.step_outcome.Coming.TheVariants as coming
 use Rattle.sql_commands.specs.declared.moves.Made.{Made}
 use Rattle.sql_reads.specs.declared.plan_rows.Choice.{Choice}
@@ -318,11 +319,11 @@ start_made s ask counts id stand why cause m read leads turned =
     let is = read.here.1 in
     let same = read.here.2 in
     let there : m.cursor ≡ cursor_after r.plan r.cursor m.item =
-    turned.cursor ∙ ap (λ (x : Stand). turned_to_start cause x.cursor) (sym same) ∙ ap (cursor_after r.plan r.cursor) (sym turned.item_is) in
+    turned.cursor ∙ ap (λ (x : Stand). turned_to 0 cause x.cursor) (sym same) ∙ ap (cursor_after r.plan r.cursor) (sym turned.item_is) in
     let answer = start_at s read.desk (asker ask) id r is why cause (subst (λ x. LeadsToStart x why cause) (sym same) leads) read.unfit read.runs in
     let says : IsEventOf id r.plan r.cursor (item.Turn 0 cause) m.event =
     turned.event ∙ ap (λ c. event.Turn (record { journey = id; target = 0; cause = cause; cursor = c }))
-    (turned.cursor ∙ ap (λ (x : Stand). turned_to_start cause x.cursor) (sym same)) in
+    (turned.cursor ∙ ap (λ (x : Stand). turned_to 0 cause x.cursor) (sym same)) in
     subst
     (λ n. IsSeen s (asker ask) n r → Fits n r.plan r.cursor (answer_within s.ledger (asker ask) (asked_for n why)) (Ok m.item)
     → IsEventOf n r.plan r.cursor m.item m.event → IsMade s ask counts why m) turned.same

@@ -1,4 +1,4 @@
--- The numbers of an event of a journey fit the store's integers. For `event_of`, `step_up` and `step_down`.
+-- The numbers of an event of a journey are within its plan, and fit the store's integers. For `event_of`, `step_up` and `step_down`.
 use Rattle.std.proofs.Common.{◌≡◌, ℕ, ◌+◌, ◌-◌, ◌<◌, ◌≤◌, ◌^◌, Bool, true, false, if◌then◌else◌, IsTrue, refl, sym, subst, arith, ◌==◌, nat_lt}
 use Rattle.plan.specs.Limits.{most_steps}
 use Rattle.plan.specs.PlanModel.{Planned, step_count, is_plan}
@@ -16,8 +16,16 @@ use Rattle.sql_transitions.specs.Moving.{cursor_written}
 use Rattle.sql_writes.specs.Kinds.{IsSmall}
 use Rattle.sql_writes.specs.declared.events.Event.{Event}
 use Rattle.sql_commands.specs.Moving.{IsEventOf}
-use Rattle.sql_commands.specs.Placing.{IsPlaced, IsPlacedIn, MayBeMade, stepped_up, stepped_down, turned_to_start}
+use Rattle.saga_core.specs.Cursors.{stepped_up, stepped_down, turned_to, IsWithin}
+use Rattle.sql_commands.specs.Placing.{IsPlaced, IsPlacedIn, MayBeMade}
 use Rattle.plan.proofs.LimitLemmas.{few_options, few_steps}
+
+-- an item that may come at a cursor is within the numbers of the plan
+pub may_within : (plan : Planned) (c : Cursor) (x : Item) → MayBeMade plan c x → IsWithin (step_count plan) c x
+may_within plan c (item.Transaction i k) may = let last = may.1.in_plan in omega arith
+may_within plan c (item.Compensation i k) may = let first = may.1.from_one in omega arith
+may_within plan c (item.Turn p cause) may = tt
+may_within plan c (item.Save p) may = tt
 
 -- small numbers are stored as small numbers
 numbers_small : (pos used : ℕ) (p : Phase) → pos ≤ 2 ^ 62 → target_of p ≤ 2 ^ 62 → used ≤ 2 ^ 62
@@ -152,7 +160,7 @@ stepped_down_small steps c few placed =
 
 -- and so has the cursor after a turn to the start
 pub turned_to_start_small : (steps : ℕ) (c : Cursor) (cause : Cause) → steps ≤ most_steps → IsPlacedIn steps c
-    → IsSmallCursor (cursor_written (turned_to_start cause c))
+    → IsSmallCursor (cursor_written (turned_to 0 cause c))
 turned_to_start_small steps c Stop few placed =
     let within = placed.within in
     let counted = placed.counted in

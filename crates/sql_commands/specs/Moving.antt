@@ -32,7 +32,8 @@ use Rattle.sql_writes.specs.declared.events.Numbers.{Numbers}
 use Rattle.sql_writes.specs.declared.events.Event.{Event}
 use Rattle.sql_writes.specs.declared.events.Event.TheVariants.{Transaction, Compensation, Turn, Save}
 use Rattle.sql_commands.specs.Answering.{Counts}
-use Rattle.sql_commands.specs.Placing.{IsSeen, SeesStand, stepped_up, stepped_down, turned_to_start}
+use Rattle.saga_core.specs.Cursors.{stepped_up, stepped_down, turned_to}
+use Rattle.sql_commands.specs.Placing.{IsSeen, SeesStand}
 use Rattle.saga_core.specs.Rulings.{Fits}
 use Rattle.sql_reads.specs.Reading.{stand_of}
 use Rattle.sql_reads.specs.declared.reads.Stand.{Stand}
@@ -141,7 +142,7 @@ pub record IsTurnedToStart (id : ℕ) (stand : Stand) (cause : Cause) (m : Made)
     cause = cause;
     cursor = m.cursor;
   })
-  pub cursor : m.cursor ≡ turned_to_start cause stand.cursor
+  pub cursor : m.cursor ≡ turned_to 0 cause stand.cursor
 
 -- `fitting` says whether the want fits
 abbrev pub FitsIn : Wanted → State → Bool → Type 0

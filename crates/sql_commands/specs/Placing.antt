@@ -1,7 +1,6 @@
 -- The cursor of a journey by its record, and the item that may come next.
-use Rattle.std.specs.Prelude.{◌≡◌, ℕ, ◌+◌, ◌-◌, ◌<◌, ◌≤◌, ◌^◌, List, IsTrue, Option, Some, None}
+use Rattle.std.specs.Prelude.{◌≡◌, ℕ, ◌+◌, ◌<◌, ◌≤◌, ◌^◌, List, IsTrue, Option, Some, None}
 use Rattle.plan.specs.PlanModel.{Planned, step_count, option_count}
-use Rattle.commands.specs.declared.items.Cause.{Cause}
 use Rattle.commands.specs.declared.items.Cursor.{Cursor}
 use Rattle.commands.specs.declared.items.Item.{Item}
 use Rattle.commands.specs.declared.items.Item.TheVariants.{Transaction, Compensation, Turn, Save}
@@ -11,7 +10,6 @@ use Rattle.ledger.specs.Ledger as l
 use Rattle.ledger.specs.Ledger.{journey_at, history}
 use Rattle.ledger.specs.Answer.{State}
 use Rattle.ledger.specs.Replies.{seen_journey}
-use Rattle.ledger_transitions.specs.JourneyChanges.{phase_up, phase_down, phase_back, used_after}
 use Rattle.ledger_transitions.specs.Cursors.{cursor_of, marks_of}
 use Rattle.saga_core.specs.declared.records.Record.{Record}
 use Rattle.sql_reads.specs.Reading.{stand_of}
@@ -28,18 +26,6 @@ pub record IsPlacedIn (steps : ℕ) (c : Cursor) : Type 0 where
 -- the same, for a journey with this plan
 abbrev pub IsPlaced : Planned → Cursor → Type 0
 IsPlaced plan c = IsPlacedIn (step_count plan) c
-
--- the cursor of a journey of so many steps after one more step
-abbrev pub stepped_up : ℕ → Cursor → Cursor
-stepped_up steps c = record { pos = c.pos + 1; phase = phase_up steps (c.pos + 1); used = c.used }
-
--- the cursor of a journey after the compensation of its last standing step
-abbrev pub stepped_down : Cursor → Cursor
-stepped_down c = record { pos = c.pos - 1; phase = phase_back c.phase (c.pos - 1); used = c.used }
-
--- the cursor of a journey after a turn to its start for this cause
-abbrev pub turned_to_start : Cause → Cursor → Cursor
-turned_to_start cause c = record { pos = c.pos; phase = phase_down 0 c.pos; used = used_after cause c.used }
 
 -- the plan has this option of this step
 pub record HasOption (plan : Planned) (step option : ℕ) : Type 0 where

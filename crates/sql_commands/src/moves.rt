@@ -23,11 +23,11 @@ ghost use Rattle.commands.specs.declared.items.Phase.TheVariants.{Run};
 ghost use Rattle.sql_reads.specs.Reads.{Read};
 
 use crate::answering::{commit_answered, read_counts};
-use crate::cursors::{cursor_after, cursor_to_start, is_placed, may_be_made};
+use crate::cursors::{is_placed, may_be_made};
 use commands::{Agent, Ask, Cause, Cursor, Fault, Item, MOST_EVENTS, Phase, Refusal, Reply};
 use desk_sql::Meta;
 use plan::{MOST_STEPS, Plan};
-use saga_core::{Move, Record, decide, saved, turned};
+use saga_core::{Move, Record, cursor_after, cursor_turned, decide, saved, turned};
 use savepoints::Turn;
 use sql_reads::{LARGEST, Stand, read_record, read_stand};
 use sql_writes::{Event, Numbers, SaveMade, StepMade, TurnMade};
@@ -84,6 +84,7 @@ pub(crate) fn find_stand<S: Alter>(
 }
 
 /// The event of an item of a journey with this plan, which is at this cursor before the item.
+#[tactic(auto, using(crate::proofs::SmallLemmas::may_within))]
 fn event_of<'x>(id: u64, plan: &Plan, at: Cursor, item: Item) -> Event<'x>
     requires id { id < 2 ^ 63 }
     requires placed { IsPlaced plan.now at }
@@ -157,6 +158,7 @@ pub(crate) fn make_event<S: Alter>(
 
 /// Writes an item of a journey, unless the ledger is full. An item whose numbers do not fit the cursor is a fault of
 /// the store.
+#[tactic(auto, using(crate::proofs::SmallLemmas::may_within))]
 fn make<S: Alter>(
     alloc: Global,
     conn: &mut Connection<S>,
@@ -287,7 +289,7 @@ fn turn_to_start<'x>(id: u64, stand: &Stand, cause: Cause) -> Made<'x>
     ensures start { IsTurnedToStart id stand.now cause result }
     ensures small { IsSmall result.event }
 {
-    let cursor = cursor_to_start(stand.cursor, cause);
+    let cursor = cursor_turned(stand.cursor, 0, cause);
     Made {
         id,
         item: Item::Turn { target: 0, cause },

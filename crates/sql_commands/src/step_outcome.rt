@@ -15,10 +15,10 @@ ghost use Rattle.commands.specs.Request.{Step};
 ghost use Rattle.sql_writes.specs.Kinds.{IsSmall};
 
 use crate::answering::read_counts;
-use crate::cursors::{cursor_down, cursor_up};
 use crate::moves::{Made, Motion, answer_motion, find_stand, make_event};
 use allotment::{Want, fits};
 use commands::{Ask, Fault, Item, Phase, Refusal, Reply};
+use saga_core::{cursor_down, cursor_up};
 use sql_reads::{Choice, Stand, last_choice, next_choice, read_cells};
 use sql_writes::{Event, StepMade};
 use sqlite::{Alter, Connection};

@@ -2,13 +2,12 @@
 ghost use Rattle.std.specs.Prelude.{◌≡◌, ◌<◌, ◌^◌, suc, IsTrue};
 ghost use Rattle.memory_book.specs.MemoryStock.{IsInPlan, fits_where_taken, ChangesFor};
 
-use crate::journeys::cursor_after;
 use crate::mem_book::MemBook;
 use crate::next::{saved, stepped, turned};
 use crate::stock::Stock;
 use commands::{Ask, Cause, Cursor, Item, Refusal, Reply};
 use plan::Plan;
-use saga_core::is_running;
+use saga_core::{cursor_after, is_running};
 use savepoints::Turn;
 use std::alloc::AllocError;
 

@@ -11,6 +11,6 @@ returns-clause-small c =
     record {
       journey = c.requires.id;
       target = omega arith;
-      cursor = subst (λ at. IsSmallCursor (cursor_written at)) (sym c.cursor_to_start-cursor.ensures.start)
+      cursor = subst (λ at. IsSmallCursor (cursor_written at)) (sym c.cursor_turned-cursor.ensures.turned)
           (turned_to_start_small stand.steps stand.cursor c.args.cause c.requires.few c.requires.placed);
     }

@@ -14,13 +14,14 @@ use Rattle.memory_book.specs.Memory.{IsSameJourney}
 use Rattle.memory_book.specs.declared.journeys.Journey.{Journey}
 use Rattle.memory_book.proofs.GrowthLemmas.{keeps_book}
 use Rattle.memory_book.proofs.MoveLemmas.{carried_out-made}
-use Rattle.memory_book.proofs.ReadyLemmas.{in_plan, makes-after, same_item, stands-reserved}
+use Rattle.memory_book.proofs.ReadyLemmas.{in_plan, makes-after, next_within, same_item, stands-reserved}
 use Rattle.memory_book.proofs.mem_book.MemBook.make.Goals as goal
 
 -- the item is next for the journey at this place
-pub cursor_after-cursor-requires-clause-next : goal.cursor_after-cursor-requires-clause-next
-cursor_after-cursor-requires-clause-next c =
+pub cursor_after-cursor-requires-clause-within : goal.cursor_after-cursor-requires-clause-within
+cursor_after-cursor-requires-clause-within c =
     let old = c.index_mut-journey.result.now in
+    next_within old.plan old.cursor old.taken.items c.args.item old.placed
     (c.requires.next old (slice_get-get_or c.args.self.now.journeys.items c.args.place old
     c.requires.within ∙ ap Some (sym c.index_mut-journey.ensures.value))).next
 
