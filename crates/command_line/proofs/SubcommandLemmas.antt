@@ -11,7 +11,7 @@ use Rattle.clap.specs.declared.builder.Command.{Command}
 use Rattle.clap.specs.declared.builder.command.Command.TheViews.{out-Command}
 use Rattle.clap.specs.declared.parser.ArgMatches.{ArgMatches}
 use Rattle.command_line.specs.Jobs.{value_in}
-use Rattle.command_line.specs.Subcommands.{bare_app, has_any, ids_in, needed, needed_in, rules_for, with_rules, AddsRules, IsFlag, IsValue, IsWord, Requires}
+use Rattle.command_line.specs.Subcommands.{bare_app, has_any, ids_in, needed_in, rules_for, with_rules, AddsRules, IsFlag, IsValue, IsWord, Requires}
 use Rattle.command_line.specs.declared.subcommands.Subcommand.{Subcommand}
 use Rattle.command_line.specs.declared.subcommands.Subcommand.TheVariants.{Run, Serve, Recover, Load, Stock, Summary, Holders, Unfinished, Journeys, History, Why, Migrate}
 
@@ -146,7 +146,7 @@ all_required start cmd xs chain args groups globals negates values good =
     (fits_chain xs values tests.0) (differ_by_id xs tests.1) lt (is, here.action, here.whole, here.least) parsed)
 
 -- a command to which these values were added is read by their rules, and each parse has those that are required
-pub with_values : (name : Text) (start cmd : Command) (xs : List Arg) (wanted : List Rule) → AddsInTurn AddsArg start xs cmd
+with_values : (name : Text) (start cmd : Command) (xs : List Arg) (wanted : List Rule) → AddsInTurn AddsArg start xs cmd
     → app_of start ≡ bare_app name
     → args_of start ≡ [] → groups_of start ≡ [] → (out-Command start).has_globals ≡ false → (out-Command start).subcommand_negates_reqs ≡ false
     → All IsWord xs → map rule_of xs ≡ wanted → fit_together (ids_in wanted) ≡ true
@@ -173,23 +173,6 @@ ids_fit History = refl
 ids_fit Why = refl
 ids_fit Migrate = refl
 
--- every other subcommand has only a file
-pub rules_for-others : (s : Subcommand) → (s ≡ Serve → ⊥) → (s ≡ Load → ⊥) → (s ≡ Stock → ⊥)
-    → (s ≡ Summary → ⊥) → (s ≡ Holders → ⊥) → (s ≡ Unfinished → ⊥) → (s ≡ Journeys → ⊥) → (s ≡ History → ⊥)
-    → (s ≡ Why → ⊥) → rules_for s ≡ needed (codes "FILE") ∷ []
-rules_for-others Run serve load stock summary holders unfinished journeys history why = refl
-rules_for-others Serve serve load stock summary holders unfinished journeys history why = absurd (serve refl)
-rules_for-others Recover serve load stock summary holders unfinished journeys history why = refl
-rules_for-others Load serve load stock summary holders unfinished journeys history why = absurd (load refl)
-rules_for-others Stock serve load stock summary holders unfinished journeys history why = absurd (stock refl)
-rules_for-others Summary serve load stock summary holders unfinished journeys history why = absurd (summary refl)
-rules_for-others Holders serve load stock summary holders unfinished journeys history why = absurd (holders refl)
-rules_for-others Unfinished serve load stock summary holders unfinished journeys history why = absurd (unfinished refl)
-rules_for-others Journeys serve load stock summary holders unfinished journeys history why = absurd (journeys refl)
-rules_for-others History serve load stock summary holders unfinished journeys history why = absurd (history refl)
-rules_for-others Why serve load stock summary holders unfinished journeys history why = absurd (why refl)
-rules_for-others Migrate serve load stock summary holders unfinished journeys history why = refl
-
 -- one more argument, before the others
 and_word : (x : Arg) (xs : List Arg) → IsWord x → All IsWord xs → All IsWord (x ∷ xs)
 and_word x xs here rest = λ k d lt. at k d lt
@@ -198,21 +181,19 @@ and_word x xs here rest = λ k d lt. at k d lt
     at zero d lt = here
     at (suc k) d lt = rest k d (omega arith)
 
--- one more value, before the others
-pub and_value : (x : Arg) (xs : List Arg) → IsValue x → All IsWord xs → All IsWord (x ∷ xs)
-and_value x xs here rest =
-    and_word x xs (record { plain = here.plain; global = here.global; needed = λ _. here }) rest
+-- a value is such an argument
+pub value_word : (x : Arg) → IsValue x → IsWord x
+value_word x here = record { plain = here.plain; global = here.global; needed = λ _. here }
 
--- one more flag, before the others
-pub and_flag : (x : Arg) (xs : List Arg) → IsFlag x → All IsWord xs → All IsWord (x ∷ xs)
-and_flag x xs here rest =
-    and_word x xs (record { plain = here.plain; global = here.global; needed = λ is. absurd (not_required x here is) }) rest
+-- and so is a flag
+pub flag_word : (x : Arg) → IsFlag x → IsWord x
+flag_word x here = record { plain = here.plain; global = here.global; needed = λ is. absurd (not_required is) }
   where
-    not_required : (a : Arg) → IsFlag a → a.required ≡ true → ⊥
-    not_required a flag is = let both : true ≡ false = sym is ∙ flag.required in cc
+    not_required : x.required ≡ true → ⊥
+    not_required is = let both : true ≡ false = sym is ∙ here.required in cc
 
 -- no value
-pub no_value : All IsWord []
+no_value : All IsWord []
 no_value = λ k d lt. absurd (omega arith)
 
 -- the same, where the first is a file and the others were added by their rules
@@ -224,13 +205,17 @@ pub with_file : (name : Text) (start over cmd : Command) (file : Arg) (rules wan
     → (app_of cmd ≡ with_rules (bare_app name) wanted) × All (Requires cmd) (needed_in wanted)
 with_file name start over cmd file rules wanted added later app args groups globals negates value listed good =
     with_values name start cmd (file ∷ later.0) wanted (over, added, later.1) app args groups globals negates
-    (and_value file later.0 value later.2) (ap (λ rs. rule_of file ∷ rs) later.3 ∙ listed) good
+    (and_word file later.0 (value_word file value) later.2) (ap (λ rs. rule_of file ∷ rs) later.3 ∙ listed) good
 
 -- one more argument, before those that were added by their rules
 pub one_more : (start over cmd : Command) (x : Arg) (rule : Rule) (rules : List Rule) → AddsArg start x over
-    → IsFlag x → rule_of x ≡ rule → AddsRules over rules cmd → AddsRules start (rule ∷ rules) cmd
+    → IsWord x → rule_of x ≡ rule → AddsRules over rules cmd → AddsRules start (rule ∷ rules) cmd
 one_more start over cmd x rule rules added is named later =
-    (x ∷ later.0, (over, added, later.1), and_flag x later.0 is later.2, ap (λ r. r ∷ map rule_of later.0) named ∙ ap (λ rs. rule ∷ rs) later.3)
+    (x ∷ later.0, (over, added, later.1), and_word x later.0 is later.2, ap (λ r. r ∷ map rule_of later.0) named ∙ ap (λ rs. rule ∷ rs) later.3)
+
+-- none was added
+pub none_more : (start : Command) → AddsRules start [] start
+none_more start = ([], refl, no_value, refl)
 
 -- a value that follows an option is one as before
 pub long_value : (a b : Arg) (name : Bor Text) → b ≡ record a { long = Some name } → IsValue a → IsValue b

@@ -13,7 +13,6 @@ use Rattle.command_line.specs.declared.jobs.JobFault.{JobFault}
 use Rattle.command_line.specs.declared.jobs.JobFault.TheVariants.{Usage, Memory}
 use Rattle.command_line.specs.declared.subcommands.Subcommand.{Subcommand}
 use Rattle.command_line.specs.declared.subcommands.Subcommand.TheVariants as sub
-use Rattle.reports.specs.declared.formats.Format.{Format}
 use Rattle.reports.specs.declared.formats.Format.TheVariants as format
 
 -- the subcommand of a job; the calendar is one of the stock, and the job that prints the version has none

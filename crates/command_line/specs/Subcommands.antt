@@ -8,6 +8,8 @@ use Rattle.clap.specs.declared.builder.Arg.{Arg}
 use Rattle.clap.specs.declared.builder.Command.{Command}
 use Rattle.clap.specs.declared.builder.command.Command.TheViews.{out-Command}
 use Rattle.clap.specs.declared.parser.ArgMatches.{ArgMatches}
+use Rattle.command_line.specs.declared.subcommand_words.Word.{Word}
+use Rattle.command_line.specs.declared.subcommand_words.Word.TheVariants.{Needed, NeededAfter, After, Flag}
 use Rattle.command_line.specs.declared.subcommands.Subcommand.{Subcommand}
 use Rattle.command_line.specs.declared.subcommands.Subcommand.TheVariants.{Run, Serve, Recover, Load, Stock, Summary, Holders, Unfinished, Journeys, History, Why, Migrate}
 
@@ -92,6 +94,13 @@ report_format = record (optional (codes "FORMAT")) { long = Some (codes "format"
 -- a value follows an option of this name
 abbrev pub named_by : Text → Rule → Rule
 named_by name rule = record rule { long = Some name }
+
+-- how clap reads a value
+abbrev pub rule_said : Word → Rule
+rule_said (Needed id help) = needed id.now
+rule_said (NeededAfter id name help) = named_by name.now (needed id.now)
+rule_said (After id name help) = named_by name.now (optional id.now)
+rule_said (Flag id name help) = named_by name.now (flagged id.now)
 
 -- the cells that are asked for: their kind, supplier, product, and their first and last night
 abbrev pub cell_rules : List Rule

@@ -8,7 +8,7 @@ use reports::Format;
 use std::alloc::AllocError;
 
 /// A job of the program.
-#[derive(Debug, Drop)]
+#[derive(Drop)]
 pub enum Job {
     /// Recover the desk over this file, and answer the lines of standard input.
     Run {

@@ -9,6 +9,7 @@ mod explaining;
 mod help;
 mod job_values;
 mod jobs;
+mod subcommand_words;
 mod subcommands;
 mod values;
 mod version;

@@ -1,9 +1,12 @@
 //! The subcommands of the program: their words, and the values that each of them reads.
-ghost use Rattle.std.specs.Prelude.{◌≡◌, [], false, All, IfOk, IfSome};
-ghost use Rattle.clap.specs.Words.{app_of, args_of, groups_of, rule_of};
-ghost use Rattle.command_line.specs.Subcommands.{app_for, bare_app, cell_rules, flagged, has_globals, name_of, named_by, needed, needed_for, negates_needs, one_rules, optional, report_format, subcommand_in, AddsRules, IsFlag, IsValue, Requires};
+ghost use Rattle.std.specs.Prelude.{◌≡◌, [], ◌∷◌, false, map, codes, All, IfOk, IfSome};
+ghost use Rattle.clap.specs.Words.{app_of, args_of, groups_of};
+ghost use Rattle.command_line.specs.Subcommands.{app_for, bare_app, has_globals, name_of, needed, needed_for, negates_needs, rule_said, rules_for, subcommand_in, Requires};
 
-use clap::{Arg, ArgAction, Command};
+use crate::subcommand_words::{
+    HOLDERS, JOURNEY, JOURNEYS, LOAD, SERVE, STOCK, SUMMARY, UNFINISHED, Word, value, with_words,
+};
+use clap::Command;
 use std::alloc::{AllocError, Global};
 
 /// The subcommands of the program.
@@ -151,6 +154,23 @@ impl Subcommand {
             .bin_name(self.called())
     }
 
+    /// The values that the subcommand reads after its file.
+    fn words<'a>(self) -> &'a [Word<'static>]
+        ensures rules { needed (codes "FILE") ∷ map rule_said result.now ≡ rules_for self }
+    {
+        match self {
+            Subcommand::Serve => &SERVE,
+            Subcommand::Load => &LOAD,
+            Subcommand::Stock => &STOCK,
+            Subcommand::Summary => &SUMMARY,
+            Subcommand::Holders => &HOLDERS,
+            Subcommand::Unfinished => &UNFINISHED,
+            Subcommand::Journeys => &JOURNEYS,
+            Subcommand::History | Subcommand::Why => &JOURNEY,
+            Subcommand::Run | Subcommand::Recover | Subcommand::Migrate => &[],
+        }
+    }
+
     /// The `clap` command that reads the words after the subcommand.
     pub(crate) fn command<'a>(self, alloc: Global) -> Result<Command<'a>, AllocError>
         ensures app { IfOk result (λ command. app_of command ≡ app_for self) }
@@ -158,156 +178,6 @@ impl Subcommand {
     {
         let bare = self.bare(alloc)?;
         let over_file = bare.arg(value(alloc, "FILE", self.file()))?;
-        match self {
-            Subcommand::Serve => {
-                let port = value(alloc, "PORT", "The port to listen on, 1 to 65535").long("port");
-                let count = "Accept N connections in all, 1 to 1000, then exit";
-                let number = extra(alloc, "N", count).long("connections");
-                let house = extra(alloc, "PATH", "Also listen on this Unix socket").long("house");
-                let page = flag(alloc, "PAGE", "Also serve the page for browsers, at /").long(
-                    "page",
-                );
-                let log = flag(alloc, "LOG", "Log each request on standard error").long("log");
-                let wide = flag(alloc, "WIDE", "Read HTTP as libraries and proxies speak it").long(
-                    "wide",
-                );
-                over_file
-                    .arg(port)?
-                    .arg(number)?
-                    .arg(house)?
-                    .arg(page)?
-                    .arg(log)?
-                    .arg(wide)
-            }
-            Subcommand::Load => {
-                let csv = value(alloc, "CSV", "The allotment file, or - for standard input");
-                let name = value(alloc, "NAME", "The name of the batch").long("batch");
-                over_file.arg(csv)?.arg(name)
-            }
-            Subcommand::Stock => {
-                let calendar = flag(
-                    alloc,
-                    "CALENDAR",
-                    "Show a month of nights for each product, as text",
-                )
-                .long("calendar");
-                with_cells(alloc, over_file.arg(calendar)?)
-            }
-            Subcommand::Summary => with_cells(alloc, over_file),
-            Subcommand::Holders => {
-                with_one(
-                    alloc,
-                    over_file,
-                    "CELL",
-                    "The cell, as R/INN/DBL/2030-06-01",
-                )
-            }
-            Subcommand::Unfinished => {
-                let agent = option(alloc, "AGENT", "agent", "Show those of an agent");
-                let state = option(
-                    alloc,
-                    "STATE",
-                    "state",
-                    "Show those in a state: run or back",
-                );
-                over_file.arg(agent)?.arg(state)?.arg(format(alloc))
-            }
-            Subcommand::Journeys => {
-                let agent = option(alloc, "AGENT", "agent", "Show those of an agent");
-                let state = option(
-                    alloc,
-                    "STATE",
-                    "state",
-                    "Show those in a state: run, back, ended or undone",
-                );
-                over_file.arg(agent)?.arg(state)?.arg(format(alloc))
-            }
-            Subcommand::History => with_one(alloc, over_file, "ID", "The number of the journey"),
-            Subcommand::Why => with_one(alloc, over_file, "ID", "The number of the journey"),
-            _ => Ok(over_file),
-        }
+        with_words(alloc, over_file, self.words())
     }
-}
-
-/// A required value.
-fn value<'a>(alloc: Global, id: &'a str, help: &'a str) -> Arg<'a>
-    ensures rule { rule_of result ≡ needed id.entry.now }
-    ensures value { IsValue result }
-{
-    Arg::new(alloc, id)
-        .help(help)
-        .required(true)
-        .action(ArgAction::Set)
-}
-
-/// A value that may be left out.
-fn extra<'a>(alloc: Global, id: &'a str, help: &'a str) -> Arg<'a>
-    ensures rule { rule_of result ≡ optional id.entry.now }
-    ensures value { IsValue result }
-{
-    Arg::new(alloc, id).help(help).action(ArgAction::Set)
-}
-
-/// A flag: it is given or not, and no value follows it.
-fn flag<'a>(alloc: Global, id: &'a str, help: &'a str) -> Arg<'a>
-    ensures rule { rule_of result ≡ flagged id.entry.now }
-    ensures flag { IsFlag result }
-{
-    Arg::new(alloc, id).help(help).action(ArgAction::SetTrue)
-}
-
-/// A value that may be left out, and follows an option of this name.
-fn option<'a>(alloc: Global, id: &'a str, name: &'a str, help: &'a str) -> Arg<'a>
-    ensures rule { rule_of result ≡ named_by name.entry.now (optional id.entry.now) }
-    ensures value { IsValue result }
-{
-    extra(alloc, id, help).long(name)
-}
-
-/// The command with the values that ask for cells, and a format.
-fn with_cells<'a>(alloc: Global, command: Command<'a>) -> Result<Command<'a>, AllocError>
-    ensures asks { IfOk result (AddsRules command.entry cell_rules) }
-{
-    let kind = option(
-        alloc,
-        "KIND",
-        "kind",
-        "Show a kind: flight, room, transfer or cover",
-    );
-    let supplier = option(alloc, "SUPPLIER", "supplier", "Show a supplier");
-    let product = option(alloc, "PRODUCT", "product", "Show a product");
-    let from = option(
-        alloc,
-        "FROM",
-        "from",
-        "Show nights from a day on, as 2030-06-01",
-    );
-    let to = option(alloc, "TO", "to", "Show nights to a day");
-    command
-        .arg(kind)?
-        .arg(supplier)?
-        .arg(product)?
-        .arg(from)?
-        .arg(to)?
-        .arg(format(alloc))
-}
-
-/// The command with one required value of this name, and a format.
-fn with_one<'a>(
-    alloc: Global,
-    command: Command<'a>,
-    id: &'a str,
-    help: &'a str,
-) -> Result<Command<'a>, AllocError>
-    ensures asks { IfOk result (AddsRules command.entry (one_rules id.entry.now)) }
-{
-    command.arg(value(alloc, id, help))?.arg(format(alloc))
-}
-
-/// The format of a report.
-fn format<'a>(alloc: Global) -> Arg<'a>
-    ensures rule { rule_of result ≡ report_format }
-    ensures value { IsValue result }
-{
-    extra(alloc, "FORMAT", "text (the default), json or csv").long("format")
 }
