@@ -1,19 +1,111 @@
--- The first message of bytes that are in memory. For first_message and messages_stay.
-use Rattle.std.proofs.Common.{◌≡◌, ◌∙◌, ap, sym, subst, refl, ℕ, ◌+◌, ◌<◌, ◌≤◌, List, [], ◌∷◌, ◌++◌, length, take, drop, append-nil, append_assoc, arith, length-drop}
+-- The first message of bytes that are in memory. For first_message, decided_front and messages_stay.
+use Rattle.std.proofs.Common.{◌≡◌, ◌∙◌, ap, sym, subst, refl, ℕ, suc, ◌+◌, ◌<◌, ◌≤◌, Bool, true, false, List, [], ◌∷◌, ◌++◌, map, length, take, drop, take-append-drop, append-nil, append_assoc, arith, length-append, length-drop, find, if◌then◌else◌, None, Some}
 use Rattle.std.specs.List.{concat}
 use Rattle.std.proofs.lemmas.List.{drop-take, length-take, length-take-le, take-take}
 use Rattle.std.proofs.lemmas.Grind.{common_steps}
+use Rattle.httparse.specs.Grammar.{RequestHead}
+use Rattle.httparse.proofs.GrammarLemmas.{request_unique}
 use Rattle.http_messages.specs.Messages as sent
-use Rattle.http_messages.specs.Messages.{AreEach, BeginsWithAll, HasNoMessage, is_told}
+use Rattle.http_messages.specs.Messages.{AreEach, BeginsWith, BeginsWithAll, HasNoMessage, first_told, fronts, is_told}
 use Rattle.http_messages.specs.Heads.{IsHead, body_length, parts_of}
-use Rattle.http_messages.specs.Places.{IsToldAt}
+use Rattle.http_messages.specs.Places.{IsToldAt, WentThrough}
 use Rattle.http_messages.specs.Requests.{IsRequest}
 use Rattle.http_messages.specs.Fields.{IsNoHead, IsSomeHeadAt, parts_in}
 use Rattle.http_messages.specs.Reading.{IsFirstOf}
 use Rattle.http_messages.specs.declared.heads.Head.{Head}
+use Rattle.http_messages.specs.declared.places.Search.{Search}
 use Rattle.http_messages.specs.declared.requests.Request.{Request}
 use Rattle.http_messages.specs.declared.requests.Message.TheVariants as taken
-use Rattle.http_messages.proofs.IncomingLemmas.{begins_with_request, begins_without_head, is_whole}
+use Rattle.http_messages.proofs.HeadLemmas.{first_of_told}
+
+-- Prefixes.
+
+-- what is found in a list of prefixes, by the first and the later ones
+find_map_none_by : (t : Bool) (test : List ℕ → Bool) (b : ℕ) (g : List ℕ) (fs : List (List ℕ))
+    → (find (λ x. test (b ∷ x)) fs ≡ None → find test (map (λ x. b ∷ x) fs) ≡ None)
+    → (if t then Some g else find (λ x. test (b ∷ x)) fs) ≡ None
+    → (if t then Some (b ∷ g) else find test (map (λ x. b ∷ x) fs)) ≡ None
+find_map_none_by true test b g fs later none = cc
+find_map_none_by false test b g fs later none = later none
+
+-- of lists that all begin with the same byte, none passes where no suffix does
+find_map_none : (test : List ℕ → Bool) (b : ℕ) (fs : List (List ℕ))
+    → find (λ x. test (b ∷ x)) fs ≡ None
+    → find test (map (λ x. b ∷ x) fs) ≡ None
+find_map_none test b [] none = refl
+find_map_none test b (g ∷ fs) none = find_map_none_by (test (b ∷ g)) test b g fs (find_map_none test b fs) none
+
+-- of the prefixes, none passes where none of each length does
+find_none : (test : List ℕ → Bool) (xs : List ℕ)
+    → ((k : ℕ) → k ≤ length xs → test (take k xs) ≡ false)
+    → find test (fronts xs) ≡ None
+find_none test [] none = ap (λ z. if z then Some [] else None) (none 0 (omega arith))
+find_none test (b ∷ xs) none =
+    ap (λ z. if z then Some [] else find test (map (λ x. b ∷ x) (fronts xs))) (none 0 (omega arith))
+    ∙ find_map_none test b (fronts xs) (find_none (λ x. test (b ∷ x)) xs (λ k within. none (suc k) (omega arith)))
+
+-- where the search went through all bytes, none of their prefixes is decided
+pub none_told : (search : Search) (bytes : List ℕ) → WentThrough search bytes → first_told bytes ≡ None
+none_told search bytes went = find_none is_told bytes went.calm
+
+-- Messages.
+
+-- where no prefix is decided, there is no message
+pub no_front_none : (stream : List ℕ) → first_told stream ≡ None → HasNoMessage stream
+no_front_none stream none sent.NoHead rest begins = let first = begins.first in cc
+no_front_none stream none (sent.Asks h body) rest begins = let first = begins.first in cc
+
+module _ (stream behind : List ℕ) (bytes : List ℕ) (end : ℕ) (whole : stream ≡ bytes ++ behind) (told : IsToldAt bytes end) where
+  -- the decided prefix
+  abbrev pub front : List ℕ
+  front = take end bytes
+
+  -- the prefix is the first decided one of the stream
+  first_is : first_told stream ≡ Some front
+  first_is = ap first_told whole ∙ first_of_told bytes behind end told
+
+  -- the stream is the prefix and what follows
+  cut_at : stream ≡ front ++ (drop end bytes ++ behind)
+  cut_at =
+      whole ∙ ap (λ all. all ++ behind) (sym (take-append-drop end bytes)) ∙ append_assoc front (drop end bytes) behind
+
+  -- a prefix that is no head is a message
+  pub begins_without_head : (rest : List ℕ) → rest ≡ drop end bytes → IsNoHead front → BeginsWith stream sent.NoHead (rest ++ behind)
+  begins_without_head rest is none = record {
+    front = front;
+    first = first_is;
+    is_none = none;
+    whole = cut_at ∙ ap (λ left. front ++ (left ++ behind)) (sym is);
+  }
+
+  module _ (h : RequestHead) (is_head : IsHead front h) where
+    -- a head, followed by as many bytes as its length says, is a message
+    pub begins_with_request : (body rest : List ℕ)
+        → length body ≡ body_length (parts_of h)
+        → drop end bytes ≡ body ++ rest
+        → BeginsWith stream (sent.Asks h body) (rest ++ behind)
+    begins_with_request body rest long is = record {
+      front = front;
+      first = first_is;
+      is_head = is_head;
+      is_long = long;
+      whole = cut_at ∙ ap (λ left. front ++ (left ++ behind)) is ∙ ap (λ left. front ++ left) (append_assoc body rest behind);
+    }
+
+    -- a message that begins with a head has as many bytes as its length says
+    pub is_whole : (m : sent.Message) (rest : List ℕ) → BeginsWith stream m rest → end + body_length (parts_of h) ≤ length stream
+    is_whole sent.NoHead rest begins =
+        let same : begins.front ≡ front = let first = begins.first in let here = first_is in cc in
+        absurd (begins.is_none h (subst (λ text. IsHead text h) (sym same) is_head))
+    is_whole (sent.Asks k body) rest begins =
+        let same : begins.front ≡ front = let first = begins.first in let here = first_is in cc in
+        let k_here : IsHead front k = subst (λ text. IsHead text k) same begins.is_head in
+        let heads : k ≡ h = (request_unique front k h [] [] k_here.reads is_head.reads).0 in
+        let long : length body ≡ body_length (parts_of h) = begins.is_long ∙ ap (λ z. body_length (parts_of z)) heads in
+        let count : length begins.front ≡ end = ap length same ∙ length-take-le end bytes told.within in
+        omega (arith, long, count, ap length begins.whole, length-append begins.front (body ++ rest), length-append body rest)
+
+-- What is taken.
 
 -- a prefix is decided in as many bytes as contain it
 told_within : (bytes : List ℕ) (end count : ℕ) → end ≤ count → IsToldAt bytes end → IsToldAt (take count bytes) end

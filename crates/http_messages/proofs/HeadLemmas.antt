@@ -1,4 +1,4 @@
--- What httparse reads of a decided prefix. For Head::read and next_message.
+-- What httparse reads of a decided prefix. For Head::read and first_message.
 use Rattle.std.proofs.Common.{◌≡◌, ◌∙◌, ap, sym, subst, ℕ, ◌≤◌, List, [], ◌++◌, length, take, drop, take-append-drop, append-nil, append_assoc, arith, Some, true, inl, inr, length-append, ◌==◌}
 use Rattle.std.proofs.lemmas.Bool.{cases_lt}
 use Rattle.std.proofs.lemmas.List.{length-take-le, take_all, take-take, length-take, length-map}

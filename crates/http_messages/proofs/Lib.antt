@@ -5,6 +5,5 @@ pub mod LengthLemmas
 pub mod ToldLemmas
 pub mod PlaceLemmas
 pub mod HeadLemmas
-pub mod IncomingLemmas
 pub mod FirstLemmas
 pub mod MessageLemmas

@@ -46,11 +46,16 @@ impl Head {
         }
     }
 
-    /// The request of this head, without its body.
-    pub(crate) fn request(&self, alloc: Global, front: &[u8]) -> Result<Request, AllocError>
+    /// The request of this head with this body.
+    pub(crate) fn request(
+        &self,
+        alloc: Global,
+        front: &[u8],
+        body: Vec<u8>,
+    ) -> Result<Request, AllocError>
         requires { LiesIn front.now self.now }
         ensures request { IfOk result
-            (λ request. IsRequest request (parts_in front.now self.now) []) }
+            (λ request. IsRequest request (parts_in front.now self.now) body.items) }
     {
         Ok(Request {
             method: self.line.method.of(front).to_vec(alloc)?,
@@ -59,7 +64,7 @@ impl Head {
             agent: self.agent(front),
             is_unnamed: self.is_unnamed(front),
             key: self.key(front),
-            body: Vec::new(alloc),
+            body,
             closes: says(front, self.fields(), b"connection", b"close"),
             complaint: self.complaint(front),
             is_head: self.has_method(front, b"HEAD"),

@@ -1,8 +1,6 @@
-//! What a message asks, as the desk takes it; how long its body is, and why a reader gives none; and the first message of bytes that are in memory.
-
+//! What a message asks, as the desk takes it; how long its body is; and the first message of bytes that are in memory.
 ghost use Rattle.allotment.specs.Texts.{keep_if};
 ghost use Rattle.http_messages.specs.Fields.{length_of};
-ghost use Rattle.http_messages.specs.declared.requests.ReadFault.TheVariants.{Memory, Read};
 ghost use Rattle.std.specs.Prelude.{◌≡◌, IfOk, IfSome, IsNone, None};
 ghost use Rattle.std.specs.Str.Parse.{digits_value};
 ghost use Rattle.http_messages.specs.Messages.{first_told};
@@ -13,7 +11,6 @@ use crate::heads::Head;
 use crate::places::Search;
 use commands::{Agent, Key, Refusal};
 use std::alloc::{AllocError, Global};
-use streams::ReadFailed;
 
 /// A request: what its head says, and its body.
 #[derive(Debug, Drop)]
@@ -47,31 +44,6 @@ pub enum Message {
     NoHead,
     /// A request, whole.
     Asks(Request),
-}
-
-/// Why the next message is not returned.
-#[derive(Clone, Copy, Debug, PartialEq, Eq)]
-pub enum ReadFault {
-    /// Out of memory.
-    Memory,
-    /// A read failed, or the input has more bytes than can be counted.
-    Read,
-}
-
-impl From<AllocError> for ReadFault {
-    ghost from_gives = { λ _ fault. fault ≡ Memory };
-
-    fn from(_error: AllocError) -> ReadFault {
-        ReadFault::Memory
-    }
-}
-
-impl From<ReadFailed> for ReadFault {
-    ghost from_gives = { λ _ fault. fault ≡ Read };
-
-    fn from(_error: ReadFailed) -> ReadFault {
-        ReadFault::Read
-    }
 }
 
 /// The length of a body, as a head gives it.
@@ -108,11 +80,9 @@ pub(crate) fn length_in(text: &[u8]) -> Option<usize>
 pub fn first_message(alloc: Global, bytes: &[u8]) -> Result<Option<(Message, usize)>, AllocError>
     ensures first { IfOk result (IsFirst bytes.now) }
 {
-    let mut search = Search::new();
-    if !search.go_on(bytes) {
+    let Some(end) = decided_front(bytes) else {
         return Ok(None);
-    }
-    let end = search.looked;
+    };
     let front = &bytes[..end];
     let Some(head) = Head::read(front) else {
         return Ok(Some((Message::NoHead, end)));
@@ -122,8 +92,8 @@ pub fn first_message(alloc: Global, bytes: &[u8]) -> Result<Option<(Message, usi
         return Ok(None);
     }
     let whole = end + count;
-    let mut request = head.request(alloc, front)?;
-    request.body.extend_from_slice(&bytes[end..whole])?;
+    let body = bytes[end..whole].to_vec(alloc)?;
+    let request = head.request(alloc, front, body)?;
     Ok(Some((Message::Asks(request), whole)))
 }
 

@@ -4,10 +4,9 @@ use crate::tests::orders::{
     BAD_BODY, BUS, FLIGHT, JOURNEY_1, JOURNEY_2, KEY_REUSED, LOADED, NO_AGENT, NO_JOURNEY, NO_KEY,
     SEATS_AND_ROOMS, UNKNOWN_PATH, begin, plan_of,
 };
-use crate::tests::talks::{ALL, Asked, Page, Talk, put};
+use crate::tests::talks::{Asked, Page, Talk, put};
 use desk_http::{Door, answer_to};
-use failing_streams::Pieces;
-use http_messages::Incoming;
+use http_messages::first_message;
 use http_pages::Paths;
 use std::alloc::Global;
 use std::process::Abort;
@@ -41,14 +40,14 @@ pub fn go_on_unnamed(
 pub fn is_answered_at(rt: &impl Abort, alloc: Global, door: Door, talk: &Talk, stops: usize) {
     let mut desk = new_desk(rt, alloc);
     let paths = Paths::new(alloc).expect(rt, "memory");
-    let mut incoming = Incoming::new(alloc).expect(rt, "memory");
-    let mut reader = Pieces::of(&talk.sent, ALL);
+    let mut left = talk.sent.as_slice();
     let mut told = Vec::new(alloc);
     let mut stopped = 0usize;
     for _ in 0..talk.sent.len() {
-        let Some(message) = incoming.next_message(&mut reader).expect(rt, "a read") else {
+        let Some((message, count)) = first_message(alloc, left).expect(rt, "memory") else {
             break;
         };
+        left = left.get(count..).unwrap_or(b"");
         let answer = answer_to(alloc, &paths, door, &message, &mut desk);
         let answer = answer.expect(rt, "memory");
         told.extend_from_slice(&answer.bytes).expect(rt, "memory");

@@ -1,29 +1,34 @@
 //! The text of messages in a test.
 use commands::Refusal;
-use http_messages::{Incoming, Message, ReadFault, Request};
+use http_messages::{Message, Request, first_message};
 use std::alloc::{AllocError, Global};
 use std::io::Read;
 use std::str;
+use streams::{ReadFailed, read_some};
 
-/// The messages up to the end or a fault, each with a semicolon, and the fault.
+/// The messages up to the end or a fault, each with a semicolon, and the fault. What was read before waits, and more is read
+/// only where no message is whole.
 pub(super) fn told<R: Read>(
     alloc: Global,
-    incoming: &mut Incoming,
+    waiting: &mut Vec<u8>,
     reader: &mut R,
 ) -> Result<String, AllocError> {
     let mut text = String::new(alloc);
-    for _ in 0..100u8 {
-        match incoming.next_message(reader) {
-            Ok(Some(message)) => tell(alloc, &mut text, &message)?,
-            Ok(None) => return Ok(text),
-            Err(ReadFault::Read) => {
-                text.push_str("Read")?;
-                return Ok(text);
+    let mut chunk = vec![in alloc; 0u8; 8192]?;
+    for _ in 0..u64::MAX {
+        match first_message(alloc, waiting)? {
+            Some((message, count)) => {
+                tell(alloc, &mut text, &message)?;
+                waiting.drain(..count.min(waiting.len()));
             }
-            Err(ReadFault::Memory) => {
-                text.push_str("Memory")?;
-                return Ok(text);
-            }
+            None => match read_some(reader, chunk.as_mut_slice()) {
+                Ok(0) => return Ok(text),
+                Ok(count) => waiting.extend_from_slice(&chunk[..count])?,
+                Err(ReadFailed) => {
+                    text.push_str("Read")?;
+                    return Ok(text);
+                }
+            },
         }
     }
     Ok(text)

@@ -1,5 +1,5 @@
 -- A search through all bytes finds no decided prefix where there is none.
-use Rattle.http_messages.proofs.IncomingLemmas.{none_told}
+use Rattle.http_messages.proofs.FirstLemmas.{none_told}
 use Rattle.http_messages.proofs.requests.decided_front.Goals as goal
 
 pub returns-then-not-go_on-clause-none : goal.returns-then-not-go_on-clause-none
