@@ -7,7 +7,7 @@ use Rattle.std.proofs.lemmas.Grind.{flat_map-append, common_steps}
 use Rattle.commands.specs.declared.replies.Fault.{Fault}
 use Rattle.desk_http.specs.Pages.{closes, stops}
 use Rattle.desk_http.specs.declared.doors.Door.{Door}
-use Rattle.http_wide_pages.specs.Pages.{go_on}
+use Rattle.http_ways.specs.PageTexts.{go_on}
 use Rattle.http_ways.specs.Reading.{IsDueBy}
 use Rattle.http_ways.specs.Ways.{Said, Says}
 use Rattle.http_ways.specs.declared.ways.Way.{Way}

@@ -3,7 +3,7 @@ use Rattle.std.specs.Prelude.{◌≡◌, ⊤, ℕ, Bool, true, false, List, [], 
 use Rattle.std.specs.List.{flat_map}
 use Rattle.desk_http.specs.Pages.{closes, stops}
 use Rattle.desk_http.specs.declared.doors.Door.{Door}
-use Rattle.http_wide_pages.specs.Pages.{go_on}
+use Rattle.http_ways.specs.PageTexts.{go_on}
 use Rattle.http_ways.specs.Ways.{Said, Says}
 use Rattle.http_ways.specs.declared.ways.Way.{Way}
 use Rattle.http_conversations.specs.declared.conversation.Stage.{Stage}

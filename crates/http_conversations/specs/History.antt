@@ -3,7 +3,7 @@ use Rattle.std.specs.Prelude.{◌≡◌, ◌≢◌, ◌≤◌, ◌<◌, ◌⊎�
 use Rattle.commands.specs.declared.replies.Fault.{Fault}
 use Rattle.desk_http.specs.Pages.{closes, stops}
 use Rattle.desk_http.specs.declared.doors.Door.{Door}
-use Rattle.http_wide_pages.specs.Pages.{go_on}
+use Rattle.http_ways.specs.PageTexts.{go_on}
 use Rattle.http_ways.specs.Reading.{IsDueBy}
 use Rattle.http_ways.specs.Ways.{Said, Says, SaysNothing}
 use Rattle.http_ways.specs.declared.ways.Way.{Way}

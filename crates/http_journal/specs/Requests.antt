@@ -3,8 +3,8 @@ use Rattle.std.specs.Prelude.{ℕ, List, [], bytes_eq, codes, if◌then◌else�
 use Rattle.http_messages.specs.declared.requests.Message.{Message}
 use Rattle.http_messages.specs.declared.requests.Message.TheVariants.{NoHead, Asks}
 use Rattle.http_messages.specs.declared.requests.Request.{Request}
-use Rattle.http_wide.specs.declared.asked.AskedKind.{AskedKind}
-use Rattle.http_wide.specs.declared.asked.AskedKind.TheVariants.{Get, Head, Post, Options, Other}
+use Rattle.http_messages.specs.declared.asked.AskedKind.{AskedKind}
+use Rattle.http_messages.specs.declared.asked.AskedKind.TheVariants.{Get, Head, Post, Options, Other}
 use Rattle.http_ways.specs.declared.ways.Layout.{Layout}
 use Rattle.http_ways.specs.declared.ways.Layout.TheVariants as layout
 

@@ -4,9 +4,8 @@ ghost use Rattle.http_journal.specs.Requests.{ask_of, both, method_by, method_of
 
 use commands::{Agent, Key};
 use http_log::Asked;
-use http_messages::{Message, Request};
+use http_messages::{AskedKind, Message, Request};
 use http_ways::{Arrived, Layout};
-use http_wide::AskedKind;
 
 /// Under which agent and key a message asks for something to be carried out, if it does.
 pub(crate) fn ask_of(message: &Message) -> Option<(Agent, Key)>

@@ -7,10 +7,10 @@ use Rattle.httparse.specs.Grammar.{RequestHead}
 use Rattle.httparse.proofs.GrammarLemmas.{request_unique}
 use Rattle.http_messages.specs.Messages as sent
 use Rattle.http_messages.specs.Messages.{AreEach, BeginsWith, BeginsWithAll, HasNoMessage, first_told, fronts, is_told}
-use Rattle.http_messages.specs.Heads.{IsHead, body_length, parts_of}
+use Rattle.http_messages.specs.Heads.{IsHead, IsNoHead, body_length, parts_of}
 use Rattle.http_messages.specs.Places.{IsToldAt, WentThrough}
 use Rattle.http_messages.specs.Requests.{IsRequest}
-use Rattle.http_messages.specs.Fields.{IsNoHead, IsSomeHeadAt, parts_in}
+use Rattle.http_messages.specs.Fields.{IsSomeHeadAt, parts_in}
 use Rattle.http_messages.specs.Reading.{IsFirstOf}
 use Rattle.http_messages.specs.declared.heads.Head.{Head}
 use Rattle.http_messages.specs.declared.places.Search.{Search}

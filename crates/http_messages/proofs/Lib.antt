@@ -7,3 +7,12 @@ pub mod PlaceLemmas
 pub mod HeadLemmas
 pub mod FirstLemmas
 pub mod MessageLemmas
+pub mod BodyLemmas
+pub mod ReadLemmas
+pub mod LawLemmas
+pub mod CallLemmas
+pub mod WideLemmas
+pub mod StartLemmas
+pub mod PlainLemmas
+pub mod WideFirstLemmas
+pub mod DueLemmas

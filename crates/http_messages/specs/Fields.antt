@@ -2,14 +2,16 @@
 use Rattle.std.specs.Prelude.{◌≡◌, ℕ, ◌<◌, true, false, List, [], ◌∷◌, map, length, take, if◌then◌else◌, Option, Some, None}
 use Rattle.httparse.specs.declared.spans.Span.{Span}
 use Rattle.httparse.specs.declared.spans.HeaderSpan.{HeaderSpan}
-use Rattle.httparse.specs.Grammar.{RequestHead}
-use Rattle.httparse.specs.Spans.{IsRequestWithin, IsWithin, header_bytes, span_bytes}
-use Rattle.http_messages.specs.Heads.{IsHead, Named, Parts, are_lengths, is_length, length_in, parts_of}
+use Rattle.httparse.specs.Grammar.{ReadsRequest, RequestHead}
+use Rattle.httparse.specs.Spans.{IsRequestWithin, IsWithin, RequestExceeds, header_bytes, span_bytes}
+use Rattle.http_messages.specs.Heads.{IsHead, IsNoHead, Named, Parts, are_lengths, is_length, length_in, most_fields, parts_of}
 use Rattle.http_messages.specs.declared.heads.Found.{Found}
 use Rattle.http_messages.specs.declared.heads.Found.TheVariants.{Absent, Once, Again}
 use Rattle.http_messages.specs.declared.requests.Length.{Length}
 use Rattle.http_messages.specs.declared.requests.Length.TheVariants.{Untold, Bytes, Bad}
 use Rattle.http_messages.specs.declared.heads.Head.{Head}
+use Rattle.http_messages.specs.declared.heads.NotHead.{NotHead}
+use Rattle.http_messages.specs.declared.heads.NotHead.TheVariants.{TooManyFields, Other}
 
 -- the names and values at these places
 abbrev pub named_in : List ℕ → List HeaderSpan → List Named
@@ -61,6 +63,16 @@ pub record IsHeadAt (front : List ℕ) (head : Head) (h : RequestHead) : Type 0 
 abbrev pub IsSomeHeadAt : List ℕ → Head → Type 0
 IsSomeHeadAt front head = (h : RequestHead) × IsHeadAt front head h
 
--- the prefix is no head
-abbrev pub IsNoHead : List ℕ → Type 0
-IsNoHead front = (h : RequestHead) → ¬ (IsHead front h)
+-- no head of any number of fields
+abbrev pub IsNoHeadAtAll : List ℕ → Type 0
+IsNoHeadAtAll front = (h : RequestHead) → ¬ (ReadsRequest front h [])
+
+-- too many fields, or no head of any number
+abbrev pub IsSo : List ℕ → NotHead → Type 0
+IsSo front TooManyFields = RequestExceeds most_fields front
+IsSo front Other = IsNoHeadAtAll front
+
+-- the prefix is no head within the limits, for this reason
+pub record IsNoHeadFor (front : List ℕ) (why : NotHead) : Type 0 where
+  pub is_none : IsNoHead front
+  pub is_so : IsSo front why

@@ -27,6 +27,10 @@ pub record IsHead (text : List ℕ) (h : RequestHead) : Type 0 where
   pub short : length text ≤ most_head_bytes
   pub few : length h.fields ≤ most_fields
 
+-- the text is no head within the limits
+abbrev pub IsNoHead : List ℕ → Type 0
+IsNoHead text = (h : RequestHead) → ¬ (IsHead text h)
+
 -- a field: its name, and its value without the blanks and tabs at its ends
 abbrev pub Named : Type 0
 Named = List ℕ × List ℕ

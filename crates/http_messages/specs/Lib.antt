@@ -7,3 +7,15 @@ pub mod Reading
 pub mod Laws
 pub mod Examples
 pub mod Rows
+pub mod Framing
+pub mod Bodies
+pub mod Calls
+pub mod Wide
+pub mod WideLaws
+pub mod WideExamples
+pub mod FramingRows
+pub mod Versions
+pub mod Plain
+pub mod WideHeads
+pub mod WideReading
+pub mod PlainRows

@@ -10,8 +10,8 @@ ghost use Rattle.std.specs.Prelude.{◌≡◌, length, All};
 
 use crate::requests::{Length, Request, length_in};
 use commands::{Agent, Key, MOST_BYTES, Refusal};
-use httparse::Status;
 use httparse::spans::{EMPTY_HEADER_SPAN, HeaderSpan, RequestSpans, Span, parse_request};
+use httparse::{Error, Status};
 use std::alloc::{AllocError, Global};
 
 /// How many fields a head may have.
@@ -20,29 +20,39 @@ const MOST_FIELDS: usize = 32;
 /// Where the parts of a head stand in its bytes.
 #[derive(Clone, Copy)]
 pub(crate) struct Head {
-    line: RequestSpans,
+    pub(crate) line: RequestSpans,
     fields: [HeaderSpan; MOST_FIELDS],
 }
 
+/// Why a decided prefix is no head.
+#[derive(Clone, Copy)]
+pub(crate) enum NotHead {
+    /// It has too many fields.
+    TooManyFields,
+    /// It would be none if it had fewer fields either.
+    Other,
+}
+
 impl Head {
-    ghost use Rattle.std.specs.Prelude.{◌≡◌, ◌≤◌, length, IfSome, IfNone, IfOk, Some, [], take};
+    ghost use Rattle.std.specs.Prelude.{◌≡◌, ◌≤◌, length, IfErr, IfOk, take};
     ghost use Rattle.http_messages.specs.Heads.{values_named, asks_to_close, agent_of, host_of, is_unnamed, key_of, lengths};
     ghost use Rattle.http_messages.specs.Heads.{is_meant, meant_agents, named_agent};
     ghost use Rattle.http_messages.specs.Heads.{is_plain, is_method, complaint_of, body_length};
     ghost use Rattle.http_messages.specs.Places.{IsToldAt};
-    ghost use Rattle.http_messages.specs.Fields.{IsFound, IsNoHead, IsSomeHeadAt, LiesIn, Tells, parts_in};
+    ghost use Rattle.http_messages.specs.Fields.{IsFound, IsNoHeadFor, IsSomeHeadAt, LiesIn, Tells, parts_in};
     ghost use Rattle.http_messages.specs.Requests.{IsRequest};
 
-    /// Reads the head that a decided prefix is. Returns `None` if it is no head.
-    pub(crate) fn read(front: &[u8]) -> Option<Head>
+    /// Reads the head that a decided prefix is.
+    pub(crate) fn read(front: &[u8]) -> Result<Head, NotHead>
         requires { IsToldAt front.now (length front.now) }
-        ensures head { IfSome result (IsSomeHeadAt front.now) }
-        ensures no_head { IfNone result (IsNoHead front.now) }
+        ensures head { IfOk result (IsSomeHeadAt front.now) }
+        ensures none { IfErr result (IsNoHeadFor front.now) }
     {
         let mut fields = [EMPTY_HEADER_SPAN; MOST_FIELDS];
         match parse_request(front, &mut fields) {
-            Ok(Status::Complete(line)) => Some(Head { line, fields }),
-            Ok(Status::Partial) | Err(_) => None,
+            Ok(Status::Complete(line)) => Ok(Head { line, fields }),
+            Err(Error::TooManyHeaders) => Err(NotHead::TooManyFields),
+            Ok(Status::Partial) | Err(_) => Err(NotHead::Other),
         }
     }
 
@@ -124,7 +134,7 @@ impl Head {
     }
 
     /// The host that it names, or nothing where it names none or two.
-    fn host<'a>(&self, front: &'a [u8]) -> &'a [u8]
+    pub(crate) fn host<'a>(&self, front: &'a [u8]) -> &'a [u8]
         requires { LiesIn front.now self.now }
         ensures host { result.now ≡ host_of (parts_in front.now self.now) }
     {
@@ -135,7 +145,7 @@ impl Head {
     }
 
     /// Who asks.
-    fn agent(&self, front: &[u8]) -> Option<Agent>
+    pub(crate) fn agent(&self, front: &[u8]) -> Option<Agent>
         requires { LiesIn front.now self.now }
         ensures agent { result ≡ agent_of (parts_in front.now self.now) }
     {
@@ -169,7 +179,7 @@ impl Head {
     }
 
     /// Whether no field says who asks, or for whom.
-    fn is_unnamed(&self, front: &[u8]) -> bool
+    pub(crate) fn is_unnamed(&self, front: &[u8]) -> bool
         requires { LiesIn front.now self.now }
         ensures unnamed { result ≡ is_unnamed (parts_in front.now self.now) }
     {
@@ -197,7 +207,7 @@ impl Head {
     }
 
     /// What stands in the fields of this name.
-    fn find(&self, front: &[u8], name: &[u8]) -> Found
+    pub(crate) fn find(&self, front: &[u8], name: &[u8]) -> Found
         requires { LiesIn front.now self.now }
         ensures values { IsFound front.now result
             (values_named name.now (parts_in front.now self.now).fields) }
@@ -206,7 +216,7 @@ impl Head {
     }
 
     /// Where its fields stand.
-    fn fields(&self) -> &[HeaderSpan]
+    pub(crate) fn fields(&self) -> &[HeaderSpan]
         requires { self.now.line.headers ≤ length self.now.fields }
         ensures fields { result.now ≡ take self.now.line.headers self.now.fields }
     {
@@ -216,7 +226,7 @@ impl Head {
 
 /// How often a field occurs.
 #[derive(Clone, Copy)]
-pub enum Found {
+pub(crate) enum Found {
     /// There is no such field.
     Absent,
     /// It occurs once, with this value.
@@ -226,7 +236,7 @@ pub enum Found {
 }
 
 /// Finds the fields of this name, in any case (RFC 9110, section 5.1).
-pub fn find(front: &[u8], fields: &[HeaderSpan], name: &[u8]) -> Found
+pub(crate) fn find(front: &[u8], fields: &[HeaderSpan], name: &[u8]) -> Found
     requires { All (IsHeaderWithin (length front.now)) fields.now }
     ensures values { IsFound front.now result
         (values_named name.now (named_in front.now fields.now)) }
@@ -273,14 +283,14 @@ fn with_value(found: Found, value: Span) -> Found
 }
 
 /// The agent that these bytes spell, if they spell one.
-pub fn agent_in(bytes: &[u8]) -> Option<Agent>
+pub(crate) fn agent_in(bytes: &[u8]) -> Option<Agent>
     ensures form { result ≡ keep_if is_agent bytes.now }
 {
     Agent::parse(std::str::from_utf8(bytes).ok()?)
 }
 
 /// The key that these bytes spell, if they spell one.
-pub fn key_in(bytes: &[u8]) -> Option<Key>
+pub(crate) fn key_in(bytes: &[u8]) -> Option<Key>
     ensures form { result ≡ keep_if is_key bytes.now }
 {
     Key::parse(std::str::from_utf8(bytes).ok()?)

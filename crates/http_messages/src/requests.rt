@@ -84,7 +84,7 @@ pub fn first_message(alloc: Global, bytes: &[u8]) -> Result<Option<(Message, usi
         return Ok(None);
     };
     let front = &bytes[..end];
-    let Some(head) = Head::read(front) else {
+    let Ok(head) = Head::read(front) else {
         return Ok(Some((Message::NoHead, end)));
     };
     let count = head.body_length(front);

@@ -3,9 +3,9 @@ use Rattle.std.proofs.Common.{◌≡◌, ◌≤◌, ◌∙◌, ap, sym, ℕ, Lis
 use Rattle.std.proofs.lemmas.List.{length-drop, length-take}
 use Rattle.http_messages.specs.Heads.{Parts, host_of, parts_of}
 use Rattle.http_messages.specs.Messages as sent
-use Rattle.http_wide.specs.Wide as wide
-use Rattle.http_wide.specs.Wide.{Wide}
-use Rattle.http_wide_messages.specs.Plain.{has_empty_query, is_absolute, path_at, plain_target, without_empty_query}
+use Rattle.http_messages.specs.Wide as wide
+use Rattle.http_messages.specs.Wide.{Wide}
+use Rattle.http_messages.specs.Plain.{has_empty_query, is_absolute, path_at, plain_target, without_empty_query}
 use Rattle.desk_http.specs.Laws.{HasShortAsk}
 use Rattle.desk_http.specs.Pages.{command_in}
 use Rattle.desk_http.specs.declared.doors.Door.{Door}

@@ -12,8 +12,8 @@ use Rattle.http1.specs.Head.{starts_visible}
 use Rattle.http1.specs.Text.{numeral}
 use Rattle.http1.proofs.NumeralLemmas.{decimal_is_trimmed}
 use Rattle.http_messages.specs.Heads.{Named, host_of, is_alike, meant_agents, parts_of, the_text, values_named}
-use Rattle.http_wide.specs.Wide.{ends_after}
-use Rattle.http_wide_messages.specs.Plain.{are_digits, close_if, fields_of, is_uuid, plain_fields, plain_key, plain_method, plain_parts, plain_target, uuid_digits}
+use Rattle.http_messages.specs.Wide.{ends_after}
+use Rattle.http_messages.specs.Plain.{are_digits, close_if, fields_of, is_uuid, plain_fields, plain_key, plain_method, plain_parts, plain_target, uuid_digits}
 
 -- a value that a field may have: some bytes, without the white space at their ends
 record IsTrimmed (value : List ℕ) : Type 0 where

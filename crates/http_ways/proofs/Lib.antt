@@ -3,3 +3,4 @@ pub mod TextLemmas
 pub mod PageLemmas
 pub mod SaidLemmas
 pub mod AskLemmas
+pub mod PageTextLemmas

@@ -7,7 +7,7 @@ use Rattle.http_messages.specs.Messages as sent
 use Rattle.http_messages.specs.Requests.{IsRequest, IsTaken}
 use Rattle.http_messages.specs.declared.requests.Message.TheVariants as message
 use Rattle.http_messages.specs.declared.requests.Request.{Request}
-use Rattle.http_wide.specs.declared.asked.AskedKind.{AskedKind}
+use Rattle.http_messages.specs.declared.asked.AskedKind.{AskedKind}
 use Rattle.desk_http.specs.Answering.{Answers}
 use Rattle.desk_http.specs.Hosts.{refusal_at}
 use Rattle.desk_http.specs.Pages.{IsPage, closes}

@@ -1,9 +1,9 @@
 -- The first message of a stream is the one that is said first. For the law.
 use Rattle.std.proofs.Common.{◌≡◌, ◌∙◌, ap, subst, refl, ℕ, false, List, ◌∷◌, ◌++◌}
-use Rattle.http_wide.specs.Wide as wide
-use Rattle.http_wide.specs.Wide.{Wide, WideMessages, ends_with}
-use Rattle.http_wide.proofs.FirstLemmas.{one_first}
-use Rattle.http_wide_messages.specs.Messages.{rest_of}
+use Rattle.http_messages.specs.Wide as wide
+use Rattle.http_messages.specs.Wide.{Wide, WideMessages, ends_with}
+use Rattle.http_messages.proofs.WideLemmas.{one_first}
+use Rattle.http_messages.specs.WideReading.{rest_of}
 use Rattle.http_ways.specs.Ways.{IsWideText}
 
 -- only a request has something after it

@@ -8,18 +8,18 @@ use Rattle.http_messages.specs.Reading as plain
 use Rattle.http_messages.specs.Requests.{IsRequest, IsTaken}
 use Rattle.http_messages.specs.declared.requests.Message.{Message}
 use Rattle.http_messages.specs.declared.requests.Message.TheVariants as message
-use Rattle.http_wide.specs.Bodies.{IsBody}
-use Rattle.http_wide.specs.Framing.{asked_kind}
-use Rattle.http_wide.specs.Wide as wide
-use Rattle.http_wide.specs.Wide.{BeginsWith, Wide}
-use Rattle.http_wide.specs.declared.denials.Denial.{Denial}
-use Rattle.http_wide.specs.declared.denials.Denial.TheVariants.{TooLarge}
-use Rattle.http_wide.specs.declared.framing.BodyKind.{BodyKind}
-use Rattle.http_wide.specs.declared.framing.BodyKind.TheVariants.{Sized, Chunked}
-use Rattle.http_wide.proofs.LawLemmas.{begins_with}
-use Rattle.http_wide_messages.specs.Messages.{IsFirstOf, IsOpen, IsWideMessage, rest_of}
-use Rattle.http_wide_messages.specs.declared.messages.WideMessage.TheVariants as taken
-use Rattle.http_wide_messages.specs.declared.messages.WideRequest.{WideRequest}
+use Rattle.http_messages.specs.Bodies.{IsBody}
+use Rattle.http_messages.specs.Framing.{asked_kind}
+use Rattle.http_messages.specs.Wide as wide
+use Rattle.http_messages.specs.Wide.{BeginsWith, Wide}
+use Rattle.http_messages.specs.declared.denials.Denial.{Denial}
+use Rattle.http_messages.specs.declared.denials.Denial.TheVariants.{TooLarge}
+use Rattle.http_messages.specs.declared.framing.BodyKind.{BodyKind}
+use Rattle.http_messages.specs.declared.framing.BodyKind.TheVariants.{Sized, Chunked}
+use Rattle.http_messages.proofs.LawLemmas.{begins_with}
+use Rattle.http_messages.specs.WideReading.{IsFirstOf, IsOpen, IsWideMessage, rest_of}
+use Rattle.http_messages.specs.declared.wide_messages.WideMessage.TheVariants as taken
+use Rattle.http_messages.specs.declared.wide_messages.WideRequest.{WideRequest}
 use Rattle.http_ways.specs.Reading.{IsFirstOfBy}
 use Rattle.http_ways.specs.Ways.{IsSaidWidely, IsWideText, Says, unread}
 use Rattle.http_ways.specs.declared.ways.TheConstants.{MOST_TEXT}

@@ -1,6 +1,6 @@
 -- The law of what is said by the wide way, and that of the text of an ask by each way.
 use Rattle.std.specs.Prelude.{◌≡◌, ℕ, false, List, ◌∷◌, ◌++◌}
-use Rattle.http_wide.specs.Wide.{Wide, WideMessages, ends_with}
+use Rattle.http_messages.specs.Wide.{Wide, WideMessages, ends_with}
 use Rattle.desk_http.specs.Laws.{HasShortAsk}
 use Rattle.desk_http.specs.declared.doors.Door.{Door}
 use Rattle.http_ways.specs.Ways.{IsWideText, Said, Says}

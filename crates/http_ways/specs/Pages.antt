@@ -16,9 +16,9 @@ use Rattle.desk_http.specs.Pages.{IsPage, closes, state_after}
 use Rattle.desk_http.specs.declared.answering.Answer.{Answer}
 use Rattle.desk_http.specs.declared.doors.Door.{Door}
 use Rattle.desk_http.specs.declared.doors.Door.TheVariants as doors
-use Rattle.http_wide.specs.declared.asked.AskedKind.{AskedKind}
-use Rattle.http_wide.specs.declared.asked.AskedKind.TheVariants.{Get, Head, Post, Options, Other}
-use Rattle.http_wide_pages.specs.Pages.{IsDateLine, denial_text, not_allowed_text, options_text, wide_text}
+use Rattle.http_messages.specs.declared.asked.AskedKind.{AskedKind}
+use Rattle.http_messages.specs.declared.asked.AskedKind.TheVariants.{Get, Head, Post, Options, Other}
+use Rattle.http_ways.specs.PageTexts.{IsDateLine, denial_text, not_allowed_text, options_text, wide_text}
 use Rattle.protocols.specs.declared.faults.ServeFault.{ServeFault}
 use Rattle.http_ways.specs.Ways.{Said}
 use Rattle.http_ways.specs.declared.showing.Shown.{Shown}

@@ -1,7 +1,7 @@
 -- The first message of bytes by a way, as it is returned; and when 100 Continue is due.
 use Rattle.std.specs.Prelude.{◌≡◌, ℕ, ◌≤◌, Bool, false, List, length, take, Option, Some, None}
 use Rattle.http_messages.specs.Requests.{IsTaken}
-use Rattle.http_wide_messages.specs.Messages.{IsDue}
+use Rattle.http_messages.specs.WideReading.{IsDue}
 use Rattle.http_ways.specs.Ways.{Said, Says, SaysNothing}
 use Rattle.http_ways.specs.declared.ways.Arrived.{Arrived}
 use Rattle.http_ways.specs.declared.ways.Way.{Way}

@@ -4,14 +4,14 @@ use Rattle.httparse.specs.Grammar.{RequestHead}
 use Rattle.http_messages.specs.Heads.{parts_of}
 use Rattle.http_messages.specs.Messages as sent
 use Rattle.http_messages.specs.Messages.{HasNoMessage, IsMessage}
-use Rattle.http_wide.specs.Framing.{asked_kind}
-use Rattle.http_wide.specs.Wide as wide
-use Rattle.http_wide.specs.Wide.{BeginsWith, Wide}
-use Rattle.http_wide.specs.declared.denials.Denial.{Denial}
-use Rattle.http_wide.specs.declared.denials.Denial.TheVariants.{TooLarge}
-use Rattle.http_wide_messages.specs.Messages.{IsOpen, IsWideMessage, rest_of}
-use Rattle.http_wide_messages.specs.Plain.{plain_parts}
-use Rattle.http_wide_messages.specs.declared.messages.WideMessage.TheVariants as taken
+use Rattle.http_messages.specs.Framing.{asked_kind}
+use Rattle.http_messages.specs.Wide as wide
+use Rattle.http_messages.specs.Wide.{BeginsWith, Wide}
+use Rattle.http_messages.specs.declared.denials.Denial.{Denial}
+use Rattle.http_messages.specs.declared.denials.Denial.TheVariants.{TooLarge}
+use Rattle.http_messages.specs.WideReading.{IsOpen, IsWideMessage, rest_of}
+use Rattle.http_messages.specs.Plain.{plain_parts}
+use Rattle.http_messages.specs.declared.wide_messages.WideMessage.TheVariants as taken
 use Rattle.http_ways.specs.declared.ways.TheConstants.{MOST_TEXT}
 use Rattle.http_ways.specs.declared.ways.Layout.{Layout}
 use Rattle.http_ways.specs.declared.ways.Layout.TheVariants as layout

@@ -2,15 +2,15 @@
 //! run time.
 ghost use Rattle.std.specs.Prelude.{◌≡◌, ◌++◌, ◌∷◌, [], ℕ, List};
 ghost use Rattle.http_messages.specs.Examples.{get_bytes};
-ghost use Rattle.http_wide.specs.Examples.{post_bytes, post_page, text_of_get};
-ghost use Rattle.http_wide.specs.Wide.{Asks, Wide, WideMessages};
+ghost use Rattle.http_messages.specs.WideExamples.{post_bytes, post_page, text_of_get};
+ghost use Rattle.http_messages.specs.Wide.{Asks, Wide, WideMessages};
 ghost use Rattle.desk_http.specs.Laws.{HasShortAsk};
 ghost use Rattle.desk_http.specs.declared.doors.Door.TheVariants.{Port};
 ghost use Rattle.http_ways.specs.Laws.{AsksAreShort, SaidIsFirst};
 ghost use Rattle.http_ways.specs.Ways.{Said, Says};
 ghost use Rattle.http_ways.specs.declared.ways.Way.TheVariants as way;
 
-use http_wide::request_in_a_body;
+use http_messages::request_in_a_body;
 
 /// What bytes say is the first wide message of each stream that begins with them, and after it come the messages of what
 /// follows them. So the messages that a conversation answered are the first wide messages of what it received.

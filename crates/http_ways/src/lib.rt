@@ -5,11 +5,19 @@
 //! sent. By the profile they do what `first_message` and `answer_to` do. By the wide way a message is answered as the one of
 //! the profile that has its meaning, and its page has the lines for caches.
 //!
+//! `wide_page` gives a page of the profile the lines that keep it out of caches, and leaves out its body for HEAD.
+//! `denial_page` answers what is not read, `not_allowed_page` another method, `options_page` OPTIONS. No page has a line that
+//! lets another origin in.
+//!
 //! Words: a message is *meant* as the one of the profile that is carried out for it; its *layout* is how the page of that
-//! one is shown.
+//! one is shown; a *date line* is the field `Date` with its line end, or nothing where the clock was not read.
 #![tactic(auto)]
 
+mod allowed;
+mod dates;
+mod denials;
 mod laws;
+mod lines;
 mod showing;
 mod ways;
 

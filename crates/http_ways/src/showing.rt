@@ -7,9 +7,8 @@ ghost use Rattle.http_ways.specs.Pages.{unless_asked, verb_at, verb_of_path};
 
 use commands::Refusal;
 use desk_http::Door;
-use http_messages::{Message, Request};
+use http_messages::{AskedKind, Message, Request};
 use http_pages::{Paths, Route, Unrouted, Verb};
-use http_wide::AskedKind;
 use std::alloc::{AllocError, Global};
 
 /// What is shown for a message.

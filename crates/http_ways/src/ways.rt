@@ -1,10 +1,10 @@
 //! Ways; the first message of bytes by a way, and its page by its layout.
 
 ghost use Rattle.http_ways.specs.Reading.{IsDueBy, IsFirstBy, IsFirstOfBy, IsRead};
-ghost use Rattle.http_wide_pages.specs.Pages.{go_on};
+ghost use Rattle.http_ways.specs.PageTexts.{go_on};
 ghost use Rattle.std.specs.Prelude.{◌≡◌, ◌↔◌, IfOk, IsTrue, ◌≤◌, length, IfErr};
 ghost use Rattle.http_messages.specs.Reading as profile;
-ghost use Rattle.http_wide_messages.specs.Messages.{IsFirstOf, IsOpen};
+ghost use Rattle.http_messages.specs.WideReading.{IsFirstOf, IsOpen};
 ghost use Rattle.http_ways.specs.declared.ways.Way.TheVariants.{Profile, Wide};
 ghost use Rattle.ledger.specs.Answer.{State};
 ghost use Rattle.saga_core.specs.Calls.{Serves};
@@ -12,14 +12,18 @@ ghost use Rattle.desk_http.specs.Pages.{closes, stops};
 ghost use Rattle.http_ways.specs.Pages.{AnswersAt, LaysOut, laid_out, shown_text};
 ghost use Rattle.http_ways.specs.Ways.{Said};
 
+use crate::allowed::{not_allowed_page, options_page};
+use crate::dates::date_line;
+use crate::denials::{denial_page, go_on};
+use crate::lines::wide_page;
 use crate::showing::{Shown, shown_for};
 use commands::MOST_BYTES;
 use desk_http::{Answer, Door, answer_to};
-use http_messages::{LONGEST_HEAD, Message, first_message};
+use http_messages::{
+    AskedKind, Denial, LONGEST_HEAD, Message, WideMessage, WideRequest, first_message,
+    first_wide_message, go_on_is_due,
+};
 use http_pages::Paths;
-use http_wide::{AskedKind, Denial};
-use http_wide_messages::{WideMessage, WideRequest, first_wide_message, go_on_is_due};
-use http_wide_pages::{date_line, denial_page, go_on, not_allowed_page, options_page, wide_page};
 use protocols::ServeFault;
 use saga_core::Book;
 use std::alloc::{AllocError, Global};

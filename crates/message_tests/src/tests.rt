@@ -2,6 +2,7 @@
 mod hosts;
 mod interruptions;
 mod texts;
+mod wide;
 
 use failing_streams::Pieces;
 use std::alloc::{AllocError, Global};

@@ -13,14 +13,14 @@ returns-in_default c =
 -- the prefix is no head
 pub returns-in_default-read : goal.returns-in_default-read
 returns-in_default-read c =
-    record { first = no_head_first c.args.bytes.now c.in-Some.end c.in-Some.ensures.front c.in_default-read.ensures.no_head }
+    record { first = no_head_first c.args.bytes.now c.in-Some.end c.in-Some.ensures.front (c.in_default-read.ensures.none).is_none }
 
 -- the body is not whole
 pub returns-then-bytes-end : goal.returns-then-bytes-end
 returns-then-bytes-end c =
     record {
-      first = none_whole c.args.bytes.now c.in-Some.end c.body_length-count.result c.in-Some-read.head c.in-Some.ensures.front
-          c.in-Some-read.ensures.head c.body_length-count.ensures.length (omega (arith, c.in-Some.ensures.front.within, c.if-bytes-end.true));
+      first = none_whole c.args.bytes.now c.in-Some.end c.body_length-count.result c.in-Ok.head c.in-Some.ensures.front
+          c.in-Ok.ensures.head c.body_length-count.ensures.length (omega (arith, c.in-Some.ensures.front.within, c.if-bytes-end.true));
     }
 
 -- the request is whole
@@ -33,9 +33,9 @@ returns c =
     let is_body : c.in_ok-body.body.items ≡ take count (drop end bytes) =
     c.in_ok-body.ensures.items_if_clones_equal (λ x y same. same) ∙ ap (λ n. take n (drop end bytes)) exact in
     record {
-      first = request_first bytes end count c.in-Some-read.head c.in-Some.ensures.front
-          c.in-Some-read.ensures.head c.body_length-count.ensures.length c.in_ok-request.request
+      first = request_first bytes end count c.in-Ok.head c.in-Some.ensures.front
+          c.in-Ok.ensures.head c.body_length-count.ensures.length c.in_ok-request.request
           (omega (arith, c.in-Some.ensures.front.within, c.if-bytes-end.false))
-          (subst (λ body. IsRequest c.in_ok-request.request (parts_in (take end bytes) c.in-Some-read.head) body) is_body
+          (subst (λ body. IsRequest c.in_ok-request.request (parts_in (take end bytes) c.in-Ok.head) body) is_body
           c.in_ok-request.ensures.request);
     }

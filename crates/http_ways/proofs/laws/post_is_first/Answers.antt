@@ -5,8 +5,8 @@ use Rattle.http1.specs.Fields.{elements, known_fields}
 use Rattle.http1.specs.Text.{eq_ignore_case}
 use Rattle.http_messages.specs.Examples.{get_bytes}
 use Rattle.http_messages.specs.Heads.{parts_of}
-use Rattle.http_wide.specs.Examples.{post_bytes, post_page, text_of_get}
-use Rattle.http_wide.specs.Wide.{Asks, BeginsWith, ends_after}
+use Rattle.http_messages.specs.WideExamples.{post_bytes, post_page, text_of_get}
+use Rattle.http_messages.specs.Wide.{Asks, BeginsWith, ends_after}
 use Rattle.http_ways.specs.Ways.{IsWideText}
 use Rattle.http_ways.proofs.laws.post_is_first.Goals as goal
 

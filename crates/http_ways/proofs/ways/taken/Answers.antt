@@ -1,6 +1,6 @@
 -- What was read is what was said.
 use Rattle.std.proofs.Common.{subst}
-use Rattle.http_wide_messages.specs.Messages.{IsFirstOf}
+use Rattle.http_messages.specs.WideReading.{IsFirstOf}
 use Rattle.http_ways.proofs.TextLemmas.{reads_denied, reads_no_method, reads_request}
 use Rattle.http_ways.proofs.ways.taken.Goals as goal
 

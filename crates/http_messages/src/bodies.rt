@@ -1,0 +1,163 @@
+//! The body of a request, as it arrives.
+ghost use Rattle.std.specs.Prelude.{◌≡◌, ◌<◌, ◌≤◌, ◌+◌, ◌++◌, ◌↔◌, ℕ, List, length, OnOk, OnErr, IfOk, IsErrOf};
+ghost use Rattle.commands.specs.Limits.{most_bytes};
+ghost use Rattle.http_messages.specs.Bodies.{Awaits, Exceeds, IsBody, Moves, NeverEnds, Reads, first_reading};
+ghost use Rattle.http_messages.specs.Framing.{IsWithinLimit};
+
+use crate::faults::BodyFault;
+use crate::framing::BodyKind;
+use commands::MOST_BYTES;
+use http1::chunked::ChunkedDecoder;
+use http1::decode::{Decoded, Decoder};
+use httparse::spans::EMPTY_HEADER_SPAN;
+use std::alloc::Global;
+use std::marker::Model;
+
+/// How many bytes the extensions of all chunks of a body may have.
+const MOST_EXTENSIONS: usize = 8_192;
+
+/// How many bytes the trailer fields of a body may have, with the empty line after them.
+const LONGEST_TRAILERS: usize = 8_192;
+
+/// How many trailer fields a body may have.
+const MOST_TRAILERS: usize = 32;
+
+/// Reads the body of a request, in whatever pieces it arrives.
+///
+/// It holds at most 262,144 bytes: those of the body so far.
+#[derive(Drop)]
+pub struct BodyReader {
+    decoder: Decoder,
+    body: Vec<u8>,
+}
+
+/// How far a body was read.
+#[derive(Clone, Copy, Debug, PartialEq, Eq)]
+pub enum Progress {
+    /// So many bytes were used. It goes on after them, and they are not to be passed again.
+    More(usize),
+    /// The body ends after so many bytes.
+    Whole(usize),
+}
+
+/// What one step of a reader found.
+#[derive(Clone, Copy)]
+enum Step {
+    /// So many bytes were used, and the others do not suffice.
+    Waits(usize),
+    /// So many bytes were used, at least one.
+    Took(usize),
+    /// The body ends after so many bytes.
+    Ended(usize),
+}
+
+impl Model for BodyReader {
+    ghost use Rattle.http_messages.specs.Bodies.{IsFit, Reading};
+
+    ghost Value = { Reading };
+
+    ghost view = { λ a. record { waits = a.decoder; body = a.body.items } };
+
+    ghost invariant = { λ a. IsFit a.decoder a.body.items };
+}
+
+impl BodyReader {
+    ghost use Rattle.http_messages.specs.Bodies.{Steps};
+
+    /// A reader at the beginning of a body of this kind. It allocates nothing.
+    pub fn new(alloc: Global, kind: BodyKind) -> BodyReader
+        requires within { IsWithinLimit kind }
+        ensures first { result ≡ first_reading kind }
+        ensures waits { (stream body rest : List ℕ) →
+            IsBody kind stream body rest ↔ Awaits result stream body rest }
+    {
+        let decoder = match kind {
+            BodyKind::Sized(count) => Decoder::Length(count as u64),
+            BodyKind::Chunked => Decoder::Chunked {
+                chunks: ChunkedDecoder::new(MOST_EXTENSIONS),
+                max_trailers_len: LONGEST_TRAILERS,
+            },
+        };
+        BodyReader {
+            decoder,
+            body: Vec::new(alloc),
+        }
+    }
+
+    /// Reads on in the bytes that follow those used so far.
+    ///
+    /// All are used, but for trailer fields that are not whole: these are to be passed again, with what comes after
+    /// them. `TooLarge` comes as soon as more than 262,144 bytes of chunks came; `Malformed` where no body begins so,
+    /// whatever follows.
+    pub fn read(&mut self, input: &[u8]) -> Result<Progress, BodyFault>
+        ensures reads { IfOk result (Reads self.old input.now self.new) }
+
+        ensures too_large { IsErrOf result BodyFault.TooLarge → Exceeds self.old input.now }
+        ensures malformed { IsErrOf result BodyFault.Malformed → NeverEnds self.old input.now }
+    {
+        let mut used = 0;
+        loop {
+            match self.step(&input[used..])? {
+                Step::Waits(count) => return Ok(Progress::More(used + count)),
+                Step::Took(count) => used += count,
+                Step::Ended(count) => return Ok(Progress::Whole(used + count)),
+            }
+        }
+    }
+
+    /// The body so far: once it is whole, all of it.
+    pub fn body(&self) -> &[u8]
+        ensures body { result.now ≡ self.now.body }
+    {
+        &self.body
+    }
+
+    /// The body so far: once it is whole, all of it.
+    pub fn into_body(self) -> Vec<u8>
+        ensures body { result.items ≡ self.body }
+    {
+        self.body
+    }
+
+    /// Reads the next piece of the body.
+    fn step(&mut self, input: &[u8]) -> Result<Step, BodyFault>
+        ensures steps { IfOk result (Steps self.old input.now self.new) }
+
+        ensures too_large { IsErrOf result BodyFault.TooLarge → Exceeds self.old input.now }
+        ensures malformed { IsErrOf result BodyFault.Malformed → NeverEnds self.old input.now }
+    {
+        let mut decoder = self.decoder;
+        let mut trailers = [EMPTY_HEADER_SPAN; MOST_TRAILERS];
+        match decoder.decode(input, &mut trailers) {
+            Ok(Decoded::NeedMore(count)) => {
+                self.decoder = decoder;
+                Ok(Step::Waits(count))
+            }
+            Ok(Decoded::Data(piece)) => {
+                append(&mut self.body, piece.of(input))?;
+                self.decoder = decoder;
+                Ok(Step::Took(piece.end))
+            }
+            Ok(Decoded::End { len, trailers: _ }) => Ok(Step::Ended(len)),
+            Err(_) => Err(BodyFault::Malformed),
+        }
+    }
+}
+
+/// Appends a piece to a body, unless that becomes too large.
+fn append(body: &mut Vec<u8>, piece: &[u8]) -> Result<(), BodyFault>
+    requires { length body.old.items ≤ most_bytes }
+    ensures ok { OnOk result (body.new.items ≡ body.old.items ++ piece.now) }
+    ensures short { length body.new.items ≤ most_bytes }
+
+    ensures too_large { IsErrOf result BodyFault.TooLarge
+        → most_bytes < length body.old.items + length piece.now }
+    ensures never_malformed { ¬ (IsErrOf result BodyFault.Malformed) }
+    ensures err { OnErr result (body.new.items ≡ body.old.items) }
+{
+    if piece.len() > MOST_BYTES - body.len() {
+        return Err(BodyFault::TooLarge);
+    }
+    body.extend_from_slice(piece)?;
+    Ok(())
+}

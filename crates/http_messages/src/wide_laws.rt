@@ -1,0 +1,62 @@
+//! Laws of bodies and of streams. A call does nothing at run time.
+ghost use Rattle.std.specs.Prelude.{◌≡◌, ◌++◌, ◌∷◌, [], ℕ, List};
+ghost use Rattle.httparse.specs.Grammar.{RequestHead};
+ghost use Rattle.http_messages.specs.Examples.{get_bytes};
+ghost use Rattle.http_messages.specs.declared.framing.BodyKind.TheVariants.{Chunked};
+ghost use Rattle.http_messages.specs.Bodies.{IsBody};
+ghost use Rattle.http_messages.specs.Calls.{Calls};
+ghost use Rattle.http_messages.specs.WideExamples.{at_chunks, post_bytes, post_page, text_of_get};
+ghost use Rattle.http_messages.specs.WideLaws.{BodiesArePassed, CutsAgree, HasOneBody, HasOneFirst, NoBodyIsAHead};
+ghost use Rattle.http_messages.specs.Wide.{Asks, BeginsWith, Wide, WideMessages};
+
+/// A stream begins with at most one body of a kind, which ends at one place.
+pub fn one_body()
+    ensures law { HasOneBody }
+{}
+
+/// However a stream is cut into pieces, calls of a `BodyReader` find the one body with which it begins.
+pub fn cuts_agree()
+    ensures law { CutsAgree }
+{}
+
+/// No byte of a body is read as the head of a request: whatever a body stands for, the next message is looked for after
+/// its text.
+pub fn no_body_is_a_head()
+    ensures law { NoBodyIsAHead }
+{}
+
+/// A stream begins with at most one message, which ends at one place.
+pub fn one_first()
+    ensures law { HasOneFirst }
+{}
+
+/// The messages of a head with its body, and of what follows, are that request and then the messages of what follows: no
+/// byte of a body is read as a head.
+pub fn bodies_are_passed()
+    ensures law { BodiesArePassed }
+{}
+
+/// The laws used on a POST whose one chunk is a whole request: the stream begins with the POST alone, whatever follows.
+///
+/// The proof applies the laws to this request. A law with one more premise, which it does not meet, is refused here.
+pub fn request_in_a_body()
+    ensures asks { (rest : List ℕ) →
+        BeginsWith (post_bytes ++ (text_of_get ++ rest)) (Asks post_page get_bytes) rest }
+    ensures only { (rest : List ℕ) (k : RequestHead) (other left : List ℕ) →
+        BeginsWith (post_bytes ++ (text_of_get ++ rest)) (Asks k other) left → left ≡ rest }
+    ensures first { (rest left : List ℕ) (m : Wide) →
+        BeginsWith (post_bytes ++ (text_of_get ++ rest)) m left →
+        (m ≡ Asks post_page get_bytes) × (left ≡ rest) }
+    ensures passed { (rest : List ℕ) (m : Wide) (later : List Wide) →
+        WideMessages (post_bytes ++ (text_of_get ++ rest)) (m ∷ later) → WideMessages rest later }
+    ensures one { (other left : List ℕ) → IsBody Chunked text_of_get other left
+        → (other ≡ get_bytes) × (left ≡ []) }
+    ensures cut { (rest other left : List ℕ) → Calls at_chunks (text_of_get ++ rest) other left
+        → (other ≡ get_bytes) × (left ≡ rest) }
+{
+    one_body();
+    cuts_agree();
+    no_body_is_a_head();
+    one_first();
+    bodies_are_passed();
+}

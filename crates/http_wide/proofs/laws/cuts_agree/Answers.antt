@@ -1,6 +1,0 @@
--- Calls find what was waited for.
-use Rattle.http_wide.proofs.CallLemmas.{cuts_agree}
-use Rattle.http_wide.proofs.laws.cuts_agree.Goals as goal
-
-pub returns : goal.returns
-returns c = record { law = cuts_agree }

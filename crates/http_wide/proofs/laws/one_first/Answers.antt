@@ -1,6 +1,0 @@
--- A message is read in one way.
-use Rattle.http_wide.proofs.FirstLemmas.{one_first}
-use Rattle.http_wide.proofs.laws.one_first.Goals as goal
-
-pub returns : goal.returns
-returns c = record { law = one_first }

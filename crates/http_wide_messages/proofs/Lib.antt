@@ -1,4 +1,0 @@
-pub mod StartLemmas
-pub mod PlainLemmas
-pub mod FirstLemmas
-pub mod DueLemmas
