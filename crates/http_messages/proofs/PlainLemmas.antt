@@ -16,13 +16,13 @@ use Rattle.allotment.specs.Texts.{keep_if}
 use Rattle.commands.specs.Limits.{most_bytes}
 use Rattle.commands.specs.Names.{is_agent, is_key}
 use Rattle.commands.specs.declared.replies.Refusal.TheVariants as refusal
-use Rattle.http_messages.specs.Heads.{Named, Parts, are_lengths, asks_to_close, complaint_of, first_of, host_of, is_alike, is_length, is_meant, is_method, is_plain, length_in, lengths, meant_agents, tells_length, the_one, the_text, values_named}
+use Rattle.http_messages.specs.Heads.{Named, Parts, are_lengths, asks_to_close, complaint_of, first_of, is_alike, is_length, is_meant, is_method, is_plain, length_in, lengths, meant_agents, tells_length, the_one, the_text, values_named}
 use Rattle.http_messages.specs.Requests.{IsRequest}
 use Rattle.http_messages.specs.declared.requests.Request.{Request}
 use Rattle.http_messages.proofs.ListFacts.{and_make}
 use Rattle.http_messages.proofs.ToldLemmas.{or_right}
 use Rattle.http_messages.specs.Wide.{ends_after}
-use Rattle.http_messages.specs.Plain.{SaysPlainly, close_if, fields_of, plain_fields, plain_key, plain_parts}
+use Rattle.http_messages.specs.Plain.{SaysPlainly, close_if, fields_of, plain_fields, plain_host, plain_key, plain_parts}
 
 -- Fields of one name, before others.
 
@@ -99,8 +99,8 @@ module _ (asked : Parts) (body : List ℕ) where
   abbrev pub fields : List Named
   fields = plain_fields asked body
 
-  pub host_is : values_named (codes "host") fields ≡ host_of asked ∷ []
-  host_is = ap (λ z. host_of asked ∷ z) (after_all (codes "host") refl refl refl ∙ no_host (ends_after asked))
+  pub host_is : values_named (codes "host") fields ≡ plain_host asked ∷ []
+  host_is = ap (λ z. plain_host asked ∷ z) (after_all (codes "host") refl refl refl ∙ no_host (ends_after asked))
 
   pub agents_are : values_named (codes "desk-agent") fields ≡ agents
   agents_are =
@@ -187,7 +187,7 @@ no_complaint asked body short =
     let parts = plain_parts asked body in
     let plain : is_plain parts ≡ true =
     ap (λ z. (1 == 1) && (length z == 1) && (length (values_named (codes "transfer-encoding") fields) == 0) && are_lengths (lengths parts)) (host_is asked body)
-    ∙ ap (λ z. (1 == 1) && (length (host_of asked ∷ []) == 1) && (length z == 0) && are_lengths (lengths parts)) (no_coding_is asked body)
+    ∙ ap (λ z. (1 == 1) && (length (plain_host asked ∷ []) == 1) && (length z == 0) && are_lengths (lengths parts)) (no_coding_is asked body)
     ∙ ap are_lengths (length_is asked body) ∙ is_good_length (length body) short in
     let value : length_in (lengths parts) ≡ length body =
     ap length_in (length_is asked body) ∙ (numeral_reads_back 10 (length body) (omega arith) (omega arith)).value in

@@ -1,6 +1,6 @@
 -- The request of the desk's profile for which a request as libraries and proxies write it stands.
-use Rattle.std.specs.Prelude.{◌≡◌, ℕ, ◌-◌, ◌==◌, ◌&&◌, not, Bool, true, false, List, [], ◌∷◌, ◌++◌, map, length, take, drop, nat_lt, bytes_eq, codes, slice_index, slice_range, if◌then◌else◌, Option, None, option_and_then}
-use Rattle.std.specs.List.{list_all, list_any}
+use Rattle.std.specs.Prelude.{◌≡◌, ℕ, ◌-◌, ◌==◌, ◌&&◌, ◌||◌, not, Bool, true, false, List, [], ◌∷◌, ◌++◌, map, length, take, drop, nat_lt, bytes_eq, codes, slice_index, slice_range, if◌then◌else◌, Option, None, option_and_then, unwrap_or}
+use Rattle.std.specs.List.{list_all, list_any, position}
 use Rattle.std.specs.Char.{is_ascii_hexdigit}
 use Rattle.http1.specs.Text.{numeral}
 use Rattle.allotment.specs.Texts.{keep_if}
@@ -21,16 +21,42 @@ plain_method method = if bytes_eq method (codes "HEAD") then codes "GET" else me
 abbrev pub is_path : List ℕ → Bool
 is_path text = nat_lt 0 (length text) && (slice_index text 0 == 47)
 
--- the target is in absolute form: a scheme, this host, and a path
-abbrev pub is_absolute : List ℕ → List ℕ → Bool
-is_absolute host target =
-    is_alike (take 7 target) (codes "http://")
-    && is_alike (take (length host) (drop 7 target)) host
-    && is_path (drop (length host) (drop 7 target))
+-- a slash, a question mark or a number sign ends an authority (RFC 3986, section 3.2)
+abbrev pub ends_authority : ℕ → Bool
+ends_authority byte = byte == 47 || byte == 63 || byte == 35
 
--- the path of a target at this host; another target as it is
-abbrev pub path_at : List ℕ → List ℕ → List ℕ
-path_at host target = if is_absolute host target then drop (length host) (drop 7 target) else target
+-- how many bytes the authority has with which a text begins
+abbrev pub authority_length : List ℕ → ℕ
+authority_length text = unwrap_or (position ends_authority text) (length text)
+
+-- what follows the scheme of a target in absolute form
+abbrev pub after_scheme : List ℕ → List ℕ
+after_scheme target = drop 7 target
+
+-- the host that a target in absolute form names, with its port
+abbrev pub authority_of : List ℕ → List ℕ
+authority_of target = take (authority_length (after_scheme target)) (after_scheme target)
+
+-- what follows the host
+abbrev pub after_authority : List ℕ → List ℕ
+after_authority target = drop (authority_length (after_scheme target)) (after_scheme target)
+
+-- the target is in absolute form: a scheme, a host, and a path
+abbrev pub is_absolute : List ℕ → Bool
+is_absolute target =
+    is_alike (take 7 target) (codes "http://") && nat_lt 0 (length (authority_of target)) && is_path (after_authority target)
+
+-- the path of a target in absolute form; another target as it is
+abbrev pub path_of : List ℕ → List ℕ
+path_of target = if is_absolute target then after_authority target else target
+
+-- the host of a target in absolute form, whatever the field `Host` says (section 3.2.2); of another target that of the field
+abbrev pub host_for : (target host : List ℕ) → List ℕ
+host_for target host = if is_absolute target then authority_of target else host
+
+-- the host of a head
+abbrev pub plain_host : Parts → List ℕ
+plain_host asked = host_for asked.target (host_of asked)
 
 -- all bytes but the last
 abbrev pub without_last : List ℕ → List ℕ
@@ -46,9 +72,9 @@ has_empty_query path =
 abbrev pub without_empty_query : List ℕ → List ℕ
 without_empty_query path = if has_empty_query path then without_last path else path
 
--- the target in the form of the profile: a path of this desk, without an empty query
-abbrev pub plain_target : List ℕ → List ℕ → List ℕ
-plain_target host target = without_empty_query (path_at host target)
+-- the target in the form of the profile: a path, without an empty query
+abbrev pub plain_target : List ℕ → List ℕ
+plain_target target = without_empty_query (path_of target)
 
 -- Keys.
 
@@ -94,7 +120,7 @@ close_if false = []
 -- connection ends
 abbrev pub plain_fields : Parts → List ℕ → List Named
 plain_fields asked body =
-    (codes "Host", host_of asked)
+    (codes "Host", plain_host asked)
     ∷ (fields_of (codes "Desk-Agent") (values_named (codes "desk-agent") asked.fields)
     ++ (fields_of (codes "Desk-For") (meant_agents asked)
     ++ (fields_of (codes "Desk-Key") (map plain_key (values_named (codes "desk-key") asked.fields))
@@ -104,7 +130,7 @@ plain_fields asked body =
 abbrev pub plain_parts : Parts → List ℕ → Parts
 plain_parts asked body = record {
   method = plain_method asked.method;
-  target = plain_target (host_of asked) asked.target;
+  target = plain_target asked.target;
   minor = 1;
   fields = plain_fields asked body;
 }
@@ -112,8 +138,8 @@ plain_parts asked body = record {
 -- the request says plainly what a head with these parts asks with this body
 pub record SaysPlainly (r : Request) (asked : Parts) (bytes : List ℕ) : Type 0 where
   pub method : r.method.items ≡ plain_method asked.method
-  pub target : r.target.items ≡ plain_target (host_of asked) asked.target
-  pub host : r.host.items ≡ host_of asked
+  pub target : r.target.items ≡ plain_target asked.target
+  pub host : r.host.items ≡ plain_host asked
   pub agent : r.agent ≡ agent_of asked
   pub is_unnamed : r.is_unnamed ≡ is_unnamed asked
   pub key : r.key ≡ plain_key_of asked

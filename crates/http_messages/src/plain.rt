@@ -1,9 +1,10 @@
 //! The parts of a head in the form of the desk's profile.
-ghost use Rattle.std.specs.Prelude.{◌≡◌, length, IfOk};
+ghost use Rattle.std.specs.Prelude.{◌≡◌, ◌<◌, ◌≤◌, length, IfOk, IfSome};
+ghost use Rattle.std.specs.List.{position};
 ghost use Rattle.allotment.specs.Texts.{keep_if};
 ghost use Rattle.commands.specs.Names.{is_key};
-ghost use Rattle.http_messages.specs.Plain.{are_digits, has_empty_query, is_absolute, is_path, is_uuid};
-ghost use Rattle.http_messages.specs.Plain.{path_at, plain_key, plain_method, plain_target};
+ghost use Rattle.http_messages.specs.Plain.{are_digits, authority_length, ends_authority, has_empty_query, host_for, is_absolute, is_path, is_uuid};
+ghost use Rattle.http_messages.specs.Plain.{path_of, plain_key, plain_method, plain_target};
 ghost use Rattle.http_messages.specs.Plain.{uuid_digits, without_empty_query};
 
 use crate::heads::key_in;
@@ -28,33 +29,66 @@ pub(crate) fn plain_method(method: &[u8]) -> &[u8]
 }
 
 /// The path of a target, without an empty query.
-pub(crate) fn plain_target<'a>(host: &[u8], target: &'a [u8]) -> &'a [u8]
-    ensures target { result.now ≡ plain_target host.now target.now }
+pub(crate) fn plain_target(target: &[u8]) -> &[u8]
+    ensures target { result.now ≡ plain_target target.now }
 {
-    without_empty_query(path_at(host, target))
+    without_empty_query(path_of(target))
 }
 
-/// The path of a target at this host; another target as it is.
-fn path_at<'a>(host: &[u8], target: &'a [u8]) -> &'a [u8]
-    ensures path { result.now ≡ path_at host.now target.now }
+/// The host that a target in absolute form names; of another target this one, which the field `Host` names.
+pub(crate) fn host_for<'a>(target: &'a [u8], host: &'a [u8]) -> &'a [u8]
+    ensures host { result.now ≡ host_for target.now host.now }
 {
-    if is_absolute(host, target) {
-        &target[SCHEME.len()..][host.len()..]
+    if is_absolute(target) {
+        let later = &target[SCHEME.len()..];
+        &later[..authority_length(later)]
+    } else {
+        host
+    }
+}
+
+/// The path of a target in absolute form; another target as it is.
+fn path_of(target: &[u8]) -> &[u8]
+    ensures path { result.now ≡ path_of target.now }
+{
+    if is_absolute(target) {
+        let later = &target[SCHEME.len()..];
+        &later[authority_length(later)..]
     } else {
         target
     }
 }
 
-/// Whether a target is in absolute form, at this host.
-fn is_absolute(host: &[u8], target: &[u8]) -> bool
-    ensures absolute { result ≡ is_absolute host.now target.now }
+/// Whether a target is in absolute form: a scheme, a host, and a path.
+fn is_absolute(target: &[u8]) -> bool
+    ensures absolute { result ≡ is_absolute target.now }
 {
-    if target.len() < SCHEME.len() || target.len() - SCHEME.len() < host.len() {
+    if target.len() < SCHEME.len() {
         return false;
     }
     let (scheme, later) = target.split_at(SCHEME.len());
-    let (named, path) = later.split_at(host.len());
-    scheme.eq_ignore_ascii_case(SCHEME) && named.eq_ignore_ascii_case(host) && is_path(path)
+    let (authority, path) = later.split_at(authority_length(later));
+    scheme.eq_ignore_ascii_case(SCHEME) && !authority.is_empty() && is_path(path)
+}
+
+/// How many bytes the authority has with which a text begins.
+fn authority_length(text: &[u8]) -> usize
+    ensures within { result ≤ length text.now }
+    ensures length { result ≡ authority_length text.now }
+{
+    match end_of_authority(text) {
+        Some(end) => end,
+        None => text.len(),
+    }
+}
+
+/// Where the first byte stands that ends an authority (RFC 3986, section 3.2).
+fn end_of_authority(text: &[u8]) -> Option<usize>
+    ensures place { result ≡ position ends_authority text.now }
+    ensures within { IfSome result (λ at. at < length text.now) }
+{
+    text.iter()
+        .position(|byte| *byte == b'/' || *byte == b'?' || *byte == b'#')
 }
 
 /// Whether a text begins with a slash.

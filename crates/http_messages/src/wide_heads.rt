@@ -7,7 +7,7 @@ use crate::denials::Denial;
 use crate::framing::{BodyKind, Unframed, body_kind};
 use crate::heads::{Found, Head, NotHead};
 use crate::places::LONGEST_HEAD;
-use crate::plain::{plain_key, plain_method, plain_target};
+use crate::plain::{host_for, plain_key, plain_method, plain_target};
 use crate::requests::Request;
 use crate::versions::names_other_version;
 use commands::Key;
@@ -97,10 +97,11 @@ impl Head {
         ensures says { IfOk result
             (λ request. SaysPlainly request (parts_in front.now self.now) body.items) }
     {
-        let host = self.host(front);
+        let target = self.line.path.of(front);
+        let host = host_for(target, self.host(front));
         Ok(Request {
             method: plain_method(self.line.method.of(front)).to_vec(alloc)?,
-            target: plain_target(host, self.line.path.of(front)).to_vec(alloc)?,
+            target: plain_target(target).to_vec(alloc)?,
             host: host.to_vec(alloc)?,
             agent: self.agent(front),
             is_unnamed: self.is_unnamed(front),

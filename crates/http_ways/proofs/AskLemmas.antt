@@ -1,11 +1,11 @@
 -- The text of an ask that bytes make by a way is no longer than a head and a body. For the law.
 use Rattle.std.proofs.Common.{◌≡◌, ◌≤◌, ◌∙◌, ap, sym, ℕ, List, [], ◌++◌, Bool, true, false, length, arith, inl, inr, Some, None, drop, take, ◌-◌, if◌then◌else◌}
 use Rattle.std.proofs.lemmas.List.{length-drop, length-take}
-use Rattle.http_messages.specs.Heads.{Parts, host_of, parts_of}
+use Rattle.http_messages.specs.Heads.{Parts, parts_of}
 use Rattle.http_messages.specs.Messages as sent
 use Rattle.http_messages.specs.Wide as wide
 use Rattle.http_messages.specs.Wide.{Wide}
-use Rattle.http_messages.specs.Plain.{has_empty_query, is_absolute, path_at, plain_target, without_empty_query}
+use Rattle.http_messages.specs.Plain.{after_authority, after_scheme, authority_length, has_empty_query, is_absolute, path_of, plain_target, without_empty_query}
 use Rattle.desk_http.specs.Laws.{HasShortAsk}
 use Rattle.desk_http.specs.Pages.{command_in}
 use Rattle.desk_http.specs.declared.doors.Door.{Door}
@@ -18,13 +18,13 @@ use Rattle.http_ways.specs.declared.ways.Way.TheVariants as way
 
 -- Targets.
 
-path_shorter : (host target : List ℕ) → length (path_at host target) ≤ length target
-path_shorter host target = go (is_absolute host target)
+path_shorter : (target : List ℕ) → length (path_of target) ≤ length target
+path_shorter target = go (is_absolute target)
   where
-    go : (absolute : Bool) → length (if absolute then drop (length host) (drop 7 target) else target) ≤ length target
+    go : (absolute : Bool) → length (if absolute then after_authority target else target) ≤ length target
     go true =
         let one = length-drop 7 target in
-        let all = length-drop (length host) (drop 7 target) in
+        let all = length-drop (authority_length (after_scheme target)) (after_scheme target) in
         omega (arith, one, all)
     go false = omega arith
 
@@ -36,10 +36,10 @@ query_shorter path = go (has_empty_query path)
     go false = omega arith
 
 -- the target that is meant is no longer than the one that was sent
-plain_shorter : (host target : List ℕ) → length (plain_target host target) ≤ length target
-plain_shorter host target =
-    let path = path_shorter host target in
-    let query = query_shorter (path_at host target) in
+plain_shorter : (target : List ℕ) → length (plain_target target) ≤ length target
+plain_shorter target =
+    let path = path_shorter target in
+    let query = query_shorter (path_of target) in
     omega (arith, path, query)
 
 -- Messages.
@@ -60,9 +60,9 @@ meant_short door bytes (wide.BadBody h) x more rest begins means = unread_asks d
 meant_short door bytes (wide.Asks h body) x more rest begins means = λ asked ask makes.
     let here : command_in door (sent.Asks means.plain body) ≡ Some (asked, Some ask) = sym (ap (command_in door) means.meant) ∙ makes in
     let text = ask_length door means.plain body asked ask here in
-    let same : length means.plain.target ≡ length (plain_target (host_of (parts_of h)) h.target) =
+    let same : length means.plain.target ≡ length (plain_target h.target) =
     ap (λ (p : Parts). length p.target) means.parts in
-    let shorter = plain_shorter (host_of (parts_of h)) h.target in
+    let shorter = plain_shorter h.target in
     let head = target_short begins.2.front h begins.2.is_head in
     let few = begins.3.short in
     omega (arith, text, same, shorter, head, few)

@@ -3,9 +3,9 @@ use Rattle.std.proofs.Common.{◌≡◌, ◌∙◌, ap, ap₂, refl, ℕ, Bool, 
 use Rattle.std.specs.Prelude.{⊤}
 use Rattle.std.specs.Char.{is_ascii_hexdigit}
 use Rattle.std.proofs.lemmas.Bool.Decides.{nat_tests}
-use Rattle.std.proofs.lemmas.List.Elements.{All-head}
+use Rattle.std.proofs.lemmas.List.Elements.{All-drop, All-head, All-take}
 use Rattle.std.proofs.lemmas.List.Sums.{AllPass-from_list_all}
-use Rattle.httparse.specs.Grammar.{AllPass, Field, RequestHead, crlf, is_ows, skip_ows, trim_ows}
+use Rattle.httparse.specs.Grammar.{AllPass, Field, RequestHead, crlf, is_ows, is_uri_byte, skip_ows, trim_ows}
 use Rattle.httparse.specs.Spans.{name_and_value}
 use Rattle.httparse.proofs.TrimLemmas.{AllPass-reverse, trim_ows_space}
 use Rattle.http1.specs.Head.{starts_visible}
@@ -13,7 +13,7 @@ use Rattle.http1.specs.Text.{numeral}
 use Rattle.http1.proofs.NumeralLemmas.{decimal_is_trimmed}
 use Rattle.http_messages.specs.Heads.{Named, host_of, is_alike, meant_agents, parts_of, the_text, values_named}
 use Rattle.http_messages.specs.Wide.{ends_after}
-use Rattle.http_messages.specs.Plain.{are_digits, close_if, fields_of, is_uuid, plain_fields, plain_key, plain_method, plain_parts, plain_target, uuid_digits}
+use Rattle.http_messages.specs.Plain.{after_scheme, are_digits, authority_length, authority_of, close_if, fields_of, host_for, is_absolute, is_uuid, plain_fields, plain_key, plain_method, plain_parts, plain_target, uuid_digits}
 
 -- a value that a field may have: some bytes, without the white space at their ends
 record IsTrimmed (value : List ℕ) : Type 0 where
@@ -114,6 +114,28 @@ uuid_is_digits key is =
     (digits_append (slice_range key 0 8 ++ slice_range key 9 13) (slice_range key 14 18)
     (digits_append (slice_range key 0 8) (slice_range key 9 13) q9.1 q7.1) q5.1) q3.1) q1.1
 
+uri_visible : (c : ℕ) → is_uri_byte c ≡ true → not (is_ows c) ≡ true
+uri_visible c byte = grind (arith, nat_tests)
+
+text_visible : (text : List ℕ) → AllPass is_uri_byte text → starts_visible text ≡ true
+text_visible [] all = refl
+text_visible (c ∷ later) all = uri_visible c (All-head (λ b. is_uri_byte b ≡ true) c later all)
+
+-- a part of a target has no white space at its ends
+uri_trimmed : (text : List ℕ) → AllPass is_uri_byte text → IsTrimmed text
+uri_trimmed text all =
+    visible_trimmed text (text_visible text all) (text_visible (reverse text) (AllPass-reverse is_uri_byte text all))
+
+-- the host that is meant, by that of the field
+host_trimmed : (target host : List ℕ) → AllPass is_uri_byte target → IsTrimmed host → IsTrimmed (host_for target host)
+host_trimmed target host all is = by_test (is_absolute target)
+  where
+    by_test : (t : Bool) → IsTrimmed (if t then authority_of target else host)
+    by_test true =
+        uri_trimmed (authority_of target)
+        (All-take (λ b. is_uri_byte b ≡ true) (authority_length (after_scheme target)) (after_scheme target) (All-drop (λ b. is_uri_byte b ≡ true) 7 target all))
+    by_test false = is
+
 key_trimmed : (key : List ℕ) → IsTrimmed key → IsTrimmed (plain_key key)
 key_trimmed key is = by_test (is_uuid key) refl
   where
@@ -136,13 +158,13 @@ close_fields : (ends : Bool) → AreFields (close_if ends)
 close_fields true = (close_trimmed, tt)
 close_fields false = tt
 
-plain_are_fields : (h : RequestHead) (body : List ℕ) → AreFields (plain_fields (parts_of h) body)
-plain_are_fields h body =
+plain_are_fields : (h : RequestHead) (body : List ℕ) → AllPass is_uri_byte h.target → AreFields (plain_fields (parts_of h) body)
+plain_are_fields h body all =
     let asked = parts_of h in
     let agents = values_trimmed (codes "desk-agent") h.fields in
     let meant = values_trimmed (codes "desk-for") h.fields in
     let keys = keys_trimmed (values_named (codes "desk-key") asked.fields) (values_trimmed (codes "desk-key") h.fields) in (
-      text_trimmed (values_named (codes "host") asked.fields) (values_trimmed (codes "host") h.fields),
+      host_trimmed h.target (host_of asked) all (text_trimmed (values_named (codes "host") asked.fields) (values_trimmed (codes "host") h.fields)),
       named_fields (codes "Desk-Agent") (values_named (codes "desk-agent") asked.fields) _ agents
           (named_fields (codes "Desk-For") (meant_agents asked) _ meant
           (named_fields (codes "Desk-Key") (map plain_key (values_named (codes "desk-key") asked.fields)) _ keys
@@ -150,18 +172,18 @@ plain_are_fields h body =
     )
 
 -- a head of the profile with the same meaning
-pub some_head : (h : RequestHead) (body : List ℕ) → (plain : RequestHead) × (parts_of plain ≡ plain_parts (parts_of h) body)
-some_head h body =
+pub some_head : (h : RequestHead) (body : List ℕ) → AllPass is_uri_byte h.target → (plain : RequestHead) × (parts_of plain ≡ plain_parts (parts_of h) body)
+some_head h body all =
     let asked = parts_of h in
-    let fields = with_fields (plain_fields asked body) (plain_are_fields h body) in (
+    let fields = with_fields (plain_fields asked body) (plain_are_fields h body all) in (
       record {
         blank = [];
         method = plain_method asked.method;
-        target = plain_target (host_of asked) asked.target;
+        target = plain_target asked.target;
         minor = 1;
         line_end = crlf;
         fields = fields.0;
         last = crlf;
       },
-      ap (λ fs. record { method = plain_method asked.method; target = plain_target (host_of asked) asked.target; minor = 1; fields = fs }) fields.1,
+      ap (λ fs. record { method = plain_method asked.method; target = plain_target asked.target; minor = 1; fields = fs }) fields.1,
     )

@@ -102,7 +102,7 @@ reads_request bytes r count a first read laid = go first.sent first.is_taken fir
     go (wide.Unread h why) is begins = absurd is
     go (wide.BadBody h) is begins = absurd is
     go (wide.Asks h body) is begins =
-        let head = some_head h body in
+        let head = some_head h body (begins []).2.is_head.reads.0.target.1 in
         let asks : IsTaken (message.Asks r.request) (sent.Asks head.0 body) =
         subst (λ parts. IsRequest r.request parts body) (sym head.1) is.request in
         record {

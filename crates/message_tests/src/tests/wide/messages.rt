@@ -36,7 +36,7 @@ fn both(alloc: Global, bytes: &[u8], more: &[u8]) -> Result<Vec<u8>, AllocError>
 // a request, what comes after it, and what it asks: for what, then the method, target, host, agent, key and body of the
 // request that stands for it, whether the connection ends, and how many bytes it has
 #[rattlefmt::skip]
-const REQUESTS: [(&str, &[u8], &[u8], &str); 36] = [
+const REQUESTS: [(&str, &[u8], &[u8], &str); 39] = [
     ("a body by its length", b"POST /journeys HTTP/1.1\r\nHost: d\r\nDesk-Agent: ann\r\nDesk-Key: k1\r\nContent-Length: 4\r\n\r\nabcd",
         b"",
         "post POST /journeys d ann k1 abcd open 90"),
@@ -60,13 +60,22 @@ const REQUESTS: [(&str, &[u8], &[u8], &str); 36] = [
         "get GET /stock d:80 - -  open 46"),
     ("the same in capitals", b"GET HTTP://D/stock HTTP/1.1\r\nHost: d\r\n\r\n",
         b"",
-        "get GET /stock d - -  open 40"),
-    ("that of another host", b"GET http://e/stock HTTP/1.1\r\nHost: d\r\n\r\n",
+        "get GET /stock D - -  open 40"),
+    ("that of another host", b"GET http://e:8080/stock HTTP/1.1\r\nHost: d\r\n\r\n",
         b"",
-        "get GET http://e/stock d - -  open 40"),
-    ("a host that only begins so", b"GET http://dd/stock HTTP/1.1\r\nHost: d\r\n\r\n",
+        "get GET /stock e:8080 - -  open 45"),
+    ("that of HTTP/1.0 without a host", b"GET http://d/stock HTTP/1.0\r\n\r\n",
         b"",
-        "get GET http://dd/stock d - -  open 41"),
+        "get GET /stock d - -  close 31"),
+    ("an absolute form without a host", b"GET http:///stock HTTP/1.1\r\nHost: d\r\n\r\n",
+        b"",
+        "get GET http:///stock d - -  open 39"),
+    ("one without a path", b"GET http://d?a=/stock HTTP/1.1\r\nHost: d\r\n\r\n",
+        b"",
+        "get GET http://d?a=/stock d - -  open 43"),
+    ("another scheme", b"GET https://d/stock HTTP/1.1\r\nHost: d\r\n\r\n",
+        b"",
+        "get GET https://d/stock d - -  open 41"),
     ("an empty query", b"GET /stock? HTTP/1.1\r\nHost: d\r\n\r\n",
         b"",
         "get GET /stock d - -  open 33"),
