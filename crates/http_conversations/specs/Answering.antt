@@ -1,12 +1,15 @@
 -- How the first message that waits is answered, where that leads the book, and what it leaves.
-use Rattle.std.specs.Prelude.{◌≡◌, ◌⊎◌, Bool, true, false, Option, ℕ, Result, Ok, Err, OnErr}
+use Rattle.std.specs.Prelude.{◌≡◌, ◌⊎◌, Bool, true, false, Option, Some, None, ℕ, List, [], ◌∷◌, ◌++◌, take, Result, Ok, Err, OnErr}
 use Rattle.std.proofs.Common.{inl, inr}
 use Rattle.ledger.specs.Answer.{State}
 use Rattle.commands.specs.declared.replies.Fault.{Fault}
 use Rattle.commands.specs.declared.replies.Fault.TheVariants.{Memory, Store}
 use Rattle.desk_http.specs.Pages.{state_after}
 use Rattle.http_ways.specs.Pages.{IsPageAt}
-use Rattle.http_conversations.specs.History.{AnswersOne, History, Passes, TakesFirst}
+use Rattle.http_ways.specs.Reading.{IsRead}
+use Rattle.http_ways.specs.Ways.{Said, Says}
+use Rattle.http_ways.specs.declared.ways.Arrived.{Arrived}
+use Rattle.http_conversations.specs.History.{AnswersOne, History, Passes, TakesFirst, exchange}
 use Rattle.http_conversations.specs.declared.conversation.Stage.TheVariants.{Failed}
 
 -- memory ran out for a page, and its message was carried out or not; or the store failed, and a crash leaves one of these states
@@ -31,6 +34,20 @@ module _ (sound : Type 0) (stood stands : State → Type 0) (leaves : State → 
     -- what was taken of what waits
     pub takes : TakesFirst result old new
     pub leads : LeadsAs result old new takes
+
+-- the message that was taken was read as this
+pub record SeesLast (arrived : Arrived) (old new : History) : Type 0 where
+  pub count : ℕ
+  pub page : Option (List ℕ)
+  pub is_last : new.exchanges ≡ old.exchanges ++ exchange old count page ∷ []
+  pub said : Said
+  pub is_read : IsRead arrived said
+  pub says : Says old.way (take count old.waiting) said
+
+-- the message that was taken is shown, as it was read; nothing is where none was taken
+abbrev pub Sees : Option Arrived → History → History → Type 0
+Sees (Some arrived) old new = SeesLast arrived old new
+Sees None old new = new.exchanges ≡ old.exchanges
 
 -- what that leaves of a conversation
 pub record LeavesTaken (result : Result Bool Fault) (old new : History) : Type 0 where

@@ -1,5 +1,5 @@
 //! A conversation, with no socket of its own.
-ghost use Rattle.http_conversations.specs.Answering.{AnswersFirst, LeavesTaken};
+ghost use Rattle.http_conversations.specs.Answering.{AnswersFirst, LeavesTaken, Sees};
 ghost use Rattle.http_conversations.specs.Calls.{GivesIfDue, Receives, Sends};
 ghost use Rattle.http_conversations.specs.History.{HasNoTurn, IsQuiet, IsServed, WantsRead, new_history, stops_by};
 ghost use Rattle.http_conversations.specs.Leading.{GoesOnByOne, has_broken};
@@ -13,7 +13,7 @@ use commands::{Fault, MOST_BYTES};
 use desk_http::Door;
 use http_messages::LONGEST_HEAD;
 use http_pages::Paths;
-use http_ways::Way;
+use http_ways::{Arrived, Way};
 use protocols::ServeFault;
 use saga_core::Book;
 use std::alloc::{AllocError, Global};
@@ -74,7 +74,8 @@ impl Conversation {
     }
 
     /// Answers the first message that waits, unless a page waits or the conversation is over, and reports whether it did. By
-    /// the wide way the page has the date of this second since 1970, if the clock was read.
+    /// the wide way the page has the date of this second since 1970, if the clock was read. The message is shown, as it was
+    /// read, also where its page is lost.
     ///
     /// Out of memory, the message was carried out or not, and its page is lost. Then, and where the store failed, the
     /// conversation has failed.
@@ -82,6 +83,7 @@ impl Conversation {
         &mut self,
         paths: &Paths,
         second: Option<u64>,
+        seen: &mut Option<Arrived>,
         book: &mut B,
     ) -> Result<bool, Fault>
         ensures answers { AnswersFirst (B.is_sound book.new) (B.stands book.old)
@@ -93,10 +95,11 @@ impl Conversation {
         ensures leaves { LeavesTaken result (history self.old) (history self.new) }
         ensures none { result ≡ Ok false → HasNoTurn (history self.old)
             × (history self.new ≡ history self.old) × (book.new ≡ book.old) }
+        ensures seen { Sees seen.new (history self.old) (history self.new) }
         ensures serves { Serves B.is_sound B.leaves B.has_failed book.old book.new
             Fault.Store result }
     {
-        self.talk.answer(paths, second, book)
+        self.talk.answer(paths, second, seen, book)
     }
 
     /// Gives `100 Continue` where it is due, and reports whether it was: no page waits, the head of the next message asks for
@@ -138,13 +141,6 @@ impl Conversation {
         ensures waiting { IsTrue result ↔ ((history self.now).waiting ≢ []) }
     {
         !self.talk.waiting.is_empty()
-    }
-
-    /// What was received and is not yet used.
-    pub fn waiting(&self) -> &[u8]
-        ensures waiting { result.now ≡ (history self.now).waiting }
-    {
-        self.talk.waiting.as_slice()
     }
 
     /// What is left of the page that goes out.

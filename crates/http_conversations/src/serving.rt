@@ -151,8 +151,9 @@ fn answer_next<R: Read, B: Book>(
     ensures serves { Serves B.is_sound B.leaves B.has_failed book.old book.new
         ServeFault.Store result }
 {
+    let mut seen = None;
     for _ in 0..u64::MAX {
-        match conversation.answer(paths, None, book) {
+        match conversation.answer(paths, None, &mut seen, book) {
             Ok(true) => return Ok(true),
             Ok(false) => {
                 let count = read_more(conversation, buffer, reader)?;

@@ -2,7 +2,7 @@
 ghost use Rattle.std.specs.Prelude.{◌≡◌, ◌≢◌, ◌≤◌, [], length, drop, vec_capacity, Ok, false};
 ghost use Rattle.saga_core.specs.Calls.{Serves};
 ghost use Rattle.http_ways.specs.Reading.{IsFirstOfBy};
-ghost use Rattle.http_conversations.specs.Answering.{AnswersFirst};
+ghost use Rattle.http_conversations.specs.Answering.{AnswersFirst, Sees, SeesLast};
 ghost use Rattle.http_conversations.specs.Calls.{GivesIfDue, Receives, Sends};
 ghost use Rattle.http_conversations.specs.Leading.{fault_by};
 ghost use Rattle.http_conversations.specs.History.{HasNoTurn, IsReady, after_answer, after_failure, after_loss, kept, moved_on, new_history};
@@ -100,11 +100,12 @@ impl Talk {
         }
     }
 
-    /// Answers the first message that waits, if it is its turn, where the clock shows this second.
+    /// Answers the first message that waits, if it is its turn, where the clock shows this second, and shows it.
     pub(crate) fn answer<B: Book>(
         &mut self,
         paths: &Paths,
         second: Option<u64>,
+        seen: &mut Option<Arrived>,
         book: &mut B,
     ) -> Result<bool, Fault>
         ensures answers { AnswersFirst (B.is_sound book.new) (B.stands book.old)
@@ -112,14 +113,20 @@ impl Talk {
             (history_of self.old) (history_of self.new) }
         ensures none { result ≡ Ok false → HasNoTurn (history_of self.old)
             × (history_of self.new ≡ history_of self.old) × (book.new ≡ book.old) }
+        ensures seen { Sees seen.new (history_of self.old) (history_of self.new) }
         ensures serves { Serves B.is_sound B.leaves B.has_failed book.old book.new
             Fault.Store result }
     {
+        *seen = None;
         if !matches!(self.stage, Stage::Open) || !self.pending.is_empty() {
             return Ok(false);
         }
         match first_by(self.alloc, self.way, &self.waiting) {
-            Ok(Some((arrived, count))) => self.answer_first(paths, second, &arrived, count, book),
+            Ok(Some((arrived, count))) => {
+                let answered = self.answer_first(paths, second, &arrived, count, book);
+                *seen = Some(arrived);
+                answered
+            }
             Ok(None) => Ok(false),
             Err(_) => {
                 self.fail();
@@ -144,6 +151,7 @@ impl Talk {
             (B.stands book.new) (B.leaves book.new) second result
             (history_of self.old) (history_of self.new) }
         ensures some { result ≢ Ok false }
+        ensures seen { SeesLast arrived.now (history_of self.old) (history_of self.new) }
         ensures serves { Serves B.is_sound B.leaves B.has_failed book.old book.new
             Fault.Store result }
     {

@@ -9,7 +9,7 @@ use crate::texts::{ask_of, asked_by};
 use http_live::Standing;
 use http_log::{Peer, Recent, Why, opened_line, request_line};
 use http_messages::Message;
-use http_ways::{Way, first_by};
+use http_ways::Arrived;
 use log::info;
 use std::alloc::{AllocError, Global};
 
@@ -51,9 +51,8 @@ impl<'a> Journal<'a> {
         })
     }
 
-    /// A connection takes a seat by a door, and is read by this way. Which was there before is displaced. Out of memory, the
-    /// line of that is left out.
-    pub fn comes(&mut self, at: usize, is_house: bool, way: Way) -> Result<(), AllocError> {
+    /// A connection takes a seat by a door. Which was there before is displaced. Out of memory, the line of that is left out.
+    pub fn comes(&mut self, at: usize, is_house: bool) -> Result<(), AllocError> {
         let displaced = self.ends(at, Why::Displaced);
         self.came = self.came.saturating_add(1);
         let peer = Peer {
@@ -61,37 +60,33 @@ impl<'a> Journal<'a> {
             is_house,
         };
         if at < self.seats.len() {
-            self.seats[at] = Known::of(peer, way);
+            self.seats[at] = Known::of(peer);
         }
         displaced
     }
 
-    /// What was received at a seat may be answered now. Nothing is written.
-    pub fn sees_received(&mut self, at: usize, received: &[u8]) {
-        let Some(known) = self.seats.get_mut(at) else {
-            return;
-        };
-        known.has_part = !received.is_empty();
-        known.message = match first_by(self.alloc, known.way, received) {
-            Ok(Some((arrived, _))) => Some(arrived),
-            _ => None,
-        };
+    /// A message, or part of one, waits at a seat to be answered, or does not. Nothing is written.
+    pub fn sees_received(&mut self, at: usize, has_part: bool) {
+        if let Some(known) = self.seats.get_mut(at) {
+            known.has_part = has_part;
+        }
     }
 
-    /// A turn of a seat ended so, with this left of its page, after which the connection ends, or does not; a connection that
-    /// is over has none. Out of memory, lines are left out.
+    /// A turn of a seat ended so, in which this message was taken, if one was, with this left of its page, after which the
+    /// connection ends, or does not; a connection that is over has none. Out of memory, lines are left out.
     pub fn sees_page(
         &mut self,
         at: usize,
         standing: Standing,
+        seen: Option<&Arrived>,
         page: &[u8],
         closes: bool,
     ) -> Result<(), AllocError> {
         match standing {
-            Standing::Over => self.sees_end(at),
+            Standing::Over => self.sees_end(at, seen),
             Standing::Answered | Standing::Stopped => {
                 self.keep_page(at, page, closes);
-                let _ = self.answers(at, page.get(9..12).unwrap_or(b"?"))?;
+                let _ = self.answers(at, seen, page.get(9..12).unwrap_or(b"?"))?;
                 Ok(())
             }
             _ => {
@@ -102,8 +97,8 @@ impl<'a> Journal<'a> {
     }
 
     /// The connection of a seat ended in its turn: its peer ended it, or memory ran out for a page.
-    fn sees_end(&mut self, at: usize) -> Result<(), AllocError> {
-        let is_lost = self.answers(at, b"lost");
+    fn sees_end(&mut self, at: usize, seen: Option<&Arrived>) -> Result<(), AllocError> {
+        let is_lost = self.answers(at, seen, b"lost");
         let why = match self.seats.get(at) {
             None => return Ok(()),
             Some(known) => known.why(is_lost.unwrap_or(true)),
@@ -127,17 +122,22 @@ impl<'a> Journal<'a> {
     }
 
     /// A message was answered with this status, or lost its page. Returns whether there was one.
-    fn answers(&mut self, at: usize, status: &[u8]) -> Result<bool, AllocError> {
+    fn answers(
+        &mut self,
+        at: usize,
+        seen: Option<&Arrived>,
+        status: &[u8],
+    ) -> Result<bool, AllocError> {
         let Some(known) = self.seats.get_mut(at) else {
             return Ok(false);
         };
-        let Some(arrived) = known.message.take() else {
+        let Some(arrived) = seen else {
             return Ok(false);
         };
         known.requests = known.requests.saturating_add(1);
         let peer = known.peer;
         let again = self.is_again(&arrived.message, status);
-        let asked = asked_by(&arrived, status, again);
+        let asked = asked_by(arrived, status, again);
         let line = request_line(self.alloc, peer, &asked)?;
         self.write(Some(line));
         Ok(true)

@@ -5,7 +5,6 @@ ghost use Rattle.std.specs.String.{string_bytes};
 ghost use Rattle.http_log.specs.Shown.{is_printable};
 
 use http_log::{Peer, Why, ended_line};
-use http_ways::{Arrived, Way};
 use std::alloc::{AllocError, Global};
 
 /// What the log knows of a seat.
@@ -14,13 +13,9 @@ pub struct Known {
     /// Whether a connection is here.
     pub(crate) is_here: bool,
     pub(crate) peer: Peer,
-    /// By which way it is read.
-    pub(crate) way: Way,
     /// How many requests were answered, or lost their pages.
     pub(crate) requests: u64,
-    /// The message that may be answered in this turn.
-    pub(crate) message: Option<Arrived>,
-    /// Whether part of a message was received.
+    /// Whether a message, or part of one, was received before its turn.
     pub(crate) has_part: bool,
     /// Whether something was left of its page after its last turn.
     pub(crate) is_unsent: bool,
@@ -39,24 +34,21 @@ impl Known {
             number: 0,
             is_house: false,
         };
-        let mut known = Known::of(peer, Way::Profile);
+        let mut known = Known::of(peer);
         known.is_here = false;
         known
     }
 
-    /// A connection came by a door, and is read by this way. Nothing was received of it.
-    pub(crate) fn of(peer: Peer, way: Way) -> Known
+    /// A connection came by a door. Nothing was received of it.
+    pub(crate) fn of(peer: Peer) -> Known
         ensures here { result.is_here ≡ true }
         ensures peer { result.peer ≡ peer }
-        ensures way { result.way ≡ way }
         ensures none { result.requests ≡ 0 }
     {
         Known {
             is_here: true,
             peer,
-            way,
             requests: 0,
-            message: None,
             has_part: false,
             is_unsent: false,
             closes: false,

@@ -13,7 +13,7 @@ use desk_http::Door;
 use http_conversations::{Conversation, MOST_READ, Stage};
 use http_pages::Paths;
 use http_server::Log;
-use http_ways::Way;
+use http_ways::{Arrived, Way};
 use saga_core::Book;
 use std::alloc::Global;
 use std::io::{self, ErrorKind, Read, Write};
@@ -68,13 +68,9 @@ impl<R: Read + Drop, W: Write + Drop> Connection<R, W> {
         self.conversation.always_served();
     }
 
-    /// What was received and may be answered in the next turn: nothing while a page waits.
-    pub(crate) fn unanswered(&self) -> &[u8] {
-        if self.conversation.wants_write() {
-            b""
-        } else {
-            self.conversation.waiting()
-        }
+    /// Whether something waits to be answered, a whole message or part of one, and no page waits.
+    pub(crate) fn has_unanswered(&self) -> bool {
+        !self.conversation.wants_write() && self.conversation.has_part()
     }
 
     /// What is left of the page that goes out.
@@ -87,13 +83,14 @@ impl<R: Read + Drop, W: Write + Drop> Connection<R, W> {
         self.conversation.stage() == Stage::Closing
     }
 
-    /// A turn: what waits is handed out, or else one message is answered, or else more is read. The clock shows this second,
-    /// if it was read.
+    /// A turn: what waits is handed out, or else one message is answered and shown, or else more is read. The clock shows this
+    /// second, if it was read.
     pub(crate) fn serve<B: Book>(
         &mut self,
         paths: &Paths,
         second: Option<u64>,
         buffer: &mut [u8],
+        seen: &mut Option<Arrived>,
         book: &mut B,
     ) -> Result<Standing, Fault>
         requires small { length buffer.old ≤ MOST_READ }
@@ -108,7 +105,7 @@ impl<R: Read + Drop, W: Write + Drop> Connection<R, W> {
         if self.conversation.wants_write() {
             return Ok(self.push(buffer));
         }
-        match self.answer(paths, second, book) {
+        match self.answer(paths, second, seen, book) {
             Ok(true) => Ok(self.answered()),
             Ok(false) => Ok(self.go_on(buffer)),
             Err(Fault::Memory) => Ok(Standing::Over),
@@ -158,6 +155,7 @@ impl<R: Read + Drop, W: Write + Drop> Connection<R, W> {
         &mut self,
         paths: &Paths,
         second: Option<u64>,
+        seen: &mut Option<Arrived>,
         book: &mut B,
     ) -> Result<bool, Fault>
         ensures turn { GoesOnByOne (B.is_sound book.new) (B.stands book.old) (B.stands book.new)
@@ -169,7 +167,7 @@ impl<R: Read + Drop, W: Write + Drop> Connection<R, W> {
         ensures serves { Serves B.is_sound B.leaves B.has_failed book.old book.new
             Fault.Store result }
     {
-        self.conversation.answer(paths, second, book)
+        self.conversation.answer(paths, second, seen, book)
     }
 
     /// Reads once.

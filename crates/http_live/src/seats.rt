@@ -13,7 +13,7 @@ use desk_http::Door;
 use http_conversations::MOST_READ;
 use http_pages::Paths;
 use http_server::Log;
-use http_ways::Way;
+use http_ways::{Arrived, Way};
 use saga_core::Book;
 use std::alloc::{AllocError, Global};
 use std::io::{Read, Write};
@@ -61,11 +61,11 @@ impl<R: Read + Drop, W: Write + Drop> Seat<R, W> {
         }
     }
 
-    /// What the connection received and may answer in the next turn.
-    pub(crate) fn unanswered(&self) -> &[u8] {
+    /// Whether the connection may answer something in the next turn, a whole message or part of one.
+    pub(crate) fn has_unanswered(&self) -> bool {
         match &self.connection {
-            Some(connection) => connection.unanswered(),
-            None => b"",
+            Some(connection) => connection.has_unanswered(),
+            None => false,
         }
     }
 
@@ -99,12 +99,14 @@ impl<R: Read + Drop, W: Write + Drop> Seat<R, W> {
         standing
     }
 
-    /// A turn of the connection, if there is one, where the clock shows this second. One that is over ends.
+    /// A turn of the connection, if there is one, where the clock shows this second. The message that was answered is shown.
+    /// One that is over ends.
     pub(crate) fn serve<B: Book>(
         &mut self,
         paths: &Paths,
         second: Option<u64>,
         buffer: &mut [u8],
+        seen: &mut Option<Arrived>,
         book: &mut B,
     ) -> Result<Standing, Fault>
         requires small { length buffer.old ≤ MOST_READ }
@@ -119,7 +121,7 @@ impl<R: Read + Drop, W: Write + Drop> Seat<R, W> {
         let Some(connection) = &mut self.connection else {
             return Ok(Standing::Over);
         };
-        let standing = connection.serve(paths, second, buffer, book)?;
+        let standing = connection.serve(paths, second, buffer, seen, book)?;
         if standing == Standing::Over {
             self.clear();
         }

@@ -16,7 +16,7 @@ use commands::Fault;
 use desk_http::Door;
 use http_conversations::MOST_READ;
 use http_pages::Paths;
-use http_ways::Way;
+use http_ways::{Arrived, Way};
 use recovery::Ready;
 use saga_core::Book;
 use std::alloc::Global;
@@ -106,8 +106,10 @@ fn take_turn<T: Turns, B: Book>(
         Turn::Ready(at) => {
             if at < seats.len() {
                 show_received(seats, turns, at);
-                let standing = seats[at].serve(paths, turns.second(), buffer, book)?;
-                show_page(seats, turns, at, standing);
+                let mut seen = None;
+                let second = turns.second();
+                let standing = seats[at].serve(paths, second, buffer, &mut seen, book)?;
+                show_page(seats, turns, at, standing, seen.as_ref());
                 turns.hear(at, standing);
                 return Ok(ending_after(standing));
             }
@@ -123,22 +125,23 @@ fn take_turn<T: Turns, B: Book>(
     }
 }
 
-/// Shows what was received at a seat, before its turn.
+/// Shows whether something was received at a seat and may be answered, before its turn.
 fn show_received<T: Turns>(seats: &[Seat<T::Reader, T::Writer>], turns: &mut T, at: usize) {
     if let Some(seat) = seats.get(at) {
-        turns.see_received(at, seat.unanswered());
+        turns.see_received(at, seat.has_unanswered());
     }
 }
 
-/// Shows the page of a seat, after its turn.
+/// Shows the message that was answered at a seat, if one was, and its page, after its turn.
 fn show_page<T: Turns>(
     seats: &[Seat<T::Reader, T::Writer>],
     turns: &mut T,
     at: usize,
     standing: Standing,
+    seen: Option<&Arrived>,
 ) {
     if let Some(seat) = seats.get(at) {
-        turns.see_page(at, standing, seat.unsent(), seat.closes());
+        turns.see_page(at, standing, seen, seat.unsent(), seat.closes());
     }
 }
 
@@ -251,13 +254,20 @@ pub trait Turns {
         None
     }
 
-    /// Sees what was received at a seat and may be answered in its turn, which comes next. Nothing depends on it: a log may
-    /// be kept so.
-    fn see_received(&mut self, _seat: usize, _received: &[u8]) {}
+    /// Sees whether a message, or part of one, waits at a seat to be answered in its turn, which comes next. Nothing depends on
+    /// it: a log may be kept so.
+    fn see_received(&mut self, _seat: usize, _has_part: bool) {}
 
-    /// Sees how a turn of a seat ended, what is left of its page, and whether the connection ends after it. Nothing depends on
-    /// it.
-    fn see_page(&mut self, _seat: usize, _standing: Standing, _page: &[u8], _closes: bool) {}
+    /// Sees how a turn of a seat ended, the message that was taken in it, if one was, what is left of the page, and whether the
+    /// connection ends after it. Nothing depends on it.
+    fn see_page(
+        &mut self,
+        _seat: usize,
+        _standing: Standing,
+        _seen: Option<&Arrived>,
+        _page: &[u8],
+        _closes: bool,
+    ) {}
 
     /// Hears what the connection of a seat waits for after its turn.
     fn hear(&mut self, seat: usize, standing: Standing);

@@ -11,7 +11,7 @@ use http_journal::Journal;
 use http_live::{SEATS, Standing, Turn, Turns};
 use http_log::Why;
 use http_pages::HtmlPage;
-use http_ways::Way;
+use http_ways::{Arrived, Way};
 use mio::{Events, Poll, Token};
 use std::alloc::{AllocError, Global};
 use std::collections::VecDeque;
@@ -266,7 +266,7 @@ impl<'a> Sockets<'a> {
         let (reader, writer) = ends_of(&socket, self.way)?;
         self.places.take(at, socket, self.tick);
         if let Some(journal) = &mut self.journal {
-            let _ = journal.comes(at, matches!(door, Door::House), self.way);
+            let _ = journal.comes(at, matches!(door, Door::House));
         }
         Ok(Turn::Comes(at, door, self.way, reader, writer))
     }
@@ -357,15 +357,22 @@ impl Turns for Sockets<'_> {
         }
     }
 
-    fn see_received(&mut self, at: usize, received: &[u8]) {
+    fn see_received(&mut self, at: usize, has_part: bool) {
         if let Some(journal) = &mut self.journal {
-            journal.sees_received(at, received);
+            journal.sees_received(at, has_part);
         }
     }
 
-    fn see_page(&mut self, at: usize, standing: Standing, page: &[u8], closes: bool) {
+    fn see_page(
+        &mut self,
+        at: usize,
+        standing: Standing,
+        seen: Option<&Arrived>,
+        page: &[u8],
+        closes: bool,
+    ) {
         if let Some(journal) = &mut self.journal {
-            let _ = journal.sees_page(at, standing, page, closes);
+            let _ = journal.sees_page(at, standing, seen, page, closes);
         }
     }
 

@@ -1,4 +1,6 @@
 -- The message got its page, or lost it.
+use Rattle.std.proofs.Common.{None, Some, ap}
+use Rattle.http_conversations.specs.History.{History}
 use Rattle.http_conversations.specs.Talks.{history_of}
 use Rattle.http_conversations.proofs.AnswerSteps.{gets, loses}
 use Rattle.http_conversations.proofs.talk.Talk.answer_first.Goals as goal
@@ -19,3 +21,26 @@ returns-in-Err-clause-answers g c =
     rw c.fault_of.ensures.fault
     (loses (history_of c.args.self.now) (history_of c.lose.new.self) c.args.count first.said c.requires.ready.is_open first.says
     c.in-Err.fault c.lose.ensures.lost (λ sound s stood. c.in-Err.ensures.answer sound s stood first.said first.is_read))
+
+-- it is the message that was read
+pub returns-in-Ok-clause-seen : goal.returns-in-Ok-clause-seen
+returns-in-Ok-clause-seen g c =
+    let first = c.requires.first in record {
+      count = c.args.count;
+      page = Some c.in-Ok.answer.bytes.items;
+      is_last = ap (λ (h : History). h.exchanges) c.keep.ensures.answered;
+      said = first.said;
+      is_read = first.is_read;
+      says = first.says;
+    }
+
+pub returns-in-Err-clause-seen : goal.returns-in-Err-clause-seen
+returns-in-Err-clause-seen g c =
+    let first = c.requires.first in record {
+      count = c.args.count;
+      page = None;
+      is_last = ap (λ (h : History). h.exchanges) c.lose.ensures.lost;
+      said = first.said;
+      is_read = first.is_read;
+      says = first.says;
+    }
