@@ -10,6 +10,8 @@ from tried import Tried
 
 # The scripts that run programs of the crates' tests, and the crate, or none where they take all that this gate has built.
 OVER_TESTS = {"memory_of_crates.sh": None, "spoiled.sh": "fault_tests"}
+# The script that has a trial program compiled, which takes as much memory as a proof.
+COMPILES = "trial.sh"
 # The part of a shell's script that knows trial programs; its first argument is the top of the repository.
 TRIAL = """
 top=$1
@@ -41,7 +43,7 @@ def proving_tasks(tables, choice):
 
 def trial_task(tables, results):
     """Returns what makes the trial program."""
-    task = Task(("trial", "program"), tables.number("(trial)", 0, 4.0), fills=True)
+    task = Task(("trial", "program"), tables.number("(trial)", 0, 2.0), fills=True, proves=True)
     task.words, task.ended = ["bash", "-c", f"{TRIAL} trial_program", "", str(tables.top)], results.of_trial()
     return task
 
@@ -77,7 +79,7 @@ def script_tasks(gate, choice, results):
     if choice.over_trial:
         program, ready, minutes = trial_file(tables), ("trial", "program"), tables.script_over_trial
     for name, (part, parts) in choice.scripts.items():
-        task = Task((name, "script"), minutes(name) / parts, [ready], fills=True)
+        task = Task((name, "script"), minutes(name) / parts, [ready], fills=True, proves=name == COMPILES)
         if name in OVER_TESTS:
             task.minutes *= share if OVER_TESTS[name] is None else OVER_TESTS[name] in tested
             task.waits += [(it, "tests") for it in tested if OVER_TESTS[name] in (None, it)]
