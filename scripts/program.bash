@@ -1,13 +1,25 @@
 # The program that ./build makes, and the sources that it is made from. For scripts that have set top.
 : "${top:?the top of the repository}"
-. "$top/scripts/crates.bash"
 
 program=$top/crates/desk/out/desk
+
+# program_crates: the crate desk, and all that it stands on, one a line
+program_crates() {
+  awk '
+    function visit(name,    word, i) {
+      if (!(name in uses) || seen[name]++) return
+      print name
+      for (i = split(uses[name], word, " "); i > 0; i--) visit(word[i])
+    }
+    { sub(/#.*/, "") }
+    split($0, half, ":") == 2 { split(half[1], word, " "); uses[word[1]] = half[2] }
+    END { visit("desk") }' "$top/crates.txt"
+}
 
 # program_folders: the folders with the sources of the program, one a line
 program_folders() {
   local name part
-  for name in $(crates_below desk); do
+  for name in $(program_crates); do
     for part in src specs proofs; do
       if [ -d "$top/crates/$name/$part" ]; then printf '%s\n' "$top/crates/$name/$part"; fi
     done

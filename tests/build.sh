@@ -5,6 +5,7 @@
 . "$(dirname "${BASH_SOURCE[0]}")/helping.bash"
 top=$work/repo
 export FAKE=$work/fake
+python=$(command -v python3)
 mkdir -p "$FAKE" "$top/docs"
 cp -r "$tests"/../{build,check,bench,soak,desk,scripts} "$top"
 cp "$tests/../docs/minutes.tsv" "$top/docs"
@@ -48,7 +49,11 @@ RT
 printf '#!/bin/sh\necho 2\n' >"$FAKE/nproc"
 printf 'MemAvailable: 20000000 kB\n' >"$FAKE/memory"
 export MEMINFO=$FAKE/memory
-printf '#!/bin/sh\necho "python3 $*"\n' >"$FAKE/python3"
+cat >"$FAKE/python3" <<PY
+#!/bin/sh
+case \$* in */building.py*) exec "$python" "\$@" ;; esac
+echo "python3 \$*"
+PY
 chmod +x "$FAKE"/*
 PATH=$FAKE:$PATH
 
@@ -128,22 +133,21 @@ linked() {
 mkdir -p crates/bench
 cp "$tests"/../crates/bench/*.bash crates/bench
 linked build 0 "build: the program is crates/desk/out/desk, $(du -shc crates/desk/out/desk | tail -n 1 | cut -f 1), and no source is newer"
-linked check 0 "python3 -B scripts/gate 2 --turns" --turns
+linked check 0 "python3 -B scripts/gate 0 --turns" --turns
 linked soak 0 "python3 $top/tests/soak.py . --help" --help
 linked bench 2 "bench: no such measure: nothing" nothing
 rm -r crates/bench
 
-# the crate on which the longest chain waits begins first: two minutes each, but for `first` and what the table has
+# the crate on which the longest chain waits begins first: two minutes each, but for `first` and what the table has; and as many
+# checks side by side as memory holds
 mkdir -p "$work/chain/docs"
-printf 'first:\nsecond:\nover: second sqlite\nlast: first over\nnext: first\n' >"$work/chain/crates.txt"
-printf '# names\ncrate\tproof\nfirst\t1.5\nnext\t-\n' >"$work/chain/docs/minutes.tsv"
-same "which crates begin first" "second over first last next" \
-  "$(sed 's/:.*//' "$work/chain/crates.txt" | (top=$work/chain && . scripts/minutes.bash && longest_first) | xargs)"
-
-# as many checks side by side as memory holds
+printf 'first:\nsecond:\nover: second sqlite\nlast: first over\nnext: first\ndesk: last next\n' >"$work/chain/crates.txt"
+printf '# names\ncrate\tproof\ttests\tmutants\nfirst\t1.5\t-\t-\nnext\t-\t-\t-\n' >"$work/chain/docs/minutes.tsv"
 for memory in 8:1 20:2; do
   printf 'MemAvailable: %s000000 kB\n' "${memory%:*}" >"$FAKE/memory"
-  same "checks of 5 GB in ${memory%:*}" "${memory#*:}" "$(. scripts/minutes.bash && lanes_of 5000)"
+  same "which crates begin first, and how many in ${memory%:*} GB" "second over first last next desk, ${memory#*:}" \
+    "$(PYTHONPATH=scripts/gate "$python" -B -c 'import building; it = building.Build(building.Tables("'"$work/chain"'"), building.lanes_now())
+print(*it.waiting, end=f", {it.lanes}")')"
 done
 
 # a build that is stopped goes on with what was kept

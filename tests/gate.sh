@@ -11,7 +11,7 @@ fi
 top=$work/repo
 mkdir -p "$top/docs" "$top/tests" "$top/scripts" fake
 cp -r "$tests/../check" "$top"
-cp -r "$tests"/../scripts/{gate,needs.bash,minutes.bash,program.bash,crates.bash,trial.bash} "$top/scripts"
+cp -r "$tests"/../scripts/{gate,needs.bash,program.bash,trial.bash} "$top/scripts"
 cd "$top" || exit 2
 export FAKE=$work/fake
 

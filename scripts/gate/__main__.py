@@ -2,7 +2,7 @@
 
 python3 scripts/gate LANES [--since REVISION | --all | --quick | --turns | --landing]
 
-LANES is the number of checks side by side. docs/GATE.md says what is chosen. Exit status: 0 all has passed, 1 something failed,
+LANES is the number of checks side by side, 0 for as many as fit. docs/GATE.md says what is chosen. Exit status: 0 all has passed, 1 something failed,
 2 wrong words, or another gate runs here.
 """
 
@@ -17,7 +17,7 @@ from pathlib import Path
 from changes import Unknown, revision_of
 from choice import everything, first_look, of_landing
 from landings import add_landing, this_landing
-from lanes import Fillers, end_group, reckoned
+from lanes import Fillers, end_group, lanes_now, reckoned
 from proving import Proving, make_copy, wrongly_laid_out
 from tables import Tables
 from tasks import Results, all_tasks
@@ -133,7 +133,7 @@ def stop(number, _frame):
 
 
 def main(words):
-    lanes, words = int(words[0]), words[1:]
+    lanes, words = int(words[0]) or lanes_now(), words[1:]
     tables = Tables(TOP)
     if words == ["--turns"]:
         return tell_turns(tables, lanes, this_landing(TOP, say)[0], say)

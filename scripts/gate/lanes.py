@@ -24,6 +24,7 @@ class Task:
     words: list = field(default_factory=list)
     environment: dict = field(default_factory=dict)
     ended: object = None
+    # whether it takes much memory, as a proof does
     proves: bool = False
 
 
@@ -61,9 +62,16 @@ def reckoned(tasks, lanes, proving):
 
 
 def free_memory():
-    """Returns how many kB of memory are free."""
-    with open("/proc/meminfo", encoding="ascii") as file:
+    """Returns how many kB of memory are free. A test sets MEMINFO to a file in place of the kernel's."""
+    with open(os.environ.get("MEMINFO", "/proc/meminfo"), encoding="ascii") as file:
         return next(int(line.split()[1]) for line in file if line.startswith("MemAvailable:"))
+
+
+def lanes_now():
+    """Returns how many checks run side by side: one a processor, as many as the free memory holds. A check here takes at most 5 GB; rt
+    reckons with twice that, and would leave processors idle."""
+    processors = int(subprocess.run(["nproc"], capture_output=True, text=True, check=True).stdout)
+    return max(1, min(processors, free_memory() // 5_000_000))
 
 
 class Fillers:
