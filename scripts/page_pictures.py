@@ -1,12 +1,13 @@
 #!/usr/bin/python3
 """Makes the pictures of the page for agents, docs/pictures/page_*.png, of a desk with a month of an agency, in headless Chromium.
 
-It needs chromium, chromium-driver and python3-selenium, and the program: that of the environment variable DESK, or the one
+It needs chromium, chromium-driver, python3-selenium and python3-pil, and the program: that of the environment variable DESK, or the one
 that ./build made. The pictures are not compared by the gate, since fonts differ from one machine to another: look at them.
 
 scripts/page_pictures.py [NAME ..]   makes all, or those of these names
 """
 import datetime
+import io
 import json
 import os
 import sys
@@ -18,9 +19,9 @@ TOP = os.path.dirname(os.path.dirname(os.path.abspath(__file__)))
 os.environ.setdefault("DESK", os.path.join(TOP, "crates/desk/out/desk"))
 os.environ["LANGUAGE"] = "en_GB"
 sys.path.insert(0, os.path.join(TOP, "tests"))
+from PIL import Image
 from selenium.webdriver.common.keys import Keys
 
-from drawing.palette import with_palette
 from page_driving import Browser, Desk, wait_until
 from page_network import Network
 
@@ -98,8 +99,8 @@ class Camera:
         self.browser.size(width, height)
         time.sleep(0.6)
         path = os.path.join(TOP, "docs/pictures", f"page_{name}.png")
-        with open(path, "wb") as out:
-            out.write(with_palette(self.browser.driver.get_screenshot_as_png()))
+        shown = Image.open(io.BytesIO(self.browser.driver.get_screenshot_as_png()))
+        shown.convert("RGB").quantize(256, dither=Image.Dither.NONE).save(path, optimize=True)
         self.browser.size(1280, 860)
         print(f"docs/pictures/page_{name}.png {os.path.getsize(path)}")
 

@@ -1,26 +1,28 @@
 #!/usr/bin/env python3
 """Draws the pictures of the pages, docs/pictures/*.svg, from what the repository says of itself.
 
-scripts/pictures.py                       draws each picture anew
+scripts/pictures.py                       draws each picture that is out of date, by Graphviz
 scripts/pictures.py --check               changes nothing; names each picture that would be another one, and ends with 1
 scripts/pictures.py --history 'T1.1 ..'   prints a picture of this history: the items of a journey, or all that
                                           "desk history" prints; ends with 2 where it is none
 """
-import os
 import re
 import sys
+from pathlib import Path
 
 sys.dont_write_bytecode = True
-from drawing import crates, journey, phases, way
+TOP = Path(__file__).resolve().parents[1]
+sys.path.append(str(TOP / "scripts/gate"))
 
-TOP = os.path.dirname(os.path.dirname(os.path.abspath(__file__)))
+from drawing import crates, journey, phases, way
+from tables import Tables
+
 FOLDER = "docs/pictures"
 
 
 def source(path):
     """The text of a file of the repository."""
-    with open(os.path.join(TOP, path), encoding="utf-8") as text:
-        return text.read()
+    return (TOP / path).read_text(encoding="utf-8")
 
 
 def printed(path, command):
@@ -31,49 +33,45 @@ def printed(path, command):
     return found[1]
 
 
-def draw_way():
-    headings = "One command, from the line to the commit", "One request, from the socket to the page"
-    return way.draw(source("docs/DESIGN.md"), headings, crates.Crates(source("crates.txt")).names)
-
-
-# each picture, and how it is drawn
+HEADINGS = "One command, from the line to the commit", "One request, from the socket to the page"
+# each picture, and what makes it
 PICTURES = {
-    "crates": lambda: crates.draw(source("crates.txt")),
-    "journey": lambda: journey.draw(printed("README.md", "./desk history first.db 1"), "Journey 1 of the README"),
-    "phases": lambda: phases.draw(source(f"{FOLDER}/phases.txt"), "The phases of a journey"),
-    "two_stops": lambda: journey.draw(source(f"{FOLDER}/two_stops.txt"), "Six steps, stopped twice"),
-    "way": draw_way,
+    "crates": lambda: crates.picture(Tables(TOP)),
+    "journey": lambda: journey.picture(printed("README.md", "./desk history first.db 1"), "Journey 1 of the README"),
+    "phases": lambda: phases.picture(source(f"{FOLDER}/phases.txt"), "The phases of a journey"),
+    "two_stops": lambda: journey.picture(source(f"{FOLDER}/two_stops.txt"), "Six steps, stopped twice"),
+    "way": lambda: way.picture(source("docs/DESIGN.md"), HEADINGS, Tables(TOP).uses),
 }
 
 
-def files():
-    """The pictures that there are, and those that there are to be, by name of the file."""
-    there = {name: source(f"{FOLDER}/{name}") for name in os.listdir(os.path.join(TOP, FOLDER)) if name.endswith(".svg")}
-    return there, {f"{name}.svg": draw() for name, draw in PICTURES.items()}
+def wrong():
+    """Each picture that is not as it is to be: the name of its file, why, and what draws it, or nothing."""
+    there = {path.stem for path in (TOP / FOLDER).glob("*.svg")}
+    pictures = {name: make() for name, make in PICTURES.items()}
+    for name in sorted(there | pictures.keys()):
+        if name not in pictures:
+            yield f"{FOLDER}/{name}.svg", "not drawn by anything", None
+        elif name not in there:
+            yield f"{FOLDER}/{name}.svg", "absent", pictures[name]
+        elif not pictures[name].is_drawn(source(f"{FOLDER}/{name}.svg")):
+            yield f"{FOLDER}/{name}.svg", "not what is drawn now", pictures[name]
 
 
 def check():
-    """Names each picture that is not as it would be drawn."""
-    there, drawn = files()
-    wrong = 0
-    for name in sorted(there.keys() | drawn.keys()):
-        if there.get(name) != drawn.get(name):
-            why = "absent" if name not in there else "not drawn by anything" if name not in drawn else "not what is drawn now"
-            print(f"{FOLDER}/{name} is {why}; scripts/pictures.py draws the pictures anew", file=sys.stderr)
-            wrong = 1
-    return wrong
+    """Names each picture that is not as it is to be."""
+    found = [f"{file} is {why}; scripts/pictures.py draws the pictures anew\n" for file, why, _ in wrong()]
+    sys.stderr.writelines(found)
+    return 1 if found else 0
 
 
 def write():
-    """Draws each picture, and removes those that are drawn no more."""
-    there, drawn = files()
-    for name in there.keys() - drawn.keys():
-        os.remove(os.path.join(TOP, FOLDER, name))
-    for name, text in drawn.items():
-        if there.get(name) != text:
-            with open(os.path.join(TOP, FOLDER, name), "w", encoding="utf-8", newline="\n") as out:
-                out.write(text)
-            print(f"{FOLDER}/{name}")
+    """Draws each picture that is not as it is to be, and removes those that are drawn no more."""
+    for file, _, picture in wrong():
+        if picture:
+            (TOP / file).write_text(picture.draw(), encoding="utf-8")
+            print(file)
+        else:
+            (TOP / file).unlink()
     return 0
 
 
@@ -84,11 +82,14 @@ def main(words):
         if words == ["--check"]:
             return check()
         if len(words) == 2 and words[0] == "--history":
-            sys.stdout.write(journey.draw(words[1]))
+            sys.stdout.write(journey.picture(words[1]).draw())
             return 0
     except (journey.BadHistory, phases.BadTable, way.BadList) as why:
         print(f"pictures.py: {why}", file=sys.stderr)
         return 2 if words[:1] == ["--history"] else 1
+    except FileNotFoundError as why:
+        print(f"pictures.py: {why.filename} of Graphviz is absent (Debian: graphviz)", file=sys.stderr)
+        return 2
     print("usage: scripts/pictures.py [--check | --history ITEMS]", file=sys.stderr)
     return 2
 

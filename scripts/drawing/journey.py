@@ -2,9 +2,11 @@
 
 The history is a line of items, as "desk history" prints them, or all that it prints.
 """
-import re
 
-from drawing.svg import Picture, width_of
+import re
+import textwrap
+
+from drawing.graphs import Picture, edge, node
 
 STEP = "([1-9]|1[0-9]|2[0-4])"
 ITEM = re.compile(rf"T{STEP}\.([1-8])|C{STEP}\.([1-8])|B(0|{STEP[1:-1]})([sra])|S{STEP}")
@@ -20,9 +22,8 @@ MEANINGS = {
     "Ba": "{0}: somebody asks, turn back to {1}",
     "S": "{0}: a save-point is taken at {1}",
 }
-# at most so many items in a row of the picture
-MOST = 16
-UP, LEFT = 44, 116
+# how far a position is above the one before, and an item to the right of the one before
+UP, PITCH = 40, 52
 
 
 class BadHistory(Exception):
@@ -115,62 +116,54 @@ def caption(history, item):
     return {"C": "undo", "S": "saved"}.get(item.kind) or CAUSES[item.kind[1]]
 
 
-def draw_row(picture, history, items, top, pitch, last):
-    """Draws some items over the lines of the positions; gives where they end."""
-    most = max(history.highest(), len(history.steps), 1)
-    bottom = top + UP * most
-    right = LEFT + pitch * max(len(items), 1) + 14
+def at(name, x, y, look="", **words):
+    """What stands at a place, of positions up and items to the right; without a label it is a point, which is not drawn."""
+    shape = {"shape": "plaintext"} if "label" in words else {"style": "invis", "shape": "point", "width": 0}
+    return node(name, pos=f"{x * PITCH:.0f},{y * UP:.0f}", **{**shape, **words, "class": look})
 
-    def level(position):
-        return bottom - UP * position
 
-    for position in range(most + 1):
-        name = history.level_name(position)
-        picture.path(["M", LEFT - 14, level(position), "H", right], "level" if name == "save-point" else "grid")
-        picture.text(LEFT - 24, level(position), str(position), size=13, anchor="end", bold=True)
-        picture.text(LEFT - 40, level(position), name, "soft", 11, anchor="end")
-    for n, item in enumerate(items):
-        x, y, to_y = LEFT + pitch * n, level(item.before), level(item.after)
-        look = {"T": "up", "C": "down"}.get(item.kind, "stay")
-        picture.path(["M", x, y, "L", x + pitch, to_y], look)
-        middle = x + pitch / 2
+def disc(name, x, y, look, width=0.08, **words):
+    return at(name, x, y, look, **{"shape": "circle", "label": "", "style": "", "width": width, "height": width, **words})
+
+
+def levels(history):
+    """The line of each position, with what it is to the journey."""
+    for position in range(max(history.highest(), len(history.steps), 1) + 1):
+        name, ends = history.level_name(position), (f"left{position}", f"right{position}")
+        yield from (at(ends[0], -0.2, position), at(ends[1], len(history.items) + 0.2, position))
+        yield edge(*ends, arrowhead="none", **{"class": "level" if name == "save-point" else "grid"})
+        yield at(f"position{position}", -0.5, position, "bold", label=str(position))
+        yield at(f"name{position}", -1.2, position, "soft", label=name)
+
+
+def moves(history):
+    """The way of the journey, with the items below it."""
+    yield disc("way0", 0, history.items[0].before if history.items else 0, "dot")
+    for n, item in enumerate(history.items):
+        look, half = {"T": "up", "C": "down"}.get(item.kind, "stay"), n + 0.5
+        yield disc(f"way{n + 1}", n + 1, item.after, "dot") if item.after != item.before else at(f"way{n + 1}", n + 1, item.after)
+        yield edge(f"way{n}", f"way{n + 1}", arrowhead="none", headclip="false", tailclip="false", **{"class": look})
         if item.target is not None:
+            yield disc(f"turn{n}", half, item.before, "turned", 0.14)
             if item.target < item.before:
-                picture.arrow([(middle, y), (middle, level(item.target) - 2)], "turn", "turned")
-            picture.circle(middle, y, 5, "turned")
+                yield at(f"to{n}", half, item.target)
+                yield edge(f"turn{n}", f"to{n}", arrowsize=0.7, **{"class": "turn"})
         if item.kind == "S":
-            picture.path(["M", middle, y - 7, "L", middle + 7, y, "L", middle, y + 7, "L", middle - 7, y, "Z"], "saved")
-        picture.text(middle, bottom + 24, item.word, size=12, code=True, bold=True)
-        picture.text(middle, bottom + 40, caption(history, item), "soft", 10)
-    for n, item in enumerate(items):
-        if item.after != item.before:
-            picture.circle(LEFT + pitch * (n + 1), level(item.after), 3, "reached")
-    picture.circle(LEFT, level(items[0].before if items else 0), 4, "reached")
-    if last and history.state:
-        y = level(items[-1].after if items else 0)
-        picture.circle(LEFT + pitch * len(items), y, 5, "reached")
-        picture.text(right + 8, y, history.state, size=13, anchor="start", bold=True)
-    return bottom + 52
+            yield disc(f"saved{n}", half, item.before, "saved", 0.2, **{"shape": "diamond"})
+        yield at(f"item{n}", half, -0.6, "bold", label=item.word)
+        yield at(f"caption{n}", half, -1, "soft", label=caption(history, item))
+    if history.state:
+        yield at("state", len(history.items) + 1, history.items[-1].after if history.items else 0, "bold", label=history.state)
 
 
-def draw(text, title="The history of a journey"):
+def picture(text, title="The history of a journey"):
     """The picture of a history."""
-    history = History(text)
-    picture = Picture(title, history.said())
-    rows = [history.items[n:n + MOST] for n in range(0, max(len(history.items), 1), MOST)]
-    pitch = 76 if len(rows[0]) <= 8 else 54
-    y = 24
-    for n, items in enumerate(rows):
-        y = draw_row(picture, history, items, y, pitch, n + 1 == len(rows)) + 24
-    width = max(LEFT + pitch * max(len(rows[0]), 1) + 22 + (width_of(history.state, 13) * 1.1 if history.state else 0), 560)
-    x, y = 20, y - 8
-    first = {}
+    history, first = History(text), {}
     for item in history.items:
         first.setdefault(item.kind, item)
-    for item in first.values():
-        means = MEANINGS[item.kind].format(item.word, *re.findall("[0-9]+", item.word))
-        if x > 20 and x + width_of(means, 11) > width:
-            x, y = 20, y + 16
-        picture.text(x, y, means, "soft", 11, anchor="start")
-        x += width_of(means, 11) + 18
-    return picture.render(width + 10, y + 16)
+    means = "   ".join(MEANINGS[item.kind].format(item.word, *re.findall("[0-9]+", item.word)) for item in first.values())
+    wide = max(len(history.items), 8)
+    means = "\n".join(textwrap.wrap(means, 9 * wide))
+    lines = ["splines=line; outputorder=edgesfirst; node [margin=0]", *levels(history), *moves(history)]
+    lines.append(at("means", wide / 2, -1.6 - 0.15 * means.count("\n"), "soft", label=means))
+    return Picture(title, history.said(), lines, "neato")
