@@ -1,16 +1,13 @@
 """A headless Chromium beside another client of one desk. Prints what went wrong, and nothing else."""
-import signal
-import subprocess
 import time
 
 from selenium import webdriver
 from selenium.webdriver.chrome.service import Service
 
-from driving import DESK, Client, free_port, is_whole, request, sockets_of
+from driving import Client, Desk, holds, is_whole, request, sockets_of, wrong
 
 STOCK = request("GET", "/stock")
 AT_ONCE = 15  # seconds: the most that anybody waits; a desk that waited for a silent connection would take longer
-wrong = []
 
 # Asks for the stock so many times at once, and returns each status and body.
 ASKS = """
@@ -30,24 +27,6 @@ document.head.append(link);
 """
 
 
-def holds(what, is_so):
-    if not is_so:
-        wrong.append(what)
-
-
-def started():
-    """The desk, at its port."""
-    for _ in range(3):
-        port = free_port()
-        served = subprocess.Popen(
-            [DESK, "serve", "trips.db", "--port", str(port)], stdin=subprocess.DEVNULL, stdout=subprocess.PIPE,
-        )
-        if served.stdout.readline():
-            return served, port
-        served.wait()
-    raise SystemExit("no desk")
-
-
 def browser():
     options = webdriver.ChromeOptions()
     options.binary_location = "/usr/bin/chromium"
@@ -59,7 +38,7 @@ def browser():
 
 def connections(served):
     """How many connections the desk has: its sockets but the one that listens."""
-    return sockets_of(served) - 1
+    return sockets_of(served.process) - 1
 
 
 def timed(what, call):
@@ -71,10 +50,10 @@ def timed(what, call):
     return result
 
 
-def look(served, port, driver):
+def look(served, driver):
     """The browser opens connections, asks over some of them, and leaves them all silent; nobody waits. One more is silent to the
     end, whatever the browser does with its own."""
-    silent = Client(port)
+    silent = Client(served.port)
     pages = timed("twelve requests at once", lambda: driver.execute_async_script(ASKS, 12))
     holds(f"twelve pages: {pages}", len(pages) == 12 and all(p.startswith("200 ") and p.rstrip().endswith("cells 0") for p in pages))
     for crossed in ("anonymous", "use-credentials"):
@@ -85,7 +64,7 @@ def look(served, port, driver):
     time.sleep(1)
     count = connections(served)
     holds(f"connections that are left silent: {count}", count >= 4)
-    other = Client(port)
+    other = Client(served.port)
     for number in range(20):
         found = timed(f"another client's request {number}", lambda: other.ask(STOCK))
         holds(f"another client's page {number}", is_whole(found))
@@ -97,19 +76,18 @@ def look(served, port, driver):
 
 
 def main():
-    served, port = started()
+    served = Desk("trips.db")
     driver = browser()
     try:
         driver.set_script_timeout(60)
         # the first time the browser itself takes a while
-        driver.get(f"http://127.0.0.1:{port}/stock")
-        timed("the first page, once more", lambda: driver.get(f"http://127.0.0.1:{port}/stock"))
+        driver.get(f"http://127.0.0.1:{served.port}/stock")
+        timed("the first page, once more", lambda: driver.get(f"http://127.0.0.1:{served.port}/stock"))
         holds("the first page", '{"name":"NoAgent","refused":2}' in driver.page_source)
-        look(served, port, driver)
+        look(served, driver)
     finally:
         driver.quit()
-        served.send_signal(signal.SIGKILL)
-        served.wait()
+        served.kill()
     print("\n".join(wrong))
 
 

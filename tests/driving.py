@@ -1,5 +1,6 @@
 """Runs the desk with its words, its lines or its requests, for the scripts that try it beside hostile files."""
 import os
+import resource
 import signal
 import socket
 import subprocess
@@ -21,7 +22,7 @@ class Ended:
     """How a run ended: its status, its output and its standard error."""
 
     def __init__(self, status, out, err):
-        self.status, self.out, self.err = status, out.decode("utf-8", "replace"), err.decode("utf-8", "replace")
+        self.status, self.out, self.err = status, out.decode("utf-8", "replace"), (err or b"").decode("utf-8", "replace")
 
     def fault(self):
         """The fault that it named, where it ended by one."""
@@ -75,13 +76,15 @@ class Lines:
 class Server:
     """The program at its port, for so many connections; a port that was taken meanwhile is tried again."""
 
-    def __init__(self, file, connections=1, env=None, folder=None):
+    def __init__(self, file, connections=1, env=None, folder=None, words=(), port=None, errors=subprocess.PIPE, before=(), files=None):
+        words = [*words, *(["--connections", str(connections)] if connections else [])]
+        limit = (lambda: resource.setrlimit(resource.RLIMIT_NOFILE, (files, files))) if files else None
         for _ in range(3):
-            self.port = free_port()
+            self.port = port or free_port()
             self.process = subprocess.Popen(
-                [DESK, "serve", file, "--port", str(self.port), "--connections", str(connections)],
-                stdin=subprocess.DEVNULL, stdout=subprocess.PIPE, stderr=subprocess.PIPE,
-                env={**os.environ, **(env or {})}, cwd=folder,
+                [*before, DESK, "serve", file, "--port", str(self.port), *words],
+                stdin=subprocess.DEVNULL, stdout=subprocess.PIPE, stderr=errors,
+                env={**os.environ, **(env or {})}, cwd=folder, preexec_fn=limit,
             )
             self.said = self.process.stdout.readline()
             if self.said or (env and ("FAIL" in env or "REFUSE" in env)):
@@ -101,6 +104,57 @@ class Server:
     def kill(self):
         self.process.send_signal(signal.SIGKILL)
         self.process.communicate()
+
+
+class Desk(Server):
+    """The program at its port, with further words, until it is stopped; with `files`, so many descriptors are all that it has."""
+
+    def __init__(self, file, *words, **how):
+        super().__init__(file, None, words=words, **how)
+        if not self.said:
+            raise RuntimeError(f"no desk over {file}")
+
+    def ends(self, what, status=0):
+        """It ends by itself, and has told nothing but that it is ready."""
+        ended = self.end()
+        same(f"{what}: how it ends", (status, f"ready {self.port}\n", ""), (ended.status, ended.out, ended.err))
+
+
+# The two files of a database.
+FILES = ("trips.db", "trips.db-wal")
+
+
+def read_files(folder):
+    files = {}
+    for name in FILES:
+        if os.path.exists(f"{folder}/{name}"):
+            with open(f"{folder}/{name}", "rb") as file:
+                files[name] = file.read()
+    return files
+
+
+def lay(files, folder="cut"):
+    """Puts these files on a disk of their own, and no others."""
+    os.makedirs(folder, exist_ok=True)
+    for name in FILES:
+        if os.path.exists(f"{folder}/{name}"):
+            os.remove(f"{folder}/{name}")
+    for name, content in files.items():
+        with open(f"{folder}/{name}", "wb") as out:
+            out.write(content)
+
+
+# What went wrong, which a script prints at its end.
+wrong = []
+
+
+def same(what, expected, found):
+    if expected != found:
+        wrong.append(f"{what}\n  expected: {expected!r}\n  found:    {found!r}")
+
+
+def holds(what, is_so):
+    same(what, True, bool(is_so))
 
 
 def sockets_of(process):
@@ -153,10 +207,12 @@ def rest_of(stream):
 
 
 class Client:
-    """A connection to the desk."""
+    """A connection to the desk, at its port or at a path."""
 
-    def __init__(self, port):
-        self.stream = socket.create_connection(("127.0.0.1", port), PATIENCE)
+    def __init__(self, place):
+        self.stream = socket.socket(socket.AF_UNIX if isinstance(place, str) else socket.AF_INET)
+        self.stream.settimeout(PATIENCE)
+        self.stream.connect(place if isinstance(place, str) else ("127.0.0.1", place))
         self.rest = b""
 
     def ask(self, message):
@@ -175,6 +231,14 @@ class Client:
 
     def close(self):
         self.stream.close()
+
+
+def asked(place, message):
+    """The page of a request over a connection of its own."""
+    client = Client(place)
+    page = client.ask(message)
+    client.close()
+    return page
 
 
 def page_size(text):

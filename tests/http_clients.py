@@ -1,105 +1,114 @@
-"""Requests by Python's http.client and by plain sockets, told by the words: PORT CASE."""
+"""The desk beside Python's http.client and plain sockets: connections that stay open, a kill between a commit and its page with the
+request sent again, pieces of one byte, and clients that send what they should not. Prints what went wrong, and nothing else."""
 import http.client
+import os
 import socket
-import sys
+import sqlite3
+import struct
 
-PORT = int(sys.argv[1])
+from driving import Desk, Server, desk, end_writing, holds, opened, request, rest_of, same, wrong
+
 FLIGHT = b'{"count":1,"first":"2030-06-01","kind":"flight","nights":1,"product":"A1","supplier":"AL"}'
 PLAN = b'{"steps":[{"options":[' + FLIGHT + b'],"save":false}],"tries":0}'
 FILE = b"kind,supplier,product,night,places\nflight,AL,A1,2030-06-01,10\n"
 
 
-def asked(connection, method, target, key=None, body=None):
-    """One request of ann's on an open connection: its status and page."""
-    fields = {"Desk-Agent": "ann"}
-    if key:
-        fields["Desk-Key"] = key
-    connection.request(method, target, body, fields)
-    answer = connection.getresponse()
-    return answer.status, answer.read().decode()
+def asks(server, *requests):
+    """What comes to these requests of ann's over one connection of http.client, each as "status page"; "no page" where none does."""
+    connection, pages = http.client.HTTPConnection("127.0.0.1", server.port, timeout=20), []
+    for method, target, key, body in requests:
+        try:
+            connection.request(method, target, body, {"Desk-Agent": "ann", **({"Desk-Key": key} if key else {})})
+            answer = connection.getresponse()
+            pages.append(f"{answer.status} {answer.read().decode()}")
+        except (http.client.HTTPException, OSError):
+            pages.append("no page")
+    connection.close()
+    return pages
 
 
-def said(*page):
-    print(*page)
+def sends(server, data):
+    """What comes of these bytes, which one connection sends in these pieces, until the desk ends it."""
+    stream = opened(server.port)
+    for piece in data:
+        stream.sendall(piece)
+    end_writing(stream)
+    return rest_of(stream).decode()
+
+
+def journeys():
+    connection = sqlite3.connect("trips.db")
+    (count,) = connection.execute("SELECT journeys FROM meta").fetchone()
+    connection.close()
+    return count
+
+
+def peak(server):
+    """The most memory that the desk has taken, in kB."""
+    with open(f"/proc/{server.process.pid}/status", encoding="ascii") as lines:
+        return next(int(line.split()[1]) for line in lines if line.startswith("VmHWM"))
+
+
+BEGIN = "POST", "/journeys", "k9", PLAN
+BOOKING = {
+    ("POST", "/batches/b1", "k1", FILE): '200 {"batch":"b1","rows":1}',
+    ("POST", "/journeys", "k2", PLAN): '200 {"journey":1}',
+    ("POST", "/journeys/1/step", "k3", b""): '200 {"item":"T1.1","journey":1,"pos":1,"state":"ended"}',
+    ("GET", "/journeys/1", None, None): '200 {"history":["T1.1"],"journey":1,"pos":1,"state":"ended"}',
+}
 
 
 def booking():
     """A whole booking over one connection, each request twice."""
-    connection = http.client.HTTPConnection("127.0.0.1", PORT, timeout=20)
-    requests = [
-        ("POST", "/batches/b1", "k1", FILE),
-        ("POST", "/journeys", "k2", PLAN),
-        ("POST", "/journeys/1/step", "k3", b""),
-        ("GET", "/journeys/1", None, None),
-    ]
-    for request in requests:
-        for _ in range(2):
-            said(*asked(connection, *request))
-    connection.close()
+    server = Desk("trips.db", "--connections", "1")
+    pages = asks(server, *(asked for asked in BOOKING for _ in range(2)))
+    same("a booking", [page for page in BOOKING.values() for _ in range(2)], pages)
+    server.ends("a booking")
 
 
-def begin():
-    """One begin; where no page comes, that is said."""
-    connection = http.client.HTTPConnection("127.0.0.1", PORT, timeout=20)
-    try:
-        said(*asked(connection, "POST", "/journeys", "k9", PLAN))
-    except (http.client.HTTPException, OSError):
-        said("no page")
+def killed():
+    """The desk is killed where it is about to send the page of a begin, which stands: sent again, it acts once."""
+    server = Server("trips.db", env={"LD_PRELOAD": os.path.abspath("calls.so"), "ONLY": "send", "KILL": "1"})
+    same("a begin whose page does not come", ["no page"], asks(server, BEGIN))
+    same("a kill before the page", -9, server.end().status)
+    same("its event stands", 2, journeys())
+    server = Desk("trips.db", "--connections", "2")
+    same("the same begin again, twice", ['200 {"journey":2}'] * 2, asks(server, BEGIN) + asks(server, BEGIN))
+    server.ends("after the kill")
+    same("it acted once", 2, journeys())
 
 
-def too_large():
-    """A body that is too large is sent whole before the page is looked for."""
-    head = b"POST /journeys HTTP/1.1\r\nHost: d\r\nDesk-Agent: ann\r\nDesk-Key: k8\r\nContent-Length: 262145\r\n\r\n"
-    with socket.create_connection(("127.0.0.1", PORT), 20) as client:
-        client.sendall(head + b"x" * 262145)
-        page = b""
-        while piece := client.recv(4096):
-            page += piece
-    said(page.decode().splitlines()[0], page.decode().splitlines()[-1])
+def odd():
+    """Bodies as large as they may be, and larger; byte by byte; what is no request, and clients that go away."""
+    server = Desk("trips.db", "--connections", "6")
+    before = peak(server)
+    same("a body as large as it may be", ['400 {"name":"BadBody","refused":4}'], asks(server, ("POST", "/journeys", "k7", b" " * 262144)))
+    large = sends(server, [request("POST", "/journeys", "k8").replace(b"Length: 0", b"Length: 262145") + b"x" * 262145])
+    same("a body that is too large", ("HTTP/1.1 413 Content Too Large", '{"name":"TooLarge","refused":15}'), (large.splitlines()[0], large.splitlines()[-1]))
+    one = request("GET", "/unfinished")
+    pages = sends(server, [bytes([byte]) for byte in one[:-1]] + [one[-1:] + one])
+    same("byte by byte, and one more request", (2, 2), (pages.count("HTTP/1.1 200 OK"), pages.count('{"unfinished":[]}')))
+    holds(f"less than 16 MB for a connection: {before} kB, then {peak(server)}", peak(server) - before < 16384)
+    same("bytes that are no head", "HTTP/1.1 400 Bad Request", sends(server, [b"\x00\xff\r\n\r\n"]).split("\r\n")[0])
+    same("a request that is cut off", "", sends(server, [b"POST /journeys HTTP/1.1\r\nHost: d\r\nContent-Length: 9\r\n\r\nabc"]))
+    gone = opened(server.port)
+    gone.sendall(request("GET", "/stock"))
+    gone.setsockopt(socket.SOL_SOCKET, socket.SO_LINGER, struct.pack("ii", 1, 0))
+    gone.close()
+    server.ends("whatever comes")
+    same("nothing changed", 2, journeys())
 
 
-def large():
-    """A body as large as it may be, which is no plan."""
-    connection = http.client.HTTPConnection("127.0.0.1", PORT, timeout=20)
-    said(*asked(connection, "POST", "/journeys", "k7", b" " * 262144))
-    connection.close()
+def ports():
+    """No connection at all, and a port in use."""
+    same("no connection: the status", 2, desk("serve", "trips.db", "--port", "1", "--connections", "0").status)
+    server = Desk("trips.db", "--connections", "1")
+    second = desk("serve", "other.db", "--port", str(server.port), "--connections", "1")
+    same("a port in use", (1, "", "fault 27 Net\n"), (second.status, second.out, second.err))
+    same("the first desk goes on", ['200 {"journey":2}'], asks(server, BEGIN))
+    server.ends("the first desk")
 
 
-def bytewise():
-    """A request that comes byte by byte, and one behind it in the same piece as its last byte."""
-    one = b"GET /unfinished HTTP/1.1\r\nHost: d\r\nDesk-Agent: ann\r\n\r\n"
-    with socket.create_connection(("127.0.0.1", PORT), 20) as client:
-        client.setsockopt(socket.IPPROTO_TCP, socket.TCP_NODELAY, 1)
-        for byte in one[:-1]:
-            client.sendall(bytes([byte]))
-        client.sendall(one[-1:] + one)
-        client.shutdown(socket.SHUT_WR)
-        page = b""
-        while piece := client.recv(4096):
-            page += piece
-    said(page.decode().count("HTTP/1.1 200 OK"), page.decode().count('{"unfinished":[]}'))
-
-
-def hostile():
-    """Bytes that are no head, a request that is cut off, and one whose client is gone before its page."""
-    with socket.create_connection(("127.0.0.1", PORT), 20) as client:
-        client.sendall(b"\x00\xff\r\n\r\n")
-        said(client.recv(4096).decode().splitlines()[0])
-    with socket.create_connection(("127.0.0.1", PORT), 20) as client:
-        client.sendall(b"POST /journeys HTTP/1.1\r\nHost: d\r\nContent-Length: 9\r\n\r\nabc")
-        client.shutdown(socket.SHUT_WR)
-        said(len(client.recv(4096)))
-    with socket.create_connection(("127.0.0.1", PORT), 20) as client:
-        client.sendall(b"GET /stock HTTP/1.1\r\nHost: d\r\nDesk-Agent: ann\r\n\r\n")
-        client.setsockopt(socket.SOL_SOCKET, socket.SO_LINGER, b"\x01\x00\x00\x00\x00\x00\x00\x00")
-
-
-CASES = {
-    "booking": booking,
-    "begin": begin,
-    "too_large": too_large,
-    "large": large,
-    "bytewise": bytewise,
-    "hostile": hostile,
-}
-CASES[sys.argv[2]]()
+for scene in booking, killed, odd, ports:
+    scene()
+print("\n".join(wrong))

@@ -1,15 +1,13 @@
 """Many clients of one desk at once, over real sockets. Prints what went wrong, and nothing else."""
 import os
-import resource
 import signal
 import socket
 import stat
 import struct
-import subprocess
 import threading
 import time
 
-from driving import DESK, Client, desk, free_port, is_whole, request, sockets_of
+from driving import Client, Desk, asked, desk, free_port, holds, is_whole, opened, request, same, sockets_of, wrong
 
 FLIGHT = b'{"count":1,"first":"2030-06-01","kind":"flight","nights":1,"product":"A1","supplier":"AL"}'
 PLAN = b'{"steps":[{"options":[' + FLIGHT + b'],"save":false}],"tries":0}'
@@ -17,54 +15,6 @@ FILE = b"kind,supplier,product,night,places\nflight,AL,A1,2030-06-01,1000\n"
 STOCK = request("GET", "/stock")
 UNFINISHED = request("GET", "/unfinished")
 MEANWHILE = 10  # seconds: the most that a client may wait for a page beside others
-wrong = []
-telling = threading.Lock()
-
-
-def same(what, expected, found):
-    if expected != found:
-        with telling:
-            wrong.append(f"{what}\n  expected: {expected!r}\n  found:    {found!r}")
-
-
-def holds(what, is_so):
-    same(what, True, bool(is_so))
-
-
-class Desk:
-    """The program at its port, and perhaps at a path."""
-
-    def __init__(self, file, *words, port=None, files=None):
-        limits = (lambda: resource.setrlimit(resource.RLIMIT_NOFILE, (files, files))) if files else None
-        for _ in range(3):
-            self.port = port or free_port()
-            self.process = subprocess.Popen(
-                [DESK, "serve", file, "--port", str(self.port), *words], stdin=subprocess.DEVNULL,
-                stdout=subprocess.PIPE, stderr=subprocess.PIPE, preexec_fn=limits,
-            )
-            self.said = self.process.stdout.readline()
-            if self.said:
-                return
-            self.process.communicate()
-        raise RuntimeError(f"no desk over {file}")
-
-    def signal(self, number):
-        self.process.send_signal(number)
-
-    def ends(self, what, status=0, within=30):
-        """It ends by itself, and has told nothing but that it is ready."""
-        try:
-            out, err = self.process.communicate(timeout=within)
-        except subprocess.TimeoutExpired:
-            self.kill()
-            same(f"{what}: it ends", True, False)
-            return
-        same(f"{what}: the status", status, self.process.returncode)
-        same(f"{what}: what it told", (f"ready {self.port}\n".encode(), b""), (self.said + out, err))
-
-    def kill(self):
-        self.signal(signal.SIGKILL)
-        self.process.communicate()
 
 
 def body_of(page):
@@ -73,10 +23,6 @@ def body_of(page):
 
 def post(path, key, body=b"", agent="ann"):
     return request("POST", path, key, body).replace(b"Desk-Agent: ann", f"Desk-Agent: {agent}".encode())
-
-
-def opened(port):
-    return socket.create_connection(("127.0.0.1", port), 60)
 
 
 def is_served(what, port):
@@ -192,9 +138,9 @@ def stopped_for_long():
     client = Client(stopped.port)
     client.stream.sendall(STOCK[:30])
     time.sleep(0.5)
-    stopped.signal(signal.SIGSTOP)
+    stopped.process.send_signal(signal.SIGSTOP)
     time.sleep(32)
-    stopped.signal(signal.SIGCONT)
+    stopped.process.send_signal(signal.SIGCONT)
     time.sleep(0.5)
     holds("after a stop of 32 seconds", body_of(client.ask(STOCK[30:])).rstrip().endswith(b"cells 0"))
     stopped.kill()
@@ -261,9 +207,9 @@ def stopped_shortly():
     clients = [Client(stopped.port), Client(stopped.port)]
     clients[0].stream.sendall(UNFINISHED[:30])
     for _ in range(20):
-        stopped.signal(signal.SIGSTOP)
+        stopped.process.send_signal(signal.SIGSTOP)
         time.sleep(0.02)
-        stopped.signal(signal.SIGCONT)
+        stopped.process.send_signal(signal.SIGCONT)
         time.sleep(0.02)
         holds("beside stops", is_whole(clients[1].ask(UNFINISHED)))
     holds("what was half there", is_whole(clients[0].ask(UNFINISHED[30:])))
@@ -317,21 +263,6 @@ def kills():
     same("after the kills: the next journey", "journey 31 begun\n", last)
 
 
-def asks_at(path, message):
-    """The page of a request at a Unix socket."""
-    with socket.socket(socket.AF_UNIX) as stream:
-        stream.settimeout(60)
-        stream.connect(path)
-        stream.sendall(message)
-        page = b""
-        while not is_whole(page):
-            piece = stream.recv(65536)
-            if not piece:
-                break
-            page += piece
-    return page
-
-
 def refused_at(what, path):
     """A desk that is to listen at this path ends with the fault of the net, and leaves what is there."""
     before = os.lstat(path)
@@ -353,21 +284,21 @@ def unix_socket():
     same("the file: a socket", True, stat.S_ISSOCK(there.st_mode))
     same("the file: its mode", 0o600, stat.S_IMODE(there.st_mode))
     same("the file: its owner", os.getuid(), there.st_uid)
-    holds("a request at the path", is_whole(asks_at("desk.sock", UNFINISHED)))
+    holds("a request at the path", is_whole(asked("desk.sock", UNFINISHED)))
     holds("a request at the port", is_whole(Client(old.port).ask(UNFINISHED)))
     for _ in range(3):  # clients that go away before they take their pages
         with socket.socket(socket.AF_UNIX) as hasty:
             hasty.connect("desk.sock")
             hasty.sendall(UNFINISHED * 50)
-    holds("after hasty clients", is_whole(asks_at("desk.sock", UNFINISHED)))
+    holds("after hasty clients", is_whole(asked("desk.sock", UNFINISHED)))
     refused_at("a desk listens at the path", "desk.sock")
-    old.signal(signal.SIGSTOP)
+    old.process.send_signal(signal.SIGSTOP)
     refused_at("a desk that is stopped listens at the path", "desk.sock")
-    old.signal(signal.SIGCONT)
+    old.process.send_signal(signal.SIGCONT)
     old.kill()
     same("a kill leaves the file", True, os.path.exists("desk.sock"))
     new = Desk("house.db", "--house", "desk.sock", "--connections", "2")
-    holds("a request at the path after a kill", is_whole(asks_at("desk.sock", UNFINISHED)))
+    holds("a request at the path after a kill", is_whole(asked("desk.sock", UNFINISHED)))
     client = Client(new.port)
     holds("a request at the port after a kill", is_whole(client.ask(UNFINISHED)))
     client.close()
@@ -441,20 +372,20 @@ def house():
     path = "own.sock"
     served = Desk("own.db", "--house", path)
     begin = request("POST", "/journeys", "h1", PLAN)
-    same("ann begins", b'{"journey":1}', body_of(asks_at(path, begin)))
-    same("the house begins", b'{"journey":2}', body_of(asks_at(path, unnamed("POST", "/journeys", PLAN))))
+    same("ann begins", b'{"journey":1}', body_of(asked(path, begin)))
+    same("the house begins", b'{"journey":2}', body_of(asked(path, unnamed("POST", "/journeys", PLAN))))
     both = b'{"unfinished":[{"agent":"ann","journey":1,"pos":0,"state":"run"},{"agent":"desk","journey":2,"pos":0,"state":"run"}]}'
     own = b'{"unfinished":[{"journey":1,"pos":0,"state":"run"}]}'
-    same("what the house sees", both, body_of(asks_at(path, unnamed("GET", "/unfinished"))))
-    same("what ann sees there", own, body_of(asks_at(path, UNFINISHED)))
+    same("what the house sees", both, body_of(asked(path, unnamed("GET", "/unfinished"))))
+    same("what ann sees there", own, body_of(asked(path, UNFINISHED)))
     turn = unnamed("POST", "/journeys/1/abort/0")
-    same("the house turns back", b'{"item":"B0a","journey":1,"pos":0,"state":"undone"}', body_of(asks_at(path, turn)))
+    same("the house turns back", b'{"item":"B0a","journey":1,"pos":0,"state":"undone"}', body_of(asked(path, turn)))
     no_agent, unknown = b'{"name":"NoAgent","refused":2}', b'{"name":"UnknownPath","refused":7}'
     client = Client(served.port)
     same("nobody at the port", no_agent, body_of(client.ask(unnamed("GET", "/unfinished"))))
     same("nobody stops it at the port", unknown, body_of(client.ask(unnamed("POST", "/stop"))))
-    same("no agent stops it", unknown, body_of(asks_at(path, request("POST", "/stop", "h2"))))
-    same("the house stops it", b'{"state":"stopping"}', body_of(asks_at(path, unnamed("POST", "/stop"))))
+    same("no agent stops it", unknown, body_of(asked(path, request("POST", "/stop", "h2"))))
+    same("the house stops it", b'{"state":"stopping"}', body_of(asked(path, unnamed("POST", "/stop"))))
     served.ends("a desk that the house stops")
     client.close()
     same("what the stop leaves", [], [name for name in os.listdir(".") if name.startswith(path)])

@@ -1,49 +1,30 @@
 """The log of a desk that serves, over real sockets. Prints what went wrong, and nothing else."""
+import itertools
 import os
 import re
-import signal
 import socket
-import subprocess
 import threading
 import time
 
-from driving import DESK, desk, free_port, is_whole, request
+from driving import Client, Desk, asked, desk, request, same, wrong
 
 FLIGHT = b'{"count":1,"first":"2030-06-01","kind":"flight","nights":1,"product":"A1","supplier":"AL"}'
 PLAN = b'{"steps":[{"options":[' + FLIGHT + b'],"save":false}],"tries":0}'
 STOCK = request("GET", "/stock")
 HEAD = "[INFO  desk] "
 LINE = re.compile(r"\[INFO  desk\] (request|ended|opened)( [a-z]+=[!-~]*)+")
-wrong = []
 
 
-def same(what, expected, found):
-    if expected != found:
-        wrong.append(f"{what}\n  expected: {expected!r}\n  found:    {found!r}")
+class Logged(Desk):
+    """A desk whose standard error is a file of its own, or goes to `errors`; None: nowhere, it is closed."""
 
-
-class Desk:
-    """The program at its port; `errors` is where its standard error goes, by default a file of its own; None: nowhere, it is
-    closed."""
-
-    count = 0
+    count = itertools.count(1)
 
     def __init__(self, file, *words, errors=-1):
-        Desk.count += 1
-        self.name = f"errors.{Desk.count}"
-        for _ in range(3):
-            self.port = free_port()
-            call = [DESK, "serve", file, "--port", str(self.port), *words]
-            if errors is None:
-                call = ["sh", "-c", 'exec "$@" 2>&-', "sh", *call]
-            with open(self.name, "wb") as kept:
-                self.process = subprocess.Popen(
-                    call, stdin=subprocess.DEVNULL, stdout=subprocess.PIPE, stderr=kept if errors == -1 else errors,
-                )
-            if self.process.stdout.readline():
-                return
-            self.process.wait()
-        raise RuntimeError(f"no desk over {file}")
+        self.name = f"errors.{next(Logged.count)}"
+        closed = ["sh", "-c", 'exec "$@" 2>&-', "sh"] if errors is None else []
+        with open(self.name, "wb") as kept:
+            super().__init__(file, *words, errors=kept if errors == -1 else errors, before=closed)
 
     def log(self):
         """The lines so far, each without its head."""
@@ -61,56 +42,20 @@ class Desk:
             time.sleep(0.05)
         same(what, True, line in self.log() or self.log())
 
-    def ends(self, what):
-        """It ends by itself, with 0."""
-        same(f"{what}: the status", 0, self.process.wait(30))
-
-    def kill(self):
-        self.process.send_signal(signal.SIGKILL)
-        self.process.wait()
-
-
-def opened(port):
-    stream = socket.create_connection(("127.0.0.1", port), 60)
-    stream.settimeout(60)
-    return stream
-
-
-def page(stream):
-    found = b""
-    while not is_whole(found):
-        piece = stream.recv(65536)
-        if not piece:
-            break
-        found += piece
-    return found
-
-
-def ask(stream, message):
-    stream.sendall(message)
-    return page(stream)
-
-
-def at_path(path, message):
-    with socket.socket(socket.AF_UNIX) as stream:
-        stream.settimeout(60)
-        stream.connect(path)
-        return ask(stream, message)
-
 
 def kinds():
     """Each kind of line: a request, a kept page, a refusal, what has no agent, what is no head; the house; the ends."""
     desk("run", "kinds.db", lines="begin F/AL/A1/2030-06-01/1/1!0\n")
-    served = Desk("kinds.db", "--log", "--house", "kinds.sock")
+    served = Logged("kinds.db", "--log", "--house", "kinds.sock")
     same("the opening", ["opened recovered=1"], served.log())
-    one = opened(served.port)
+    one = Client(served.port)
     begin = request("POST", "/journeys", "k1", PLAN)
-    kept = ask(one, begin)
-    same("a kept page", kept, ask(one, begin))
-    ask(one, request("POST", "/journeys/2/abort/0", "k1"))
-    ask(one, STOCK)
-    ask(one, b"GET /stock HTTP/1.1\r\nHost: d\r\n\r\n")
-    ask(one, b"GET /stock HTTP/1.1\r\nHost: d\r\nDesk-Agent: A\r\nDesk-Key: \xff\r\n\r\n")
+    kept = one.ask(begin)
+    same("a kept page", kept, one.ask(begin))
+    one.ask(request("POST", "/journeys/2/abort/0", "k1"))
+    one.ask(STOCK)
+    one.ask(b"GET /stock HTTP/1.1\r\nHost: d\r\n\r\n")
+    one.ask(b"GET /stock HTTP/1.1\r\nHost: d\r\nDesk-Agent: A\r\nDesk-Key: \xff\r\n\r\n")
     one.close()
     first = "request connection=1 door=port agent="
     served.has("the first connection ends", "ended connection=1 door=port requests=6 why=left")
@@ -121,19 +66,19 @@ def kinds():
         f"{first}ann method=GET target=/stock status=200 key= again=no",
         f"{first} method=GET target=/stock status=400 key= again=no",
     ], served.log()[1:6])
-    two = opened(served.port)
-    ask(two, request("POST", "/journeys", "k1", PLAN).replace(b"ann", b"bob"))
-    ask(two, b"\x00\x1b[31m\r\n\r\n")
+    two = Client(served.port)
+    two.ask(request("POST", "/journeys", "k1", PLAN).replace(b"ann", b"bob"))
+    two.ask(b"\x00\x1b[31m\r\n\r\n")
     two.close()
     served.has("another agent's key", "request connection=2 door=port agent=bob method=POST target=/journeys status=200 key=k1 again=no")
     served.has("what is no head", "request connection=2 door=port agent= method= target= status=400 key= again=no")
     served.has("a closing page", "ended connection=2 door=port requests=2 why=closed")
-    at_path("kinds.sock", b"GET /unfinished HTTP/1.1\r\nHost: d\r\n\r\n")
+    asked("kinds.sock", b"GET /unfinished HTTP/1.1\r\nHost: d\r\n\r\n")
     served.has("the house", "request connection=3 door=house agent= method=GET target=/unfinished status=200 key= again=no")
     served.has("the house leaves", "ended connection=3 door=house requests=1 why=left")
-    silent = opened(served.port)
-    ask(silent, STOCK)
-    at_path("kinds.sock", b"POST /stop HTTP/1.1\r\nHost: d\r\nContent-Length: 0\r\n\r\n")
+    silent = Client(served.port)
+    silent.ask(STOCK)
+    asked("kinds.sock", b"POST /stop HTTP/1.1\r\nHost: d\r\nContent-Length: 0\r\n\r\n")
     served.ends("a stop")
     served.has("the stop", "request connection=5 door=house agent= method=POST target=/stop status=200 key= again=no")
     served.has("a silent connection at a stop", "ended connection=4 door=port requests=1 why=stopped")
@@ -143,19 +88,19 @@ def kinds():
 def widely():
     """With --wide: each request is logged once, by its own method and the digits of its key; a first byte that begins no method
     closes."""
-    served = Desk("widely.db", "--log", "--wide")
+    served = Logged("widely.db", "--log", "--wide")
     uuid = "7d444840-9dc0-11d1-b245-5ffdce74fad2"
     digits = uuid.replace("-", "")
-    one = opened(served.port)
-    one.sendall(STOCK.replace(b"GET", b"HEAD", 1))
+    one = Client(served.port)
+    one.stream.sendall(STOCK.replace(b"GET", b"HEAD", 1))
     found = b""
     while not found.endswith(b"\r\n\r\n"):
-        found += one.recv(65536)
+        found += one.stream.recv(65536)
     head = b"POST /journeys HTTP/1.1\r\nHost: d\r\nDesk-Agent: ann\r\nDesk-Key: %s\r\n" % uuid.encode()
-    ask(one, head + b"Transfer-Encoding: chunked\r\n\r\n%x\r\n%s\r\n0\r\n\r\n" % (len(PLAN), PLAN))
-    one.sendall(head + b"Content-Length: %d\r\nExpect: 100-continue\r\n\r\n" % len(PLAN))
-    same("it goes on", b"HTTP/1.1 100 Continue\r\n\r\n", one.recv(25))
-    ask(one, PLAN)
+    one.ask(head + b"Transfer-Encoding: chunked\r\n\r\n%x\r\n%s\r\n0\r\n\r\n" % (len(PLAN), PLAN))
+    one.stream.sendall(head + b"Content-Length: %d\r\nExpect: 100-continue\r\n\r\n" % len(PLAN))
+    same("it goes on", b"HTTP/1.1 100 Continue\r\n\r\n", one.stream.recv(25))
+    one.ask(PLAN)
     one.close()
     first = "request connection=1 door=port agent=ann"
     served.has("the first connection ends", "ended connection=1 door=port requests=3 why=left")
@@ -164,8 +109,8 @@ def widely():
         f"{first} method=POST target=/journeys status=200 key={digits} again=no",
         f"{first} method=POST target=/journeys status=200 key={digits} again=yes",
     ], served.log()[1:4])
-    hello = opened(served.port)
-    same("a TLS hello gets no page", b"", ask(hello, bytes.fromhex("16030102000100fc0303") + b"\x5a" * 60))
+    hello = Client(served.port)
+    same("a TLS hello gets no page", b"", hello.ask(bytes.fromhex("16030102000100fc0303") + b"\x5a" * 60))
     hello.close()
     served.has("a TLS hello", "request connection=2 door=port agent= method= target= status=? key= again=no")
     served.has("its end", "ended connection=2 door=port requests=1 why=closed")
@@ -174,19 +119,19 @@ def widely():
 
 def odd_bytes():
     """Bytes of a peer that do not print are escaped: one line is one record, however odd they are."""
-    served = Desk("odd.db", "--log")
+    served = Logged("odd.db", "--log")
     targets = [
         (b"/\\x0a\xc3\xa9", "/\\x5cx0a\\xc3\\xa9"), (b"/" + b"a" * 200, "/" + "a" * 127 + "\\.."), (b"*", "*"),
     ]
     for number, (target, shown) in enumerate(targets, 1):
-        stream = opened(served.port)
-        status = ask(stream, b"BREW " + target + b" HTTP/1.1\r\nHost: d\r\n\r\n")[9:12].decode()
+        stream = Client(served.port)
+        status = stream.ask(b"BREW " + target + b" HTTP/1.1\r\nHost: d\r\n\r\n")[9:12].decode()
         stream.close()
         served.has(f"the target {target!r}",
             f"request connection={number} door=port agent= method=BREW target={shown} status={status} key= again=no")
     for odd in [b"/a\nrequest connection=9\n", b"/\x1b[2J", b"/\x00", b"/\x7f", b"/\xff\xfe", b"\r", b"\t"]:
-        stream = opened(served.port)
-        ask(stream, b"GET " + odd + b" HTTP/1.1\r\nHost: d\r\nDesk-Agent: a\nb\r\nDesk-Key: \x01\r\n\r\n")
+        stream = Client(served.port)
+        stream.ask(b"GET " + odd + b" HTTP/1.1\r\nHost: d\r\nDesk-Agent: a\nb\r\nDesk-Key: \x01\r\n\r\n")
         stream.close()
     served.has("the end of the last one", "ended connection=10 door=port requests=1 why=closed")
     time.sleep(0.5)
@@ -199,8 +144,7 @@ def odd_bytes():
 def loads(port):
     """Pages of the stock get long, over a connection of its own."""
     nights = "".join(f"flight,AL,A{n},2030-06-{night:02},9\n" for n in range(66) for night in range(1, 31))
-    with opened(port) as stream:
-        ask(stream, request("POST", "/batches/b1", "k0", b"kind,supplier,product,night,places\n" + nights.encode()))
+    asked(port, request("POST", "/batches/b1", "k0", b"kind,supplier,product,night,places\n" + nights.encode()))
 
 
 def never_reads(port):
@@ -230,11 +174,11 @@ def ended(served, number, within):
 
 def cut():
     """A connection that its peer ends within a request, or before its page was written whole."""
-    served = Desk("cut.db", "--log")
+    served = Logged("cut.db", "--log")
     loads(served.port)
-    stream = opened(served.port)
-    ask(stream, request("GET", "/unfinished"))
-    stream.sendall(STOCK[:20])
+    stream = Client(served.port)
+    stream.ask(request("GET", "/unfinished"))
+    stream.stream.sendall(STOCK[:20])
     time.sleep(0.3)
     stream.close()
     served.has("a peer that leaves within a request", "ended connection=2 door=port requests=1 why=cut-off")
@@ -245,10 +189,10 @@ def cut():
 
 def late():
     """A request that is not whole after 30 seconds, and a page that is not taken."""
-    served = Desk("late.db", "--log")
+    served = Logged("late.db", "--log")
     loads(served.port)
-    half = opened(served.port)
-    half.sendall(STOCK[:20])
+    half = Client(served.port)
+    half.stream.sendall(STOCK[:20])
     greedy = never_reads(served.port)
     same("a late request", "late-request", ended(served, 2, 50))
     same("a late page", "late-page", ended(served, 3, 120))
@@ -259,15 +203,15 @@ def late():
 
 def displaced():
     """The connection that was silent for longest, where all places are taken."""
-    served = Desk("displaced.db", "--log")
+    served = Logged("displaced.db", "--log")
     clients = []
     for _ in range(256):
-        clients.append(opened(served.port))
-        ask(clients[-1], STOCK)
+        clients.append(Client(served.port))
+        clients[-1].ask(STOCK)
     time.sleep(0.3)
     for client in clients[1:]:
-        ask(client, STOCK)
-    ask(opened(served.port), STOCK)
+        client.ask(STOCK)
+    Client(served.port).ask(STOCK)
     served.has("the one that was silent for longest", "ended connection=1 door=port requests=1 why=displaced")
     served.kill()
 
@@ -280,11 +224,11 @@ def broken():
     with open("/dev/full", "wb") as full:
         for case, errors in [("full", full), ("a pipe without a reader", writing), ("closed", None)]:
             file = case.replace(" ", "_") + ".db"
-            served = Desk(file, "--connections", "2", "--log", errors=errors)
-            first, second = opened(served.port), opened(served.port)
-            pages = [ask(first, request("POST", "/journeys", f"k{n}", PLAN)) for n in range(3)]
+            served = Logged(file, "--connections", "2", "--log", errors=errors)
+            first, second = Client(served.port), Client(served.port)
+            pages = [first.ask(request("POST", "/journeys", f"k{n}", PLAN)) for n in range(3)]
             same(f"{case}: its pages", [b'{"journey":%d}' % n for n in (1, 2, 3)], [found[-13:] for found in pages])
-            same(f"{case}: another one's page", True, ask(second, STOCK).endswith(b"cells 0\n"))
+            same(f"{case}: another one's page", True, second.ask(STOCK).endswith(b"cells 0\n"))
             first.close()
             second.close()
             served.ends(case)
@@ -296,12 +240,12 @@ def broken():
 def silent():
     """Without --log not a byte is written, whatever comes and goes, and a fault is as ever."""
     desk("run", "silent.db", lines="begin F/AL/A1/2030-06-01/1/1!0\n")
-    served = Desk("silent.db", "--connections", "3")
-    one, two, three = (opened(served.port) for _ in range(3))
-    ask(one, request("POST", "/journeys", "k1", PLAN))
-    ask(two, b"\x00\r\n\r\n")
+    served = Logged("silent.db", "--connections", "3")
+    one, two, three = (Client(served.port) for _ in range(3))
+    one.ask(request("POST", "/journeys", "k1", PLAN))
+    two.ask(b"\x00\r\n\r\n")
     two.close()
-    three.sendall(STOCK[:20])
+    three.stream.sendall(STOCK[:20])
     three.close()
     refused = desk("serve", "other.db", "--port", str(served.port), "--connections", "1")
     same("a fault without a log", (1, "fault 27 Net\n"), (refused.status, refused.err))
