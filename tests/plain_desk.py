@@ -17,7 +17,7 @@ NAMES = {
     9: "NoJourney", 10: "Finished", 11: "NoSavePoint", 12: "BelowHeld", 13: "BatchDiffers", 14: "KeyReused",
     15: "TooLarge", 19: "NoLength", 23: "AlreadyNew", 28: "NoSave",
 }
-RUN, BACK, ENDED, UNDONE = "run", "back", "ended", "undone"
+PHASES = RUN, BACK, ENDED, UNDONE = "run", "back", "ended", "undone"
 
 
 class Refusal(NamedTuple):
@@ -258,19 +258,20 @@ class Desk:
 
     def recovered(self):
         """The desks on that way, without this one."""
-        desks = [self]
+        desks, last = [], self.copy()
+        for request in last.way_back():
+            last.outcome(request)
+            desks.append(last.copy())
+        return desks
 
-        def make(word, identity):
-            desks.append(desks[-1].copy())
-            desks[-1].outcome((word, identity))
-
+    def way_back(self):
+        """What recovery makes of this desk, one request after another, each once the one before was done."""
         for identity in self.numbers(RUN):
-            make("stop", identity)
+            yield "stop", identity
         for phases in ((BACK,), (RUN, BACK)):
-            for identity in desks[-1].numbers(*phases):
-                while desks[-1].phases[identity - 1][0] in phases:
-                    make("step", identity)
-        return desks[1:]
+            for identity in self.numbers(*phases):
+                while self.phases[identity - 1][0] in phases:
+                    yield "step", identity
 
     def tables(self):
         """The rows of each table, sorted, as docs/FORMATS.md has them."""
@@ -321,7 +322,7 @@ class Desk:
         journey = self.journeys[identity - 1]
         agent, plan, items = journey
         phase, target = self.phases[identity - 1]
-        code = (RUN, BACK, ENDED, UNDONE).index(phase)
+        code = PHASES.index(phase)
         net = journey.net()
         cursor = (len(net), code, target or 0, journey.refusals())
         steps = [

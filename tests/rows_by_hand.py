@@ -8,6 +8,7 @@ import sqlite3
 import struct
 
 from driving import Client, Server, desk, end_writing, opened, rest_of
+from ledger import fill
 from rows_pages import HEADING, SHORT, Wrong, compact, expect, page, plan_value
 
 GET = b"GET /unfinished HTTP/1.1\r\nHost: d\r\nDesk-Agent: ann\r\n\r\n"
@@ -234,10 +235,7 @@ def make_old_file():
         "entry": [(3, 1, 0, 1, 1), (4, 1, 2, 0, 2)],
         "answer": [("ann", key, f"{target}\n{body}".encode(), line) for key, target, body, line, _ in KEPT],
     }
-    for name, all_rows in rows.items():
-        for row in all_rows:
-            connection.execute(f"INSERT INTO {name} VALUES ({','.join('?' * len(row))})", row)
-    connection.commit()
+    fill(connection, rows)
     connection.close()
 
 

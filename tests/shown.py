@@ -1,32 +1,11 @@
 """What the desk shows of the files that a cut, a failed call or damage left, and whether it goes on with them as it should."""
 import os
 
-from driving import Client, Server, desk
+from driving import Client, Server, desk, lay, read_files
 from ledger import Ledger, history_report, is_settled, make_file, statements_of, stock_report, tables_of, unfinished_report
 from scenes import OLD_EVENTS, ON
 
 NEW_TABLES = ("CREATE TABLE entry2", "CREATE TABLE mark")
-
-
-def read_files(folder):
-    files = {}
-    for name in ("trips.db", "trips.db-wal"):
-        if os.path.exists(f"{folder}/{name}"):
-            with open(f"{folder}/{name}", "rb") as file:
-                files[name] = file.read()
-    return files
-
-
-def lay(files, folder="cut"):
-    """Puts these files on a disk of their own, and no others."""
-    os.makedirs(folder, exist_ok=True)
-    for name in ("trips.db", "trips.db-wal"):
-        path = f"{folder}/{name}"
-        if name in files:
-            with open(path, "wb") as out:
-                out.write(files[name])
-        elif os.path.exists(path):
-            os.remove(path)
 
 
 def look(files):

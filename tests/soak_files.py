@@ -7,14 +7,13 @@ import sqlite3
 import subprocess
 
 from disks import Disk, Part, notes_in
-from driving import DESK, PATIENCE
-from ledger import is_settled, tables_of
+from driving import DESK, FILES, PATIENCE, lay, read_files
+from ledger import fill, is_settled, tables_of
 from plain_desk import Desk
 from soak_answers import report_of
 from soak_lives import Life
 from soak_talk import Wrong, without_repeats
 
-FILES = ("trips.db", "trips.db-wal")
 NO_DATABASE = "file is not a database"
 
 
@@ -63,22 +62,6 @@ class Place:
 
     def path(self, name="trips.db"):
         return f"{self.folder}/{name}"
-
-    def files(self):
-        found = {}
-        for name in FILES:
-            if os.path.exists(self.path(name)):
-                with open(self.path(name), "rb") as file:
-                    found[name] = file.read()
-        return found
-
-    def lay(self, files, folder):
-        os.makedirs(folder, exist_ok=True)
-        for name in os.listdir(folder):
-            os.remove(f"{folder}/{name}")
-        for name, content in files.items():
-            with open(f"{folder}/{name}", "wb") as file:
-                file.write(content)
 
     def live(self, life):
         """One life, and a look at what it left. Gives what was said."""
@@ -134,18 +117,13 @@ class Place:
                 self.disk.take(note, self.has_syncs)
             os.remove(self.path("notes"))
         whole = self.disk.whole()
-        if {name: whole[name] for name in FILES if name in whole} != self.files():
+        if {name: whole[name] for name in FILES if name in whole} != read_files(self.folder):
             raise Wrong("the notes of the calls do not give the files")
         if self.is_cut(life):
             chance = random.Random(life["cut"])
             files = self.disk.cut(Part(chance.choice(Part.KINDS), chance, self.disk))
             files = {name: files[name] for name in FILES if name in files}
-            for name in FILES:
-                if os.path.exists(self.path(name)):
-                    os.remove(self.path(name))
-            for name, content in files.items():
-                with open(self.path(name), "wb") as file:
-                    file.write(content)
+            lay(files, self.folder)
             self.disk, self.desks = Disk(files), self.unsynced
             self.count.add("power cuts")
 
@@ -153,10 +131,10 @@ class Place:
 
     def look(self):
         """Finds the desk that stands in the file, by its rows and by the reports on copies."""
-        files = self.files()
+        files = read_files(self.folder)
         if self.is_blind:
             return
-        self.lay(files, self.path("look"))
+        lay(files, self.path("look"))
         found = rows_in(self.path("look/trips.db"))
         same = [desk for desk in self.desks if self.is_found(desk, found)]
         if not same:
@@ -177,7 +155,7 @@ class Place:
 
     def reports(self, files, found):
         """The reports of a copy are those of the desk that stands."""
-        self.lay(files, self.path("look"))
+        lay(files, self.path("look"))
         journeys = len(self.desks[0].journeys)
         calls = [self.chance.choice((("unfinished",), ("stock",)))]
         calls += [("history", str(self.chance.randint(1, journeys + 1)))] if journeys else []
@@ -197,7 +175,7 @@ class Place:
 
     def recovered(self, files):
         """A copy is recovered: then no journey is half done."""
-        self.lay(files, self.path("look"))
+        lay(files, self.path("look"))
         way = self.desks[0].recovery()
         self.told("recover", expected=f"recovered {len(way) - 1}\n".encode())
         found = tables_of(self.path("look/trips.db"))
@@ -229,10 +207,9 @@ class Place:
             desk.take(event)
         kept = {under: known for under, known in last.kept.items() if known[1] != reply_of_last(last)}
         desk.kept = kept
-        for name, rows in desk.tables().items():
+        for name in desk.tables():
             connection.execute(f"DELETE FROM {name}")
-            for row in rows:
-                connection.execute(f"INSERT INTO {name} VALUES ({','.join('?' * len(row))})", row)
+        fill(connection, desk.tables())
 
 
 def reply_of_last(desk):
