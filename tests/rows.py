@@ -16,11 +16,23 @@ from rows_pages import SHORT, Wrong, expect, message, page, page_of, plan_value,
 
 # The text of the rows.
 
+ITEMS = "FROM (SELECT * FROM entry2 ORDER BY num) WHERE journey ="
+# Short forms of statements.
+STATEMENTS = {
+    "$journeys": "SELECT id, num, agent, steps, tries, pos, phase, target, used FROM journey ORDER BY id",
+    "$stock": "SELECT kind, supplier, product, date('1970-01-01', '+' || night || ' days'), allot, free FROM stock ORDER BY kind, supplier, product, night",
+    "$items": f"SELECT num, item, a, b {ITEMS}",
+    "$told": f"SELECT substr('TCBS', item + 1, 1) || a || CASE item WHEN 2 THEN substr('sra', b + 1, 1) WHEN 3 THEN '' ELSE '.' || b END {ITEMS}",
+    "$taken": "SELECT place, opt FROM (SELECT * FROM step WHERE taken = 1 ORDER BY place, opt) WHERE journey =",
+    "$marks": "SELECT journey, pos FROM mark ORDER BY journey, pos",
+}
+
 
 def long(text):
-    """The text with its short forms written out."""
-    text = re.sub(r"\[(\d+) ([^\]]*)\]", lambda m: m[2] * int(m[1]), text)
-    for name, cell in SHORT.items():
+    """The text with its short forms written out, the inner ones first."""
+    while (shorter := re.sub(r"\[(\d+) ([^\[\]]*)\]", lambda m: m[2] * int(m[1]), text)) != text:
+        text = shorter
+    for name, cell in {**STATEMENTS, **SHORT}.items():
         text = text.replace(name, cell)
     return text
 
@@ -44,7 +56,7 @@ def rows_in(path):
         parts = []
         for line in lines:
             word, _, rest = line.partition(" ")
-            if word in ("run", "call", "file", "sql", "http"):
+            if word in ("run", "call", "file", "sql", "http", "recovers"):
                 parts.append((word, long(rest), []))
             elif line:
                 parts[-1][2].extend(each(long(line)))
@@ -90,7 +102,22 @@ def sql(text):
     connection.commit()
     connection.close()
     if expected:
-        expect(statement, expected, " ".join("|".join(map(str, row)) for row in rows))
+        expect(statement, expected, " ".join("|".join(map(str, row)) for row in rows) or "(none)")
+
+
+def recovers(count):
+    """Recovery makes so many commits, and none when it is called again; and then no journey is unfinished."""
+    for made in (count, 0):
+        call("recover trips.db", [f"| recovered {made}"])
+    call("unfinished trips.db", ["| unfinished 0"])
+
+
+def is_sound():
+    """What the row leaves is sound to SQLite."""
+    if os.path.exists("trips.db") and open("trips.db", "rb").read(6) == b"SQLite":
+        sql("PRAGMA integrity_check => ok")
+        sql("PRAGMA foreign_key_check => (none)")
+        sql("SELECT count(*) FROM sqlite_schema WHERE name = 'entry' AND (SELECT count(*) FROM entry) > 0 => 0") if has_entry() else None
 
 
 def http(lines):

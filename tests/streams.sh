@@ -34,7 +34,8 @@ ends_with "a full output" 1 "fault 25 Write" to_full
 answers "the line whose answer was lost is done, and no later one" "$line\n" "journey 2 begun"
 ends_with "no output" 1 "fault 25 Write" to_nowhere
 answers "the same again" "$line\n" "journey 4 begun"
+answers "no line feed at the end" "$line" "journey 5 begun"
 ends_with "a reader that goes away" 1 "fault 25 Write" to_leaver
-same "a reader that goes away: its answer" "journey 5 begun" "$(cat first)"
+same "a reader that goes away: its answer" "journey 6 begun" "$(cat first)"
 same "the file is sound" "ok" "$(rows 'PRAGMA integrity_check')"
 finish
