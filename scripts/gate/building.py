@@ -1,7 +1,4 @@
 """What ./build does: proves the crates of the program, and builds it. Exit status: 0 the program is built, 1 it is not, 2 wrong words.
-
-Each crate is proved in a room, a copy of the repository's sources, since two runs of rt in one repository wait for each other.
-What rt keeps is good in another place too, so it moves in and out.
 """
 
 import fcntl
@@ -14,14 +11,13 @@ import time
 from pathlib import Path
 
 from lanes import Task, chains, lanes_now, reckoned
+from rooms import KEPT, Rooms
 from tables import Tables
 
 TOP = Path(__file__).resolve().parents[2]
-ROOMS, PROGRAM = TOP / "out/build", TOP / "crates/desk/out/desk"
+PROGRAM = TOP / "crates/desk/out/desk"
 # stands where all that rt has kept was kept by ./build
 OWN = TOP / "out/build.own"
-# what rt keeps of a crate, only to prove less the next time
-KEPT = ("incremental", "rlib")
 # what rt says of a crate beside why it is not proved
 PLAIN = (": proved\n", "so far:", "statements ")
 
@@ -39,23 +35,6 @@ def size(*paths):
     return subprocess.run(["du", "-shc", *paths], capture_output=True, text=True, check=False).stdout.split()[-2]
 
 
-def link(one, other):
-    """Gives a file a second name, or copies it where it can have none."""
-    try:
-        os.link(one, other)
-    except OSError:
-        shutil.copy2(one, other)
-
-
-def move_kept(crate, to):
-    """Moves what rt keeps of a crate to another folder of it."""
-    for part in KEPT:
-        if (crate / "out" / part).is_dir():
-            shutil.rmtree(to / "out" / part, ignore_errors=True)
-            (to / "out").mkdir(parents=True, exist_ok=True)
-            (crate / "out" / part).rename(to / "out" / part)
-
-
 class Build:
     """One run of ./build."""
 
@@ -68,8 +47,7 @@ class Build:
         # those first on which the longest chain waits
         self.waiting = sorted(self.crates, key=lambda it: -longest[it])
         self.whole = self.reckoned()
-        # when the sources were copied, as the time of a file
-        self.copied = 0
+        self.rooms = Rooms(tables)
 
     def task(self, name):
         """Returns the proof of a crate, or what is left of it, by the minutes of the table."""
@@ -91,22 +69,10 @@ class Build:
     def kept_folders(self):
         return [path for name in self.tables.uses for part in KEPT if (path := TOP / "crates" / name / "out" / part).is_dir()]
 
-    def copy_sources(self):
-        """Copies the sources once, so that all rooms have the same, whatever changes meanwhile."""
-        (ROOMS / "sources").mkdir(parents=True)
-        self.copied = ROOMS.stat().st_mtime_ns
-        shutil.copytree(TOP / "crates", ROOMS / "sources/crates", ignore=shutil.ignore_patterns("out", "must-fail", "mutants"))
-        for name in ("crates.txt", "HANDLES"):
-            shutil.copy2(TOP / name, ROOMS / "sources")
-
     def start(self, name, jobs):
-        """Begins to prove a crate in its room, over the libraries below it. Without words the program only says how it is used, so `rt run`
+        """Begins to prove a crate in its room. Without words the program only says how it is used, so `rt run`
         proves, compiles and links it."""
-        room = ROOMS / name
-        shutil.copytree(ROOMS / "sources", room, copy_function=link)
-        for below in self.tables.below(name)[:-1]:
-            shutil.copytree(TOP / "crates" / below / "out/rlib", room / "crates" / below / "out/rlib", copy_function=link)
-        move_kept(TOP / "crates" / name, room / "crates" / name)
+        room = self.rooms.open(name)
         with open(room / "said", "w", encoding="utf-8") as said:
             words = ["setpriv", "--pdeathsig", "TERM", "rt", "run" if name == "desk" else "lib", "--jobs", str(jobs)]
             how = {"cwd": room / "crates" / name, "stdin": subprocess.DEVNULL, "stdout": said, "stderr": subprocess.STDOUT}
@@ -127,17 +93,17 @@ class Build:
             if process.poll() is None:
                 continue
             del self.running[name]
-            made = ROOMS / name / "crates/desk/out/desk"
+            made = self.rooms.folder / name / "crates/desk/out/desk"
             if name == "desk" and made.exists():
                 # as old as the sources that it was built from
-                os.utime(made, ns=(self.copied, self.copied))
+                os.utime(made, ns=(self.rooms.copied, self.rooms.copied))
                 PROGRAM.parent.mkdir(exist_ok=True)
                 made.replace(PROGRAM)
             elif process.returncode:
-                said = (ROOMS / name / "said").read_text(encoding="utf-8", errors="replace").splitlines(keepends=True)
+                said = (self.rooms.folder / name / "said").read_text(encoding="utf-8", errors="replace").splitlines(keepends=True)
                 sys.stderr.writelines([line for line in said if not line.startswith(PLAIN[1:]) and not line.endswith(PLAIN[0])][-40:])
                 raise Failed(f"{name} is not proved; what rt said last is above")
-            close_room(ROOMS / name)
+            self.rooms.close(name)
             self.proved.add(name)
 
     def so_far(self):
@@ -151,7 +117,7 @@ class Build:
     def run(self):
         """Proves all crates."""
         seen = 0
-        self.copy_sources()
+        self.rooms.copy_sources()
         self.start_ready()
         while self.running:
             time.sleep(1)
@@ -171,7 +137,7 @@ class Build:
             process.terminate()
         for process, _, _ in self.running.values():
             process.wait()
-        close_rooms()
+        self.rooms.close_all()
 
     def tell_end(self, keep):
         """Says where the program is, and what of the disk can be given back."""
@@ -186,20 +152,6 @@ class Build:
         say(f"the program is {PROGRAM.relative_to(TOP)}, {size(PROGRAM)}; it took {self.minutes():.0f} min")
         if kept:
             say(f"{size(*kept)} are kept to prove less after a change; 'rm -r crates/*/out/incremental crates/*/out/rlib' gives them back")
-
-
-def close_room(room):
-    """Moves what rt keeps of the room's crate back, and removes the room."""
-    move_kept(room / "crates" / room.name, TOP / "crates" / room.name)
-    shutil.rmtree(room)
-
-
-def close_rooms():
-    """Closes the rooms that a build left, so that it goes on where it was."""
-    for room in ROOMS.glob("*/crates"):
-        if room.parent.name != "sources":
-            close_room(room.parent)
-    shutil.rmtree(ROOMS, ignore_errors=True)
 
 
 def remove_trials():
@@ -239,7 +191,7 @@ def main(words):
         for number in (signal.SIGHUP, signal.SIGINT, signal.SIGTERM):
             signal.signal(number, stop)
         try:
-            close_rooms()
+            build.rooms.close_all()
             if not build.kept_folders():
                 OWN.touch()
             say(f"proving {len(build.crates)} crates, {build.lanes} side by side, and building the program: about {build.whole:.0f} minutes")
