@@ -192,8 +192,8 @@ zsh_arguments() {
     words=$(choices_of "$value" "$about")
     [ "$value" = - ] && value="" || value=":$value:${words:+($words)}"
     [ -n "$words" ] || value=${value:+$value }
-    quoted "--$long[$(in_zsh "$about")]$value" && printf ' \\\n'
-    if [ "$short" != - ]; then quoted "-$short[$(in_zsh "$about")]$value" && printf ' \\\n'; fi
+    quoted "--${long}[$(in_zsh "$about")]$value" && printf ' \\\n'
+    if [ "$short" != - ]; then quoted "-${short}[$(in_zsh "$about")]$value" && printf ' \\\n'; fi
   done < <(options_told "$@")
   while IFS=$'\t' read -r name about; do
     names_file "$name" && value=_files || value=" "

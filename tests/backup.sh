@@ -179,7 +179,10 @@ for signal in INT QUIT TERM HUP; do
   asks "after $signal" "step 0" "refused 4 BadBody"
 done
 begins trips.db b.db
-{ kill -9 "$backup"; wait "$backup"; } 2>/dev/null
+{
+  kill -9 "$backup"
+  wait "$backup"
+} 2>/dev/null
 asks "after a kill" "step 0" "refused 4 BadBody"
 rm -f hold copied
 for _ in {1..3000}; do
@@ -217,7 +220,10 @@ backs_up "a desk that was stopped before" 0 "saved b5.db"$'\n'"backup: process $
 asks "it is continued" "step 0" "refused 4 BadBody"
 backs_up "a backup in use" 1 "backup: trips.db is in use, by process $desk" --replace b5.db trips.db
 begins trips.db b.db
-{ kill -9 "$desk"; wait "$desk"; } 2>/dev/null
+{
+  kill -9 "$desk"
+  wait "$desk"
+} 2>/dev/null
 ends "a desk that is killed" 1 "backup: the process that held the file was continued or has ended while it was copied; *"
 closes_desk
 same "files that were made" "" "$(ls -d b.db* 2>/dev/null)"

@@ -79,7 +79,10 @@ key_of() { if [ -n "$wide" ]; then cat /proc/sys/kernel/random/uuid; else echo "
 begins_desk() {
   rm -f trips.db*
   bookings=0
-  serves_with "$@" || { echo "clients.sh: no desk" >&2; exit 1; }
+  serves_with "$@" || {
+    echo "clients.sh: no desk" >&2
+    exit 1
+  }
   printf 'kind,supplier,product,night,places\nflight,AL,A1,2030-06-01,1000\n' >june.csv
   page "the file" 200 '{"batch":"june","rows":1}' -H 'Desk-Agent: ann' -H 'Desk-Key: june' --data-binary @june.csv \
     "http://127.0.0.1:$port/batches/june"

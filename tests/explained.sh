@@ -15,13 +15,19 @@ explains() {
   [[ $end == fault* ]] || out=$end
   same "$what, as ever" "$end" "$("$DESK" "$@" 2>&1 </dev/null)"
   same "$what: standard output" "$out" "$("$DESK" --explain "$@" 2>"$work/err" </dev/null)"
-  same "$what: standard error" "$([[ $end == fault* ]] && echo "$end"; [ -z "$why" ] || echo "$why")" "$(cat "$work/err")"
+  same "$what: standard error" "$(
+    [[ $end == fault* ]] && echo "$end"
+    [ -z "$why" ] || echo "$why"
+  )" "$(cat "$work/err")"
   "$DESK" --explain "$@" >/dev/null 2>&1 </dev/null
   same "$what: the status" 1 "$?"
 }
 
 # sums: the names of the files in the folder, and a sum of what they hold
-sums() { ls -A1; cat -- * 2>/dev/null | cksum; }
+sums() {
+  ls -A1
+  cat -- * 2>/dev/null | cksum
+}
 
 mkdir absent_log && cd absent_log || exit 2
 printf 'kind,supplier,product,night,places\nflight,AL,A1,2030-06-01,9\n' >june.csv
@@ -76,7 +82,10 @@ rm second.db
 same "the link is gone" "recovered 0" "$("$DESK" --explain recover linked.db 2>&1)"
 opens_desk
 asks "before a kill" "$line" "journey 2 begun"
-{ kill -9 "$desk"; closes_desk; } 2>/dev/null
+{
+  kill -9 "$desk"
+  closes_desk
+} 2>/dev/null
 ln trips.db-wal second-wal
 explains "a second hard link of the log" "fault 21 Store" "$why_link" run trips.db
 rm second-wal
@@ -120,7 +129,7 @@ same "recover: no note" "" "$(cat err)"
 # a wrong field of an allotment file: the row, the column and what stands there, and what may stand there
 rows='kind,supplier,product,night,places\nflight,AL,A9,2030-06-01,9\n'
 wrong() {
-  printf "$rows$2" >wrong.csv
+  printf '%b' "$rows$2" >wrong.csv
   same "$1: the answer" "refused 6 BadCsv $3" "$("$DESK" --explain load trips.db wrong.csv --batch wrong 2>err)"
   same "$1: why" "$4" "$(paste -sd'|' err)"
   same "$1: the answer alone" "refused 6 BadCsv $3" "$("$DESK" load trips.db wrong.csv --batch wrong 2>&1)"
@@ -190,7 +199,8 @@ same "the word and the version" "$("$DESK" --version)" "$("$DESK" --explain --ve
 
 # standard error is a terminal: what it shows, without carriage returns
 if command -v python3 >/dev/null; then
-  shown=$(python3 - "$DESK" absent.db <<'TERMINAL'
+  shown=$(
+    python3 - "$DESK" absent.db <<'TERMINAL'
 import os, pty, subprocess, sys
 ours, theirs = pty.openpty()
 run = subprocess.run([sys.argv[1], "stock", sys.argv[2]], stdin=subprocess.DEVNULL, stdout=subprocess.PIPE, stderr=theirs)

@@ -34,7 +34,10 @@ rm second.db
 answers "the link is gone" "" ""
 opens_desk
 asks "before a kill" "begin F/AL/A1/2030-06-01/1/1!0" "journey 5 begun"
-{ kill -9 "$desk"; closes_desk; } 2>/dev/null
+{
+  kill -9 "$desk"
+  closes_desk
+} 2>/dev/null
 ln trips.db-wal second-wal
 refuses_file "a second hard link of the log" trips.db "" "fault 21 Store"
 rm second-wal

@@ -55,7 +55,10 @@ done
 newest=$(sed -n 's/^## \([0-9][0-9]*\.[0-9][0-9]*\.[0-9][0-9]*\).*/\1/p' "$top/CHANGES.md" | sed -n 1p)
 for words in --version -V "--version run x.db"; do
   same "$words" "desk $newest" "$("$DESK" $words 2>err </dev/null)"
-  same "$words: the status" 0 "$("$DESK" $words >/dev/null 2>&1; echo $?)"
+  same "$words: the status" 0 "$(
+    "$DESK" $words >/dev/null 2>&1
+    echo $?
+  )"
   same "$words: standard error" "" "$(cat err)"
 done
 "$DESK" --version >/dev/full 2>err
@@ -90,7 +93,8 @@ cd ..
 
 # old_file: makes old.db, a file of schema 1 with 7 events: a batch, and three journeys of one step
 old_file() {
-  { echo 'set june F/AL/A1/2030-06-01 9'
+  {
+    echo 'set june F/AL/A1/2030-06-01 9'
     for id in 1 2 3; do printf 'begin F/AL/A1/2030-06-01/1/1!0\nstep %s\n' "$id"; done
   } | "$DESK" run old.db >/dev/null
   sqlite3 old.db "INSERT INTO entry SELECT * FROM entry2; DROP TABLE entry2; DROP TABLE mark; UPDATE meta SET version = 1"
@@ -103,9 +107,15 @@ shown_by() {
     case $line in
       '$ '*'&')
         eval "${line#\$ }" >>printed 2>/dev/null
-        for _ in {1..500}; do [ -s printed ] && break; sleep 0.02; done
+        for _ in {1..500}; do
+          [ -s printed ] && break
+          sleep 0.02
+        done
         ;;
-      '$ '*) eval "${line#\$ }" >>printed 2>/dev/null; [ -z "$(tail -c 1 printed)" ] || echo >>printed ;;
+      '$ '*)
+        eval "${line#\$ }" >>printed 2>/dev/null
+        [ -z "$(tail -c 1 printed)" ] || echo >>printed
+        ;;
     esac
   done <<<"$1"
   wait

@@ -31,7 +31,10 @@ book() {
   post "$1: the room" 200 '{"item":"T2.1","journey":1,"pos":2,"state":"ended"}' ann k4 /journeys/1/step
 }
 
-serves 23 || { echo "http.sh: no desk" >&2; exit 1; }
+serves 23 || {
+  echo "http.sh: no desk" >&2
+  exit 1
+}
 for host in 127.0.0.2 '[::1]'; do
   curl -s -o got --max-time 5 "http://$host:$port/health"
   same "no connection but at 127.0.0.1: $host" 7 $?

@@ -45,7 +45,8 @@ same "the first program: the status" 0 "$?"
 same "the first program: standard error" "" "$(cat desk_err)"
 
 # a report holds the file until its last row: no other call opens it, another report neither
-{ echo kind,supplier,product,night,places
+{
+  echo kind,supplier,product,night,places
   seq -f 'room,INN,D%g,2030-06-01,4' 1 2000
 } >many.csv
 "$DESK" load many.db many.csv --batch many >/dev/null
@@ -57,7 +58,10 @@ IFS= read -r heading <&4
 same "a report has begun" "kind" "${heading%% *}"
 for words in "stock many.db" "stock many.db --format csv" "unfinished many.db" "summary many.db" "recover many.db"; do
   same "beside a report: $words" "fault 21 Store" "$("$DESK" $words 2>&1)"
-  same "beside a report: $words: the status" 1 "$("$DESK" $words >/dev/null 2>&1; echo $?)"
+  same "beside a report: $words: the status" 1 "$(
+    "$DESK" $words >/dev/null 2>&1
+    echo $?
+  )"
 done
 same "why" "fault 21 Store
 The file is in use. End the program that has it open, or wait for it." "$("$DESK" --explain stock many.db 2>&1)"

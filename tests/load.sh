@@ -46,7 +46,10 @@ loads "a bad name and a bad file" B1 "" "refused 4 BadBody" 1
 same "nothing was committed" "$before" "$(rows 'SELECT events FROM meta')"
 
 # the most bytes, and one more: a row fits as its last field is read, and is too long as a whole
-fill() { printf '%s\n%s' "$header" "$one"; head -c "$1" /dev/zero | tr '\0' '\n'; }
+fill() {
+  printf '%s\n%s' "$header" "$one"
+  head -c "$1" /dev/zero | tr '\0' '\n'
+}
 fill $((262144 - ${#header} - 1 - ${#one})) >places.csv
 same "262144 bytes" "loaded b4 1" "$("$DESK" load trips.db places.csv --batch b4)"
 fill $((262145 - ${#header} - 1 - ${#one})) >places.csv
@@ -86,7 +89,11 @@ faults "a folder for a database" "fault 21 Store" load folder absent.csv --batch
 same "standard input" "loaded b8 1" "$(printf '%b' "$header\nroom,SEA,DBL,2030-08-01,3\n" | "$DESK" load trips.db - --batch b8)"
 same "its row" "SEA|3" "$(rows "SELECT supplier, free FROM stock WHERE supplier = 'SEA'")"
 same "standard input, in pieces" "loaded b9 1" \
-  "$( (printf '%b' "$header\n"; sleep 0.2; echo "cover,SEA,X,2030-08-01,3") | "$DESK" load trips.db - --batch b9)"
+  "$( (
+    printf '%b' "$header\n"
+    sleep 0.2
+    echo "cover,SEA,X,2030-08-01,3"
+  ) | "$DESK" load trips.db - --batch b9)"
 same "a bad row of standard input" "refused 6 BadCsv 1 kind" \
   "$(printf '%b' "$header\nbus,SEA,X,2030-08-01,3\n" | "$DESK" load trips.db - --batch c1)"
 same "an empty standard input" "refused 6 BadCsv 0 header" "$("$DESK" load trips.db - --batch c1 </dev/null)"
@@ -94,7 +101,10 @@ same "many bytes of standard input" "refused 6 BadCsv 0 size" "$(fill 600000 | "
 printf '%b' "$both" >-
 same "a file of that name" "loaded c2 2" "$("$DESK" load trips.db ./- --batch c2 </dev/null)"
 faults "a standard input that cannot be read" "fault 24 Read" load trips.db - --batch c3 <folder
-same "a standard input that is not read" "left" "$(echo left | { "$DESK" load trips.db ./- --batch c2 >/dev/null; cat; })"
+same "a standard input that is not read" "left" "$(echo left | {
+  "$DESK" load trips.db ./- --batch c2 >/dev/null
+  cat
+})"
 
 # recovery comes first, and its commits stand where the load is refused
 answers "a journey" "begin F/AL/A1/2030-06-01/1/1;T/BUS/X/2030-06-01/1/1!0\nstep 2\n" "journey 2 begun

@@ -43,7 +43,10 @@ has_turn() {
 # program_of CRATE: sets program to the tests of a crate, where they are built
 program_of() {
   program=${MEMORY_TESTS:-$tests/../crates/$1/out}/${1}_tests
-  [ -x "$program" ] || { same "the tests of $1, which ./check leaves" built absent; return 1; }
+  [ -x "$program" ] || {
+    same "the tests of $1, which ./check leaves" built absent
+    return 1
+  }
 }
 
 # tests_of PROGRAM: the names of its tests
@@ -148,8 +151,7 @@ judges 134 $'assertion failed: a cell\n  left: Some(Twice)\n right: Some(Memory)
 judges 139 "a plan: Memory$at" wrong
 
 runs=0 passed=0 named=0
-for crate in ${CRATES:-plan_tests command_tests book_tests page_tests recovery_tests message_tests line_tests \
-  report_tests http_tests}; do
+for crate in ${CRATES:-plan_tests command_tests book_tests page_tests recovery_tests message_tests line_tests   report_tests http_tests}; do
   has_turn "$crate" || continue
   program_of "$crate" || continue
   before=$runs dealt=$cases

@@ -28,7 +28,10 @@ unknown='{"name":"UnknownPath","refused":7}'
 policy="default-src 'none'; script-src $(allowed script); style-src $(allowed style); connect-src 'self'"
 policy="$policy; frame-ancestors 'none'; base-uri 'none'; form-action 'none'"
 
-serves 23 --page || { echo "page.sh: no desk" >&2; exit 1; }
+serves 23 --page || {
+  echo "page.sh: no desk" >&2
+  exit 1
+}
 desk_at=http://127.0.0.1:$port
 page "the page" 200 "$(cat "$shown")" -D head "$desk_at/"
 cmp -s got "$shown" || same "the bytes of the page" "those of web/desk.html" "others"

@@ -101,7 +101,10 @@ same "the same in Python" "$(printf '2 bad.py: PART=%s is not K/N, with K from 1
 
 # a script that is not dealt out does all in the first part
 same "trial.sh in another part" "0: trial.sh: left out until its turn" \
-  "$(PART=2/4 bash "$tests/trial.sh" 2>err; echo "$?: $(cat err)")"
+  "$(
+    PART=2/4 bash "$tests/trial.sh" 2>err
+    echo "$?: $(cat err)"
+  )"
 PART=5/4 bash "$tests/trial.sh" >out 2>&1
 same "trial.sh in a part of another form" 2 $?
 

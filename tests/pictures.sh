@@ -19,7 +19,8 @@ ends() {
 
 # is_whole FILE: it is well-formed, has a title and a description, needs nothing else, and is below 24 KB
 is_whole() {
-  same "$1" "svg, 1 title, 1 desc" "$(python3 - "$1" 2>&1 <<'END'
+  same "$1" "svg, 1 title, 1 desc" "$(
+    python3 - "$1" 2>&1 <<'END'
 import sys
 import xml.etree.ElementTree as tree
 

@@ -266,7 +266,7 @@ denies "'inn' for '--supplier <SUPPLIER>': not 1 to 8 of A-Z and 0-9" stock trip
 denies "'2030-02-30' for '--from <FROM>': not a day from 2000-01-01 to 2099-12-31" stock trips.db --from 2030-02-30
 denies "'2100-01-01' for '--to <TO>': not a day from 2000-01-01 to 2099-12-31" stock trips.db --to 2100-01-01
 denies "'Ann' for '--agent <AGENT>': not 1 to 16 of a-z and 0-9" journeys trips.db --agent Ann
-denies "'done' for '--state <STATE>': not run, back, ended or undone" journeys trips.db --state done
+denies "'done' for '--state <STATE>': not run, back, ended or undone" journeys trips.db --state "done"
 denies "'ended' for '--state <STATE>': not run or back" unfinished trips.db --state ended
 denies "'json' for '--format <FORMAT>': not text, which the calendar is" stock trips.db --calendar --format json
 denies "'csv' for '--format <FORMAT>': not text, which the calendar is" stock trips.db --format csv --calendar
@@ -287,7 +287,10 @@ for format in json csv; do
   tells "an absent journey in $format" 1 "refused 9 NoJourney" "" history trips.db 4 --format "$format"
   tells "why an absent journey does nothing, in $format" 1 "refused 9 NoJourney" "" why trips.db 4 --format "$format"
 done
-same "an unknown format: the status" 2 "$("$DESK" stock trips.db --format xml >out 2>err; echo $?)"
+same "an unknown format: the status" 2 "$(
+  "$DESK" stock trips.db --format xml >out 2>err
+  echo $?
+)"
 same "an unknown format: the answer" "" "$(cat out)"
 same "an unknown format" "error: invalid value 'xml' for '--format <FORMAT>': not text, json or csv" "$(sed -n 1p err)"
 

@@ -18,10 +18,16 @@ done
 
 key=7d444840-9dc0-11d1-b245-5ffdce74fad2
 plan='{"steps":[{"options":[{"count":1,"first":"2030-06-01","kind":"flight","nights":1,"product":"A1","supplier":"AL"}],"save":false}],"tries":0}'
-serves_with --wide || { echo "wide.sh: no desk" >&2; exit 1; }
+serves_with --wide || {
+  echo "wide.sh: no desk" >&2
+  exit 1
+}
 page "a begin in chunks" 200 '{"journey":1}' -H 'Desk-Agent: ann' -H "Desk-Key: $key" -H 'Transfer-Encoding: chunked' \
   --data-binary "$plan" "http://127.0.0.1:$port/journeys"
-{ kill -9 "$desk"; wait "$desk"; } 2>/dev/null
+{
+  kill -9 "$desk"
+  wait "$desk"
+} 2>/dev/null
 serves_with --wide --house "$work/desk.sock" || exit 1
 page "the same by its length, after a kill" 200 '{"journey":1}' -H 'Desk-Agent: ann' -H "Desk-Key: ${key//-/}" \
   --data-binary "$plan" "http://127.0.0.1:$port/journeys"
