@@ -1,16 +1,17 @@
 -- The report of an outlook in each format: its head, a row for each night of the next want, and its ending.
-use Rattle.std.specs.Prelude.{ℕ, List, [], ◌∷◌, ◌++◌, codes, decimal, Option, Some, None}
+use Rattle.std.specs.Prelude.{ℕ, List, [], ◌∷◌, ◌++◌, codes, decimal, map, Option, Some, None}
 use Rattle.std.specs.List.{flat_map}
-use Rattle.serde_json.specs.Data.{Data}
+use Rattle.serde_json.specs.Data.{Data, array}
+use Rattle.serde_json.specs.View.{items_of}
 use Rattle.allotment.specs.Nights.{night_text}
 use Rattle.allotment.specs.Texts.{want_text}
-use Rattle.commands.specs.Texts.{item_text}
+use Rattle.commands.specs.Texts.{item_text, phase_word}
 use Rattle.commands.specs.declared.items.Item.{Item}
 use Rattle.ledger.specs.Ledger.{Event, Journey}
 use Rattle.saga_core.specs.declared.records.Brief.{Brief}
 use Rattle.reports.specs.Columns.{line}
 use Rattle.reports.specs.Layouts.{history_ending}
-use Rattle.reports.specs.Objects.{json, json_line, counts, says, journey_data}
+use Rattle.reports.specs.Objects.{Named, json, json_line, counts, says, journey_data, target_member}
 use Rattle.reports.specs.Records.{csv_line, journey_names, journey_fields}
 use Rattle.reports.specs.declared.formats.Format.{Format}
 use Rattle.reports.specs.declared.formats.Format.TheVariants.{Text, Json, Csv}
@@ -64,6 +65,31 @@ night_data id night (Some free) =
 
 abbrev pub step_data : ℕ → Option Item → Data
 step_data id step = json (counts (codes "journey") id ∷ says (codes "step") (step_word step) ∷ [])
+
+-- As one object.
+
+-- the item of the next step, and its want; nothing if there is none
+abbrev pub next_member : Option NextStep → List Named
+next_member None = []
+next_member (Some next) = says (codes "next") (item_text next.item) ∷ []
+
+abbrev pub want_member : Option NextStep → List Named
+want_member None = []
+want_member (Some next) = says (codes "want") (want_text next.want) ∷ []
+
+-- a night and what is free of it, if it is allotted
+abbrev pub free_data : ℕ → Option ℕ → Data
+free_data night None = json (says (codes "night") (night_text night) ∷ [])
+free_data night (Some free) = json (counts (codes "free") free ∷ says (codes "night") (night_text night) ∷ [])
+
+-- the journey, its next want with the nights of it, and what a step makes. The members of an object stand in the order of
+-- their names
+abbrev pub why_data : Outlook → List FreeNight → Data
+why_data o nights =
+    json (says (codes "agent") o.brief.agent ∷ counts (codes "journey") o.brief.id
+    ∷ (next_member o.next ++ (codes "nights", array (items_of (map (λ (n : FreeNight). free_data n.night n.free) nights)))
+    ∷ counts (codes "pos") o.brief.cursor.pos ∷ says (codes "state") (phase_word o.brief.cursor.phase)
+    ∷ says (codes "step") (step_word o.step) ∷ (target_member o.brief.cursor.phase ++ want_member o.next)))
 
 -- As records.
 

@@ -1,4 +1,5 @@
 pub mod Nights
 pub mod Outlooks
 pub mod Layouts
+pub mod Members
 pub mod Examples

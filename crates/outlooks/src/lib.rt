@@ -9,6 +9,7 @@
 //! goes back.
 #![tactic(auto)]
 
+mod bodies;
 mod lines;
 mod nights;
 mod objects;
@@ -16,6 +17,7 @@ mod records;
 mod steps;
 mod whys;
 
-pub use nights::{FreeNight, read_nights};
+pub use bodies::why_body;
+pub use nights::{FreeNight, nights_shown, read_nights};
 pub use steps::{NextStep, Outlook, latest_option, look_ahead, next_step};
 pub use whys::why_text;

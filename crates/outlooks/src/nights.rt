@@ -1,13 +1,13 @@
 //! What is free of each night of a want.
-ghost use Rattle.std.specs.Prelude.{◌≡◌, ◌≢◌, [], ◌∷◌, ◌++◌, List, Some, IfErr, IfOk, OnOk, find};
+ghost use Rattle.std.specs.Prelude.{◌≡◌, ◌≢◌, ◌==◌, ℕ, [], ◌∷◌, ◌++◌, List, Some, IfErr, IfOk, OnOk, find, map};
 ghost use Rattle.std.specs.List.{list_all};
 ghost use Rattle.std.specs.Option.{option_copied};
 ghost use Rattle.allotment.specs.Cells.{is_cell};
 ghost use Rattle.allotment.specs.declared.cells.Cell.{Cell};
 ghost use Rattle.allotment.specs.declared.places.Held.{Held};
 ghost use Rattle.ledger.specs.Ledger.{Event, fits, IsLegal};
-ghost use Rattle.saga_core.specs.Views.{places_at};
-ghost use Rattle.outlooks.specs.Nights.{has_room, night_with, nights_in, nights_of};
+ghost use Rattle.saga_core.specs.Views.{night_said, places_at, places_shown};
+ghost use Rattle.outlooks.specs.Nights.{has_room, night_among, night_with, nights_among, nights_in, nights_of};
 ghost use Rattle.reports.specs.Writing.{Takes};
 
 use allotment::{Cell, Held, Night, Want};
@@ -66,6 +66,53 @@ fn free_nights(
     want.cells()
         .map(|cell| night_of(cells, &cell))
         .collect(alloc)
+}
+
+/// The first night of a list that is this one.
+fn find_night<'a>(places: &'a [(Night, Held)], night: Night) -> Option<&'a (Night, Held)>
+    ensures first { option_copied result
+        ≡ find (λ (n : ℕ × Held). n.0 == night) places.now }
+{
+    places.iter().find(|row| row.0 == night)
+}
+
+/// A night, and what is free of it by a list of nights with their places.
+fn night_among(places: &[(Night, Held)], night: Night) -> FreeNight
+    ensures night { result ≡ night_among places.now night }
+{
+    match find_night(places, night) {
+        Some(place) => FreeNight {
+            night,
+            free: Some(place.1.free),
+        },
+        None => FreeNight { night, free: None },
+    }
+}
+
+/// The nights of a want in order, each with what is free of it by a list of nights with their places.
+fn nights_among(
+    alloc: Global,
+    want: &Want,
+    places: &[(Night, Held)],
+) -> Result<Vec<FreeNight>, AllocError>
+    ensures nights { IfOk result (λ nights. nights.items ≡ nights_among places.now want.now) }
+{
+    want.cells()
+        .map(|cell| night_among(places, cell.night))
+        .collect(alloc)
+}
+
+/// The nights of a want in order, each with what is free of it, by the places that a book shows of the want: those of its
+/// nights that are allotted. The only fault is out of memory.
+pub fn nights_shown(
+    alloc: Global,
+    want: &Want,
+    places: &[(Night, Held)],
+) -> Result<Vec<FreeNight>, AllocError>
+    ensures nights { (l : List Event) → map night_said places.now ≡ places_shown l want.now →
+        IfOk result (λ nights. nights.items ≡ nights_of l want.now) }
+{
+    nights_among(alloc, want, places)
 }
 
 /// Reads the cells of a source, and returns the nights of a want in order, each with what is free of it by these cells.

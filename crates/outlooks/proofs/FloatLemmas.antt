@@ -1,0 +1,45 @@
+-- The object of an outlook contains no floats, so its compact text is known. For why_body.
+use Rattle.std.proofs.Common.{refl, ◌≡◌, ℕ, false, List, [], ◌∷◌, ◌++◌, map, codes, Option, Some, None}
+use Rattle.serde_json.specs.View.{items_of}
+use Rattle.serde_json.specs.Written.{has_float, items_have_float, members_have_float}
+use Rattle.commands.specs.declared.items.Phase.{Phase}
+use Rattle.commands.specs.declared.items.Phase.TheVariants.{Run, Back, Ended, Undone}
+use Rattle.reports.specs.Objects.{Named, members, says, target_member}
+use Rattle.outlooks.specs.Layouts.{free_data, next_member, want_member, why_data}
+use Rattle.outlooks.specs.declared.nights.FreeNight.{FreeNight}
+use Rattle.outlooks.specs.declared.steps.NextStep.{NextStep}
+use Rattle.outlooks.specs.declared.steps.Outlook.{Outlook}
+
+-- a list of nights contains no float
+no_float-nights : (nights : List FreeNight)
+    → items_have_float (items_of (map (λ (n : FreeNight). free_data n.night n.free) nights)) ≡ false
+no_float-nights [] = refl
+no_float-nights (n ∷ later) = go n.free (no_float-nights later)
+  where
+    go : (free : Option ℕ) → items_have_float (items_of (map (λ (m : FreeNight). free_data m.night m.free) later)) ≡ false
+        → items_have_float (items_of (free_data n.night free ∷ map (λ (m : FreeNight). free_data m.night m.free) later)) ≡ false
+    go None rest = rest
+    go (Some free) rest = rest
+
+-- nor do the members after the nights
+no_float-last : (phase : Phase) (next : Option NextStep) → members_have_float (members (target_member phase ++ want_member next)) ≡ false
+no_float-last Run None = refl
+no_float-last Run (Some next) = refl
+no_float-last (Back target) None = refl
+no_float-last (Back target) (Some next) = refl
+no_float-last Ended None = refl
+no_float-last Ended (Some next) = refl
+no_float-last Undone None = refl
+no_float-last Undone (Some next) = refl
+
+-- nor does the object
+pub no_float-why : (o : Outlook) (nights : List FreeNight) → has_float (why_data o nights) ≡ false
+no_float-why o nights = go o.next (no_float-last o.brief.cursor.phase o.next)
+  where
+    later : Option NextStep → List Named
+    later next = target_member o.brief.cursor.phase ++ want_member next
+
+    go : (next : Option NextStep) → members_have_float (members (later next)) ≡ false
+        → has_float (why_data (record o { next = next }) nights) ≡ false
+    go None last = rw (no_float-nights nights) last
+    go (Some next) last = rw (no_float-nights nights) last

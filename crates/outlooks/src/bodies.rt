@@ -1,0 +1,120 @@
+//! An outlook as one JSON object.
+ghost use Rattle.std.specs.Prelude.{◌≡◌, IfOk, OnOk, codes, map, string_bytes};
+ghost use Rattle.allotment.specs.Nights.{night_text};
+ghost use Rattle.serde_json.specs.Data.{array, string};
+ghost use Rattle.serde_json.specs.View.{items_of, members_view, view};
+ghost use Rattle.serde_json.specs.Written.{compact_text};
+ghost use Rattle.outlooks.specs.Layouts.{free_data, why_data};
+ghost use Rattle.outlooks.specs.Members.{with_next, with_standing};
+ghost use Rattle.outlooks.specs.declared.nights.FreeNight.{FreeNight};
+
+use crate::lines::step_word;
+use crate::nights::FreeNight;
+use crate::steps::{NextStep, Outlook};
+use commands::{Cursor, Phase};
+use reports::night_text;
+use saga_core::Brief;
+use serde_json::{Map, Value, json, put};
+use std::alloc::{AllocError, Global};
+
+/// The object of an outlook, with what is free of each night of its next want, in its compact text. The only fault is out
+/// of memory.
+///
+/// Its members are those of the lines of the report, and `nights` is the list of the objects of the nights.
+pub fn why_body(
+    alloc: Global,
+    outlook: &Outlook,
+    nights: &[FreeNight],
+) -> Result<String, AllocError>
+    ensures body { IfOk result
+        (λ body. string_bytes body ≡ compact_text (why_data outlook.now nights.now)) }
+{
+    let value = why_value(alloc, outlook, nights)?;
+    value.to_string(alloc)
+}
+
+/// The value of an outlook with these nights.
+fn why_value(alloc: Global, outlook: &Outlook, nights: &[FreeNight]) -> Result<Value, AllocError>
+    ensures value { IfOk result (λ value. view value ≡ why_data outlook.now nights.now) }
+{
+    let mut members = Map::new(alloc);
+    put_standing(alloc, &mut members, &outlook.brief)?;
+    let step = step_word(alloc, &outlook.step)?;
+    put(&mut members, alloc, "step", Value::String(step))?;
+    put(&mut members, alloc, "nights", nights_value(alloc, nights)?)?;
+    put_next(alloc, &mut members, &outlook.next)?;
+    Ok(Value::Object(members))
+}
+
+/// Inserts whose a journey is, and where it is.
+fn put_standing(
+    alloc: Global,
+    members: &mut Map<String, Value>,
+    brief: &Brief,
+) -> Result<(), AllocError>
+    ensures standing { OnOk result (members_view members.new.entries
+        ≡ with_standing brief.now (members_view members.old.entries)) }
+{
+    let agent = Value::try_from_str(alloc, brief.agent.as_str())?;
+    let Cursor { pos, phase, .. } = brief.cursor;
+    let state = Value::try_from_str(alloc, phase.word())?;
+    put(members, alloc, "agent", agent)?;
+    put(members, alloc, "journey", Value::from(brief.id))?;
+    put(members, alloc, "pos", Value::from(pos))?;
+    put(members, alloc, "state", state)?;
+    if let Phase::Back(target) = phase {
+        put(members, alloc, "target", Value::from(target))?;
+    }
+    Ok(())
+}
+
+/// Inserts the item of the next step, and its want; nothing if there is none.
+fn put_next(
+    alloc: Global,
+    members: &mut Map<String, Value>,
+    next: &Option<NextStep>,
+) -> Result<(), AllocError>
+    ensures next { OnOk result (members_view members.new.entries
+        ≡ with_next next.now (members_view members.old.entries)) }
+{
+    if let Some(next) = next {
+        put(
+            members,
+            alloc,
+            "next",
+            Value::String(next.item.text(alloc)?),
+        )?;
+        put(
+            members,
+            alloc,
+            "want",
+            Value::String(next.want.text(alloc)?),
+        )?;
+    }
+    Ok(())
+}
+
+/// The list of these nights.
+fn nights_value(alloc: Global, nights: &[FreeNight]) -> Result<Value, AllocError>
+    ensures value { IfOk result
+        (λ value. view value
+        ≡ array (items_of (map (λ (n : FreeNight). free_data n.night n.free) nights.now))) }
+{
+    let mut values = Vec::with_capacity(alloc, nights.len())?;
+    for night in nights {
+        values.push(night_value(alloc, night)?)?;
+    }
+    Ok(Value::Array(values))
+}
+
+/// The value of a night, and what is free of it.
+fn night_value(alloc: Global, row: &FreeNight) -> Result<Value, AllocError>
+    ensures value { IfOk result (λ value. view value ≡ free_data row.now.night row.now.free) }
+{
+    let night = night_text(alloc, row.night)?;
+    let night = night.as_str();
+    match row.free {
+        Some(free) => json!(in alloc; {"free": free, "night": night}),
+        None => json!(in alloc; {"night": night}),
+    }
+}
