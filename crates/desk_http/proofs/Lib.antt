@@ -1,6 +1,7 @@
 pub mod PlanTextLemmas
 pub mod MineLemmas
 pub mod DemandLemmas
+pub mod WhyLemmas
 pub mod AnswerLemmas
 pub mod ServeLemmas
 pub mod AgainLemmas

@@ -20,8 +20,10 @@ use Rattle.serde_json.specs.Data.{Data}
 use Rattle.plan.specs.PlanData.{plan_data}
 use Rattle.http_pages.specs.Pages.{Paged, browsed_page, denied_page, page_text, refused_page, reply_page, report_page, value_page}
 use Rattle.http_pages.specs.declared.routes.Denied.{Denied}
+use Rattle.outlooks.specs.Layouts.{why_data}
+use Rattle.outlooks.specs.Outlooks.{begun_as, nights_ahead, outlook_of}
 use Rattle.reports.specs.Layouts.{stock_report}
-use Rattle.desk_http.specs.Demands.{Demand, Carry, SeeJourney, SeePlan, SeeUnfinished, SeeMine, SeeStock, SeeHealth, SeeAgent, SeePage, Stop, asks_to_stop, demand_of}
+use Rattle.desk_http.specs.Demands.{Demand, Carry, SeeJourney, SeePlan, SeeWhy, SeeUnfinished, SeeMine, SeeStock, SeeHealth, SeeAgent, SeePage, Stop, asks_to_stop, demand_of}
 use Rattle.desk_http.specs.Hosts.{refusal_at}
 use Rattle.desk_http.specs.declared.doors.Asker.{Asker}
 use Rattle.desk_http.specs.declared.doors.Asker.TheVariants as who
@@ -49,6 +51,15 @@ journey_page l id None = refused_page NoJourney
 abbrev pub plan_page : Option Record → Paged
 plan_page (Some r) = value_page (plan_data r.plan)
 plan_page None = refused_page NoJourney
+
+-- why a journey goes on or does not: its outlook, with what is free of each night of its next want
+abbrev pub why_shown : List Event → ℕ → Record → Data
+why_shown l id r = let o = outlook_of l id (begun_as r) in why_data o (nights_ahead l o.next)
+
+-- the page of that; a journey that is not seen looks the same as one that does not exist
+abbrev pub why_page : List Event → ℕ → Option Record → Paged
+why_page l id (Some r) = value_page (why_shown l id r)
+why_page l id None = refused_page NoJourney
 
 -- the summaries of the unfinished journeys that who asks sees, by rising number
 abbrev pub own_unfinished : List Event → Asker → List Brief
@@ -91,6 +102,7 @@ Says s (Err denied) page = page ≡ denied_page denied.refusal denied.allow
 Says s (Ok (Carry asked ask)) page = page ≡ reply_page (outcome s ask asked).reply
 Says s (Ok (SeeJourney asker id)) page = page ≡ journey_page s.ledger id (own_journey s.ledger asker id)
 Says s (Ok (SeePlan asker id)) page = page ≡ plan_page (own_journey s.ledger asker id)
+Says s (Ok (SeeWhy asker id)) page = page ≡ why_page s.ledger id (own_journey s.ledger asker id)
 Says s (Ok (SeeUnfinished asker)) page =
     page ≡ value_page (unfinished_shown asker (own_unfinished s.ledger asker))
 Says s (Ok (SeeMine asker after)) page =
@@ -141,6 +153,7 @@ abbrev pub command_by : Result Demand Denied → Option Command
 command_by (Ok (Carry asked ask)) = Some (asked, ask)
 command_by (Ok (SeeJourney asker id)) = None
 command_by (Ok (SeePlan asker id)) = None
+command_by (Ok (SeeWhy asker id)) = None
 command_by (Ok (SeeUnfinished asker)) = None
 command_by (Ok (SeeMine asker after)) = None
 command_by (Ok SeeStock) = None

@@ -16,6 +16,7 @@ use crate::demands::{Demand, Unmet, asks_to_stop, demand_in};
 use crate::doors::{Door, refusal_at};
 use crate::mine::see_mine;
 use crate::showing::{see_agent, see_health, see_journey, see_plan, see_stock, see_unfinished};
+use crate::whys::see_why;
 use commands::Refusal;
 use http_messages::{Message, Request};
 use http_pages::{
@@ -179,6 +180,7 @@ fn meet<B: Book>(alloc: Global, demand: &Demand, book: &mut B) -> Result<Page, S
         }
         Demand::SeeJourney(asker, id) => see_journey(alloc, book, asker, *id),
         Demand::SeePlan(asker, id) => see_plan(alloc, book, asker, *id),
+        Demand::SeeWhy(asker, id) => see_why(alloc, book, asker, *id),
         Demand::SeeUnfinished(asker) => see_unfinished(alloc, book, asker),
         Demand::SeeMine(asker, after) => see_mine(alloc, book, asker, *after),
         Demand::SeeStock => see_stock(alloc, book),

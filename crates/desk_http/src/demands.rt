@@ -25,6 +25,8 @@ pub(crate) enum Demand {
     SeeJourney(Asker, u64),
     /// Show who asks the plan of the journey of this number.
     SeePlan(Asker, u64),
+    /// Show who asks why the journey of this number goes on or does not.
+    SeeWhy(Asker, u64),
     /// Show who asks its unfinished journeys.
     SeeUnfinished(Asker),
     /// Show who asks its own journeys above this number.
@@ -227,6 +229,7 @@ fn demand_by(alloc: Global, route: Route, sender: &Sender<'_>) -> Result<Demand,
         Route::Save(id) => sender.carry(alloc, bare(sender.body, Command::Save(id))?),
         Route::ShowJourney(id) => Ok(Demand::SeeJourney(sender.asker, id)),
         Route::ShowPlan(id) => Ok(Demand::SeePlan(sender.asker, id)),
+        Route::ShowWhy(id) => Ok(Demand::SeeWhy(sender.asker, id)),
         Route::ShowUnfinished => Ok(Demand::SeeUnfinished(sender.asker)),
         Route::ShowStock => Ok(Demand::SeeStock),
         Route::ShowMine(after) => Ok(Demand::SeeMine(sender.asker, after)),

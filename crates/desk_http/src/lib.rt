@@ -17,6 +17,7 @@ mod laws;
 mod mine;
 mod plan_texts;
 mod showing;
+mod whys;
 
 pub use answering::{Answer, answer_to};
 pub use doors::{Door, Site};

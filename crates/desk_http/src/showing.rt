@@ -77,7 +77,11 @@ pub(crate) fn see_plan<B: Book>(
 }
 
 /// The journey of this number, if who asks sees it.
-fn own_journey<B: Book>(book: &mut B, asker: &Asker, id: u64) -> Result<Option<Record>, ServeFault>
+pub(crate) fn own_journey<B: Book>(
+    book: &mut B,
+    asker: &Asker,
+    id: u64,
+) -> Result<Option<Record>, ServeFault>
     ensures journey { B.is_sound book.new → (s : State) → B.stands book.old s →
         Shows (B.stands book.new) (B.leaves book.new) s
         (λ found. found ≡ own_journey s.ledger asker.now id) result }

@@ -7,7 +7,7 @@ use Rattle.matchit.proofs.OnLiterals.{matchit_on_literals}
 use Rattle.commands.specs.declared.replies.Refusal.TheVariants as refusal
 use Rattle.http_pages.specs.Admitting.{admitted, plain}
 use Rattle.http_pages.specs.Routes.{routes, route_of}
-use Rattle.http_pages.specs.declared.routes.Route.TheVariants.{LoadBatch, Step, Abort, Save, ShowJourney, ShowPlan, ShowStock, ShowAgent}
+use Rattle.http_pages.specs.declared.routes.Route.TheVariants.{LoadBatch, Step, Abort, Save, ShowJourney, ShowPlan, ShowWhy, ShowStock, ShowAgent}
 use Rattle.http_pages.specs.declared.routes.Unrouted.TheVariants.{UnknownPath, WrongMethod, BadPart}
 use Rattle.http_pages.specs.declared.routes.Verb.TheVariants.{Get}
 
@@ -42,6 +42,11 @@ journey_is_found = refl
 pub plan_is_found : route_of (codes "GET") (codes "/journeys/1/plan") ≡ Ok (ShowPlan 1)
 unfolding routes digits is_utf8 chars encode matchit_on_literals
 plan_is_found = refl
+
+-- why a journey goes on or does not
+pub why_is_found : route_of (codes "GET") (codes "/journeys/1/why") ≡ Ok (ShowWhy 1)
+unfolding routes digits is_utf8 chars encode matchit_on_literals
+why_is_found = refl
 
 -- the agent who asks
 pub agent_is_found : route_of (codes "GET") (codes "/agent") ≡ Ok ShowAgent

@@ -16,7 +16,7 @@ use Rattle.http_pages.specs.declared.routes.Entry.{Entry}
 use Rattle.http_pages.specs.declared.routes.Place.{Place}
 use Rattle.http_pages.specs.declared.routes.Place.TheVariants as place
 use Rattle.http_pages.specs.declared.routes.Route.{Route}
-use Rattle.http_pages.specs.declared.routes.Route.TheVariants.{LoadBatch, Begin, Step, Abort, Save, ShowJourney, ShowPlan, ShowUnfinished, ShowStock, ShowMine, ShowHealth, ShowAgent}
+use Rattle.http_pages.specs.declared.routes.Route.TheVariants.{LoadBatch, Begin, Step, Abort, Save, ShowJourney, ShowPlan, ShowWhy, ShowUnfinished, ShowStock, ShowMine, ShowHealth, ShowAgent}
 use Rattle.http_pages.specs.declared.routes.Unrouted.{Unrouted}
 use Rattle.http_pages.specs.declared.routes.Unrouted.TheVariants.{UnknownPath, WrongMethod, BadPart}
 use Rattle.http_pages.specs.declared.routes.Verb.{Verb}
@@ -50,6 +50,7 @@ table =
     ∷ post (codes "/journeys/{id}/save") place.Save
     ∷ get (codes "/journeys/{id}") place.Journey
     ∷ get (codes "/journeys/{id}/plan") place.Plan
+    ∷ get (codes "/journeys/{id}/why") place.Why
     ∷ get (codes "/unfinished") place.Unfinished
     ∷ get (codes "/stock") place.Stock
     ∷ get (codes "/mine") place.Mine
@@ -126,6 +127,7 @@ asked place.Abort target = abort_of (journey_at target) (position_at target)
 asked place.Save target = option_map Save (journey_at target)
 asked place.Journey target = option_map ShowJourney (journey_at target)
 asked place.Plan target = option_map ShowPlan (journey_at target)
+asked place.Why target = option_map ShowWhy (journey_at target)
 asked place.Unfinished target = Some ShowUnfinished
 asked place.Stock target = Some ShowStock
 asked place.Mine target = Some (ShowMine 0)

@@ -28,6 +28,8 @@ pub enum Route {
     ShowJourney(u64),
     /// Show the plan of a journey.
     ShowPlan(u64),
+    /// Show why a journey goes on or does not.
+    ShowWhy(u64),
     /// Show the journeys of the agent that are not finished.
     ShowUnfinished,
     /// Show the stock.
@@ -102,7 +104,7 @@ fn add_all(router: &mut Router<Entry>, lines: &[(&str, Verb, Place)]) -> Result<
 
 /// The paths of the desk: each with the one method that it has, and what stands there. What stands in braces matches one
 /// piece between slashes.
-static LINES: [(&str, Verb, Place); 13] = [
+static LINES: [(&str, Verb, Place); 14] = [
     ("/batches/{name}", Verb::Post, Place::Batch),
     ("/journeys", Verb::Post, Place::Journeys),
     ("/journeys/{id}/step", Verb::Post, Place::Step),
@@ -110,6 +112,7 @@ static LINES: [(&str, Verb, Place); 13] = [
     ("/journeys/{id}/save", Verb::Post, Place::Save),
     ("/journeys/{id}", Verb::Get, Place::Journey),
     ("/journeys/{id}/plan", Verb::Get, Place::Plan),
+    ("/journeys/{id}/why", Verb::Get, Place::Why),
     ("/unfinished", Verb::Get, Place::Unfinished),
     ("/stock", Verb::Get, Place::Stock),
     ("/mine", Verb::Get, Place::Mine),
@@ -236,6 +239,8 @@ pub enum Place {
     Journey,
     /// The plan of a journey.
     Plan,
+    /// Why a journey goes on or does not.
+    Why,
     /// The journeys that are not finished.
     Unfinished,
     /// The stock.
@@ -270,6 +275,7 @@ impl Place {
             Place::Save => journey_at(target).map(Route::Save),
             Place::Journey => journey_at(target).map(Route::ShowJourney),
             Place::Plan => journey_at(target).map(Route::ShowPlan),
+            Place::Why => journey_at(target).map(Route::ShowWhy),
             Place::Unfinished => Some(Route::ShowUnfinished),
             Place::Stock => Some(Route::ShowStock),
             Place::Mine => Some(Route::ShowMine(0)),

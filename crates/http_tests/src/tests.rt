@@ -15,3 +15,4 @@ mod plans;
 mod refusals;
 mod sockets;
 mod talks;
+mod whys;

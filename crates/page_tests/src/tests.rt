@@ -32,7 +32,7 @@ fn asks(rt: &impl Abort, paths: &Paths, method: &str, target: &[u8], expected: F
 
 // the method, the target, what they ask for
 #[rattlefmt::skip]
-const ROUTES: [(&str, &str, Route); 16] = [
+const ROUTES: [(&str, &str, Route); 17] = [
     ("POST", "/journeys",                   Route::Begin),
     ("POST", "/journeys/1/step",            Route::Step(1)),
     ("POST", "/journeys/999999999999/step", Route::Step(999_999_999_999)),
@@ -41,6 +41,7 @@ const ROUTES: [(&str, &str, Route); 16] = [
     ("POST", "/journeys/1/save",            Route::Save(1)),
     ("GET",  "/journeys/1",                 Route::ShowJourney(1)),
     ("GET",  "/journeys/1/plan",            Route::ShowPlan(1)),
+    ("GET",  "/journeys/1/why",             Route::ShowWhy(1)),
     ("GET",  "/unfinished",                 Route::ShowUnfinished),
     ("GET",  "/stock",                      Route::ShowStock),
     ("GET",  "/mine",                       Route::ShowMine(0)),
@@ -66,7 +67,7 @@ fn a_method_and_a_target_ask_for_one_thing(rt: HostRuntime) {
 
 // the method and the target
 #[rattlefmt::skip]
-const BAD_PARTS: [(&str, &str); 18] = [
+const BAD_PARTS: [(&str, &str); 19] = [
     ("POST", "/journeys/01/step"),
     ("POST", "/journeys/0/step"),
     ("POST", "/journeys/1000000000000/step"),
@@ -79,6 +80,7 @@ const BAD_PARTS: [(&str, &str); 18] = [
     ("GET",  "/journeys/step"),
     ("GET",  "/journeys/1?a"),
     ("GET",  "/journeys/é"),
+    ("GET",  "/journeys/01/why"),
     ("POST", "/batches/B1"),
     ("POST", "/batches/abcdefghijklmnopqrstuvwxy"),
     ("GET",  "/mine/01"),

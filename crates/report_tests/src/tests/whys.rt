@@ -5,7 +5,7 @@ use super::{agent, cell, with_room};
 use allotment::{Cell, Held};
 use commands::{Cursor, Fault, Phase};
 use failing_streams::Sink;
-use outlooks::{FreeNight, NextStep, look_ahead, next_step, read_nights, why_text};
+use outlooks::{FreeNight, NextStep, look_ahead, next_step, read_nights, why_body, why_text};
 use plan::Plan;
 use reports::{Format, ReportFault};
 use saga_core::{Listed, Record};
@@ -50,7 +50,7 @@ fn four_cells(rt: &impl Abort, second: u32) -> [(Cell, Held); 4] {
     ]
 }
 
-const FITS: [&str; 3] = [
+const FITS: [&str; 4] = [
     "journey 7 agent ann
 state run 1
 next T2.1 R/INN/DBL/2030-06-01/3/2
@@ -71,9 +71,10 @@ step T2.1
 7,ann,run,1,,T2.1,R/INN/DBL/2030-06-01/3/2,2030-06-02,2,T2.1\r
 7,ann,run,1,,T2.1,R/INN/DBL/2030-06-01/3/2,2030-06-03,2,T2.1\r
 ",
+    r#"{"agent":"ann","journey":7,"next":"T2.1","nights":[{"free":5,"night":"2030-06-01"},{"free":2,"night":"2030-06-02"},{"free":2,"night":"2030-06-03"}],"pos":1,"state":"run","step":"T2.1","want":"R/INN/DBL/2030-06-01/3/2"}"#,
 ];
 
-const TOO_FEW: [&str; 3] = [
+const TOO_FEW: [&str; 4] = [
     "journey 7 agent ann
 state run 1
 next T2.1 R/INN/DBL/2030-06-01/3/2
@@ -94,9 +95,10 @@ step B1r
 7,ann,run,1,,T2.1,R/INN/DBL/2030-06-01/3/2,2030-06-02,1,B1r\r
 7,ann,run,1,,T2.1,R/INN/DBL/2030-06-01/3/2,2030-06-03,2,B1r\r
 ",
+    r#"{"agent":"ann","journey":7,"next":"T2.1","nights":[{"free":5,"night":"2030-06-01"},{"free":1,"night":"2030-06-02"},{"free":2,"night":"2030-06-03"}],"pos":1,"state":"run","step":"B1r","want":"R/INN/DBL/2030-06-01/3/2"}"#,
 ];
 
-const UNALLOTTED: [&str; 3] = [
+const UNALLOTTED: [&str; 4] = [
     "journey 7 agent ann
 state run 1
 next T2.2 R/INN/SGL/2030-06-02/1/2
@@ -111,9 +113,10 @@ step B0r
     "journey,agent,state,pos,target,next,want,night,free,step\r
 7,ann,run,1,,T2.2,R/INN/SGL/2030-06-02/1/2,2030-06-02,,B0r\r
 ",
+    r#"{"agent":"ann","journey":7,"next":"T2.2","nights":[{"night":"2030-06-02"}],"pos":1,"state":"run","step":"B0r","want":"R/INN/SGL/2030-06-02/1/2"}"#,
 ];
 
-const GOES_BACK: [&str; 3] = [
+const GOES_BACK: [&str; 4] = [
     "journey 7 agent ann
 state back 2 to 0
 next C2.1 R/INN/DBL/2030-06-01/3/2
@@ -134,9 +137,10 @@ step C2.1
 7,ann,back,2,0,C2.1,R/INN/DBL/2030-06-01/3/2,2030-06-02,0,C2.1\r
 7,ann,back,2,0,C2.1,R/INN/DBL/2030-06-01/3/2,2030-06-03,2,C2.1\r
 ",
+    r#"{"agent":"ann","journey":7,"next":"C2.1","nights":[{"free":5,"night":"2030-06-01"},{"free":0,"night":"2030-06-02"},{"free":2,"night":"2030-06-03"}],"pos":2,"state":"back","step":"C2.1","target":0,"want":"R/INN/DBL/2030-06-01/3/2"}"#,
 ];
 
-const ENDED: [&str; 3] = [
+const ENDED: [&str; 4] = [
     "journey 7 agent ann
 state ended 3
 step none
@@ -147,9 +151,10 @@ step none
     "journey,agent,state,pos,target,next,want,night,free,step\r
 7,ann,ended,3,,,,,,none\r
 ",
+    r#"{"agent":"ann","journey":7,"nights":[],"pos":3,"state":"ended","step":"none"}"#,
 ];
 
-const UNDONE: [&str; 3] = [
+const UNDONE: [&str; 4] = [
     "journey 7 agent ann
 state undone 0
 step none
@@ -160,12 +165,13 @@ step none
     "journey,agent,state,pos,target,next,want,night,free,step\r
 7,ann,undone,0,,,,,,none\r
 ",
+    r#"{"agent":"ann","journey":7,"nights":[],"pos":0,"state":"undone","step":"none"}"#,
 ];
 
 // where the journey is, how many of its steps were refused, the option that its last step took, the free places of the
-// second night, and the reports
+// second night, and the reports, and last the object
 #[rattlefmt::skip]
-const CASES: [(&str, usize, Phase, usize, Option<usize>, u32, [&str; 3]); 6] = [
+const CASES: [(&str, usize, Phase, usize, Option<usize>, u32, [&str; 4]); 6] = [
     ("its want fits",            1, Phase::Run,     0, None,    2, FITS),
     ("one place is wanting",     1, Phase::Run,     0, None,    1, TOO_FEW),
     ("a night is not allotted",  1, Phase::Run,     1, None,    2, UNALLOTTED),
@@ -201,7 +207,8 @@ fn a_journey_says_why_it_does_not_go_on(rt: HostRuntime) {
             Err(fault) => panic!(rt; "{case}: {fault:?}"),
         };
         let outlook = look_ahead(7, &journey, next, &nights);
-        let [text, objects, records] = expected;
+        let body = why_body(alloc, &outlook, &nights).expect(&rt, "memory");
+        let [text, objects, records, object] = expected;
         for (format, whole) in [
             (Format::Text, text),
             (Format::Json, objects),
@@ -214,6 +221,7 @@ fn a_journey_says_why_it_does_not_go_on(rt: HostRuntime) {
                 "{case}: {answer:?}"
             );
         }
+        assert!(rt; body.as_str() == object, "{case}: {body}");
     }
 }
 

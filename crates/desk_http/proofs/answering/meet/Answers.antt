@@ -16,6 +16,12 @@ returns-in-SeePlan-clause-page g c = λ sound s stood.
     subst (λ demand. Meets (book.stands c.see_plan.new.book) (book.leaves c.see_plan.new.book) s (demand_said demand) c.see_plan.result)
     (sym c.in-SeePlan.is) (c.see_plan.ensures.page sound s stood)
 
+pub returns-in-SeeWhy-clause-page : goal.returns-in-SeeWhy-clause-page
+returns-in-SeeWhy-clause-page g c = λ sound s stood.
+    let book = g.B.Book in
+    subst (λ demand. Meets (book.stands c.see_why.new.book) (book.leaves c.see_why.new.book) s (demand_said demand) c.see_why.result)
+    (sym c.in-SeeWhy.is) (c.see_why.ensures.page sound s stood)
+
 pub returns-in-SeeMine-clause-page : goal.returns-in-SeeMine-clause-page
 returns-in-SeeMine-clause-page g c = λ sound s stood.
     let book = g.B.Book in
