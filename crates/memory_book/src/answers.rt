@@ -1,6 +1,6 @@
 //! Kept replies, by agent and key.
 use crate::keys::AskKey;
-use commands::{Ask, Refusal, Reply};
+use commands::{Agent, Ask, Key, Refusal, Reply};
 use std::alloc::{AllocError, Global};
 use std::collections::BTreeMap;
 
@@ -38,7 +38,7 @@ pub struct Answers {
 impl Answers {
     ghost use Rattle.std.specs.Prelude.{◌≡◌, OnOk, OnErr, option_map};
     ghost use Rattle.std.specs.Option.{option_copied};
-    ghost use Rattle.ledger.specs.Answer.{State, nothing_kept, kept_after, answered_again, text_of};
+    ghost use Rattle.ledger.specs.Answer.{KeptReply, State, nothing_kept, kept_after, answered_again, text_of};
     ghost use Rattle.memory_book.specs.MemoryAnswers.{kept_in, found_for, AreKeptAlike};
 
     /// No kept replies.
@@ -70,6 +70,18 @@ impl Answers {
     {
         match self.kept.get(&AskKey::of(ask)) {
             Some(kept) => Some(kept.again(ask.text())),
+            None => None,
+        }
+    }
+
+    /// The reply that is kept for an agent under a key, if one is.
+    pub fn reply_under(&self, agent: &Agent, key: &Key) -> Option<Reply>
+        ensures reply { result ≡ option_map (λ (k : KeptReply). k.reply)
+            (kept_in self.now agent.now key.now) }
+    {
+        let (agent, key) = (*agent, *key);
+        match self.kept.get(&AskKey { agent, key }) {
+            Some(kept) => Some(kept.reply),
             None => None,
         }
     }

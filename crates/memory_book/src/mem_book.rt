@@ -7,7 +7,7 @@ use crate::journeys::Journey;
 use crate::next::{is_owned_above, is_unfinished_above};
 use crate::stock::Stock;
 use allotment::{Cell, Held, Night, Want};
-use commands::{Agent, Ask, Batch, Command, Fault, Item, MOST_EVENTS, Refusal, Reply};
+use commands::{Agent, Ask, Batch, Command, Fault, Item, Key, MOST_EVENTS, Refusal, Reply};
 use plan::Plan;
 use saga_core::{Book, Brief, Counts, Record, Trace, is_finished};
 use std::alloc::{AllocError, Global};
@@ -183,6 +183,10 @@ impl Book for MemBook {
             }
         }
         Ok(None)
+    }
+
+    fn kept(&mut self, agent: &Agent, key: &Key) -> Result<Option<Reply>, Fault> {
+        Ok(self.answers.reply_under(agent, key))
     }
 
     fn counts(&mut self) -> Result<Counts, Fault> {

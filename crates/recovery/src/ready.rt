@@ -2,7 +2,7 @@
 ghost use Rattle.std.specs.Prelude.{◌≡◌};
 
 use allotment::{Cell, Held, Night, Want};
-use commands::{Agent, Ask, Command, Fault, Item, Reply};
+use commands::{Agent, Ask, Command, Fault, Item, Key, Reply};
 use saga_core::{Book, Brief, Counts, Record, Trace};
 use std::marker::Model;
 
@@ -69,6 +69,10 @@ impl<B: Book> Book for Ready<B> {
 
     fn first_owned(&mut self, agent: &Agent, after: u64) -> Result<Option<Brief>, Fault> {
         self.book.first_owned(agent, after)
+    }
+
+    fn kept(&mut self, agent: &Agent, key: &Key) -> Result<Option<Reply>, Fault> {
+        self.book.kept(agent, key)
     }
 
     fn counts(&mut self) -> Result<Counts, Fault> {

@@ -15,12 +15,14 @@ use Rattle.commands.specs.declared.items.Phase.{Phase}
 use Rattle.commands.specs.declared.items.Phase.TheVariants.{Run, Back, Ended}
 use Rattle.commands.specs.declared.replies.Refusal.{Refusal}
 use Rattle.commands.specs.declared.replies.Refusal.TheVariants.{Finished, NoSavePoint, NoSave}
+use Rattle.commands.specs.declared.replies.Reply.TheVariants.{Begun}
 use Rattle.allotment.specs.declared.codes.Kind.TheVariants.{Flight, Room}
 use Rattle.ledger.specs.Answer.{start}
+use Rattle.ledger.specs.KeyExamples.{ann, ann_began}
 use Rattle.ledger.specs.Ledger.{Event, Began}
 use Rattle.ledger.specs.Examples.{june, after_all, step, marked, untried, flight, load, row, row_after, nights_of}
 use Rattle.saga_core.specs.Rulings.{turn_said, save_said}
-use Rattle.saga_core.specs.Views.{first_unfinished, first_owned, counts_of, places_shown}
+use Rattle.saga_core.specs.Views.{first_unfinished, first_owned, counts_of, kept_under, places_shown}
 use Rattle.saga_core.specs.declared.records.Brief.{Brief}
 
 -- a journey at this position, in this phase, without refusals
@@ -103,6 +105,12 @@ pub finished_journey_is_owned :
     (0 ∷ 4 ∷ [])
     ≡ Some 1 ∷ Some 2 ∷ None ∷ Some 4 ∷ None ∷ []
 finished_journey_is_owned = refl
+
+-- ann began journey 1 under the key k: that is kept for her and that key alone
+pub reply_is_kept_for_its_agent_and_key :
+    kept_under ann_began ann (107 ∷ []) ∷ kept_under ann_began bob (107 ∷ []) ∷ kept_under ann_began ann (109 ∷ []) ∷ []
+    ≡ Some (Begun 1) ∷ None ∷ None ∷ []
+reply_is_kept_for_its_agent_and_key = refl
 
 -- a room has 4 places on the first night and 2 on the third; one place of the first is taken
 abbrev pub two_of_three_nights : List Event

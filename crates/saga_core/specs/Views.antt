@@ -9,9 +9,10 @@ use Rattle.allotment.specs.Cells.{cells_of, is_cell, kind_number}
 use Rattle.allotment.specs.declared.cells.Cell.{Cell}
 use Rattle.allotment.specs.declared.places.Held.{Held}
 use Rattle.commands.specs.declared.items.Item.{Item}
+use Rattle.commands.specs.declared.replies.Reply.{Reply}
 use Rattle.ledger.specs.History.{is_finished}
 use Rattle.ledger.specs.Ledger.{Event, Journey, journeys, journey_at, numbers, history, allotment, held}
-use Rattle.ledger.specs.Answer.{State}
+use Rattle.ledger.specs.Answer.{KeptReply, State}
 pub use Rattle.ledger_transitions.specs.Cursors.{cursor_of, marks_of}
 use Rattle.saga_core.specs.declared.records.Record.{Record}
 use Rattle.saga_core.specs.declared.records.Brief.{Brief}
@@ -58,6 +59,10 @@ is_owned_above agent after b = nat_lt after b.id && bytes_eq b.agent agent
 -- the journey of this agent with the least number above this one, whether it is finished or not
 abbrev pub first_owned : List Event → List ℕ → ℕ → Option Brief
 first_owned l agent after = find (is_owned_above agent after) (filter_map (brief_of l) (numbers l))
+
+-- the reply that is kept for this agent under this key, if one is
+abbrev pub kept_under : State → (agent key : List ℕ) → Option Reply
+kept_under s agent key = option_map (λ (k : KeptReply). k.reply) (s.kept agent key)
 
 -- how many events, journeys and unfinished journeys a ledger has
 abbrev pub counts_of : List Event → Counts

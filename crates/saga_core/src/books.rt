@@ -12,11 +12,11 @@ ghost use Rattle.saga_core.specs.Books.{Shows, LeavesJust};
 ghost use Rattle.saga_core.specs.Calls.{Acts, Reads};
 ghost use Rattle.saga_core.specs.Runs.{Asks};
 ghost use Rattle.saga_core.specs.Views.{record_of, first_unfinished, first_owned, counts_of, ShowsCells, IsStock};
-ghost use Rattle.saga_core.specs.Views.{TracesBrief, TracesItems, unfinished_of};
+ghost use Rattle.saga_core.specs.Views.{TracesBrief, TracesItems, kept_under, unfinished_of};
 
 use crate::records::{Brief, Counts, Record, Trace};
 use allotment::{Cell, Held, Night, Want};
-use commands::{Agent, Ask, Command, Fault, Item, Reply};
+use commands::{Agent, Ask, Command, Fault, Item, Key, Reply};
 
 pub trait Book {
     /// The store has returned what was written, so far.
@@ -74,6 +74,13 @@ pub trait Book {
         ensures first { is_sound self.new →
             Shows (stands self.old) (λ s found.
             found ≡ first_owned s.ledger agent.now after) result }
+        ensures reads { Reads is_sound stands leaves has_failed may_act has_reason self.old self.new
+            result };
+
+    /// Returns the reply that is kept for this agent under this key, if one is.
+    fn kept(&mut self, agent: &Agent, key: &Key) -> Result<Option<Reply>, Fault>
+        ensures kept { is_sound self.new →
+            Shows (stands self.old) (λ s found. found ≡ kept_under s agent.now key.now) result }
         ensures reads { Reads is_sound stands leaves has_failed may_act has_reason self.old self.new
             result };
 

@@ -1,5 +1,5 @@
 -- The outcome of a begin, and the rows that represent it. For the functions that answer.
-use Rattle.std.proofs.Common.{◌≡◌, ◌+◌, ◌<◌, ◌≤◌, ℕ, List, length, Option, Some, None, IsTrue, refl, sym, ap, subst, ◌∙◌, is_some, IsUtf8}
+use Rattle.std.proofs.Common.{◌≡◌, ◌+◌, ◌<◌, ◌≤◌, ℕ, List, length, Option, Some, None, IsTrue, refl, sym, ap, subst, ◌∙◌, is_some, option_map, IsUtf8}
 use Rattle.commands.specs.Asks.{Asked}
 use Rattle.commands.specs.Request as request
 use Rattle.commands.specs.declared.replies.Refusal.TheVariants.{Limit}
@@ -11,8 +11,9 @@ use Rattle.desk_sql.specs.Readable.{HasReplyText}
 use Rattle.desk_sql.specs.declared.answers.KeptAnswer.{KeptAnswer}
 use Rattle.desk_sql.specs.declared.meta.Meta.{Meta}
 use Rattle.plan.specs.PlanModel.{Planned, is_plan}
-use Rattle.ledger.specs.Answer.{State, Outcome, most_events, kept_for, outcome}
+use Rattle.ledger.specs.Answer.{KeptReply, State, Outcome, most_events, kept_for, outcome}
 use Rattle.ledger.specs.Ledger.{Began, journeys}
+use Rattle.saga_core.specs.Views.{kept_under}
 use Rattle.sql_model.specs.Standing.{StandsFor, IsDesk}
 use Rattle.sql_model.specs.Reading.{IsAnswerOf}
 use Rattle.sql_model.proofs.Beginning.{beginner, begin_stands}
@@ -21,7 +22,7 @@ use Rattle.sql_model.proofs.Answered.{answer_found, tells-some, tells-none, outc
 use Rattle.sql_writes.specs.declared.events.Numbers.{Numbers}
 use Rattle.sql_writes.specs.declared.events.JourneyBegun.{JourneyBegun}
 use Rattle.sql_writes.specs.declared.events.Event.TheVariants.{Begin}
-use Rattle.sql_commands.specs.Answering.{AnswersAgain, Counts, Finds, IsKeptLine}
+use Rattle.sql_commands.specs.Answering.{AnswersAgain, Counts, Finds, IsKeptLine, ReadsReply}
 use Rattle.sql_commands.specs.Moving.{LeadsTo}
 use Rattle.sql_transitions.proofs.Keeping.{outcome-room, outcome-full}
 use Rattle.sql_commands.proofs.Executing.{IsUnmoved}
@@ -63,6 +64,13 @@ known_reply t s ask found r st desk finds again =
       )),
     )
 
+-- the kept reply is the one in the row that was found
+pub kept_reply : (t : Tables) (s : State) (agent key : List ℕ) (found : KeptAnswer) (r : Reply) → StandsFor t s → IsDesk s
+    → FindsAnswer agent key t (Some found) → ReadsReply found r → Some r ≡ kept_under s agent key
+kept_reply t s agent key found r st desk finds reads =
+    let told = tells-some IsAnswerOf (answer_of agent key found) (s.kept agent key) (answer_read t s st desk agent key (Some found) finds) in
+    ap Some (reads told.0.reply told.2.reply told.2.accepted) ∙ sym (ap (option_map (λ (k : KeptReply). k.reply)) told.1)
+
 -- and what was kept is the line of an accepted reply
 pub kept_line : (t : Tables) (s : State) (ask : Asked) (found : KeptAnswer) → StandsFor t s → IsDesk s
     → FindsAnswer ask.agent ask.key t (Some found) → IsKeptLine found
@@ -75,6 +83,11 @@ pub reply_texts : (t : Tables) (s : State) → StandsFor t s → IsDesk s → (a
 reply_texts t s st desk agent key a has =
     let told = tells-some IsAnswerOf a (s.kept agent key) (answer_found s.kept t.answer agent key (Some a) st.answer desk.keepable has) in
     subst IsUtf8 (sym told.2.reply) (line_text told.0.reply told.2.accepted)
+
+-- if no row was found, no reply is kept
+pub none_kept : (t : Tables) (s : State) (agent key : List ℕ) → StandsFor t s → IsDesk s → FindsAnswer agent key t None → None ≡ kept_under s agent key
+none_kept t s agent key st desk finds =
+    sym (ap (option_map (λ (k : KeptReply). k.reply)) (tells-none IsAnswerOf (s.kept agent key) (answer_read t s st desk agent key None finds)))
 
 -- if no row was found, the key is new
 pub new_key : (t : Tables) (s : State) (ask : Asked) → StandsFor t s → IsDesk s → FindsAnswer ask.agent ask.key t None → kept_for s (Some ask) ≡ None

@@ -42,6 +42,10 @@ AnswersAgain found ask r =
     (s : State) (k : KeptReply) → found.ask.items ≡ k.text
     → string_bytes found.reply ≡ reply_line k.reply → IsTrue (is_accepted k.reply) → r ≡ (answered_again s ask.text k).reply
 
+-- the reply is the one whose line was kept
+abbrev pub ReadsReply : KeptAnswer → Reply → Type 0
+ReadsReply found r = (kept : Reply) → string_bytes found.reply ≡ reply_line kept → IsTrue (is_accepted kept) → r ≡ kept
+
 -- what was kept is the line of an accepted reply
 pub record IsKeptLine (found : KeptAnswer) : Type 0 where
   pub reply : Reply

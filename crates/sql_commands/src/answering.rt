@@ -14,6 +14,7 @@ ghost use Rattle.sql_reads.specs.Reads.{Read};
 ghost use Rattle.sql_writes.specs.Kinds.{IsSmall};
 
 use crate::begins::answer_begin;
+use crate::kept_replies::reply_in;
 use crate::loading::answer_load;
 use crate::moves::{Motion, answer_move};
 use crate::step_outcome::answer_step;
@@ -41,11 +42,7 @@ fn again(alloc: Global, kept: &KeptAnswer, ask: &Ask) -> Result<Reply, Fault>
     if kept.ask.as_slice() != ask.text() {
         return Ok(Reply::Refused(Refusal::KeyReused));
     }
-    match Reply::from_line(alloc, kept.reply.as_str()) {
-        Ok(Some(reply)) => Ok(reply),
-        Ok(None) => Err(Fault::Store),
-        Err(_) => Err(Fault::Memory),
-    }
+    reply_in(alloc, kept)
 }
 
 /// Returns the reply to an ask whose key is known; `None` if the key is new, or if there is no ask.

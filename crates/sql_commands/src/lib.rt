@@ -11,8 +11,10 @@
 mod answering;
 mod begins;
 mod cursors;
+mod kept_replies;
 mod loading;
 mod moves;
 mod step_outcome;
 
 pub use answering::{Answered, answer, know_limits, read_counts};
+pub use kept_replies::read_kept;

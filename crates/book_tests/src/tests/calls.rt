@@ -72,6 +72,13 @@ fn has_journey(book: &mut MemBook, id: u64) -> Result<bool, Fault> {
     Ok(record.is_some())
 }
 
+/// What the book keeps for this agent under this key.
+fn kept(book: &mut MemBook, agent: &str, key: &str) -> Result<Option<Reply>, Fail> {
+    let agent = Agent::parse(agent).ok_or("no agent")?;
+    let key = Key::parse(key).ok_or("no key")?;
+    Ok(book.kept(&agent, &key)?)
+}
+
 // agent, key and text of a request, and the expected answer
 #[rattlefmt::skip]
 const ASKS: [(&str, &str, &str, &str, Reply); 6] = [
@@ -92,6 +99,14 @@ fn a_key_acts_once(rt: HostRuntime) -> Result<(), Fail> {
         let ask = ask(alloc, agent, key, text)?;
         replies(&rt, case, &mut book, &command, Some(&ask), reply)?;
     }
+    let found = kept(&mut book, "otto", "k1")?;
+    holds(
+        &rt,
+        "its reply is kept",
+        found == Some(Reply::Begun { id: 2 }),
+    );
+    let other = kept(&mut book, "otto", "k2")?;
+    holds(&rt, "and no other one", other.is_none());
     holds(&rt, "there are three", has_journey(&mut book, 3)?);
     holds(&rt, "and no fourth", !has_journey(&mut book, 4)?);
     Ok(())

@@ -1,7 +1,7 @@
 //! A book that counts the reads of an unfinished journey before its first command. It promises nothing: it is never
 //! sound.
 use allotment::{Cell, Held, Night, Want};
-use commands::{Agent, Ask, Command, Fault, Item, Reply};
+use commands::{Agent, Ask, Command, Fault, Item, Key, Reply};
 use saga_core::{Book, Brief, Counts, Record, Trace};
 
 /// A book, and how many such reads came before its first command.
@@ -65,6 +65,10 @@ impl<B: Book> Book for CountingBook<B> {
 
     fn first_owned(&mut self, agent: &Agent, after: u64) -> Result<Option<Brief>, Fault> {
         self.book.first_owned(agent, after)
+    }
+
+    fn kept(&mut self, agent: &Agent, key: &Key) -> Result<Option<Reply>, Fault> {
+        self.book.kept(agent, key)
     }
 
     fn counts(&mut self) -> Result<Counts, Fault> {

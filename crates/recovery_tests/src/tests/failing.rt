@@ -1,6 +1,6 @@
 //! A book whose store fails. It promises nothing: it is never sound.
 use allotment::{Cell, Held, Night, Want};
-use commands::{Agent, Ask, Command, Fault, Item, Reply};
+use commands::{Agent, Ask, Command, Fault, Item, Key, Reply};
 use memory_book::MemBook;
 use saga_core::{Book, Brief, Counts, Record, Trace};
 
@@ -75,6 +75,11 @@ impl Book for FailingBook {
     }
 
     fn first_owned(&mut self, _agent: &Agent, _after: u64) -> Result<Option<Brief>, Fault> {
+        self.failed = true;
+        Err(Fault::Store)
+    }
+
+    fn kept(&mut self, _agent: &Agent, _key: &Key) -> Result<Option<Reply>, Fault> {
         self.failed = true;
         Err(Fault::Store)
     }

@@ -1,6 +1,8 @@
 //! Values from outside: moves of agents under their keys.
 use crate::tests::asking::{Asked, command_of};
 use crate::tests::helping::{book_over, counts, opened, run, says, told};
+use commands::{Agent, Key};
+use saga_core::Book;
 use sqlite::{Alter, Connection};
 use std::alloc::Global;
 use std::process::Abort;
@@ -55,6 +57,38 @@ fn agents_ask<S: Alter>(
     Ok(())
 }
 
+// agent and key, and the line of the reply that is kept; none for what was refused, and for what was not asked
+#[rattlefmt::skip]
+static KEPT: [(&str, &str, Option<&str>); 8] = [
+    ("ann", "k1", Some("journey 1 begun")),
+    ("ann", "K1", Some("journey 4 begun")),
+    ("bob", "k1", Some("journey 3 begun")),
+    ("ann", "k2", Some("journey 1 T1.1 ended 1")),
+    ("ann", "k3", Some("journey 2 begun")),
+    ("ann", "k4", None),
+    ("bob", "k3", None),
+    ("eve", "k1", None),
+];
+
+/// Stops the test where another reply is kept than a row says.
+fn each_is_kept<S: Alter>(
+    rt: &impl Abort,
+    alloc: Global,
+    book: &mut TableBook<S>,
+) -> Result<(), Fail> {
+    for &(agent, key, expected) in &KEPT {
+        let agent = Agent::parse(agent).ok_or("no agent")?;
+        let key = Key::parse(key).ok_or("no key")?;
+        let found = book.kept(&agent, &key)?;
+        let Some(line) = expected else {
+            assert!(rt; found.is_none(), "{key:?}");
+            continue;
+        };
+        says(rt, alloc, &found.ok_or("no reply")?, line)?;
+    }
+    Ok(())
+}
+
 #[test]
 fn agents_move_their_own_journeys(rt: HostRuntime) -> Result<(), Fail> {
     let alloc = rt.alloc();
@@ -62,5 +96,6 @@ fn agents_move_their_own_journeys(rt: HostRuntime) -> Result<(), Fail> {
     run(&mut conn, TEN_SEATS)?;
     let mut book = book_over(alloc, conn)?;
     agents_ask(&rt, alloc, &mut book)?;
+    each_is_kept(&rt, alloc, &mut book)?;
     counts(&rt, &mut book.into_store(), &LEFT)
 }

@@ -5,15 +5,15 @@ ghost use Rattle.commands.specs.Orders.{request_of};
 ghost use Rattle.tables.specs.Asking.{HasAgent};
 ghost use Rattle.ledger.specs.Ledger.{history};
 ghost use Rattle.saga_core.specs.Views.{ShowsCells, IsStock, counts_of, first_owned, first_unfinished, record_of};
-ghost use Rattle.saga_core.specs.Views.{TracesBrief, TracesItems, unfinished_of};
+ghost use Rattle.saga_core.specs.Views.{TracesBrief, TracesItems, kept_under, unfinished_of};
 
 use crate::books::TableBook;
 use crate::counting::counted_after;
 use allotment::{Cell, Held, Night, Want};
-use commands::{Agent, Ask, Command, Fault, Item, Reply};
+use commands::{Agent, Ask, Command, Fault, Item, Key, Reply};
 use desk_sql::Version;
 use saga_core::{Book, Brief, Counts, Record, Trace};
-use sql_commands::{answer, know_limits};
+use sql_commands::{answer, know_limits, read_kept};
 use sql_reads::{read_cells, read_history, read_journey, read_trace};
 use sql_views::{read_first_owned, read_stock};
 use sqlite::Alter;
@@ -108,6 +108,23 @@ impl<'a, S: Alter> Look<S> for FirstOwned<'a> {
 
     fn look(self, book: &mut TableBook<S>) -> Result<Option<Brief>, Fault> {
         read_first_owned(&mut book.conn, self.agent, self.after)
+    }
+}
+
+/// The reply that is kept for this agent under this key.
+#[derive(Drop)]
+struct KeptUnder<'a> {
+    agent: &'a Agent,
+    key: &'a Key,
+}
+
+impl<'a, S: Alter> Look<S> for KeptUnder<'a> {
+    type Shown = Option<Reply>;
+
+    ghost shows = { λ look s found. found ≡ kept_under s look.agent.now look.key.now };
+
+    fn look(self, book: &mut TableBook<S>) -> Result<Option<Reply>, Fault> {
+        read_kept(book.alloc, &mut book.conn, self.agent, self.key)
     }
 }
 
@@ -292,6 +309,14 @@ impl<S: Alter> Book for TableBook<S> {
         ensures reads { Reads S.Store self.old self.new result }
     {
         self.read(FirstOwned { agent, after })
+    }
+
+    fn kept(&mut self, agent: &Agent, key: &Key) -> Result<Option<Reply>, Fault>
+        ensures kept { ShowsKept S.Store self.old self.new
+            (λ s found. found ≡ kept_under s agent.now key.now) result }
+        ensures reads { Reads S.Store self.old self.new result }
+    {
+        self.read(KeptUnder { agent, key })
     }
 
     fn counts(&mut self) -> Result<Counts, Fault>
