@@ -11,7 +11,7 @@ use Rattle.http_pages.specs.declared.routes.Denied.{Denied}
 use Rattle.desk_http.specs.Demands as sent
 pub use Rattle.desk_http.specs.Demands.{denied_by}
 use Rattle.desk_http.specs.declared.demands.Demand.{Demand}
-use Rattle.desk_http.specs.declared.demands.Demand.TheVariants.{Carry, SeeJourney, SeePlan, SeeWhy, SeeUnfinished, SeeMine, SeeStock, SeeHealth, SeeAgent, SeePage, Stop}
+use Rattle.desk_http.specs.declared.demands.Demand.TheVariants.{Carry, SeeJourney, SeePlan, SeeWhy, SeeBegun, SeeUnfinished, SeeMine, SeeStock, SeeHealth, SeeAgent, SeePage, Stop}
 use Rattle.desk_http.specs.declared.demands.Unmet.{Unmet}
 use Rattle.desk_http.specs.declared.demands.Unmet.TheVariants.{Refused, Memory}
 use Rattle.desk_http.specs.declared.demands.Sender.{Sender}
@@ -35,6 +35,7 @@ demand_said (Carry command ask) = sent.Carry (request_of command) ask
 demand_said (SeeJourney asker id) = sent.SeeJourney asker id
 demand_said (SeePlan asker id) = sent.SeePlan asker id
 demand_said (SeeWhy asker id) = sent.SeeWhy asker id
+demand_said (SeeBegun asker key) = sent.SeeBegun asker key
 demand_said (SeeUnfinished asker) = sent.SeeUnfinished asker
 demand_said (SeeMine asker after) = sent.SeeMine asker after
 demand_said SeeStock = sent.SeeStock

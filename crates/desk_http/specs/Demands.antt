@@ -22,7 +22,7 @@ use Rattle.http_pages.specs.Routes.{route_of}
 use Rattle.http_pages.specs.declared.routes.Denied.{Denied}
 use Rattle.http_pages.specs.declared.answers.HtmlPage.{HtmlPage}
 use Rattle.http_pages.specs.declared.routes.Route.{Route}
-use Rattle.http_pages.specs.declared.routes.Route.TheVariants.{LoadBatch, Begin, Step, Abort, Save, ShowJourney, ShowPlan, ShowWhy, ShowUnfinished, ShowStock, ShowMine, ShowHealth, ShowAgent}
+use Rattle.http_pages.specs.declared.routes.Route.TheVariants.{LoadBatch, Begin, Step, Abort, Save, ShowJourney, ShowPlan, ShowWhy, ShowBegun, ShowUnfinished, ShowStock, ShowMine, ShowHealth, ShowAgent}
 use Rattle.http_pages.specs.declared.routes.Verb.TheVariants.{Get}
 use Rattle.desk_http.specs.declared.doors.Asker.{Asker}
 use Rattle.desk_http.specs.declared.doors.Asker.TheVariants as who
@@ -65,6 +65,7 @@ pub data Demand : Type 0 where
   SeeJourney : (asker : Asker) (id : ℕ) → Demand
   SeePlan : (asker : Asker) (id : ℕ) → Demand
   SeeWhy : (asker : Asker) (id : ℕ) → Demand
+  SeeBegun : (asker : Asker) (key : List ℕ) → Demand
   SeeUnfinished : (asker : Asker) → Demand
   SeeMine : (asker : Asker) (after : ℕ) → Demand
   SeeStock : Demand
@@ -106,6 +107,7 @@ demanded (Save id) sender = carried sender (bare sender.body (asks.Save id))
 demanded (ShowJourney id) sender = Ok (SeeJourney sender.asker id)
 demanded (ShowPlan id) sender = Ok (SeePlan sender.asker id)
 demanded (ShowWhy id) sender = Ok (SeeWhy sender.asker id)
+demanded (ShowBegun key) sender = Ok (SeeBegun sender.asker key)
 demanded ShowUnfinished sender = Ok (SeeUnfinished sender.asker)
 demanded ShowStock sender = Ok SeeStock
 demanded (ShowMine after) sender = Ok (SeeMine sender.asker after)

@@ -7,14 +7,16 @@ use Rattle.commands.specs.Names.{house}
 use Rattle.commands.specs.Request.{Request}
 use Rattle.commands.specs.declared.replies.Refusal.{Refusal}
 use Rattle.commands.specs.declared.replies.Refusal.TheVariants.{BadHead, NoJourney}
+use Rattle.commands.specs.declared.replies.Reply.{Reply}
+use Rattle.commands.specs.declared.replies.Reply.TheVariants.{Begun}
 use Rattle.ledger.specs.Answer.{State, outcome}
 use Rattle.ledger.specs.Ledger.{Event, history, numbers}
-use Rattle.saga_core.specs.Views.{IsStock, brief_of, counts_of, is_owned_above, record_of, unfinished_of}
+use Rattle.saga_core.specs.Views.{IsStock, brief_of, counts_of, is_owned_above, kept_under, record_of, unfinished_of}
 use Rattle.saga_core.specs.declared.records.Brief.{Brief}
 use Rattle.saga_core.specs.declared.records.Record.{Record}
 use Rattle.http_messages.specs.Heads.{Parts, asks_to_close, is_method, is_unnamed, parts_of}
 use Rattle.http_messages.specs.Messages.{Message, NoHead, Asks}
-use Rattle.http_pages.specs.Bodies.{agent_data, health_data, journey_data, mine_data, stopping_data, unfinished_data}
+use Rattle.http_pages.specs.Bodies.{agent_data, brief_data, health_data, journey_data, mine_data, stopping_data, unfinished_data}
 use Rattle.http_pages.specs.declared.bodies.Owners.TheVariants.{Hidden, Shown}
 use Rattle.serde_json.specs.Data.{Data}
 use Rattle.plan.specs.PlanData.{plan_data}
@@ -23,7 +25,7 @@ use Rattle.http_pages.specs.declared.routes.Denied.{Denied}
 use Rattle.outlooks.specs.Layouts.{why_data}
 use Rattle.outlooks.specs.Outlooks.{begun_as, nights_ahead, outlook_of}
 use Rattle.reports.specs.Layouts.{stock_report}
-use Rattle.desk_http.specs.Demands.{Demand, Carry, SeeJourney, SeePlan, SeeWhy, SeeUnfinished, SeeMine, SeeStock, SeeHealth, SeeAgent, SeePage, Stop, asks_to_stop, demand_of}
+use Rattle.desk_http.specs.Demands.{Demand, Carry, SeeJourney, SeePlan, SeeWhy, SeeBegun, SeeUnfinished, SeeMine, SeeStock, SeeHealth, SeeAgent, SeePage, Stop, asks_to_stop, demand_of}
 use Rattle.desk_http.specs.Hosts.{refusal_at}
 use Rattle.desk_http.specs.declared.doors.Asker.{Asker}
 use Rattle.desk_http.specs.declared.doors.Asker.TheVariants as who
@@ -83,6 +85,31 @@ abbrev pub mine_shown : Asker → List Brief → Data
 mine_shown (who.Agent agent) briefs = mine_data Hidden briefs
 mine_shown who.House briefs = mine_data Shown briefs
 
+-- the journey that a reply says was begun
+abbrev pub begun_in : Reply → Option ℕ
+begun_in (Begun id) = Some id
+begun_in _ = None
+
+-- the summary of the journey of this number, if who asks sees it
+abbrev pub own_brief : List Event → Asker → ℕ → Option Brief
+own_brief l asker id =
+    option_and_then (λ (b : Brief). if sees asker b.agent then Some b else None) (brief_of l id)
+
+-- the summary of the journey that who asks began under this key, by the reply that is kept
+abbrev pub own_begun : State → Asker → List ℕ → Option Brief
+own_begun s asker key =
+    option_and_then (own_brief s.ledger asker) (option_and_then begun_in (kept_under s (owner_of asker) key))
+
+-- a journey as a list of own journeys shows it
+abbrev pub brief_shown : Asker → Brief → Data
+brief_shown (who.Agent agent) brief = brief_data Hidden brief
+brief_shown who.House brief = brief_data Shown brief
+
+-- the page of a journey that was begun under a key; a key under which none was begun gets that of no journey
+abbrev pub begun_page : Asker → Option Brief → Paged
+begun_page asker (Some brief) = value_page (brief_shown asker brief)
+begun_page asker None = refused_page NoJourney
+
 -- unfinished journeys as they are shown: to the house each with its agent
 abbrev pub unfinished_shown : Asker → List Brief → Data
 unfinished_shown (who.Agent agent) briefs = unfinished_data Hidden briefs
@@ -103,6 +130,7 @@ Says s (Ok (Carry asked ask)) page = page ≡ reply_page (outcome s ask asked).r
 Says s (Ok (SeeJourney asker id)) page = page ≡ journey_page s.ledger id (own_journey s.ledger asker id)
 Says s (Ok (SeePlan asker id)) page = page ≡ plan_page (own_journey s.ledger asker id)
 Says s (Ok (SeeWhy asker id)) page = page ≡ why_page s.ledger id (own_journey s.ledger asker id)
+Says s (Ok (SeeBegun asker key)) page = page ≡ begun_page asker (own_begun s asker key)
 Says s (Ok (SeeUnfinished asker)) page =
     page ≡ value_page (unfinished_shown asker (own_unfinished s.ledger asker))
 Says s (Ok (SeeMine asker after)) page =
@@ -154,6 +182,7 @@ command_by (Ok (Carry asked ask)) = Some (asked, ask)
 command_by (Ok (SeeJourney asker id)) = None
 command_by (Ok (SeePlan asker id)) = None
 command_by (Ok (SeeWhy asker id)) = None
+command_by (Ok (SeeBegun asker key)) = None
 command_by (Ok (SeeUnfinished asker)) = None
 command_by (Ok (SeeMine asker after)) = None
 command_by (Ok SeeStock) = None

@@ -12,6 +12,7 @@ ghost use Rattle.http_messages.specs.declared.requests.Message.TheVariants as ta
 ghost use Rattle.desk_http.specs.Hosts.{refusal_at};
 ghost use Rattle.desk_http.specs.Pages.{closes, stops};
 
+use crate::begun::see_begun;
 use crate::demands::{Demand, Unmet, asks_to_stop, demand_in};
 use crate::doors::{Door, refusal_at};
 use crate::mine::see_mine;
@@ -181,6 +182,7 @@ fn meet<B: Book>(alloc: Global, demand: &Demand, book: &mut B) -> Result<Page, S
         Demand::SeeJourney(asker, id) => see_journey(alloc, book, asker, *id),
         Demand::SeePlan(asker, id) => see_plan(alloc, book, asker, *id),
         Demand::SeeWhy(asker, id) => see_why(alloc, book, asker, *id),
+        Demand::SeeBegun(asker, key) => see_begun(alloc, book, asker, key),
         Demand::SeeUnfinished(asker) => see_unfinished(alloc, book, asker),
         Demand::SeeMine(asker, after) => see_mine(alloc, book, asker, *after),
         Demand::SeeStock => see_stock(alloc, book),

@@ -27,6 +27,8 @@ pub(crate) enum Demand {
     SeePlan(Asker, u64),
     /// Show who asks why the journey of this number goes on or does not.
     SeeWhy(Asker, u64),
+    /// Show who asks the journey that it began under this key.
+    SeeBegun(Asker, Key),
     /// Show who asks its unfinished journeys.
     SeeUnfinished(Asker),
     /// Show who asks its own journeys above this number.
@@ -230,6 +232,7 @@ fn demand_by(alloc: Global, route: Route, sender: &Sender<'_>) -> Result<Demand,
         Route::ShowJourney(id) => Ok(Demand::SeeJourney(sender.asker, id)),
         Route::ShowPlan(id) => Ok(Demand::SeePlan(sender.asker, id)),
         Route::ShowWhy(id) => Ok(Demand::SeeWhy(sender.asker, id)),
+        Route::ShowBegun(key) => Ok(Demand::SeeBegun(sender.asker, key)),
         Route::ShowUnfinished => Ok(Demand::SeeUnfinished(sender.asker)),
         Route::ShowStock => Ok(Demand::SeeStock),
         Route::ShowMine(after) => Ok(Demand::SeeMine(sender.asker, after)),

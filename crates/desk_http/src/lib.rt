@@ -10,6 +10,7 @@
 #![tactic(auto)]
 
 mod answering;
+mod begun;
 mod demands;
 mod doors;
 mod law_examples;

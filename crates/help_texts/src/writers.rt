@@ -87,6 +87,7 @@ Requests:
   GET /journeys/ID/plan      Its plan, in the form in which it was sent
   GET /journeys/ID/why       Why it goes on or does not: its next want, the
                              free places of each night, and what a step does
+  GET /journeys/by-key/KEY   The agent's journey that was begun under KEY
   GET /unfinished            The agent's journeys that have not ended
   GET /mine                  The agent's journeys, ended ones too
   GET /mine/AFTER            Those with a number above AFTER

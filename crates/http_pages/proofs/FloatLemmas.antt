@@ -36,6 +36,11 @@ pub no_float-journey : (id pos : ℕ) (phase : Phase) (history : List Item)
     → has_float (json ((codes "history", list (map item_data history)) ∷ standing_members id pos phase)) ≡ false
 no_float-journey id pos phase history = rw (no_float-items history) (no_float-standing id pos phase)
 
+-- a journey of such a list contains no float
+pub no_float-brief : (owners : Owners) (brief : Brief) → has_float (brief_data owners brief) ≡ false
+no_float-brief Hidden brief = no_float-standing brief.id brief.cursor.pos brief.cursor.phase
+no_float-brief Shown brief = no_float-standing brief.id brief.cursor.pos brief.cursor.phase
+
 -- journeys that are not finished contain no float
 pub no_float-unfinished : (owners : Owners) (briefs : List Brief) → has_float (unfinished_data owners briefs) ≡ false
 no_float-unfinished owners briefs = rw (no_float-briefs owners briefs) refl

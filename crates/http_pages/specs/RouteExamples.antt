@@ -7,7 +7,7 @@ use Rattle.matchit.proofs.OnLiterals.{matchit_on_literals}
 use Rattle.commands.specs.declared.replies.Refusal.TheVariants as refusal
 use Rattle.http_pages.specs.Admitting.{admitted, plain}
 use Rattle.http_pages.specs.Routes.{routes, route_of}
-use Rattle.http_pages.specs.declared.routes.Route.TheVariants.{LoadBatch, Step, Abort, Save, ShowJourney, ShowPlan, ShowWhy, ShowStock, ShowAgent}
+use Rattle.http_pages.specs.declared.routes.Route.TheVariants.{LoadBatch, Step, Abort, Save, ShowJourney, ShowPlan, ShowWhy, ShowBegun, ShowStock, ShowAgent}
 use Rattle.http_pages.specs.declared.routes.Unrouted.TheVariants.{UnknownPath, WrongMethod, BadPart}
 use Rattle.http_pages.specs.declared.routes.Verb.TheVariants.{Get}
 
@@ -47,6 +47,11 @@ plan_is_found = refl
 pub why_is_found : route_of (codes "GET") (codes "/journeys/1/why") ≡ Ok (ShowWhy 1)
 unfolding routes digits is_utf8 chars encode matchit_on_literals
 why_is_found = refl
+
+-- the journey that was begun under a key, whatever the key is
+pub begun_is_found : route_of (codes "GET") (codes "/journeys/by-key/step") ≡ Ok (ShowBegun (codes "step"))
+unfolding routes digits is_utf8 chars encode matchit_on_literals
+begun_is_found = refl
 
 -- the agent who asks
 pub agent_is_found : route_of (codes "GET") (codes "/agent") ≡ Ok ShowAgent

@@ -10,13 +10,13 @@ use Rattle.matchit.specs.Seek.{first}
 use Rattle.matchit.specs.declared.error.InsertError.{InsertError}
 use Rattle.allotment.specs.Texts.{parts, slash, keep_if, number_from}
 use Rattle.commands.specs.Limits.{most_events, most_named_position}
-use Rattle.commands.specs.Names.{is_batch_name}
+use Rattle.commands.specs.Names.{is_batch_name, is_key}
 use Rattle.http_pages.specs.Verbs.{verb_text}
 use Rattle.http_pages.specs.declared.routes.Entry.{Entry}
 use Rattle.http_pages.specs.declared.routes.Place.{Place}
 use Rattle.http_pages.specs.declared.routes.Place.TheVariants as place
 use Rattle.http_pages.specs.declared.routes.Route.{Route}
-use Rattle.http_pages.specs.declared.routes.Route.TheVariants.{LoadBatch, Begin, Step, Abort, Save, ShowJourney, ShowPlan, ShowWhy, ShowUnfinished, ShowStock, ShowMine, ShowHealth, ShowAgent}
+use Rattle.http_pages.specs.declared.routes.Route.TheVariants.{LoadBatch, Begin, Step, Abort, Save, ShowJourney, ShowPlan, ShowWhy, ShowBegun, ShowUnfinished, ShowStock, ShowMine, ShowHealth, ShowAgent}
 use Rattle.http_pages.specs.declared.routes.Unrouted.{Unrouted}
 use Rattle.http_pages.specs.declared.routes.Unrouted.TheVariants.{UnknownPath, WrongMethod, BadPart}
 use Rattle.http_pages.specs.declared.routes.Verb.{Verb}
@@ -51,6 +51,7 @@ table =
     ∷ get (codes "/journeys/{id}") place.Journey
     ∷ get (codes "/journeys/{id}/plan") place.Plan
     ∷ get (codes "/journeys/{id}/why") place.Why
+    ∷ get (codes "/journeys/by-key/{key}") place.Begun
     ∷ get (codes "/unfinished") place.Unfinished
     ∷ get (codes "/stock") place.Stock
     ∷ get (codes "/mine") place.Mine
@@ -103,6 +104,10 @@ name_at target = option_and_then (keep_if is_batch_name) (piece target 2)
 abbrev pub journey_at : List ℕ → Option ℕ
 journey_at target = option_and_then journey_in (piece target 2)
 
+-- the key that a target has after `/by-key/`
+abbrev pub key_at : List ℕ → Option (List ℕ)
+key_at target = option_and_then (keep_if is_key) (piece target 3)
+
 -- the number above which a target asks for journeys, after `/mine/`
 abbrev pub after_at : List ℕ → Option ℕ
 after_at target = option_and_then (number_from 0 most_events) (piece target 2)
@@ -128,6 +133,7 @@ asked place.Save target = option_map Save (journey_at target)
 asked place.Journey target = option_map ShowJourney (journey_at target)
 asked place.Plan target = option_map ShowPlan (journey_at target)
 asked place.Why target = option_map ShowWhy (journey_at target)
+asked place.Begun target = option_map ShowBegun (key_at target)
 asked place.Unfinished target = Some ShowUnfinished
 asked place.Stock target = Some ShowStock
 asked place.Mine target = Some (ShowMine 0)

@@ -3,12 +3,12 @@ ghost use Rattle.std.specs.Prelude.{◌≡◌, IfOk};
 ghost use Rattle.std.specs.String.{string_bytes};
 ghost use Rattle.serde_json.specs.Written.{compact_text};
 ghost use Rattle.http_pages.specs.Bodies.{refusal_data, reply_data, journey_data, unfinished_data};
-ghost use Rattle.http_pages.specs.Bodies.{agent_data, health_data, mine_data, stopping_data};
+ghost use Rattle.http_pages.specs.Bodies.{agent_data, brief_data, health_data, mine_data, stopping_data};
 ghost use Rattle.plan.specs.PlanData.{plan_data};
 
 use crate::plans::plan_value;
 use crate::values::{
-    agent_value, health_value, journey_value, mine_value, refusal_value, reply_value,
+    agent_value, brief_value, health_value, journey_value, mine_value, refusal_value, reply_value,
     stopping_value, unfinished_value,
 };
 use commands::{Agent, Cursor, Item, Refusal, Reply};
@@ -86,6 +86,15 @@ pub fn mine_body(alloc: Global, owners: Owners, briefs: &[Brief]) -> Result<Stri
         (λ body. string_bytes body ≡ compact_text (mine_data owners briefs.now)) }
 {
     let value = mine_value(alloc, owners, briefs)?;
+    value.to_string(alloc)
+}
+
+/// The body that shows a journey without its history, as a list of journeys does. The only fault is out of memory.
+pub fn brief_body(alloc: Global, owners: Owners, brief: &Brief) -> Result<String, AllocError>
+    ensures body { IfOk result
+        (λ body. string_bytes body ≡ compact_text (brief_data owners brief.now)) }
+{
+    let value = brief_value(alloc, owners, brief)?;
     value.to_string(alloc)
 }
 

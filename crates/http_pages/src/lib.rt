@@ -17,8 +17,8 @@ mod values;
 
 pub use answers::{Body, HtmlPage, Page, denied_page, refused_page, reply_page, shown_page};
 pub use bodies::{
-    Owners, agent_body, health_body, journey_body, mine_body, plan_body, refusal_body, reply_body,
-    stopping_body, unfinished_body,
+    Owners, agent_body, brief_body, health_body, journey_body, mine_body, plan_body, refusal_body,
+    reply_body, stopping_body, unfinished_body,
 };
 pub use heads::{Status, page_bytes};
 pub use routes::{Denied, Paths, Route, Unrouted, Verb, admit};

@@ -1,12 +1,12 @@
 //! What stands at the paths of the desk, what a method and a target ask for there, and whether it may be asked.
 
 ghost use Rattle.http_pages.specs.Admitting.{admitted, is_of_method, needs_agent, plain};
-ghost use Rattle.http_pages.specs.Routes.{line_of, routes, with_line, with_lines, found_route, asked_by, route_of, piece, name_at, journey_at, after_at, position_at, asked};
+ghost use Rattle.http_pages.specs.Routes.{line_of, routes, with_line, with_lines, found_route, asked_by, route_of, piece, name_at, journey_at, key_at, after_at, position_at, asked};
 ghost use Rattle.http_pages.specs.Verbs.{verb_text};
 ghost use Rattle.matchit.specs.Seek.{first};
 ghost use Rattle.std.specs.Prelude.{◌≡◌, IfOk, OnOk, is_some, IfErr, option_map, map};
 
-use commands::{MOST_EVENTS, MOST_NAMED_POSITION, Name, Refusal, number_between};
+use commands::{Key, MOST_EVENTS, MOST_NAMED_POSITION, Name, Refusal, number_between};
 use matchit::Router;
 use std::alloc::{AllocError, Global};
 use std::str;
@@ -30,6 +30,8 @@ pub enum Route {
     ShowPlan(u64),
     /// Show why a journey goes on or does not.
     ShowWhy(u64),
+    /// Show the journey that who asks began under this key.
+    ShowBegun(Key),
     /// Show the journeys of the agent that are not finished.
     ShowUnfinished,
     /// Show the stock.
@@ -49,7 +51,7 @@ pub enum Unrouted {
     UnknownPath,
     /// The path has another method, this one.
     WrongMethod(Verb),
-    /// A part of the path is malformed: no batch's name, no number or no position.
+    /// A part of the path is malformed: no batch's name, no number, no position or no key.
     BadPart,
 }
 
@@ -104,7 +106,7 @@ fn add_all(router: &mut Router<Entry>, lines: &[(&str, Verb, Place)]) -> Result<
 
 /// The paths of the desk: each with the one method that it has, and what stands there. What stands in braces matches one
 /// piece between slashes.
-static LINES: [(&str, Verb, Place); 14] = [
+static LINES: [(&str, Verb, Place); 15] = [
     ("/batches/{name}", Verb::Post, Place::Batch),
     ("/journeys", Verb::Post, Place::Journeys),
     ("/journeys/{id}/step", Verb::Post, Place::Step),
@@ -113,6 +115,7 @@ static LINES: [(&str, Verb, Place); 14] = [
     ("/journeys/{id}", Verb::Get, Place::Journey),
     ("/journeys/{id}/plan", Verb::Get, Place::Plan),
     ("/journeys/{id}/why", Verb::Get, Place::Why),
+    ("/journeys/by-key/{key}", Verb::Get, Place::Begun),
     ("/unfinished", Verb::Get, Place::Unfinished),
     ("/stock", Verb::Get, Place::Stock),
     ("/mine", Verb::Get, Place::Mine),
@@ -222,6 +225,9 @@ const FIRST_PART: usize = 2;
 /// The piece of a target that holds a position.
 const SECOND_PART: usize = 4;
 
+/// The piece of a target that holds a key.
+const KEY_PART: usize = 3;
+
 /// What stands at a path.
 #[derive(Clone, Copy, Debug, PartialEq, Eq)]
 pub enum Place {
@@ -241,6 +247,8 @@ pub enum Place {
     Plan,
     /// Why a journey goes on or does not.
     Why,
+    /// The journey that was begun under a key.
+    Begun,
     /// The journeys that are not finished.
     Unfinished,
     /// The stock.
@@ -276,6 +284,7 @@ impl Place {
             Place::Journey => journey_at(target).map(Route::ShowJourney),
             Place::Plan => journey_at(target).map(Route::ShowPlan),
             Place::Why => journey_at(target).map(Route::ShowWhy),
+            Place::Begun => key_at(target).map(Route::ShowBegun),
             Place::Unfinished => Some(Route::ShowUnfinished),
             Place::Stock => Some(Route::ShowStock),
             Place::Mine => Some(Route::ShowMine(0)),
@@ -299,6 +308,13 @@ fn journey_at(target: &str) -> Option<u64>
 {
     let id = number_between(piece(target, FIRST_PART)?, 1, MOST_EVENTS as usize)?;
     Some(id as u64)
+}
+
+/// The key that the target has.
+fn key_at(target: &str) -> Option<Key>
+    ensures key { result ≡ key_at target.now }
+{
+    Key::parse(piece(target, KEY_PART)?)
 }
 
 /// The number that the target has, above which journeys are asked for.

@@ -130,7 +130,7 @@ fn briefs_value(alloc: Global, owners: Owners, briefs: &[Brief]) -> Result<Value
 }
 
 /// The value of a journey without its history.
-fn brief_value(alloc: Global, owners: Owners, brief: &Brief) -> Result<Value, AllocError>
+pub fn brief_value(alloc: Global, owners: Owners, brief: &Brief) -> Result<Value, AllocError>
     ensures value { IfOk result (λ value. view value ≡ brief_data owners brief.now) }
 {
     let mut members = Map::new(alloc);

@@ -1,4 +1,5 @@
 mod browsers;
+mod by_key;
 mod closing;
 mod desks;
 mod doors;

@@ -1,11 +1,11 @@
 // Values from outside: the tables of routes and codes, and bodies and pages as the formats give them.
 mod shown;
 
-use commands::{Agent, Cause, CsvCause, Cursor, Item, Name, Phase, Refusal, Reply};
+use commands::{Agent, Cause, CsvCause, Cursor, Item, Key, Name, Phase, Refusal, Reply};
 use http_pages::{
-    Body, Denied, Owners, Page, Paths, Route, Status, Unrouted, Verb, admit, denied_page,
-    journey_body, page_bytes, plan_body, refusal_body, refused_page, reply_body, reply_page,
-    shown_page, stopping_body, unfinished_body,
+    Body, Denied, Owners, Page, Paths, Route, Status, Unrouted, Verb, admit, brief_body,
+    denied_page, journey_body, page_bytes, plan_body, refusal_body, refused_page, reply_body,
+    reply_page, shown_page, stopping_body, unfinished_body,
 };
 use plan::{BadPlan, Plan, PlanCause};
 use saga_core::Brief;
@@ -67,7 +67,7 @@ fn a_method_and_a_target_ask_for_one_thing(rt: HostRuntime) {
 
 // the method and the target
 #[rattlefmt::skip]
-const BAD_PARTS: [(&str, &str); 19] = [
+const BAD_PARTS: [(&str, &str); 24] = [
     ("POST", "/journeys/01/step"),
     ("POST", "/journeys/0/step"),
     ("POST", "/journeys/1000000000000/step"),
@@ -81,6 +81,11 @@ const BAD_PARTS: [(&str, &str); 19] = [
     ("GET",  "/journeys/1?a"),
     ("GET",  "/journeys/é"),
     ("GET",  "/journeys/01/why"),
+    ("GET",  "/journeys/by-key"),
+    ("GET",  "/journeys/by-key/a_b"),
+    ("GET",  "/journeys/by-key/k1?"),
+    ("GET",  "/journeys/by-key/ABCDEFGHIJKLMNOPQRSTUVWXYZabcdefg"),
+    ("GET",  "/journeys/by-key/7d444840-9dc0-11d1-b245-5ffdce74fad2"),
     ("POST", "/batches/B1"),
     ("POST", "/batches/abcdefghijklmnopqrstuvwxy"),
     ("GET",  "/mine/01"),
@@ -88,6 +93,26 @@ const BAD_PARTS: [(&str, &str); 19] = [
     ("GET",  "/mine/x"),
     ("GET",  "/mine/1000000000000"),
 ];
+
+/// The key of this text.
+fn key(rt: &impl Abort, text: &str) -> Key {
+    Key::parse(text).expect(rt, "a key")
+}
+
+// keys in targets, the last of 32 characters: two of them are pieces of other paths
+#[rattlefmt::skip]
+const KEYS: [&str; 5] = ["k1", "step", "by-key", "-", "ABCDEFGHIJKLMNOPQRSTUVWXYZabcdef"];
+
+#[test]
+fn a_key_is_that_of_its_path(rt: HostRuntime) {
+    let alloc = rt.alloc();
+    let paths = paths(&rt, alloc);
+    for &text in &KEYS {
+        let target = format!(in alloc; "/journeys/by-key/{text}").expect(&rt, "memory");
+        let expected = Ok(Route::ShowBegun(key(&rt, text)));
+        asks(&rt, &paths, "GET", target.as_bytes(), expected, text);
+    }
+}
 
 #[test]
 fn a_part_of_another_form_is_bad(rt: HostRuntime) {
@@ -98,10 +123,10 @@ fn a_part_of_another_form_is_bad(rt: HostRuntime) {
 }
 
 #[rattlefmt::skip]
-const NOWHERE_AT_ALL: [&str; 18] = [
+const NOWHERE_AT_ALL: [&str; 20] = [
     "", "/", "*", "unfinished", "/nowhere", "//stock", "/stock/", "/stock?a", "/journeys/",
     "/journeys/1/", "/journeys//step", "/journeys/1/step/", "/journeys/1/stop", "/batches/a/b",
-    "/mine/", "/mine/1/", "/mine?after=1", "/health/",
+    "/mine/", "/mine/1/", "/mine?after=1", "/health/", "/journeys/by-key/", "/journeys/by-key/a/b",
 ];
 
 #[test]
@@ -115,7 +140,7 @@ fn a_target_that_is_no_path_is_unknown(rt: HostRuntime) {
 
 // the method, the target, the method that its path has
 #[rattlefmt::skip]
-const WRONG_METHODS: [(&str, &str, Verb); 9] = [
+const WRONG_METHODS: [(&str, &str, Verb); 10] = [
     ("DELETE", "/unfinished",      Verb::Get),
     ("HEAD",   "/stock",           Verb::Get),
     ("get",    "/stock",           Verb::Get),
@@ -123,6 +148,7 @@ const WRONG_METHODS: [(&str, &str, Verb); 9] = [
     ("GET",    "/journeys",        Verb::Post),
     ("DELETE", "/journeys/1/step", Verb::Post),
     ("GET",    "/batches/B1",      Verb::Post),
+    ("POST",   "/journeys/by-key/step", Verb::Get),
     ("POST",   "/mine/x",          Verb::Get),
     ("POST",   "/health",          Verb::Get),
 ];
@@ -353,6 +379,20 @@ fn journeys_that_are_not_finished_are_shown(rt: HostRuntime) {
     let body = unfinished_body(alloc, Owners::Hidden, &[brief]);
     let expected = r#"{"unfinished":[{"journey":7,"pos":1,"state":"back","target":0}]}"#;
     reads(&rt, body, expected, 64);
+}
+
+#[test]
+fn a_journey_alone_is_shown_as_in_a_list(rt: HostRuntime) {
+    let alloc = rt.alloc();
+    let brief = Brief {
+        id: 7,
+        agent: Agent::house(),
+        cursor: AT_ONE,
+    };
+    let hidden = r#"{"journey":7,"pos":1,"state":"back","target":0}"#;
+    reads(&rt, brief_body(alloc, Owners::Hidden, &brief), hidden, 47);
+    let shown = r#"{"agent":"desk","journey":7,"pos":1,"state":"back","target":0}"#;
+    reads(&rt, brief_body(alloc, Owners::Shown, &brief), shown, 62);
 }
 
 #[test]

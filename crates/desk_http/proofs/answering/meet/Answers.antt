@@ -22,6 +22,12 @@ returns-in-SeeWhy-clause-page g c = λ sound s stood.
     subst (λ demand. Meets (book.stands c.see_why.new.book) (book.leaves c.see_why.new.book) s (demand_said demand) c.see_why.result)
     (sym c.in-SeeWhy.is) (c.see_why.ensures.page sound s stood)
 
+pub returns-in-SeeBegun-clause-page : goal.returns-in-SeeBegun-clause-page
+returns-in-SeeBegun-clause-page g c = λ sound s stood.
+    let book = g.B.Book in
+    subst (λ demand. Meets (book.stands c.see_begun.new.book) (book.leaves c.see_begun.new.book) s (demand_said demand) c.see_begun.result)
+    (sym c.in-SeeBegun.is) (c.see_begun.ensures.page sound s stood)
+
 pub returns-in-SeeMine-clause-page : goal.returns-in-SeeMine-clause-page
 returns-in-SeeMine-clause-page g c = λ sound s stood.
     let book = g.B.Book in
