@@ -5,46 +5,62 @@ scripts/page.py          writes crates/agents_page/src/page.rt
 scripts/page.py --check  ends with 1 where that file is another
 
 The policy allows the page's own style and script, by their hashes, and requests to the desk that served it. A page that
-would load anything else, or has a style or a script that the policy would not allow, is not made.
+would load anything else, or has a style or a script that the policy would not allow, is not made. Nor is one whose table of
+texts lacks one in a language, or has another value in one than in the other, or that has a text beside its table.
 """
 import base64
 import hashlib
 import html.parser
 import pathlib
+import re
 import sys
 
 TOP = pathlib.Path(__file__).resolve().parent.parent
 PAGE = TOP / 'web' / 'desk.html'
 SOURCE = TOP / 'crates' / 'agents_page' / 'src' / 'page.rt'
-MOST_BYTES = 100_000
+# the page is loaded whole before its first word is shown; its texts, in two languages, are 26 kB of it
+MOST_BYTES = 130_000
+
+
+# the table of texts, a row of it (a name, a text in English, the same in German), and a text that should be in it
+TABLE = re.compile(r'^const WORDS = \{\n(.*?)^\};\n', re.MULTILINE | re.DOTALL)
+ROW = re.compile(r"  (?:'([\w.]+)'|(\w+)): \['([^'\\]+)', '([^'\\]+)'\],")
+BESIDE = re.compile(r"""['`][^'`\n]*?\b[A-Z][a-z]+ [a-z]{2,}[^'`\n]*['`]""")
 
 
 class Parts(html.parser.HTMLParser):
-    """The styles and scripts of a page, and what its policy would not allow."""
+    """The styles and scripts of a page, what its policy would not allow, and what it says beside its script."""
 
     def __init__(self):
         super().__init__(convert_charrefs=False)
         self.texts = {'style': [], 'script': []}
         self.faults = []
         self.inside = None
+        self.said = []
+        self.names = []
 
     def handle_starttag(self, tag, attrs):
         for name, value in attrs:
+            if name in ('data-text', 'data-label'):
+                self.names.append(value)
             if name == 'style' or name.startswith('on'):
                 self.faults.append(f'<{tag} {name}=..>')
             if name in ('src', 'srcset', 'action', 'formaction') or (name == 'href' and tag != 'a'):
                 self.faults.append(f'<{tag} {name}={value!r}>')
         if tag in self.texts:
-            self.inside = tag
             self.texts[tag].append('')
+        if tag in self.texts or tag == 'noscript':
+            self.inside = tag
 
     def handle_endtag(self, tag):
         if tag == self.inside:
             self.inside = None
 
     def handle_data(self, data):
-        if self.inside:
+        if self.inside in self.texts:
             self.texts[self.inside][-1] += data
+        elif not self.inside:
+            self.said += data.split()
 
 
 def hashes(texts):
@@ -65,6 +81,47 @@ def policy_of(parts):
     ])
 
 
+def words_of(script):
+    """The table of texts: names with the text in each language; and what is wrong with it, or with how the script uses it."""
+    table, faults, words = TABLE.search(script), [], {}
+    if not table:
+        return {}, ['there is no table of texts']
+    for line in table[1].splitlines():
+        row = ROW.fullmatch(line)
+        if row and (row[1] or row[2]) not in words:
+            words[row[1] or row[2]] = row[3], row[4]
+        elif not line.startswith('  // '):
+            faults.append(f'no row of two texts, or a second one: {line.strip()}')
+    for name, texts in words.items():
+        if len({tuple(sorted(set(re.findall(r'\{\d\}', text)))) for text in texts}) > 1 or max(text.count('|') for text in texts) > 1:
+            faults.append(f'the texts of {name} have other values, or too many forms')
+    rest = re.sub(r'^ *//.*', '', script.replace(table[0], ''), flags=re.MULTILINE)
+    faults += [f'a text beside the table: {text}' for text in BESIDE.findall(rest)]
+    return words, faults
+
+
+def uses_of(script, names):
+    """The names of texts that the script and the page use; those that end with a dot begin others."""
+    used = set(names)
+    for first in re.findall(r"\bt\(((?:[^,()]|\([^()]*\))*)", script):
+        found = re.findall(r"'([\w.]+)'", first)
+        used.update(found[:1] if "' + " in first else found)
+    return used
+
+
+def faults_of_words(parts):
+    """What is wrong with the texts of a page."""
+    script = ''.join(parts.texts['script'])
+    words, faults = words_of(script)
+    for use in sorted(uses_of(script, parts.names)):
+        if not any(name.startswith(use) if use.endswith('.') else name == use for name in words):
+            faults.append(f'no text is named {use}')
+    for name in words:
+        if f"'{name}'" not in TABLE.sub('', script) and name not in parts.names and f"'{name.split('.')[0]}.'" not in script:
+            faults.append(f'nobody uses the text {name}')
+    return faults + [f'a text beside the script: {word}' for word in parts.said if word != 'Desk']
+
+
 def raw(text):
     """A raw literal of Rust, with as many marks as the text calls for."""
     marks = '#'
@@ -83,6 +140,8 @@ def source_of(page):
     parts.close()
     if parts.faults:
         sys.exit(f'page: the policy would not allow {", ".join(parts.faults)}')
+    if faults := faults_of_words(parts):
+        sys.exit('page: ' + '\npage: '.join(faults))
     return f'''//! The page and its policy. Made by `scripts/page.py` from `web/desk.html`.
 
 /// What the page may load and do: its own style and script, and requests to the desk that served it.

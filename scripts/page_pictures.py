@@ -117,7 +117,7 @@ def take(camera, network):
     browser.types('[data-f="filter.places"]', Keys.CONTROL + "a" + Keys.NULL, "2", Keys.TAB)
     for name, day in (("from", "2030-06-10"), ("to", "2030-06-13")):
         browser.gives(f'[data-f="filter.{name}"]', day)
-    browser.shows("2 places free from Mon 10 June 2030 to Thu 13 June 2030", "#cals")
+    browser.shows("2 places free from Mon, 10 June 2030 to Thu, 13 June 2030", "#cals")
     browser.script("document.activeElement.blur()")
     camera.keeps("table", 1366, 480)
     browser.gives('[data-f="filter.from"]', "")

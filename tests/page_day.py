@@ -20,13 +20,13 @@ LINE_PLAN = json.dumps({"tries": 1, "steps": [
 
 # wants of a plan line, and how they are spoken of
 IN_WORDS = (
-    ("R/INN/YARD/2030-06-10/3/2", "room INN YARD, Mon 10 Jun 2030, 3 nights, leaving Thu 13 June, 2 places"),
-    ("R/INN/YARD/2030-06-30/1/1", "room INN YARD, Sun 30 Jun 2030, 1 night, leaving Mon 1 July, 1 place"),
-    ("R/INN/YARD/2030-12-31/1/1", "room INN YARD, Tue 31 Dec 2030, 1 night, leaving Wed 1 January, 1 place"),
-    ("R/INN/YARD/2032-02-28/2/1", "room INN YARD, Sat 28 Feb 2032, 2 nights, leaving Mon 1 March, 1 place"),
-    ("R/INN/YARD/2099-12-31/1/1", "room INN YARD, Thu 31 Dec 2099, 1 night, leaving Fri 1 January, 1 place"),
-    ("C/CO/TRIP/2030-06-10/3/2", "cover CO TRIP, Mon 10 Jun 2030, 3 nights, 2 places"),
-    ("F/AL/A1/2030-06-01/1/1", "flight AL A1, Sat 1 Jun 2030, 1 place"),
+    ("R/INN/YARD/2030-06-10/3/2", "room INN YARD, Mon, 10 Jun 2030, 3 nights, leaving Thu 13 June, 2 places"),
+    ("R/INN/YARD/2030-06-30/1/1", "room INN YARD, Sun, 30 Jun 2030, 1 night, leaving Mon 1 July, 1 place"),
+    ("R/INN/YARD/2030-12-31/1/1", "room INN YARD, Tue, 31 Dec 2030, 1 night, leaving Wed 1 January, 1 place"),
+    ("R/INN/YARD/2032-02-28/2/1", "room INN YARD, Sat, 28 Feb 2032, 2 nights, leaving Mon 1 March, 1 place"),
+    ("R/INN/YARD/2099-12-31/1/1", "room INN YARD, Thu, 31 Dec 2099, 1 night, leaving Fri 1 January, 1 place"),
+    ("C/CO/TRIP/2030-06-10/3/2", "cover CO TRIP, Mon, 10 Jun 2030, 3 nights, 2 places"),
+    ("F/AL/A1/2030-06-01/1/1", "flight AL A1, Sat, 1 Jun 2030, 1 place"),
 )
 
 
@@ -39,7 +39,7 @@ def nights_in_words(scene):
     browser.shows("5 nights, leaving Sat 15 June", ".step .what")
     scene.chooses("room INN YARD", JUNE[28])
     scene.chooses("room INN YARD", JUNE[29])
-    browser.shows("room INN YARD, Sat 29 Jun 2030, 2 nights, leaving Mon 1 July", "#bar")
+    browser.shows("room INN YARD, Sat, 29 Jun 2030, 2 nights, leaving Mon 1 July", "#bar")
     scene.begins(plan(option("room", "INN", "YARD", nights=3), FLIGHT))
     scene.shows_journey(1)
     for css in ("#next", ".planned"):
@@ -252,7 +252,7 @@ def printed(scene):
     scene.chooses("flight AL A1", JUNE[0])
     sheets = (
         ("stock", f"{agent}: June 2030", ("room INN YARD", "In each night", "of 4"), ("New journey", "My journeys")),
-        ("plan", agent, ("Step 2", "INN YARD, Sat 1 Jun 2030, 2 nights, leaving Mon 3 June, 1 place", "Save-point after step 1"),
+        ("plan", agent, ("Step 2", "INN YARD, Sat, 1 Jun 2030, 2 nights, leaving Mon 3 June, 1 place", "Save-point after step 1"),
          ("Save-point after step 2", "Tries", "Stock")),
         ("journeys", agent, ("My journeys", "holds 1 Jun 2030 · flight A1", "to come"), ("Number", "One journey")),
         ("journeys/1", agent, ("Journey 1", "under way, at 1 of 3", "T1.1", "no place was found for step 2"),
@@ -260,15 +260,15 @@ def printed(scene):
     )
     for path, head, has, has_not in sheets:
         browser.script("location.hash = arguments[0]", f"#/{path}")
-        browser.shows(has[0], "main")
+        lacks = lambda has=has: [words for words in has if words not in browser.text("main").replace("\n", " ")]
+        comes(f"{path}: what it has to print", [], lacks)
         browser.driver.execute_cdp_cmd("Emulation.setEmulatedMedia", {
             "media": "print", "features": [{"name": "prefers-color-scheme", "value": "dark"}]})
         browser.size(718, 600)
         same(f"{path}: agent, date and month", head, browser.text("#sheet"))
         same(f"{path}: controls", [], browser.names(CONTROLS))
-        text = browser.text("main")
-        same(f"{path}: what it has", [], [words for words in has if words not in text.replace("\n", " ")])
-        same(f"{path}: what it has not", [], [words for words in has_not if words in text])
+        same(f"{path}: what it has", [], lacks())
+        same(f"{path}: what it has not", [], [words for words in has_not if words in browser.text("main")])
         same(f"{path}: its ground", "rgb(255, 255, 255)", browser.script("return getComputedStyle(document.body).backgroundColor"))
         same(f"{path}: what is cut", [], browser.script("""return [...document.querySelectorAll('main, main *')].filter(one => {
             const is = getComputedStyle(one);
@@ -325,13 +325,13 @@ def as_table(scene):
     browser.size(1366, 768)
     scene.chooses("room INN YARD", JUNE[9])
     scene.chooses("room INN YARD", JUNE[11])
-    browser.shows("room INN YARD, Mon 10 Jun 2030, 3 nights, leaving Thu 13 June", "#bar")
+    browser.shows("room INN YARD, Mon, 10 Jun 2030, 3 nights, leaving Thu 13 June", "#bar")
     browser.press("Drop the choice")
     same("where it was", f"room INN YARD {JUNE[9]}", browser.focus())
     browser.keys(Keys.ARROW_UP, Keys.ARROW_RIGHT)
     same("the product above, the next night", ["room INN SEA", JUNE[9]], browser.focus().rsplit(" ", 1))
     browser.keys(Keys.ARROW_DOWN, Keys.ARROW_LEFT, Keys.ENTER)
-    browser.shows("room INN YARD, Sun 9 Jun 2030, 1 night", "#bar")
+    browser.shows("room INN YARD, Sun, 9 Jun 2030, 1 night", "#bar")
     browser.keys(Keys.ESCAPE)
     browser.types('[data-f="filter.places"]', Keys.CONTROL + "a" + Keys.NULL, "2", Keys.TAB)
     for first, last in ((JUNE[9], JUNE[12]), (JUNE[19], JUNE[20]), (JUNE[0], JUNE[3])):

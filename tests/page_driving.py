@@ -92,9 +92,9 @@ class Desk:
 
 
 class Browser:
-    """A window of headless Chromium of its own, with a profile that is gone at its end."""
+    """A window of headless Chromium of its own, which asks for these languages, with a profile that is gone at its end."""
 
-    def __init__(self, folder, network=None, words=(), width=1280, height=900):
+    def __init__(self, folder, network=None, words=(), width=1280, height=900, languages="en-GB,en"):
         options = Options()
         options.binary_location = CHROMIUM
         for word in (
@@ -106,6 +106,7 @@ class Browser:
         if network:
             options.add_argument(f"--proxy-server=http://127.0.0.1:{network.port}")
             options.add_argument("--proxy-bypass-list=<-loopback>")
+        options.add_experimental_option("prefs", {"intl.accept_languages": languages})
         options.set_capability("goog:loggingPrefs", {"browser": "ALL"})
         self.network = network
         self.driver = webdriver.Chrome(service=Service(DRIVER), options=options)
@@ -217,7 +218,15 @@ class Browser:
         """Opens the page, and names the agent of this window."""
         self.open(url)
         self.types("#agent", Keys.CONTROL + "a" + Keys.NULL, agent, Keys.ENTER)
-        self.shows("Up to date", "#state")
+        self.is_up_to_date()
+
+    def is_up_to_date(self):
+        """Waits until the page says so, in its language."""
+        wait_until(lambda: self.text("#state") in ("Up to date", "Aktuell"), lambda: f"up to date; it is {self.text('#state')!r}")
+
+    def press_at(self, name):
+        """Clicks the control of this data-f, in whichever language."""
+        self.click_on(f'[data-f="{name}"]:not([aria-disabled])')
 
     def errors(self):
         """What the console has to complain of, except for pages that did not come and refusals."""

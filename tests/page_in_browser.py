@@ -11,6 +11,7 @@ from concurrent.futures import ThreadPoolExecutor
 import page_day
 import page_driving
 import page_foreign
+import page_german
 import page_lost
 import page_office
 import page_rules
@@ -28,6 +29,7 @@ SCENES = {
         page_views.agents_are_apart, page_views.another_file, page_day.by_what_is_held, page_views.filters,
         page_day.begin_in_view, page_day.notes_cover_nothing, page_day.notes_end, page_day.nights_in_words,
         page_day.nothing_is_fetched, page_day.as_table, page_day.printed, page_rules.focus_order, page_rules.first_visit,
+        page_german.in_german, page_german.rules_in_german, page_german.focus_in_german, page_german.other_languages,
         page_office.one_question, page_office.two_windows, page_office.away_by_status, page_office.part_is_barred,
         page_office.turned_away, page_office.not_found, page_office.moved_elsewhere, page_office.signed_out_in_windows,
         page_office.behind_a_password, page_office.signed_in, page_office.other_signed_in,
@@ -68,6 +70,13 @@ def ann_then_bob(scene):
 ann_then_bob.without_agent = True
 
 
+def german(scene):
+    page_german.in_german(scene)
+
+
+german.without_agent, german.languages = True, page_german.GERMAN
+
+
 # what is spoiled; the old and the new text of the page; the scene that finds it, and what it then says
 SPOILED = (
     ("a last step that is like any other", "next === plan.steps.length && h('p'", "next > 24 && h('p'", page_scenes.said_before,
@@ -87,7 +96,7 @@ SPOILED = (
      "what is below a note"),
     ("a note of a step that is gone", "  end('new');\n", "", page_day.notes_end, "the step is removed"),
     ("a note of a journey that went on", "  end(about);\n", "", page_day.notes_end, "it is pressed again"),
-    ("a room that is left on its last night", "long(plus(w.first, w.nights))", "long(plus(w.first, w.nights - 1))",
+    ("a room that is left on its last night", "leaving(plus(w.first, w.nights))", "leaving(plus(w.first, w.nights - 1))",
      page_day.nights_in_words,
      "the plan"),
     ("a number that is drawn as another one", "node.value = node.drawn = String(value)", "node.value = node.drawn = value",
@@ -96,7 +105,7 @@ SPOILED = (
      "Stopped before step 2"),
     ("all steps by an old stock", "  try { await lookAtStock(turn); }", "  try { }", page_scenes.all_steps,
      "Stopped before step 2"),
-    ("all steps without a question", "if (!wait && await sure(`Do all", "if (!wait || await sure(`Do all", page_scenes.all_steps,
+    ("all steps without a question", "if (!wait && await sure(t('doAllSure'", "if (!wait || await sure(t('doAllSure'", page_scenes.all_steps,
      "this did not come"),
     ("news of what stands still", "read.get(name) === now", "read.get(name) === null", page_day.nothing_is_fetched,
      "a look that finds nothing new"),
@@ -146,14 +155,14 @@ SPOILED = (
     ("a focus that is lost once a number was typed", "  isChanging = true;\n", "", page_scenes.by_keys, "the next field"),
     ("an agent for all windows", "kept(session, 'agent', kept(local, 'agent', ''))", "kept(local, 'agent', '')",
      page_scenes.last_place, "each window has its own agent"),
-    ("a refusal without words", "Finished: 'The journey has ended or is undone. It cannot be changed any more.',", "",
+    ("a refusal without words", "  'refused.Finished': [", "  'refused.Other': [",
      page_scenes.refusals_in_words, "Finished is put in words"),
     ("faint words", "--soft: light-dark(#4a5663, #abb7c3);", "--soft: light-dark(#8a96a3, #abb7c3);", page_rules.rules,
      "its words have a contrast"),
     ("faint words in the dark", "--bad: light-dark(#a02c14, #ffa28c);", "--bad: light-dark(#a02c14, #7a3a20);",
      page_rules.rules, "its words have a contrast"),
-    ("a field without a name", "h('option', { value, selected: value === filter[name] }, value)));",
-     "h('option', { value, selected: value === filter[name] }, value))).lastChild;", page_rules.rules,
+    ("a field without a name", "h('option', { value, selected: value === filter[name] }, n ? value : kindText(value))));",
+     "h('option', { value, selected: value === filter[name] }, n ? value : kindText(value)))).lastChild;", page_rules.rules,
      "a combobox has no name"),
     ("a page that is too wide", "main { flex: 1;", "main { flex: 1; min-width: 420px;", page_rules.rules,
      "in a window of 360"),
@@ -201,6 +210,10 @@ SPOILED = (
     ("a page that asks who works where a server says so", "  isKnown = true;\n  if (!given) return;",
      "  isKnown = true;\n  given = '';\n  return;",
      page_office_signed_in, "Agent ann"),
+    ("the last language of a browser", "navigator.languages.find(", "navigator.languages.findLast(", page_german.other_languages,
+     "fr,de-AT,en: the language"),
+    ("dates of one language", "new Intl.DateTimeFormat(TONGUE, {", "new Intl.DateTimeFormat('en-GB', {", german, "the days"),
+    ("a German text in English", "'Als Schritt {0} hinzufügen'", "'Add as step {0}'", german, "a button 'Als Schritt 1 hinzufügen'"),
     ("a list that is left without its plans", "  delete $('list').dataset.key;\n  drawList();\n", "  drawList();\n",
      page_rules.large,
      "the plans"),
@@ -213,7 +226,8 @@ def failure_of(act, spoil=None):
     with tempfile.TemporaryDirectory(dir=os.environ["HOME"], ignore_cleanup_errors=True) as folder:
         scene = None
         try:
-            scene = Scene(folder, spoil, agent="" if getattr(act, "without_agent", False) else "ann")
+            agent = "" if getattr(act, "without_agent", False) else "ann"
+            scene = Scene(folder, spoil, agent, getattr(act, "languages", "en-GB,en"))
             act(scene)
             return ""
         except AssertionError as wrong:

@@ -81,7 +81,7 @@ if (levels.filter(level => level === 1).length !== 1) wrong.push('there is not o
 levels.forEach((level, n) => {
   if (n && level > levels[n - 1] + 1) wrong.push(`a heading of level ${level} follows one of ${levels[n - 1]}`);
 });
-if (document.documentElement.lang !== 'en') wrong.push('the page has no language');
+if (document.documentElement.lang !== navigator.language.slice(0, 2)) wrong.push('the page has another language');
 if (!/ – Desk$/.test(document.title)) wrong.push('the view has no title');
 if (document.querySelector('[tabindex]:not([tabindex="0"]):not([tabindex="-1"])')) wrong.push('an order of the tabulator of its own');
 return [...new Set(wrong)].slice(0, 12);

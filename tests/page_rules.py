@@ -1,4 +1,5 @@
-"""The rules by which everybody can use the page, in light and dark, from 360 to 1,920 pixels; and views that hold much.
+"""The rules by which everybody can use the page, in light and dark, from 360 to 1,920 pixels, in whichever language; and views that
+hold much.
 
 1. Each control, picture, table and region has a name; two controls of a kind in one view do not share one, but for nights.
 2. One heading of the first level; no level is left out; each id once; the page has a language, and each view a title.
@@ -8,6 +9,7 @@
 5. The tabulator comes to each control once, in the order of the page, and one sees where it is; nothing holds it back.
 """
 import os
+import re
 import time
 
 from selenium.webdriver.common.keys import Keys
@@ -40,74 +42,89 @@ def names_of(browser):
             continue
         if not name:
             wrong.append(f"a {role} has no name")
-        elif role in CONTROLS and " free, " not in name:
+        elif role in CONTROLS and not re.search(r" (free|frei), ", name):
             if (role, name) in seen:
                 wrong.append(f"more than one {role} is named {name!r}")
             seen.add((role, name))
     return wrong
 
 
-def look_at(browser, what, widths=(360, 1280, 1920)):
+def settles(browser):
+    """Waits until the page is drawn in its new size; a journey is drawn anew a while after it."""
+    browser.driver.execute_async_script("const done = arguments[0]; requestAnimationFrame(() => requestAnimationFrame(done))")
+    if browser.script("return document.body.dataset.view") == "journey":
+        time.sleep(0.25)
+
+
+def look_at(browser, what, schemes=("dark", "light")):
     """No rule is broken by what is shown."""
     # the browser completes its tree a while after the page
     comes(f"{what}: names", [], lambda: names_of(browser))
-    for scheme in ("dark", "light"):
+    for scheme in schemes:
         browser.scheme(scheme)
-        for width in widths:
+        for width in (360, 1280, 1920):
             browser.size(width, 900)
-            time.sleep(0.25)
+            settles(browser)
             same(f"{what}, {scheme}, {width} pixels", [], browser.script(LOOK))
     browser.size(1280, 900)
 
 
-def rules(scene):
-    """Each view, in each of its forms."""
+def views(scene):
+    """Shows each view in each of its forms, in whichever language, and gives what is shown."""
     browser, desk = scene.browser, scene.desk
-    look_at(browser, "stock")
+    yield "stock"
     scene.chooses("room INN SEA", JUNE[2])
-    look_at(browser, "a night that is chosen")
-    browser.press("Add as step 1")
-    browser.click_on('[data-f="filter.table"]')
+    yield "a night that is chosen"
+    browser.press_at("bar.step")
+    browser.press_at("filter.table")
     browser.one(".grid")
-    look_at(browser, "the stock as a table")
-    browser.click_on('[data-f="filter.table"]')
+    yield "the stock as a table"
+    browser.press_at("filter.table")
+    browser.gives('[data-f="filter.from"]', JUNE[9])
+    yield "the stock of a trip"
+    browser.gives('[data-f="filter.from"]', "")
     scene.chooses("room INN YARD", JUNE[2])
-    look_at(browser, "a night that may become an option")
+    yield "a night that may become an option"
     browser.open(desk.url("#/plan"))
-    look_at(browser, "a plan of one step")
+    yield "a plan of one step"
     browser.types("#line", Keys.CONTROL + "a" + Keys.NULL, LINE, Keys.TAB)
     comes("three steps", 3, lambda: len(browser.all(".step")))
     scene.network.instead = (400, {"cause": "night", "name": "BadPlan", "refused": 5, "step": 2})
-    browser.press("Begin the journey")
+    browser.press_at("begin")
     browser.one(".step.isbad")
-    look_at(browser, "a plan that is refused")
-    browser.press("Clear the new journey")
+    yield "a plan that is refused"
+    browser.press_at("clear")
     browser.one("dialog[open]")
-    look_at(browser, "a question")
+    yield "a question"
     browser.click_on("#sure-no")
-    browser.press("Begin the journey")
-    browser.shows("Journey 1", "#h-one")
-    look_at(browser, "a journey that is begun")
+    browser.press_at("begin")
+    browser.one(".path svg")
+    yield "a journey that is begun"
     for path in ("step", "step", "step", "save", "abort/1"):
         desk.post(f"/journeys/1/{path}", f"rule-{len(desk.history(1))}", "")
     browser.shows("B1a", "ol.items")
-    look_at(browser, "a journey that goes back")
+    yield "a journey that goes back"
     for n in range(3):
         desk.post("/journeys/1/step", f"last-{n}", "")
-    browser.shows("The journey has ended", ".acts")
-    look_at(browser, "a journey that has ended")
+    browser.one("#one .is.ended")
+    yield "a journey that has ended"
     undone = scene.begins(TWO, "undone")
     desk.post(f"/journeys/{undone}/abort/0", "undo", "")
     scene.begins(TWO, "other", 1)
     browser.open(desk.url("#/journeys"))
-    browser.shows("all (3)", "#list")
-    look_at(browser, "the list")
+    comes("three journeys", 3, lambda: len(browser.all("#list tbody tr")))
+    yield "the list"
     scene.desk.kill()
-    browser.shows("The desk cannot be reached", "#away")
-    look_at(browser, "no desk")
+    browser.one("#away p")
+    yield "no desk"
     desk.start()
-    browser.press("Agent ann, change")
-    look_at(browser, "who works here")
+    browser.click_on("#who")
+    yield "who works here"
+
+
+def rules(scene):
+    for what in views(scene):
+        look_at(scene.browser, what)
 
 
 FOCUS = """const a = document.activeElement, style = getComputedStyle(a), box = a.getBoundingClientRect();
@@ -160,7 +177,7 @@ def focus_order(scene):
     browser.size(1280, 900)
     scene.begins(TWO, "focus", 1)
     scene.shows_journey(1)
-    browser.shows("transfer", "#list")
+    browser.shows("X", "#list")
     for width in (1280, 360):
         browser.size(width, 900)
         time.sleep(0.4)
@@ -168,9 +185,9 @@ def focus_order(scene):
     browser.size(1280, 900)
     browser.open(scene.desk.url("#/journeys"))
     browser.driver.refresh()
-    browser.shows("all (1)", "#list")
+    browser.one("#list tbody tr")
     browser.keys(Keys.TAB)
-    wait_until(lambda: browser.focus() == "Skip to the content", "the link that skips comes first")
+    wait_until(lambda: browser.script("return document.activeElement.className") == "skip", "the link that skips comes first")
     browser.keys(Keys.ENTER)
     same("it skips to the content", "main", browser.script("return document.activeElement.id"))
 
@@ -184,7 +201,7 @@ def first_visit(scene):
     comes_to_all(browser, "the first visit")
     browser.driver.switch_to.active_element.click()
     browser.types("#agent", "ann\n")
-    browser.shows("Up to date", "#state")
+    browser.is_up_to_date()
 
 
 first_visit.without_agent = True

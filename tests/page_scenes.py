@@ -45,7 +45,7 @@ TWO = plan(FLIGHT, TRANSFER, saves=(1,))
 class Scene:
     """A desk with places in June, a network, and a browser before both."""
 
-    def __init__(self, folder, spoil=None, agent="ann"):
+    def __init__(self, folder, spoil=None, agent="ann", languages="en-GB,en"):
         self.folder, self.spoil = folder, spoil
         self.desk = Desk(f"{folder}/trips.db")
         self.network = Network(spoil)
@@ -55,7 +55,7 @@ class Scene:
             rows += [f"room,INN,SEA,{night},{0 if night == JUNE[1] else 4}" for night in JUNE[:10]]
             rows += [f"room,INN,YARD,{night},4" for night in JUNE]
             self.desk.load("june", rows)
-            self.browser = Browser(f"{folder}/profile", self.network)
+            self.browser = Browser(f"{folder}/profile", self.network, languages=languages)
             if agent:
                 self.browser.works_as(self.desk.url(), agent)
         except BaseException:
@@ -121,7 +121,7 @@ class Scene:
 
     def shows_journey(self, identity):
         self.browser.open(self.desk.url(f"#/journeys/{identity}"))
-        self.browser.shows(f"Journey {identity}", "#h-one")
+        self.browser.shows(f" {identity}", "#h-one")
         self.browser.one(".path svg")
 
 
@@ -231,7 +231,7 @@ def by_keys(scene):
     tab_to(browser, "room INN YARD 2030-06-01")
     browser.keys_with_shift(Keys.ARROW_RIGHT)
     browser.keys(Keys.ENTER)
-    browser.shows("room INN YARD, Sat 1 Jun 2030, 2 nights, leaving Mon 3 June", "#bar")
+    browser.shows("room INN YARD, Sat, 1 Jun 2030, 2 nights, leaving Mon 3 June", "#bar")
     tab_to(browser, "bar.option")
     browser.keys(Keys.ENTER)
     tab_to(browser, "transfer BUS X 2030-06-01")

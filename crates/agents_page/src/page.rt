@@ -2,7 +2,7 @@
 
 /// What the page may load and do: its own style and script, and requests to the desk that served it.
 pub const POLICY: &str =
-    r#"default-src 'none'; script-src 'sha256-F/A/iVYjD6YdxbO+bPKqtz+sOu6kMOB40PzAg29ARQ0='; style-src 'sha256-VaT9aXyUTPNlmCHucGRWh1t6nHAGW5iN/NXZESOo7OE='; connect-src 'self'; frame-ancestors 'none'; base-uri 'none'; form-action 'none'"#;
+    r#"default-src 'none'; script-src 'sha256-zoYxOIKCfcj1Ml1XDn72yafcI99jPeurmnXonUkjMes='; style-src 'sha256-VaT9aXyUTPNlmCHucGRWh1t6nHAGW5iN/NXZESOo7OE='; connect-src 'self'; frame-ancestors 'none'; base-uri 'none'; form-action 'none'"#;
 
 /// The page, in HTML.
 pub const PAGE: &str = r##"<!doctype html>
@@ -303,13 +303,13 @@ dialog .row { justify-content: flex-end; margin-top: 12px; }
 </style>
 </head>
 <body>
-<a class="skip" href="#main">Skip to the content</a>
+<a class="skip" href="#main" data-text="skip"></a>
 <header>
 <strong class="brand">Desk</strong>
-<nav aria-label="Views" id="nav" hidden>
-<a href="#/stock" data-for="stock">Stock</a>
-<a href="#/plan" data-for="plan">New journey<span id="steps-in-plan"></span></a>
-<a href="#/journeys" data-for="list journey">My journeys<span id="open-ones"></span></a>
+<nav data-label="views" id="nav" hidden>
+<a href="#/stock" data-for="stock" data-text="view.stock"></a>
+<a href="#/plan" data-for="plan"><span data-text="view.plan"></span><span id="steps-in-plan"></span></a>
+<a href="#/journeys" data-for="list journey"><span data-text="view.list"></span><span id="open-ones"></span></a>
 </nav>
 <p id="state" role="status"></p>
 <button id="who" type="button" class="flat" hidden></button>
@@ -319,55 +319,363 @@ dialog .row { justify-content: flex-end; margin-top: 12px; }
 <main id="main" tabindex="-1">
 <h1 id="title" class="unseen" tabindex="-1">Desk</h1>
 <p id="sheet"></p>
-<noscript><p>This page works with its script, which this browser does not run.</p></noscript>
+<noscript><p>This page works with its script, which this browser does not run.</p>
+<p lang="de">Diese Seite braucht ihr Skript, das dieser Browser nicht ausführt.</p></noscript>
 <section id="v-who" aria-labelledby="h-who" hidden>
 <form class="card" id="who-form" novalidate>
-<h2 id="h-who" class="big" tabindex="-1">Who works here?</h2>
-<p>The desk shows you your own journeys and those of nobody else. The name is kept in this browser; another window may work for
-another agent.</p>
-<p><label for="agent">Agent</label></p>
+<h2 id="h-who" class="big" tabindex="-1" data-text="view.who"></h2>
+<p data-text="whoSay"></p>
+<p><label for="agent" data-text="agent"></label></p>
 <div class="row"><input id="agent" maxlength="16" autocomplete="off" autocapitalize="none" spellcheck="false" aria-describedby="agent-form">
-<button class="main">Begin work</button></div>
-<p class="hint" id="agent-form">1 to 16 small letters and digits, such as ann</p>
+<button class="main" data-text="beginWork"></button></div>
+<p class="hint" id="agent-form" data-text="agentForm"></p>
 <div id="known"></div>
 </form>
 </section>
 <div class="desk book" id="book" hidden>
 <section id="v-stock" aria-labelledby="h-stock">
-<h2 id="h-stock" class="big" tabindex="-1">Stock</h2>
+<h2 id="h-stock" class="big" tabindex="-1" data-text="view.stock"></h2>
 <div id="filters"></div>
 <div id="cals" class="cals"></div>
 </section>
 <section id="v-plan" class="card side" aria-labelledby="h-plan">
-<h2 id="h-plan" class="big" tabindex="-1">New journey</h2>
+<h2 id="h-plan" class="big" tabindex="-1" data-text="view.plan"></h2>
 <div id="plan"></div>
 </section>
 </div>
 <div class="desk own" id="own" hidden>
 <section id="v-list" class="card side" aria-labelledby="h-list">
-<h2 id="h-list" class="big" tabindex="-1">My journeys</h2>
+<h2 id="h-list" class="big" tabindex="-1" data-text="view.list"></h2>
 <div id="list"></div>
 </section>
 <section id="v-one" class="card" aria-labelledby="h-one">
-<h2 id="h-one" class="big" tabindex="-1">One journey</h2>
+<h2 id="h-one" class="big" tabindex="-1" data-text="anyJourney"></h2>
 <div id="one"></div>
 </section>
 </div>
 </main>
 <section id="bar" aria-labelledby="h-bar" hidden></section>
-<div id="notes" aria-live="polite" role="log" aria-label="What happened"></div>
+<div id="notes" aria-live="polite" role="log" data-label="happened"></div>
 <dialog id="sure" aria-labelledby="sure-title"><h2 id="sure-title"></h2><p id="sure-text"></p>
-<div class="row"><button type="button" id="sure-no">Leave it</button><button type="button" class="main" id="sure-yes"></button></div></dialog>
+<div class="row"><button type="button" id="sure-no" data-text="leaveIt"></button><button type="button" class="main" id="sure-yes"></button></div></dialog>
 <script>
 'use strict';
 (() => {
-// ---- words, nights, wants
+// ---- words
+
+// each text of the page, in English and in German: {0}, {1} .. are values. Of two forms the first is for one of what {0} counts
+const WORDS = {
+  // views
+  skip: ['Skip to the content', 'Zum Inhalt'],
+  views: ['Views', 'Ansichten'],
+  'view.stock': ['Stock', 'Bestand'],
+  'view.plan': ['New journey', 'Neue Reise'],
+  'view.list': ['My journeys', 'Meine Reisen'],
+  'view.who': ['Who works here?', 'Wer arbeitet hier?'],
+  anyJourney: ['One journey', 'Eine Reise'],
+  journey: ['Journey {0}', 'Reise {0}'],
+  // kinds, nights, places
+  'kind.flight': ['flight', 'Flug'],
+  'kind.room': ['room', 'Zimmer'],
+  'kind.transfer': ['transfer', 'Transfer'],
+  'kind.cover': ['cover', 'Versicherung'],
+  nights: ['{0} night|{0} nights', '{0} Nacht|{0} Nächte'],
+  leaving: ['leaving {0}', 'Abreise {0}'],
+  places: ['{0} place|{0} places', '{0} Platz|{0} Plätze'],
+  products: ['{0} product|{0} products', '{0} Produkt|{0} Produkte'],
+  steps: ['{0} step|{0} steps', '{0} Schritt|{0} Schritte'],
+  // refusals, by the desk's names
+  'refused.BadHead': ['The desk does not take requests from this address. Open it as 127.0.0.1 or localhost.', 'Das Buchungssystem nimmt unter dieser Adresse keine Anfragen an. Öffnen Sie es als 127.0.0.1 oder localhost.'],
+  'refused.NoAgent': ['The desk does not accept this name of an agent.', 'Das Buchungssystem nimmt dieses Kürzel nicht an.'],
+  'refused.NoKey': ['The desk does not accept the key of this request.', 'Das Buchungssystem nimmt den Schlüssel dieser Anfrage nicht an.'],
+  'refused.BadBody': ['The desk cannot read this request.', 'Das Buchungssystem kann diese Anfrage nicht lesen.'],
+  'refused.UnknownPath': ['This desk does not know what was asked for. It may be an older one.', 'Das Buchungssystem kennt nicht, wonach gefragt wurde. Vielleicht ist es älter als diese Seite.'],
+  'refused.WrongMethod': ['This desk does not do what was asked for.', 'Das Buchungssystem tut nicht, was verlangt wurde.'],
+  'refused.NoJourney': ['You have no journey of this number.', 'Sie haben keine Reise mit dieser Nummer.'],
+  'refused.Finished': ['The journey has ended or is undone. It cannot be changed any more.', 'Die Reise ist abgeschlossen oder aufgehoben. Sie kann nicht mehr geändert werden.'],
+  'refused.NoSavePoint': ['The journey cannot turn back to there: no save-point stands there, or it goes back past it already.', 'Die Reise kann nicht dorthin zurück: Dort ist kein Sicherungspunkt, oder sie geht schon weiter zurück.'],
+  'refused.NoSave': ['No save-point can be taken here: one stands here already, or the journey is at its start or on its way back.', 'Hier kann kein Sicherungspunkt gesetzt werden: Es ist schon einer da, oder die Reise ist am Start oder auf dem Rückweg.'],
+  'refused.KeyReused': ['The key of this request was used for another one before. Please do it again.', 'Der Schlüssel dieser Anfrage gehört schon zu einer anderen. Bitte versuchen Sie es noch einmal.'],
+  'refused.TooLarge': ['The request is too large.', 'Die Anfrage ist zu groß.'],
+  'refused.Limit': ['The desk cannot hold any more events.', 'Das Buchungssystem kann keine weiteren Ereignisse aufnehmen.'],
+  'refused.NoLength': ['The request came without its length.', 'Die Anfrage kam ohne ihre Länge an.'],
+  refusedOther: ['The desk refused it: {0}.', 'Das Buchungssystem hat es abgelehnt: {0}.'],
+  refusedPlan: ['The plan is refused: {0}.', 'Der Plan ist abgelehnt: {0}.'],
+  inStep: ['in step {0}, {1}', 'in Schritt {0}, {1}'],
+  'cause.tries': ['the tries are a number from 0 to 9', 'die Versuche sind eine Zahl von 0 bis 9'],
+  'cause.steps': ['a journey has 1 to 24 steps', 'eine Reise hat 1 bis 24 Schritte'],
+  'cause.options': ['a step has 1 to 8 options', 'ein Schritt hat 1 bis 8 Varianten'],
+  'cause.save': ['there is no save-point after the last step', 'nach dem letzten Schritt gibt es keinen Sicherungspunkt'],
+  'cause.shape': ['it is not written as a plan is', 'die Schreibweise ist nicht die eines Plans'],
+  'cause.kind': ['its kind is F, R, T or C', 'als Art gibt es F, R, T und C'],
+  'cause.code': ['a supplier and a product are 1 to 8 of A to Z and 0 to 9', 'Anbieter und Produkt haben 1 bis 8 Zeichen aus A bis Z und 0 bis 9'],
+  'cause.night': ['its first night is no day from 2000 to 2099', 'die erste Nacht ist kein Tag von 2000 bis 2099'],
+  'cause.nights': ['it has too many nights for its kind (a flight or a transfer 1, a room 30, cover 60), or ends after 2099', 'es sind zu viele Nächte für diese Art (Flug und Transfer 1, Zimmer 30, Versicherung 60), oder sie enden nach 2099'],
+  'cause.count': ['it wants 1 to 50 places', 'es sind 1 bis 50 Plätze möglich'],
+  lineEnd: ['A plan line ends with ! and one digit, the tries.', 'Eine Planzeile endet mit ! und einer Ziffer, den Versuchen.'],
+  lineBad: ['A plan line is not read: {0}.', 'Die Planzeile ist nicht lesbar: {0}.'],
+  lineStep: ['Step {0} of the plan line is not read: {1}.', 'Schritt {0} der Planzeile ist nicht lesbar: {1}.'],
+  // who works here
+  whoSay: ['The desk shows you your own journeys and those of nobody else. The name is kept in this browser; another window may work for another agent.', 'Sie sehen Ihre eigenen Reisen und keine anderen. Das Kürzel bleibt in diesem Browser gespeichert; in einem anderen Fenster kann jemand anderes arbeiten.'],
+  agent: ['Agent', 'Kürzel'],
+  agentIs: ['Agent {0}', 'Kürzel {0}'],
+  agentChange: ['Agent {0}, change', 'Kürzel {0}, ändern'],
+  agentForm: ['1 to 16 small letters and digits, such as ann', '1 bis 16 Kleinbuchstaben und Ziffern, zum Beispiel ann'],
+  agentBad: ['An agent is 1 to 16 small letters and digits.', 'Ein Kürzel hat 1 bis 16 Kleinbuchstaben und Ziffern.'],
+  beginWork: ['Begin work', 'Anfangen'],
+  before: ['Worked here before:', 'Hier haben gearbeitet:'],
+  signedIn: ['You are signed in as agent {0} now.', 'Sie sind jetzt als {0} angemeldet.'],
+  // whether the desk is reached
+  looking: ['Looking for the desk', 'Verbindung wird gesucht'],
+  sending: ['Sending', 'Wird gesendet'],
+  sendingNow: ['Sending …', 'Wird gesendet …'],
+  upToDate: ['Up to date', 'Aktuell'],
+  again: ['The desk can be reached again.', 'Das Buchungssystem ist wieder erreichbar.'],
+  old: [' What you see may be old.', ' Was Sie sehen, kann veraltet sein.'],
+  'reach.slow': ['No answer yet', 'Noch keine Antwort'],
+  'reach.away': ['Not reached', 'Nicht erreichbar'],
+  'reach.out': ['Signed out', 'Abgemeldet'],
+  'reach.barred': ['Not allowed', 'Nicht erlaubt'],
+  'reach.gone': ['Not found', 'Nicht gefunden'],
+  'reach.lost': ['Not reached', 'Nicht erreichbar'],
+  'why.slow': ['The desk has not answered yet. If the browser asks for your name and password, sign in.', 'Das Buchungssystem hat noch nicht geantwortet. Wenn der Browser nach Name und Passwort fragt, melden Sie sich an.'],
+  'why.away': ['The desk cannot be reached. This page tries again every two seconds.', 'Das Buchungssystem ist nicht erreichbar. Diese Seite versucht es alle zwei Sekunden wieder.'],
+  'why.out': ['You are signed out. Nothing is sent until you sign in again.', 'Sie sind abgemeldet. Bis Sie sich wieder anmelden, wird nichts gesendet.'],
+  'why.barred': ['The server in front of the desk does not allow you to see this.', 'Der Server vor dem Buchungssystem erlaubt Ihnen nicht, dies zu sehen.'],
+  'why.gone': ['The server in front of the desk does not find it at this address.', 'Der Server vor dem Buchungssystem findet es unter dieser Adresse nicht.'],
+  'why.lost': ['A request got no answer. This page retries it every two seconds.', 'Eine Anfrage blieb ohne Antwort. Diese Seite wiederholt sie alle zwei Sekunden.'],
+  sentThen: ['{0} request will be sent then, and takes effect once: {1}.|{0} requests will be sent then, and each takes effect once: {1}.', '{0} Anfrage wird dann gesendet und wirkt einmal: {1}.|{0} Anfragen werden dann gesendet, und jede wirkt einmal: {1}.'],
+  retried: ['{0} request will be retried, and takes effect once: {1}.|{0} requests will be retried, and each takes effect once: {1}.', '{0} Anfrage wird wiederholt und wirkt einmal: {1}.|{0} Anfragen werden wiederholt, und jede wirkt einmal: {1}.'],
+  sentLater: ['{0} request will be sent once the agent who made it is signed in here again: {1}.|{0} requests will be sent once the agent who made it is signed in here again: {1}.', '{0} Anfrage wird gesendet, sobald hier wieder angemeldet ist, wer sie gestellt hat: {1}.|{0} Anfragen werden gesendet, sobald hier wieder angemeldet ist, wer sie gestellt hat: {1}.'],
+  asideAre: ['Set aside, since the server in front of the desk turned it away: {0}.', 'Zurückgelegt, weil der Server vor dem Buchungssystem es abgewiesen hat: {0}.'],
+  signIn: ['Sign in again', 'Wieder anmelden'],
+  sendAgain: ['Send again', 'Noch einmal senden'],
+  drop: ['Drop', 'Verwerfen'],
+  dropAside: ['Drop what is set aside', 'Das Zurückgelegte verwerfen'],
+  notKept: ['This browser cannot keep the request, so it was not sent. Allow this page to store data, or free some space.', 'Dieser Browser kann die Anfrage nicht speichern, deshalb wurde sie nicht gesendet. Erlauben Sie dieser Seite, Daten zu speichern, oder schaffen Sie Platz.'],
+  // what is said
+  happened: ['What happened', 'Was geschehen ist'],
+  refusedMark: ['Refused. ', 'Abgelehnt. '],
+  close: ['Close', 'Schließen'],
+  closeNote: ['Close: {0}', 'Schließen: {0}'],
+  leaveIt: ['Leave it', 'Abbrechen'],
+  whose: [' (for {0})', ' (für {0})'],
+  restarted: ['Restarted (seen at {0}):{1}', 'Neu gestartet (bemerkt um {0}):{1}'],
+  'did.undone': ['journey {0} was undone', 'Reise {0} wurde aufgehoben'],
+  'did.ended': ['journey {0} has ended', 'Reise {0} ist abgeschlossen'],
+  didSteps: ['step {1} of journey {2} was done|steps {1} of journey {2} were done', 'Schritt {1} von Reise {2} wurde ausgeführt|Schritte {1} von Reise {2} wurden ausgeführt'],
+  hasMoved: ['{0}{1}: not done, since journey {2} has moved since it was shown.', '{0}{1}: nicht ausgeführt, denn Reise {2} hat sich geändert, seit sie angezeigt wurde.'],
+  begun: ['Journey {0} is begun{1}.', 'Reise {0} ist begonnen{1}.'],
+  ofJourney: ['Journey {0}{1}: {2}', 'Reise {0}{1}: {2}'],
+  stopped: ['Journey {0}: {1} Stopped.', 'Reise {0}: {1} Angehalten.'],
+  stoppedAt: ['Journey {0}: {1} Stopped before step {2}, which does not fit now: {3}.', 'Reise {0}: {1} Angehalten vor Schritt {2}, der jetzt nicht passt: {3}.'],
+  'end.ended': [' All steps are done: the journey has ended.', ' Alle Schritte sind ausgeführt: Die Reise ist abgeschlossen.'],
+  'end.undone': [' Nothing is held any more: the journey is undone.', ' Es ist nichts mehr belegt: Die Reise ist aufgehoben.'],
+  'end.run': [' It goes forward again.', ' Sie geht wieder vorwärts.'],
+  'end.there': [' It is there.', ' Sie ist schon dort.'],
+  'end.back': [' Its steps are then given back, one at a time.', ' Ihre Schritte werden dann einzeln zurückgegeben.'],
+  stepDone: ['step {0} is done{1}{2}.{3}', 'Schritt {0} ist ausgeführt{1}{2}.{3}'],
+  stepGiven: ['step {0} is given back{1}.{2}', 'Schritt {0} ist zurückgegeben{1}.{2}'],
+  saveTaken: ['save-point {0} is taken.', 'Sicherungspunkt {0} ist gesetzt.'],
+  withOption: [', with option {0}', ', mit Variante {0}'],
+  turnsSince: ['{0}: it turns back {1}.{2}', '{0}; sie geht zurück {1}.{2}'],
+  'turned.r': ['the step found no place', 'der Schritt fand keinen Platz'],
+  'turned.s': ['the desk was started anew', 'das Buchungssystem wurde neu gestartet'],
+  'turned.a': ['as you asked', 'wie gewünscht'],
+  toSave: ['to save-point {0}', 'zu Sicherungspunkt {0}'],
+  toStart: ['to the start', 'zum Start'],
+  // the stock
+  notAllotted: ['nothing is allotted on {0}', 'kein Kontingent am {0}'],
+  noneFree: ['none free on {0}', 'nichts frei am {0}'],
+  onlyFree: ['only {0} free on {1}', 'nur {0} frei am {1}'],
+  free: ['{0} free', '{0} frei'],
+  freeAt: ['{0} free on {1}, the fullest night', '{0} frei am {1}, der vollsten Nacht'],
+  fitsNow: ['Fits now: {0}', 'Passt jetzt: {0}'],
+  notNow: ['Does not fit now: {0}', 'Passt jetzt nicht: {0}'],
+  shown: ['What is shown', 'Was gezeigt wird'],
+  kind: ['Kind', 'Art'],
+  supplier: ['Supplier', 'Anbieter'],
+  product: ['Product', 'Produkt'],
+  all: ['all', 'alle'],
+  month: ['Month', 'Monat'],
+  monthBefore: ['Month before', 'Monat davor'],
+  monthAfter: ['Month after', 'Monat danach'],
+  table: ['Table', 'Tabelle'],
+  freePlaces: ['Free places', 'Freie Plätze'],
+  from: ['From', 'Von'],
+  to: ['To', 'Bis'],
+  lookingStock: ['Looking at the stock …', 'Der Bestand wird gelesen …'],
+  noPlaces: ['The desk has no places yet. They come with the allotment files of suppliers, which whoever runs the desk loads.', 'Es gibt noch keine Plätze. Sie kommen mit den Kontingenten der Anbieter; wer das Buchungssystem betreibt, lädt sie.'],
+  found: ['{0} free from {1} to {2}: {3}, rooms and cover on each night, others on one of these days. ', '{0} frei vom {1} bis {2}: {3}; Zimmer und Versicherungen in jeder Nacht, anderes an einem dieser Tage. '],
+  inEach: ['In each night: free places of those allotted.', 'In jeder Nacht: freie Plätze vom Kontingent.'],
+  inPart: ['taken in part', 'zum Teil belegt'],
+  full: ['nothing free', 'nichts frei'],
+  others: ['{0} without a night in {1}.', '{0} ohne eine Nacht im {1}.'],
+  freeInMonth: ['{0} place free|{0} places free', '{0} Platz frei|{0} Plätze frei'],
+  nightSaid: ['{0}, {1} of {2} free, {3} % taken', '{0}, {1} von {2} frei, {3} % belegt'],
+  of: ['of {0}', 'von {0}'],
+  // the bar
+  chosen: ['Chosen: ', 'Gewählt: '],
+  nightsField: ['Nights', 'Nächte'],
+  placesField: ['Places', 'Plätze'],
+  addStep: ['Add as step {0}', 'Als Schritt {0} hinzufügen'],
+  addOption: ['Add as an option of', 'Als Variante hinzufügen zu'],
+  addOptionSay: ['Add as an option of the step that is named next', 'Als Variante des Schritts hinzufügen, der danach genannt ist'],
+  intoStep: ['The step that gets the option', 'Der Schritt, der die Variante bekommt'],
+  step: ['step {0}', 'Schritt {0}'],
+  dropChoice: ['Drop the choice', 'Die Auswahl verwerfen'],
+  stepAdded: ['Step {0} of the new journey: {1}.', 'Schritt {0} der neuen Reise: {1}.'],
+  optionAdded: ['Option {0} of step {1}: {2}.', 'Variante {0} von Schritt {1}: {2}.'],
+  optionsMost: ['A step has at most 8 options.', 'Ein Schritt hat höchstens 8 Varianten.'],
+  // the journey that is put together
+  planEmpty: ['Choose a night in the stock, then press “Add as step 1”.', 'Wählen Sie eine Nacht im Bestand und dann „Als Schritt 1 hinzufügen“.'],
+  planHint: ['Each step takes places in one go. A step may have more options, of which the first is tried first, and a save-point after it, to which the journey can come back.', 'Jeder Schritt belegt seine Plätze auf einmal. Er kann mehrere Varianten haben, von denen die erste zuerst versucht wird, und danach einen Sicherungspunkt, zu dem die Reise zurückkommen kann.'],
+  clear: ['Clear', 'Leeren'],
+  clearAll: ['Clear the new journey', 'Die neue Reise leeren'],
+  clearSure: ['Clear the new journey?', 'Die neue Reise leeren?'],
+  clearSay: ['Its {0} step will be dropped here. Nothing was sent to the desk.|Its {0} steps will be dropped here. Nothing was sent to the desk.', 'Ihr {0} Schritt wird hier verworfen. Gesendet wurde nichts.|Ihre {0} Schritte werden hier verworfen. Gesendet wurde nichts.'],
+  clearYes: ['Clear it', 'Leeren'],
+  begin: ['Begin the journey', 'Die Reise beginnen'],
+  beginWhat: ['Begin a journey', 'Eine Reise beginnen'],
+  tries: ['Tries', 'Versuche'],
+  triesNone: ['A step that finds no place leads the journey back to its start.', 'Ein Schritt, der keinen Platz findet, führt die Reise zum Start zurück.'],
+  triesNoSave: ['There is no save-point, so a step that finds no place leads back to the start, whatever the tries.', 'Es gibt keinen Sicherungspunkt: Ein Schritt, der keinen Platz findet, führt zum Start zurück, wie viele Versuche es auch sind.'],
+  triesSay: ['The first step that finds no place leads back to the last save-point, from which the next option is tried; the one after that leads back to the start.|The first {0} steps that find no place lead back to the last save-point, from which the next option is tried; the one after that leads back to the start.', 'Der erste Schritt, der keinen Platz findet, führt zum letzten Sicherungspunkt zurück, von wo die nächste Variante versucht wird; der nächste dann zum Start.|Die ersten {0} Schritte, die keinen Platz finden, führen zum letzten Sicherungspunkt zurück, von wo die nächste Variante versucht wird; der nächste dann zum Start.'],
+  line: ['As a plan line (it can be changed here, or pasted)', 'Als Planzeile (sie kann hier geändert oder eingefügt werden)'],
+  stepHead: ['Step {0}', 'Schritt {0}'],
+  saveAfter: ['Save-point after step {0}', 'Sicherungspunkt nach Schritt {0}'],
+  moveUp: ['Move step {0} up', 'Schritt {0} nach oben'],
+  moveDown: ['Move step {0} down', 'Schritt {0} nach unten'],
+  remove: ['Remove step {0}', 'Schritt {0} entfernen'],
+  badStep: ['The desk refused this step. The message says why.', 'Das Buchungssystem hat diesen Schritt abgelehnt. Die Meldung sagt, warum.'],
+  noSaveBefore: ['Without a save-point before this step, its further options are not tried: a refusal leads to the start.', 'Ohne einen Sicherungspunkt vor diesem Schritt werden seine weiteren Varianten nicht versucht: Findet er keinen Platz, führt das zum Start.'],
+  prefer: ['Prefer option {0} of step {1} to the one before', 'Variante {0} von Schritt {1} weiter nach vorn'],
+  removeOption: ['Remove option {0} of step {1}', 'Variante {0} von Schritt {1} entfernen'],
+  first: ['First', 'Ab'],
+  firstOf: ['First night of option {0} of step {1}', 'Erste Nacht von Variante {0} von Schritt {1}'],
+  nightsOf: ['Nights of option {0} of step {1}', 'Nächte von Variante {0} von Schritt {1}'],
+  placesOf: ['Places of option {0} of step {1}', 'Plätze von Variante {0} von Schritt {1}'],
+  // own journeys
+  'state.run': ['under way', 'in Arbeit'],
+  'state.back': ['going back', 'geht zurück'],
+  'state.ended': ['ended', 'abgeschlossen'],
+  'state.undone': ['undone', 'aufgehoben'],
+  runAt: ['under way, at {0}', 'in Arbeit, bei {0}'],
+  runOf: ['under way, at {0} of {1}', 'in Arbeit, bei {0} von {1}'],
+  backTo: ['going back, {0} to {1}', 'geht zurück, von {0} auf {1}'],
+  nothing: ['nothing', 'nichts'],
+  holds: ['holds {0}', 'belegt: {0}'],
+  'rest.run': ['; to come: {0}', '; es folgt: {0}'],
+  'rest.undone': ['; planned: {0}', '; geplant: {0}'],
+  noJourneys: ['You have no journey yet. Put one together from the stock.', 'Sie haben noch keine Reise. Stellen Sie eine aus dem Bestand zusammen.'],
+  lookingList: ['Looking at your journeys …', 'Ihre Reisen werden gelesen …'],
+  toStock: ['To the stock', 'Zum Bestand'],
+  listShown: ['Which journeys are shown', 'Welche Reisen gezeigt werden'],
+  state: ['State', 'Stand'],
+  seek: ['Number, or what it holds', 'Nummer, oder was belegt ist'],
+  allOf: ['all ({0})', 'alle ({0})'],
+  openOf: ['not finished ({0})', 'nicht fertig ({0})'],
+  noMatch: ['No journey matches.', 'Keine Reise passt dazu.'],
+  journeyHead: ['Journey', 'Reise'],
+  stateHead: ['State, and what it holds', 'Stand, und was belegt ist'],
+  more: ['Show {0} more of {1}', '{0} weitere von {1} zeigen'],
+  // one journey
+  itemDone: ['step {0} done{1}{2}{3}', 'Schritt {0} ausgeführt{1}{2}{3}'],
+  itemWith: [' with option {0}', ' mit Variante {0}'],
+  itemUndone: [', undone later', ', später zurückgegeben'],
+  itemGiven: ['step {0} given back{1}', 'Schritt {0} zurückgegeben{1}'],
+  itemSave: ['save-point taken at {0}', 'Sicherungspunkt gesetzt bei {0}'],
+  itemBack: ['turned back {0}: {1}', 'zurück {0}: {1}'],
+  'back.s': ['the desk was started anew', 'das Buchungssystem wurde neu gestartet'],
+  'back.a': ['as asked', 'wie gewünscht'],
+  backNoPlace: ['no place was found for step {0}{1}', 'kein Platz für Schritt {0}{1}'],
+  notYours: ['{0} has no journey {1}.', '{0} hat keine Reise {1}.'],
+  toJourneys: ['To my journeys', 'Zu meinen Reisen'],
+  lookingOne: ['Looking at the journey …', 'Die Reise wird gelesen …'],
+  saves: ['; save-points: {0}', '; Sicherungspunkte: {0}'],
+  stands: ['steps that stand: {0} of {1}{2}', 'belegte Schritte: {0} von {1}{2}'],
+  pathOf: ['Path of journey {0}, can be scrolled sideways', 'Weg der Reise {0}, lässt sich seitwärts verschieben'],
+  planHead: ['Plan', 'Plan'],
+  triesUsed: ['Tries: {0}, refused so far: {1}. ', 'Versuche: {0}, bisher abgelehnt: {1}. '],
+  useAgain: ['Use as a new journey', 'Als neue Reise verwenden'],
+  nothingYet: ['Nothing yet.', 'Noch nichts.'],
+  nothingEver: ['Nothing happened yet.', 'Noch ist nichts geschehen.'],
+  chooseOne: ['Choose a journey from the list: its path, its plan and what may be done now are shown here.', 'Wählen Sie eine Reise aus der Liste: Hier sehen Sie dann ihren Weg, ihren Plan und was jetzt möglich ist.'],
+  replaceSure: ['Replace the new journey?', 'Die neue Reise ersetzen?'],
+  replaceSay: ['The {0} step that you have put together will be dropped.|The {0} steps that you have put together will be dropped.', 'Der {0} Schritt, den Sie zusammengestellt haben, wird verworfen.|Die {0} Schritte, die Sie zusammengestellt haben, werden verworfen.'],
+  replaceYes: ['Replace them', 'Ersetzen'],
+  'over.ended': ['The journey has ended: all its places stay taken, and it cannot be changed any more.', 'Die Reise ist abgeschlossen: Ihre Plätze bleiben belegt, und sie kann nicht mehr geändert werden.'],
+  'over.undone': ['The journey is undone: it holds nothing, and cannot be changed any more.', 'Die Reise ist aufgehoben: Sie belegt nichts und kann nicht mehr geändert werden.'],
+  may: ['What may be done now', 'Was jetzt möglich ist'],
+  doStep: ['Do step {0}', 'Schritt {0} ausführen'],
+  doStepWhat: ['Step {0} of journey {1}', 'Schritt {0} von Reise {1}'],
+  doAll: ['Do all {0} steps that are left', 'Alle {0} übrigen Schritte ausführen'],
+  doAllSure: ['Do all {0} steps that are left?', 'Alle {0} übrigen Schritte ausführen?'],
+  doAllSay: ['They are done one after another, up to the first one that does not fit{0}. The last one ends the journey, which then cannot be cancelled any more.', 'Sie werden nacheinander ausgeführt, bis zum ersten, der nicht passt{0}. Der letzte schließt die Reise ab; sie kann dann nicht mehr storniert werden.'],
+  doAllBad: [', which is step {0} now', ' (jetzt wäre das Schritt {0})'],
+  doAllYes: ['Do them', 'Ausführen'],
+  giveStep: ['Give back step {0}', 'Schritt {0} zurückgeben'],
+  giveStepWhat: ['Give back step {0} of journey {1}', 'Schritt {0} von Reise {1} zurückgeben'],
+  save: ['Take save-point {0}', 'Sicherungspunkt {0} setzen'],
+  saveWhat: ['Save-point {0} of journey {1}', 'Sicherungspunkt {0} von Reise {1}'],
+  turn: ['Turn back {0}', 'Zurück {0}'],
+  turnWhat: ['Turn journey {0} back {1}', 'Reise {0} zurück {1}'],
+  turnSure: ['Turn journey {0} back {1}?', 'Reise {0} zurück {1}?'],
+  willTake: ['Step {0} will take {1}. ', 'Schritt {0} wird belegen: {1}. '],
+  asItIs: ['As it is now, it would turn the journey back {0}.', 'So wie es jetzt ist, ginge die Reise zurück {0}.'],
+  whereItIs: ['{0}, where it is', '{0}, wo sie schon ist'],
+  undoes: ['to its start{0}, and so undo it. An undone journey cannot be begun again', 'zum Start{0}, und wäre damit aufgehoben. Eine aufgehobene Reise kann nicht wieder begonnen werden'],
+  noTries: [', since no tries are left', ', weil kein Versuch übrig ist'],
+  lastStep: ['This is the last step. Once it has its places, the journey has ended, and cannot be cancelled any more.', 'Dies ist der letzte Schritt. Hat er seine Plätze, ist die Reise abgeschlossen und kann nicht mehr storniert werden.'],
+  goesBack: ['The journey goes back {0}. Its places are held until each step is given back.', 'Die Reise geht zurück {0}. Ihre Plätze bleiben belegt, bis jeder Schritt zurückgegeben ist.'],
+  toItsStart: ['to its start', 'zum Start'],
+  givenThen: ['{0} step will then be given back|{0} steps will then be given back, one at a time', '{0} Schritt wird dann zurückgegeben|{0} Schritte werden dann einzeln zurückgegeben'],
+  turnUndo: ['{0}, and the journey will be undone. It cannot be begun again.', '{0}, und die Reise wird aufgehoben. Sie kann nicht wieder begonnen werden.'],
+  turnEmpty: ['It has done nothing yet, and the journey will be undone. It cannot be begun again.', 'Es ist noch nichts geschehen, und die Reise wird aufgehoben. Sie kann nicht wieder begonnen werden.'],
+  turnOn: ['{0}. From there it goes forward again.', '{0}. Von dort geht sie wieder vorwärts.'],
+  turnHere: ['The journey is there. Nothing is given back.', 'Die Reise ist schon dort. Es wird nichts zurückgegeben.'],
+  'plan.done': [' stands', ' belegt'],
+  'plan.next': [' comes next', ' kommt als nächster'],
+  'plan.undone': [' undone', ' zurückgegeben'],
+  'plan.never': [' not done', ' nicht ausgeführt'],
+  'plan.ahead': [' to come', ' folgt noch'],
+  saveIs: [', save-point after it', ', danach ein Sicherungspunkt'],
+  saveThen: [', a save-point once it is done', ', nach der Ausführung ein Sicherungspunkt'],
+  taken: [' – taken', ' – belegt'],
+  triedNext: [' – tried next', ' – wird als nächste versucht'],
+  'sign.stands': ['done, and stands', 'ausgeführt und belegt'],
+  'sign.gone': ['done, and undone later', 'ausgeführt, später zurückgegeben'],
+  'sign.down': ['given back', 'zurückgegeben'],
+  'sign.turning': ['turned back', 'umgekehrt'],
+  'sign.safe': ['save-point', 'Sicherungspunkt'],
+  'sign.ahead': ['to come', 'folgt noch'],
+  start: ['start', 'Start'],
+  'path.C': ['given back', 'zurück'],
+  'path.S': ['saved', 'gesichert'],
+  'path.r': ['no place', 'kein Platz'],
+  'path.s': ['restart', 'Neustart'],
+  'path.a': ['asked', 'gewünscht'],
+  next: ['next', 'danach'],
+  nextIs: ['next: {0}', 'als nächstes: {0}'],
+  here: ['here', 'hier'],
+  pathTitle: ['The path of journey {0}: {1}', 'Der Weg der Reise {0}: {1}'],
+};
+// the first language of the browser that the table has; dates and numbers are as it writes them
+const TONGUE = navigator.languages.find(one => /^(en|de)(-|$)/i.test(one)) || 'en-GB', COLUMN = +/^de/i.test(TONGUE);
+// t(name, ..): the text of this name, with these values
+function t(name, ...values) {
+  const [one, many = one] = WORDS[name][COLUMN].split('|');
+  return (values[0] === 1 ? one : many).replace(/\{(\d)\}/g, (_, n) => one !== many && n === '0' ? values[0].toLocaleString(TONGUE) : values[n]);
+}
+document.documentElement.lang = ['en', 'de'][COLUMN];
+for (const one of document.querySelectorAll('[data-text]')) one.textContent = t(one.dataset.text);
+for (const one of document.querySelectorAll('[data-label]')) one.ariaLabel = t(one.dataset.label);
+
+// ---- nights, wants
 
 const KINDS = ['flight', 'room', 'transfer', 'cover'];
 const MOST = { flight: 1, room: 30, transfer: 1, cover: 60 };
 const LETTER = { flight: 'F', room: 'R', transfer: 'T', cover: 'C' };
-const MONTHS = 'January February March April May June July August September October November December'.split(' ');
-const DAYS = 'Monday Tuesday Wednesday Thursday Friday Saturday Sunday'.split(' ');
 const FIRST = '2000-01-01', LAST = '2099-12-31';
 const SLOW = 15000, PATIENCE = 120000, NEWS = 4000, AGAIN = 2000, PAGE = 100, ROWS = 50;
 // the address of the desk names the origin, since a browser takes no relative one where a name and a password stand in its own
@@ -378,57 +686,40 @@ const MARK = FOLDER === '/' ? 'desk.' : `desk${FOLDER}.`;
 const $ = id => document.getElementById(id);
 const night = time => new Date(time).toISOString().slice(0, 10);
 const plus = (from, days) => night(Date.parse(from) + days * 864e5);
-const monthText = month => `${MONTHS[month.slice(5, 7) - 1]} ${month.slice(0, 4)}`;
-const long = n => `${+n.slice(8)} ${monthText(n)}`;
-const short = n => `${+n.slice(8)} ${MONTHS[n.slice(5, 7) - 1].slice(0, 3)} ${n.slice(0, 4)}`;
-const count = (n, one) => `${n.toLocaleString('en')} ${one}${n === 1 ? '' : 's'}`;
+// dated(..): how the language writes a night, or a month; of what each part has
+const dated = (weekday, day, month, year) => {
+  const form = new Intl.DateTimeFormat(TONGUE, { timeZone: 'UTC', weekday, day, month, year });
+  return when => form.format(new Date(when));
+};
+const NO = undefined, FULL = 'numeric';
+const monthText = dated(NO, NO, 'long', FULL), long = dated(NO, FULL, 'long', FULL), short = dated(NO, FULL, 'short', FULL);
+const dayText = dated('short', FULL, 'long', FULL), shortDay = dated('short', FULL, 'short', FULL), leaving = dated('short', FULL, 'long');
+const weekday = dated('long'), weekdays = dated('short'), inWeek = when => weekdays(when).slice(0, 2);
 const productOf = w => `${w.kind} ${w.supplier} ${w.product}`;
-const weekday = n => DAYS[(new Date(n).getUTCDay() + 6) % 7].slice(0, 3);
-// spanOf(want): its first night, how many, and when a room is left
-const spanOf = w => short(w.first) + (w.nights > 1 || w.kind === 'room' ? `, ${count(w.nights, 'night')}` : '')
-  + (w.kind === 'room' ? `, leaving ${weekday(plus(w.first, w.nights))} ${long(plus(w.first, w.nights)).slice(0, -5)}` : '');
-const wantText = w => `${productOf(w)}, ${spanOf(w)}, ${count(w.count, 'place')}`;
+const kindText = kind => t('kind.' + kind);
+// spanOf(want, dayOf): its first night, how many, and when a room is left
+const spanOf = (w, dayOf = short) => dayOf(w.first) + (w.nights > 1 || w.kind === 'room' ? `, ${t('nights', w.nights)}` : '')
+  + (w.kind === 'room' ? `, ${t('leaving', leaving(plus(w.first, w.nights)))}` : '');
+const wantText = w => `${kindText(w.kind)} ${w.supplier} ${w.product}, ${spanOf(w)}, ${t('places', w.count)}`;
 const optionText = w => [LETTER[w.kind], w.supplier, w.product, w.first, w.nights, w.count].join('/');
 const planLine = plan => plan.steps.map(
   step => step.options.map(optionText).join('|') + (step.save ? '*' : '')
 ).join(';') + '!' + plan.tries;
 
-const CAUSES = {
-  tries: 'the tries are a number from 0 to 9', steps: 'a journey has 1 to 24 steps', options: 'a step has 1 to 8 options',
-  save: 'there is no save-point after the last step', shape: 'it is not written as a plan is', kind: 'its kind is F, R, T or C',
-  code: 'a supplier and a product are 1 to 8 of A to Z and 0 to 9', night: 'its first night is no day from 2000 to 2099',
-  nights: 'it has too many nights for its kind (a flight or a transfer 1, a room 30, cover 60), or ends after 2099',
-  count: 'it wants 1 to 50 places',
-};
-const REFUSALS = {
-  BadHead: 'The desk does not take requests from this address. Open it as 127.0.0.1 or localhost.',
-  NoAgent: 'The desk does not accept this name of an agent.',
-  NoKey: 'The desk does not accept the key of this request.',
-  BadBody: 'The desk cannot read this request.',
-  UnknownPath: 'This desk does not know what was asked for. It may be an older one.',
-  WrongMethod: 'This desk does not do what was asked for.',
-  NoJourney: 'You have no journey of this number.',
-  Finished: 'The journey has ended or is undone. It cannot be changed any more.',
-  NoSavePoint: 'The journey cannot turn back to there: no save-point stands there, or it goes back past it already.',
-  NoSave: 'No save-point can be taken here: one stands here already, or the journey is at its start or on its way back.',
-  KeyReused: 'The key of this request was used for another one before. Please do it again.',
-  TooLarge: 'The request is too large.',
-  Limit: 'The desk cannot hold any more events.',
-  NoLength: 'The request came without its length.',
-};
-const refusalText = page => page.name === 'BadPlan'
-  ? `The plan is refused: ${page.step ? `in step ${page.step}, ` : ''}${CAUSES[page.cause] || page.cause}.`
-  : REFUSALS[page.name] || `The desk refused it: ${page.name}.`;
+const causeText = cause => WORDS['cause.' + cause] ? t('cause.' + cause) : cause;
+const refusalText = ({ name, step, cause }) => name === 'BadPlan'
+  ? t('refusedPlan', step ? t('inStep', step, causeText(cause)) : causeText(cause))
+  : WORDS['refused.' + name] ? t('refused.' + name) : t('refusedOther', name);
 
 // readLine(text): the plan of a plan line; throws words where it is none
 function readLine(text) {
   const found = /^(.*)!([0-9])$/.exec(text.trim());
-  if (!found) throw 'A plan line ends with ! and one digit, the tries.';
+  if (!found) throw t('lineEnd');
   const parts = found[1].split(';');
-  if (parts.length > 24) throw `A plan line is not read: ${CAUSES.steps}.`;
+  if (parts.length > 24) throw t('lineBad', causeText('steps'));
   const steps = parts.map((part, at) => {
     const save = part.endsWith('*');
-    const fail = cause => { throw `Step ${at + 1} of the plan line is not read: ${CAUSES[cause]}.`; };
+    const fail = cause => { throw t('lineStep', at + 1, causeText(cause)); };
     if (save && at === parts.length - 1) fail('save');
     const options = (save ? part.slice(0, -1) : part).split('|').map(one => {
       const words = one.split('/'), [letter, supplier, product, first, nights, places] = words;
@@ -472,7 +763,7 @@ const wholeField = (word, f, low, high, value, set, props) => h('label', {}, wor
     set(+target.value);
   },
 }));
-const product = w => [h('span', { class: 'kind ' + w.kind }, w.kind), ` ${w.supplier} ${w.product}`];
+const product = w => [h('span', { class: 'kind ' + w.kind }, kindText(w.kind)), ` ${w.supplier} ${w.product}`];
 
 // nothing is drawn anew between the press of a button and its release, which has to find it, nor while a field tells its change and the
 // focus is on its way. A press that is never released holds nothing back for long
@@ -608,7 +899,7 @@ async function identify() {
     agent = given;
     keep(session, 'agent', agent);
     startAgent();
-    if (isOther) say('warn', `You are signed in as agent ${given} now.`, 'who');
+    if (isOther) say('warn', t('signedIn', given), 'who');
   }
   if (given !== was) { route(true); flush(); }
 }
@@ -755,11 +1046,11 @@ function tellRestart(id, history, where, known = history, isAnew = false) {
   if (at < 0 ? !isAnew : known !== history && known.some(isRestart)) return false;
   const stood = standing(at < 0 ? known : history.slice(0, at));
   const done = standing(history).filter(item => !stood.includes(item)).map(item => item.slice(1).split('.')[0]);
-  const { did, time } = told.find(note => note.of === 'restart') || { did: new Map(), time: new Date().toTimeString().slice(0, 5) };
-  did.set(id, where.state === 'undone' ? `journey ${id} was undone` : !done[0] ? `journey ${id} has ended`
-    : `step${done[1] ? 's' : ''} ${new Intl.ListFormat('en-GB').format(done)} of journey ${id} ${done[1] ? 'were' : 'was'} done`);
+  const { did, time } = told.find(note => note.of === 'restart') || { did: new Map(), time: new Date().toLocaleTimeString(TONGUE, { timeStyle: 'short' }) };
+  did.set(id, where.state === 'undone' || !done[0] ? t('did.' + where.state, id)
+    : t('didSteps', done.length, new Intl.ListFormat(TONGUE).format(done), id));
   const lines = [...did].sort(([a], [b]) => a - b).map(([, text]) => '\n' + text);
-  Object.assign(say('warn', `Restarted (seen at ${time}):${lines.join('')}`, 'restart'), { did, time });
+  Object.assign(say('warn', t('restarted', time, lines.join('')), 'restart'), { did, time });
   return true;
 }
 // wasRestarted(request): the same of the journey that it is about, as it was shown when it was made
@@ -831,7 +1122,7 @@ async function send(path, body, what, about, seen, all) {
   await named;
   const request = { key: newKey(), tab, at: Date.now(), turn: sent++, agent, path, body, what, about, seen, all };
   if (!keep(local, 'post.' + request.key, request)) {
-    say('bad', 'This browser cannot keep the request, so it was not sent. Allow this page to store data, or free some space.', about);
+    say('bad', t('notKept'), about);
     return;
   }
   draw();
@@ -904,16 +1195,16 @@ async function pageOf(request) {
 
 // hear(request, page, isTold): what the desk answered; with `isTold`, what became of it is told
 function hear(request, page, isTold) {
-  const isOwn = request.agent === agent, whose = isOwn ? '' : ` (for ${request.agent})`;
+  const isOwn = request.agent === agent, whose = isOwn ? '' : t('whose', request.agent);
   if (isOwn && request.seen !== undefined) settling.set(request.about, request.key);
   if (isTold) { draw(); look(); return; }
   if (!page) {
-    say('warn', `${request.what}${whose}: not done, since journey ${request.about} has moved since it was shown.`, request.about);
+    say('warn', t('hasMoved', request.what, whose, request.about), request.about);
   } else if (page.refused) {
     if (isOwn && request.about === 'new' && page.step) badStep = page.step;
     say('bad', `${request.what}${whose}: ${refusalText(page)}`, request.about);
   } else if (request.about === 'new') {
-    say('good', `Journey ${page.journey} is begun${whose}.`, page.journey);
+    say('good', t('begun', page.journey, whose), page.journey);
     if (isOwn) {
       own.set(page.journey, { journey: page.journey, pos: 0, state: 'run' });
       if (request.body === JSON.stringify(draft)) setDraft({ steps: [], tries: draft.tries });
@@ -921,7 +1212,7 @@ function hear(request, page, isTold) {
     }
   } else {
     const plan = plans.get(page.journey), { word, text } = itemSaid(page, isOwn ? plan : null);
-    say(word, `Journey ${page.journey}${whose}: ${text}`, page.journey);
+    say(word, t('ofJourney', page.journey, whose, text), page.journey);
     if (request.all && page.state !== 'ended') goOn(request, page, text);
   }
   draw();
@@ -933,27 +1224,20 @@ async function goOn({ about, seen, agent: whose, tab: of }, { item, pos }, text)
   try { await lookAtStock(turn); } catch { /* by the stock that is known */ }
   const plan = whose === agent && of === tab && item[0] === 'T' && plans.get(about), history = seen ? [seen, item] : [item];
   const { is, why } = plan ? fits(optionAt(plan, pos + 1, walk(history.join().split(','), plan).used)) : {};
-  if (is) send(`/journeys/${about}/step`, '', `Step ${pos + 1} of journey ${about}`, about, history.join(), true);
-  else say('warn', `Journey ${about}: ${text} Stopped${why ? ` before step ${pos + 1}, which does not fit now: ${why}` : ''}.`, about);
+  if (is) send(`/journeys/${about}/step`, '', t('doStepWhat', pos + 1, about), about, history.join(), true);
+  else say('warn', why ? t('stoppedAt', about, text, pos + 1, why) : t('stopped', about, text), about);
 }
 
 function itemSaid({ item, state, target }, plan) {
   const [, letter, a, b] = /^([TCBS])(\d+)\.?(\w*)$/.exec(item);
   const want = plan && plan.steps[a - 1] && plan.steps[a - 1].options[b - 1];
-  const of = want ? ` (${wantText(want)})` : '', to = +a ? `save-point ${a}` : 'the start';
-  const end = {
-    ended: ' All steps are done: the journey has ended.', undone: ' Nothing is held any more: the journey is undone.'
-  }[state] || '';
-  if (letter === 'T') return { word: 'good', text: `step ${a} is done${b > 1 ? `, with option ${b}` : ''}${of}.${end}` };
-  if (letter === 'C') return {
-    word: 'good', text: `step ${a} is given back${of}.${end || (state === 'run' ? ' It goes forward again.' : '')}`
-  };
-  if (letter === 'S') return { word: 'good', text: `save-point ${a} is taken.` };
-  const cause = { r: 'the step found no place', s: 'the desk was started anew', a: 'as you asked' }[b];
-  return {
-    word: b === 'a' ? 'good' : 'warn',
-    text: `${cause}: it turns back to ${to}.${end || (target === undefined ? ' It is there.' : ' Its steps are then given back, one at a time.')}`
-  };
+  const of = want ? ` (${wantText(want)})` : '', isOver = state === 'ended' || state === 'undone';
+  const end = is => isOver ? t('end.' + state) : is ? t('end.' + is) : '';
+  if (letter === 'T') return { word: 'good', text: t('stepDone', a, b > 1 ? t('withOption', b) : '', of, end()) };
+  if (letter === 'C') return { word: 'good', text: t('stepGiven', a, of, end(state === 'run' && state)) };
+  if (letter === 'S') return { word: 'good', text: t('saveTaken', a) };
+  const to = +a ? t('toSave', a) : t('toStart');
+  return { word: b === 'a' ? 'good' : 'warn', text: t('turnsSince', t('turned.' + b), to, end(target === undefined ? 'there' : 'back')) };
 }
 
 // ---- what is said
@@ -963,8 +1247,8 @@ const told = [];
 function say(word, text, of) {
   end(of);
   while (told.length > 2) drop(told[+(told[0].of === 'restart')]);
-  const note = { of, node: h('div', { class: 'note is' + word }, h('p', {}, word === 'bad' ? h('strong', {}, 'Refused. ') : '', text),
-    button('Close', '', () => drop(note), { class: 'flat', 'aria-label': `Close: ${text}` })) };
+  const note = { of, node: h('div', { class: 'note is' + word }, h('p', {}, word === 'bad' ? h('strong', {}, t('refusedMark')) : '', text),
+    button(t('close'), '', () => drop(note), { class: 'flat', 'aria-label': t('closeNote', text) })) };
   told.push(note);
   $('notes').append(note.node);
   if (word === 'good') setTimeout(() => drop(note), 9000);
@@ -986,7 +1270,7 @@ function isReached(now) {
   if (reached === now || reached === 'out') return;
   const was = reached;
   reached = now;
-  if (now === 'here' && was) { say('good', 'The desk can be reached again.', 'reach'); look(); }
+  if (now === 'here' && was) { say('good', t('again'), 'reach'); look(); }
   if (now !== 'here') end('reach');
 }
 // isSignedIn(): this page was loaded, here or in another window, so the browser is signed in
@@ -996,38 +1280,25 @@ function isSignedIn() {
   flush();
 }
 
-const OLD = ' What you see may be old.';
-const REACH = {
-  slow: ['No answer yet', 'The desk has not answered yet. If the browser asks for your name and password, sign in.'],
-  away: ['Not reached', 'The desk cannot be reached. This page tries again every two seconds.', OLD],
-  out: ['Signed out', 'You are signed out. Nothing is sent until you sign in again.', OLD],
-  barred: ['Not allowed', 'The server in front of the desk does not allow you to see this.', OLD],
-  gone: ['Not found', 'The server in front of the desk does not find it at this address.', OLD],
-  lost: ['Not reached', 'A request got no answer. This page retries it every two seconds.'],
-};
 function drawState() {
   const all = waiting().filter(one => one.tab === tab || one.agent === agent), list = all.filter(isDue);
   const aside = all.filter(one => one.aside), isOut = reached === 'out';
   const others = waiting().filter(one => given && one.agent !== given);
   const is = reached === 'barred' && status === 404 ? 'gone'
     : (!reached || reached === 'here') && isLost && list.length ? 'lost' : reached;
-  const [word, what, old = ''] = REACH[is] || [];
-  $('state').className = word ? 'off' : '';
-  const text = word || (!agent ? '' : !reached ? 'Looking for the desk' : list.length ? 'Sending' : 'Up to date');
+  const isOff = is && is !== 'here', isSlow = is === 'slow' || is === 'lost';
+  $('state').className = isOff ? 'off' : '';
+  const text = isOff ? t('reach.' + is) : !agent ? '' : t(!reached ? 'looking' : list.length ? 'sending' : 'upToDate');
   if ($('state').textContent !== text) $('state').textContent = text;
   $('state').hidden = !text;
   const lines = [
-    what && what + old,
-    what && list.length
-      && `${count(list.length, 'request')} will be ${isOut ? 'sent then' : 'retried'}, and ${list.length === 1 ? 'takes' : 'each takes'} effect once: `
-      + list.map(one => one.what).join('; ') + '.',
-    isOut && button('Sign in again', 'in', () => location.reload()),
-    others.length && `${count(others.length, 'request')} will be sent once the agent who made it is signed in here again: `
-      + others.map(one => `${one.what} (${one.agent})`).join('; ') + '.',
-    aside.length && 'Set aside, since the server in front of the desk turned it away: '
-      + aside.map(one => `${one.what} (${one.aside})`).join('; ') + '.',
-    aside.length && h('span', { class: 'row' }, button('Send again', 'aside.send', () => resume(aside)),
-      button('Drop', 'aside.drop', () => resume(aside, true), { 'aria-label': 'Drop what is set aside' })),
+    isOff && t('why.' + is) + (isSlow ? '' : t('old')),
+    isOff && list.length && t(isOut ? 'sentThen' : 'retried', list.length, list.map(one => one.what).join('; ')),
+    isOut && button(t('signIn'), 'in', () => location.reload()),
+    others.length && t('sentLater', others.length, others.map(one => `${one.what} (${one.agent})`).join('; ')),
+    aside.length && t('asideAre', aside.map(one => `${one.what} (${one.aside})`).join('; ')),
+    aside.length && h('span', { class: 'row' }, button(t('sendAgain'), 'aside.send', () => resume(aside)),
+      button(t('drop'), 'aside.drop', () => resume(aside, true), { 'aria-label': t('dropAside') })),
   ].filter(Boolean);
   const away = $('away'), key = lines.map(one => one.textContent || one).join();
   if (!isDrawn(away, key)) paint(away, lines.map(one => h('p', {}, one)));
@@ -1080,7 +1351,7 @@ function startAgent() {
 function drawWho() {
   const known = kept(local, 'agents', []);
   paint($('known'), known.length && [
-    h('p', { class: 'soft' }, 'Worked here before:'),
+    h('p', { class: 'soft' }, t('before')),
     h('div', { class: 'row' }, known.map(name => button(name, 'known.' + name, () => setAgent(name)))),
   ]);
 }
@@ -1089,7 +1360,7 @@ $('who-form').addEventListener('submit', event => {
   const name = $('agent').value.trim();
   if (/^[a-z0-9]{1,16}$/.test(name)) { $('agent').removeAttribute('aria-invalid'); setAgent(name); return; }
   $('agent').setAttribute('aria-invalid', 'true');
-  say('bad', 'An agent is 1 to 16 small letters and digits.', 'who');
+  say('bad', t('agentBad'), 'who');
   $('agent').focus();
 });
 
@@ -1102,15 +1373,15 @@ function fits(want) {
   let least = Infinity, at = '';
   for (let n = 0; n < want.nights; n++) {
     const when = plus(want.first, n), cell = stock.get(productOf(want))?.nights.get(when);
-    if (!cell) return { is: false, why: `nothing is allotted on ${short(when)}` };
-    if (cell.free < want.count) return { is: false, why: `${cell.free ? `only ${cell.free}` : 'none'} free on ${short(when)}` };
+    if (!cell) return { is: false, why: t('notAllotted', short(when)) };
+    if (cell.free < want.count) return { is: false, why: cell.free ? t('onlyFree', cell.free, short(when)) : t('noneFree', short(when)) };
     if (cell.free < least) { least = cell.free; at = when; }
   }
-  return { is: true, why: `${least} free${want.nights > 1 ? ` on ${short(at)}, the fullest night` : ''}` };
+  return { is: true, why: want.nights > 1 ? t('freeAt', least, short(at)) : t('free', least) };
 }
 const fitText = want => {
   const { is, why } = fits(want);
-  return h('span', { class: is ? 'good' : 'bad' }, `${is ? 'Fits now' : 'Does not fit now'}: ${why}`);
+  return h('span', { class: is ? 'good' : 'bad' }, t(is ? 'fitsNow' : 'notNow', why));
 };
 
 const NAMES = ['kind', 'supplier', 'product'];
@@ -1142,21 +1413,21 @@ function drawFilters() {
   if (isDrawn($('filters'), key)) return;
   const field = (word, name, tag, props, ...kids) => h('label', {}, word, h(tag, { 'data-f': 'filter.' + name, ...props }, kids));
   const set = name => ({ target }) => setFilter({ [name]: target.type === 'checkbox' ? target.checked : target.value });
-  const pick = (name, n) => field(name[0].toUpperCase() + name.slice(1), name, 'select', { onchange: set(name) },
-    h('option', { value: '', selected: !filter[name] }, 'all'),
-    values[n].map(value => h('option', { value, selected: value === filter[name] }, value)));
-  const day = (word, name) => field(word, name, 'input', { type: 'date', min: FIRST, max: LAST, value: filter[name] || '', onchange: set(name) });
+  const pick = (name, n) => field(t(name), name, 'select', { onchange: set(name) },
+    h('option', { value: '', selected: !filter[name] }, t('all')),
+    values[n].map(value => h('option', { value, selected: value === filter[name] }, n ? value : kindText(value))));
+  const dayField = name => field(t(name), name, 'input', { type: 'date', min: FIRST, max: LAST, value: filter[name] || '', onchange: set(name) });
   const move = (by, word, sign) => button(sign, 'month' + by, () => months[at + by] && setFilter({ month: months[at + by] }),
     { class: 'sign', 'aria-label': word, 'aria-disabled': !months[at + by] && 'true' });
-  paint($('filters'), h('div', { class: 'tools', role: 'group', 'aria-label': 'What is shown' },
-    h('div', { class: 'turn' }, move(-1, 'Month before', '‹'),
-      h('label', {}, 'Month', h('select', { 'data-f': 'month', onchange: set('month') },
+  paint($('filters'), h('div', { class: 'tools', role: 'group', 'aria-label': t('shown') },
+    h('div', { class: 'turn' }, move(-1, t('monthBefore'), '‹'),
+      h('label', {}, t('month'), h('select', { 'data-f': 'month', onchange: set('month') },
         months.map(month => h('option', { value: month, selected: month === filter.month }, monthText(month))))),
-      move(1, 'Month after', '›')),
+      move(1, t('monthAfter'), '›')),
     NAMES.map(pick),
-    field('Table', 'table', 'input', { type: 'checkbox', checked: filter.table, onchange: set('table') }),
-    h('div', { class: 'row' }, wholeField('Free places', 'filter.places', 1, 50, filter.places, places => setFilter({ places })),
-      day('From', 'from'), day('To', 'to'))));
+    field(t('table'), 'table', 'input', { type: 'checkbox', checked: filter.table, onchange: set('table') }),
+    h('div', { class: 'row' }, wholeField(t('freePlaces'), 'filter.places', 1, 50, filter.places, places => setFilter({ places })),
+      dayField('from'), dayField('to'))));
 }
 
 // settleFilter(): the filter names what there is
@@ -1175,26 +1446,25 @@ function drawStock() {
   if (stockText === null || !stock.size) {
     $('filters').replaceChildren();
     delete $('filters').dataset.key;
-    $('cals').replaceChildren(h('p', {}, stockText === null ? 'Looking at the stock …'
-      : 'The desk has no places yet. They come with the allotment files of suppliers, which whoever runs the desk loads.'));
+    $('cals').replaceChildren(h('p', {}, t(stockText === null ? 'lookingStock' : 'noPlaces')));
     return;
   }
   settleFilter();
   drawFilters();
-  const shown = [...stock.values()].filter(one => isShown(one) && isFree(one)), dayOf = name => `${weekday(filter[name])} ${long(filter[name])}`;
+  const shown = [...stock.values()].filter(one => isShown(one) && isFree(one));
   const inMonth = shown.map(one => ({ one, nights: [...one.nights].filter(([when]) => when.startsWith(filter.month)) }))
     .filter(({ nights }) => nights.length);
   const old = new Map([...$('cals').children].map(card => [card.dataset.key, card]));
-  const said = (filter.from ? `${count(filter.places, 'place')} free from ${dayOf('from')} to ${dayOf('to')}: `
-    + `${count(shown.length, 'product')}, rooms and cover on each night, others on one of these days. ` : '') + 'In each night: free places of those allotted.';
-  const cards = [h('p', { class: 'key', 'data-key': said }, said, h('span', {}, h('i', { class: 'half' }), 'taken in part'),
-    h('span', {}, h('i', { class: 'isfull' }), 'nothing free'))];
+  const { from, to } = filter;
+  const said = (from ? t('found', t('places', filter.places), dayText(from), dayText(to), t('products', shown.length)) : '') + t('inEach');
+  const cards = [h('p', { class: 'key', 'data-key': said }, said, h('span', {}, h('i', { class: 'half' }), t('inPart')),
+    h('span', {}, h('i', { class: 'isfull' }), t('full')))];
   const add = (key, make) => cards.push(old.get(key) || make(key));
   if (filter.table && inMonth.length) add('table' + filter.month + JSON.stringify(inMonth), key => denseTable(inMonth, key));
   else inMonth.forEach(({ one, nights }) => add(productOf(one) + filter.month + JSON.stringify(nights), key => calendar(one, nights, key)));
   const others = shown.length - inMonth.length;
   if (others) cards.push(h('p', { class: 'soft', 'data-key': 'others' + others },
-    `${count(others, 'product')} without a night in ${monthText(filter.month)}.`));
+    t('others', t('products', others), monthText(filter.month))));
   cards[0] = old.get(said) || cards[0];
   const now = [...$('cals').children];
   if (cards.length !== now.length || cards.some((card, n) => card !== now[n])) {
@@ -1210,8 +1480,8 @@ function drawStock() {
 const daysIn = month => [...Array(new Date(Date.UTC(month.slice(0, 4), month.slice(5), 0)).getUTCDate()).keys()].map(n => plus(month + '-01', n));
 // denseTable(all, key): products by nights of the month
 const denseTable = (all, key) => h('div', { class: 'card grid', 'data-key': key },
-  h('table', { role: 'grid', 'aria-label': 'Free places', 'aria-multiselectable': 'true' },
-    h('thead', {}, h('tr', {}, h('th', {}), daysIn(filter.month).map(when => h('th', { scope: 'col' }, weekday(when).slice(0, 2), h('br'), +when.slice(8))))),
+  h('table', { role: 'grid', 'aria-label': t('freePlaces'), 'aria-multiselectable': 'true' },
+    h('thead', {}, h('tr', {}, h('th', {}), daysIn(filter.month).map(when => h('th', { scope: 'col' }, inWeek(when), h('br'), +when.slice(8))))),
     h('tbody', {}, all.map(({ one, nights }, row) => h('tr', {}, h('th', { scope: 'row' }, h('span', { class: 'kind ' + one.kind }, LETTER[one.kind]), ` ${one.supplier} ${one.product}`), daysIn(filter.month).map(when => {
       const cell = one.nights.get(when);
       return h('td', { 'aria-selected': cell && 'false' }, cell && nightButton(one, when, cell, !row && when === nights[0][0]));
@@ -1229,9 +1499,9 @@ function calendar(one, nights, key) {
       : h('td', { class: 'none' }, when && +when.slice(8));
   })));
   return h('article', { class: 'card cal', 'data-key': key, 'aria-labelledby': id },
-    h('div', { class: 'top' }, h('h3', { id }, product(one)), h('span', { class: 'soft small' }, `${count(free, 'place')} free`)),
+    h('div', { class: 'top' }, h('h3', { id }, product(one)), h('span', { class: 'soft small' }, t('freeInMonth', free))),
     h('table', { role: 'grid', 'aria-labelledby': id, 'aria-multiselectable': 'true' },
-      h('thead', {}, h('tr', {}, DAYS.map(day => h('th', { scope: 'col', abbr: day }, day.slice(0, 2))))),
+      h('thead', {}, h('tr', {}, [...Array(7).keys()].map(n => plus('2024-01-01', n)).map(when => h('th', { scope: 'col', abbr: weekday(when) }, inWeek(when))))),
       h('tbody', {}, rows)));
 }
 
@@ -1240,8 +1510,8 @@ function nightButton(one, when, cell, isFirst) {
   fill.style.setProperty('--part', part + '%');
   return h('button', {
     type: 'button', class: 'night' + (free ? '' : ' isfull'), tabindex: isFirst ? 0 : -1, 'data-night': when, 'data-of': productOf(one),
-    'data-f': `${productOf(one)} ${when}`, 'aria-label': `${long(when)}, ${free} of ${allot} free, ${part} % taken`,
-  }, fill, h('span', { class: 'day' }, +when.slice(8)), h('span', { class: 'free' }, places2(free)), h('span', { class: 'of' }, 'of ' + places2(allot)));
+    'data-f': `${productOf(one)} ${when}`, 'aria-label': t('nightSaid', long(when), free, allot, part),
+  }, fill, h('span', { class: 'day' }, +when.slice(8)), h('span', { class: 'free' }, places2(free)), h('span', { class: 'of' }, t('of', places2(allot))));
 }
 
 function focusNight(button) {
@@ -1339,20 +1609,19 @@ function drawBar() {
     drawBar();
   };
   if (!(into >= 1 && into <= steps)) into = steps;
-  paint(bar, h('h2', { id: 'h-bar' }, 'Chosen: ', product(chosen), `, ${weekday(chosen.first)} ${spanOf(chosen)}`),
+  paint(bar, h('h2', { id: 'h-bar' }, t('chosen'), product(chosen), `, ${spanOf(chosen, shortDay)}`),
     h('div', { class: 'row' },
-      most > 1 && wholeField('Nights', 'bar.nights', 1, most, chosen.nights, set('nights')),
-      wholeField('Places', 'bar.count', 1, 50, chosen.count, set('count')),
+      most > 1 && wholeField(t('nightsField'), 'bar.nights', 1, most, chosen.nights, set('nights')),
+      wholeField(t('placesField'), 'bar.count', 1, 50, chosen.count, set('count')),
       fitText(chosen),
-      steps < 24 && button(`Add as step ${steps + 1}`, 'bar.step', addStep, { class: 'main' }),
+      steps < 24 && button(t('addStep', steps + 1), 'bar.step', addStep, { class: 'main' }),
       steps > 0 && h('span', { class: 'row' },
-        button('Add as an option of', 'bar.option', () => addOption(into),
-          { 'aria-label': 'Add as an option of the step that is named next' }),
+        button(t('addOption'), 'bar.option', () => addOption(into), { 'aria-label': t('addOptionSay') }),
         h('select', {
-          'aria-label': 'The step that gets the option', 'data-f': 'bar.into',
+          'aria-label': t('intoStep'), 'data-f': 'bar.into',
           onchange: event => { into = +event.target.value; },
-        }, draft.steps.map((step, n) => h('option', { value: n + 1, selected: n + 1 === into }, `step ${n + 1}`)))),
-      button('Drop', 'bar.drop', unchoose, { class: 'flat', 'aria-label': 'Drop the choice' })));
+        }, draft.steps.map((step, n) => h('option', { value: n + 1, selected: n + 1 === into }, t('step', n + 1))))),
+      button(t('drop'), 'bar.drop', unchoose, { class: 'flat', 'aria-label': t('dropChoice') })));
   enterBar(bar);
 }
 // enterBar(bar): where a key has chosen, the focus goes on to the bar, once that is drawn
@@ -1364,19 +1633,18 @@ function enterBar(bar) {
 }
 $('bar').addEventListener('keydown', event => { if (event.key === 'Escape') { event.preventDefault(); unchoose(); } });
 
-// add(list, one, what): what is chosen goes to the steps, or to the options of one; that is said
-function add(list, one, what) {
-  const text = `${what}: ${wantText(chosen)}.`;
+// add(list, one, text): what is chosen goes to the steps, or to the options of one; that is said
+function add(list, one, text) {
   list.push(one);
   unchoose();
   setDraft(draft);
   say('good', text, 'new');
 }
-const addStep = () => add(draft.steps, { options: [chosen], save: false }, `Step ${draft.steps.length + 1} of the new journey`);
+const addStep = () => add(draft.steps, { options: [chosen], save: false }, t('stepAdded', draft.steps.length + 1, wantText(chosen)));
 function addOption(into) {
   const { options } = draft.steps[into - 1];
-  if (options.length > 7) say('bad', 'A step has at most 8 options.', 'new');
-  else add(options, chosen, `Option ${options.length + 1} of step ${into}`);
+  if (options.length > 7) say('bad', t('optionsMost'), 'new');
+  else add(options, chosen, t('optionAdded', options.length + 1, into, wantText(chosen)));
 }
 
 // ---- the journey that is put together
@@ -1399,28 +1667,26 @@ function drawPlan() {
   const steps = draft.steps, hasSave = steps.some(step => step.save);
   if (!steps.length) {
     paint($('plan'),
-      h('p', {}, 'Choose a night in the stock, then ', h('b', {}, 'Add as step 1'), '.'),
-      h('p', { class: 'soft' }, 'Each step takes places in one go. A step may have more options, of which the first is tried first, '
-        + 'and a save-point after it, to which the journey can come back.'),
+      h('p', {}, t('planEmpty')),
+      h('p', { class: 'soft' }, t('planHint')),
       lineInput());
     return;
   }
   const clear = async () => {
-    const text = `Its ${count(steps.length, 'step')} will be dropped here. Nothing was sent to the desk.`;
-    if (!await sure('Clear the new journey?', text, 'Clear it')) return;
+    if (!await sure(t('clearSure'), t('clearSay', steps.length), t('clearYes'))) return;
     setDraft({ steps: [], tries: 0 });
     $('title').focus();
   };
   paint($('plan'),
     h('ol', { class: 'steps' }, steps.map((step, at) => [stepItem(step, at), saveItem(step, at)])),
-    wholeField('Tries', 'tries', 0, 9, draft.tries, tries => setDraft({ ...draft, tries }), { 'aria-describedby': 'tries-say' }),
+    wholeField(t('tries'), 'tries', 0, 9, draft.tries, tries => setDraft({ ...draft, tries }), { 'aria-describedby': 'tries-say' }),
     h('p', { class: 'hint', id: 'tries-say' }, triesText(hasSave)),
     lineInput(),
     h('div', { class: 'row begin' },
-      button(isSent ? 'Sending …' : 'Begin the journey', 'begin',
-        () => isSent || send('/journeys', JSON.stringify(draft), 'Begin a journey', 'new'),
+      button(t(isSent ? 'sendingNow' : 'begin'), 'begin',
+        () => isSent || send('/journeys', JSON.stringify(draft), t('beginWhat'), 'new'),
         { class: 'main', 'aria-disabled': isSent && 'true' }),
-      button('Clear', 'clear', clear, { 'aria-label': 'Clear the new journey' })));
+      button(t('clear'), 'clear', clear, { 'aria-label': t('clearAll') })));
 }
 
 // saveItem(step, at): what stands between a step and the next one
@@ -1428,14 +1694,11 @@ function saveItem(step, at) {
   if (at === draft.steps.length - 1) return h('li', { class: 'last', role: 'presentation' });
   const onchange = event => { step.save = event.target.checked; setDraft(draft); };
   return h('li', { class: 'save' + (step.save ? ' on' : '') }, h('label', {},
-    h('input', { type: 'checkbox', checked: step.save, 'data-f': `save.${at}`, onchange }), `Save-point after step ${at + 1}`));
+    h('input', { type: 'checkbox', checked: step.save, 'data-f': `save.${at}`, onchange }), t('saveAfter', at + 1)));
 }
 function triesText(hasSave) {
   const { tries } = draft;
-  if (!tries) return 'A step that finds no place leads the journey back to its start.';
-  if (!hasSave) return 'There is no save-point, so a step that finds no place leads back to the start, whatever the tries.';
-  const those = tries === 1 ? 'The first step that finds no place leads' : `The first ${tries} steps that find no place lead`;
-  return `${those} back to the last save-point, from which the next option is tried; the one after that leads back to the start.`;
+  return !tries ? t('triesNone') : hasSave ? t('triesSay', tries) : t('triesNoSave');
 }
 
 function lineInput() {
@@ -1450,7 +1713,7 @@ function lineInput() {
     }
   };
   return h('div', {},
-    h('p', { class: 'hint' }, h('label', { for: 'line' }, 'As a plan line (it can be changed here, or pasted)')),
+    h('p', { class: 'hint' }, h('label', { for: 'line' }, t('line'))),
     h('input', {
       id: 'line', class: 'code', value: text, 'data-f': 'line', spellcheck: 'false', autocomplete: 'off',
       autocapitalize: 'characters', onchange,
@@ -1458,7 +1721,7 @@ function lineInput() {
 }
 
 function stepItem(step, at) {
-  const steps = draft.steps, name = `step ${at + 1}`;
+  const steps = draft.steps, n = at + 1;
   const before = steps.slice(0, at).some(one => one.save);
   const sign = (text, f, word, is, act) => button(text, `${f}.${at}`, () => is && act(),
     { class: 'flat sign', 'aria-label': word, 'aria-disabled': !is && 'true' });
@@ -1467,36 +1730,34 @@ function stepItem(step, at) {
     setDraft({ ...draft, steps: moved(steps, at, to).map((one, n) => n === last ? { ...one, save: false } : one) });
   };
   return h('li', { class: 'step' + (badStep === at + 1 ? ' isbad' : '') },
-    h('div', { class: 'top' }, h('h3', {}, `Step ${at + 1}`),
-      sign('↑', 'up', `Move ${name} up`, at > 0, () => order(at - 1)),
-      sign('↓', 'down', `Move ${name} down`, at < steps.length - 1, () => order(at + 1)),
-      sign('✕', 'remove', `Remove ${name}`, true, () => setDraft({ ...draft, steps: steps.filter((one, n) => n !== at) }))),
-    badStep === at + 1 && h('p', { class: 'bad' }, 'The desk refused this step. The message says why.'),
+    h('div', { class: 'top' }, h('h3', {}, t('stepHead', n)),
+      sign('↑', 'up', t('moveUp', n), at > 0, () => order(at - 1)),
+      sign('↓', 'down', t('moveDown', n), at < steps.length - 1, () => order(at + 1)),
+      sign('✕', 'remove', t('remove', n), true, () => setDraft({ ...draft, steps: steps.filter(one => one !== step) }))),
+    badStep === at + 1 && h('p', { class: 'bad' }, t('badStep')),
     h('ul', { class: 'options' }, step.options.map((want, n) => optionItem(step, at, want, n))),
-    step.options.length > 1 && !before && h('p', { class: 'hint' },
-      'Without a save-point before this step, its further options are not tried: a refusal leads to the start.'));
+    step.options.length > 1 && !before && h('p', { class: 'hint' }, t('noSaveBefore')));
 }
 
 function optionItem(step, at, want, n) {
-  const name = `option ${n + 1} of step ${at + 1}`, many = step.options.length > 1, f = `${at}.${n}`;
+  const many = step.options.length > 1, f = `${at}.${n}`, of = name => t(name, n + 1, at + 1);
   const set = (key, value) => { want[key] = value; setDraft(draft); };
   const most = MOST[want.kind], small = word => ({ class: 'flat sign', 'aria-label': word });
   const prefer = () => { step.options = moved(step.options, n, n - 1); setDraft(draft); };
   const remove = () => { step.options.splice(n, 1); setDraft(draft); };
-  const labelled = word => ({ 'aria-label': `${word} of ${name}` });
   return h('li', {},
     h('div', { class: 'row' },
       many && h('span', { class: 'soft' }, `${n + 1}.`),
-      h('span', { class: 'what' }, product(want), `, ${weekday(want.first)} ${spanOf(want)}, ${count(want.count, 'place')}`),
-      many && n > 0 && button('↑', 'prefer.' + f, prefer, small(`Prefer ${name} to the one before`)),
-      many && button('✕', 'drop.' + f, remove, small(`Remove ${name}`))),
+      h('span', { class: 'what' }, product(want), `, ${spanOf(want, shortDay)}, ${t('places', want.count)}`),
+      many && n > 0 && button('↑', 'prefer.' + f, prefer, small(of('prefer'))),
+      many && button('✕', 'drop.' + f, remove, small(of('removeOption')))),
     h('div', { class: 'row' },
-      h('label', {}, 'First', h('input', {
-        type: 'date', min: FIRST, max: LAST, value: want.first, 'data-f': 'first.' + f, ...labelled('First night'),
+      h('label', {}, t('first'), h('input', {
+        type: 'date', min: FIRST, max: LAST, value: want.first, 'data-f': 'first.' + f, 'aria-label': of('firstOf'),
         onchange: event => isNight(event.target.value) ? set('first', event.target.value) : drawPlanAgain(),
       })),
-      most > 1 && wholeField('Nights', 'nights.' + f, 1, most, want.nights, nights => set('nights', nights), labelled('Nights')),
-      wholeField('Places', 'count.' + f, 1, 50, want.count, places => set('count', places), labelled('Places'))),
+      most > 1 && wholeField(t('nightsField'), 'nights.' + f, 1, most, want.nights, nights => set('nights', nights), { 'aria-label': of('nightsOf') }),
+      wholeField(t('placesField'), 'count.' + f, 1, 50, want.count, places => set('count', places), { 'aria-label': of('placesOf') })),
     h('div', { class: 'small' }, fitText(want)));
 }
 
@@ -1504,11 +1765,11 @@ function drawPlanAgain() { delete $('plan').dataset.key; drawPlan(); }
 
 // ---- own journeys
 
-const STATES = { run: 'under way', back: 'going back', ended: 'ended', undone: 'undone' };
+const STATES = ['run', 'back', 'ended', 'undone'];
 function stateText(one) {
-  const plan = plans.get(one.journey), of = plan ? ` of ${plan.steps.length}` : '';
-  if (one.state === 'run') return `under way, at ${one.pos}${of}`;
-  return one.state === 'back' ? `going back, ${one.pos} to ${one.target}` : STATES[one.state];
+  const plan = plans.get(one.journey);
+  if (one.state === 'run') return plan ? t('runOf', one.pos, plan.steps.length) : t('runAt', one.pos);
+  return one.state === 'back' ? t('backTo', one.pos, one.target) : t('state.' + one.state);
 }
 const stateMark = one => h('span', { class: 'is ' + one.state }, stateText(one));
 // isRead(one): whether what is known of its history is new; at its start it holds nothing anyway
@@ -1518,10 +1779,9 @@ function saidOf(one) {
   const plan = plans.get(one.journey), history = one.pos ? histories.get(one.journey)?.history : [];
   if (!plan || !history) return null;
   const { stands, pos, used } = walk(history, plan), named = wants => wants.length
-    ? `${short(wants[0].first)} · ${wants.map(want => `${want.kind} ${want.product}`).join(', ')}` : 'nothing';
-  const rest = { run: 'to come', undone: 'planned' }[one.state];
-  return { held: named(stands.map(step => step.want)),
-    rest: rest && `; ${rest}: ${named(plan.steps.slice(pos).map((step, n) => optionAt(plan, pos + n + 1, used)))}` };
+    ? `${short(wants[0].first)} · ${wants.map(want => `${kindText(want.kind)} ${want.product}`).join(', ')}` : t('nothing');
+  return { held: named(stands.map(step => step.want)), rest: ['run', 'undone'].includes(one.state)
+    && t('rest.' + one.state, named(plan.steps.slice(pos).map((step, n) => optionAt(plan, pos + n + 1, used)))) };
 }
 
 function drawList() {
@@ -1539,8 +1799,8 @@ function drawList() {
   if (isDrawn($('list'), key)) return;
   if (!all.length) {
     paint($('list'),
-      h('p', {}, complete ? 'You have no journey yet. Put one together from the stock.' : 'Looking at your journeys …'),
-      complete && h('p', {}, h('a', { href: '#/stock' }, 'To the stock')));
+      h('p', {}, t(complete ? 'noJourneys' : 'lookingList')),
+      complete && h('p', {}, h('a', { href: '#/stock' }, t('toStock'))));
     return;
   }
   const seek = change => {
@@ -1548,19 +1808,18 @@ function drawList() {
     keep(session, 'sought', { state: sought.state, text: sought.text });
     drawList();
   };
-  const states = [['', `all (${all.length})`], ['open', `not finished (${open})`],
-    ...Object.keys(STATES).map(state => [state, `${STATES[state]} (${sum(state)})`])];
+  const states = [['', t('allOf', all.length)], ['open', t('openOf', open)], ...STATES.map(state => [state, `${t('state.' + state)} (${sum(state)})`])];
   paint($('list'),
-    h('div', { class: 'tools', role: 'group', 'aria-label': 'Which journeys are shown' },
-      h('label', {}, 'State', h('select', { 'data-f': 'list.state', onchange: event => seek({ state: event.target.value }) },
+    h('div', { class: 'tools', role: 'group', 'aria-label': t('listShown') },
+      h('label', {}, t('state'), h('select', { 'data-f': 'list.state', onchange: event => seek({ state: event.target.value }) },
         states.map(([value, word]) => h('option', { value, selected: value === sought.state }, word)))),
-      h('label', {}, 'Number, or what it holds', h('input', {
+      h('label', {}, t('seek'), h('input', {
         type: 'search', value: sought.text, size: 14, 'data-f': 'list.text', oninput: event => seek({ text: event.target.value }),
       }))),
-    !some.length ? h('p', {}, 'No journey matches.') : h('table', { class: 'list', 'aria-labelledby': 'h-list' },
-      h('thead', {}, h('tr', {}, h('th', { scope: 'col' }, 'Journey'), h('th', { scope: 'col' }, 'State, and what it holds'))),
+    !some.length ? h('p', {}, t('noMatch')) : h('table', { class: 'list', 'aria-labelledby': 'h-list' },
+      h('thead', {}, h('tr', {}, h('th', { scope: 'col' }, t('journeyHead')), h('th', { scope: 'col' }, t('stateHead')))),
       h('tbody', {}, rows.map(listRow))),
-    some.length > rows.length && button(`Show ${Math.min(ROWS, some.length - rows.length)} more of ${some.length}`, 'more',
+    some.length > rows.length && button(t('more', Math.min(ROWS, some.length - rows.length), some.length), 'more',
       () => seek({ rows: sought.rows + ROWS })));
   fillPlans(text && !/^\d+$/.test(text) ? all.filter(one => one.pos) : rows);
 }
@@ -1569,10 +1828,10 @@ function listRow(one) {
   const isShown = view === 'journey' && one.journey === number, said = saidOf(one);
   return h('tr', { class: isShown && 'now' },
     h('td', {}, h('a', {
-      href: '#/journeys/' + one.journey, 'data-f': 'to.' + one.journey, 'aria-label': `Journey ${one.journey}`,
+      href: '#/journeys/' + one.journey, 'data-f': 'to.' + one.journey, 'aria-label': t('journey', one.journey),
       'aria-current': isShown && 'page',
     }, one.journey)),
-    h('td', {}, stateMark(one), said && h('div', { class: 'plan small' }, `holds ${said.held}`, h('span', { class: 'soft' }, said.rest))));
+    h('td', {}, stateMark(one), said && h('div', { class: 'plan small' }, t('holds', said.held), h('span', { class: 'soft' }, said.rest))));
 }
 
 // fillPlans(rows): asks for the plans and histories of those that are listed, one after another
@@ -1635,13 +1894,12 @@ const optionAt = (plan, step, used) => {
   return options[Math.min(used, options.length - 1)];
 };
 
-const BACK = { s: 'the desk was started anew', r: 'no place was found', a: 'as asked' };
-function itemText(one) {
-  const want = one.want ? ` (${wantText(one.want)})` : '', to = one.a ? `save-point ${one.a}` : 'the start';
-  if (one.letter === 'T') return `step ${one.a} done${one.b > 1 ? ` with option ${one.b}` : ''}${want}${one.stands ? '' : ', undone later'}`;
-  if (one.letter === 'C') return `step ${one.a} given back${want}`;
-  if (one.letter === 'S') return `save-point taken at ${one.a}`;
-  return `turned back to ${to}: ${one.b === 'r' ? `no place was found for step ${one.from + 1}${want}` : BACK[one.b]}`;
+function itemText({ want, a, b, from, letter, stands }) {
+  const of = want ? ` (${wantText(want)})` : '';
+  if (letter === 'T') return t('itemDone', a, b > 1 ? t('itemWith', b) : '', of, stands ? '' : t('itemUndone'));
+  if (letter === 'C') return t('itemGiven', a, of);
+  if (letter === 'S') return t('itemSave', a);
+  return t('itemBack', a ? t('toSave', a) : t('toStart'), b === 'r' ? t('backNoPlace', from + 1, of) : t('back.' + b));
 }
 
 function drawOne() {
@@ -1650,31 +1908,30 @@ function drawOne() {
   const sending = waiting().filter(request => isDue(request) && request.about === number && request.agent === agent);
   const key = JSON.stringify([number, one, history, plan && 1, plan === null, sending.map(request => request.key), settling.has(number)]) + (plan && one && isOpen(one) && plan.steps.map(step => step.options.map(want => fits(want).why)).join());
   if (isDrawn($('one'), key)) return;
-  $('h-one').textContent = `Journey ${number}`;
+  $('h-one').textContent = t('journey', number);
   if (plan === null) {
-    paint($('one'), h('p', {}, `${agent} has no journey ${number}.`), h('p', {}, h('a', { href: '#/journeys' }, 'To my journeys')));
+    paint($('one'), h('p', {}, t('notYours', agent, number)), h('p', {}, h('a', { href: '#/journeys' }, t('toJourneys'))));
     return;
   }
-  if (!one || !plan || !history) { paint($('one'), h('p', { class: 'soft' }, 'Looking at the journey …')); return; }
-  const way = walk(history, plan), drawn = `${number} ${history.length}`, stand = way.stands.length;
-  const saves = way.saves.length ? `; save-points: ${way.saves.join(', ')}` : '';
-  const steps = `${stand} of ${count(plan.steps.length, 'step')} ${stand === 1 ? 'stands' : 'stand'}${saves}`;
+  if (!one || !plan || !history) { paint($('one'), h('p', { class: 'soft' }, t('lookingOne'))); return; }
+  const way = walk(history, plan), drawn = `${number} ${history.length}`;
+  const steps = t('stands', way.stands.length, plan.steps.length, way.saves.length ? t('saves', way.saves.join(', ')) : '');
   paint($('one'),
     h('p', {}, stateMark(one), ' ', h('span', { class: 'soft' }, steps)),
     actions(one, plan, way, sending, history.join()),
     h('div', {
       class: 'path drawn', tabindex: 0, role: 'region', 'data-f': 'path',
-      'aria-label': `Path of journey ${number}, can be scrolled sideways`,
+      'aria-label': t('pathOf', number),
     }, pathPicture(one, plan, way)),
     signs(),
-    h('h3', {}, 'Plan'),
+    h('h3', {}, t('planHead')),
     h('ol', { class: 'planned' }, plan.steps.map((step, at) => planned(step, at, one, plan, way))),
-    h('p', { class: 'small' }, `Tries: ${plan.tries}, refused so far: ${way.used}. `, h('span', { class: 'code' }, planLine(plan))),
-    h('p', {}, button('Use as a new journey', 'again', () => useAgain(plan))),
-    h('h3', {}, 'What happened'),
+    h('p', { class: 'small' }, t('triesUsed', plan.tries, way.used), h('span', { class: 'code' }, planLine(plan))),
+    h('p', {}, button(t('useAgain'), 'again', () => useAgain(plan))),
+    h('h3', {}, t('happened')),
     history.length
       ? h('ol', { class: 'items' }, way.steps.map(step => h('li', {}, h('span', { class: 'code' }, step.item), ' ', itemText(step))))
-      : h('p', { class: 'soft' }, 'Nothing yet.'));
+      : h('p', { class: 'soft' }, t('nothingYet')));
   // what is newest is seen
   if ($('one').dataset.key && $('one').dataset.drawn !== drawn) {
     $('one').dataset.drawn = drawn;
@@ -1683,21 +1940,19 @@ function drawOne() {
 }
 function drawNone() {
   if (isDrawn($('one'), 'none')) return;
-  $('h-one').textContent = 'One journey';
-  paint($('one'), h('p', { class: 'soft' }, 'Choose a journey from the list: its path, its plan and what may be done now are shown here.'));
+  $('h-one').textContent = t('anyJourney');
+  paint($('one'), h('p', { class: 'soft' }, t('chooseOne')));
 }
 async function useAgain(plan) {
-  const text = `The ${count(draft.steps.length, 'step')} that you have put together will be dropped.`;
-  if (draft.steps.length && !await sure('Replace the new journey?', text, 'Replace them')) return;
+  const { length } = draft.steps;
+  if (length && !await sure(t('replaceSure'), t('replaceSay', length), t('replaceYes'))) return;
   setDraft(JSON.parse(JSON.stringify(plan)));
   location.hash = '#/plan';
 }
 
 // actions: what may be done now, and nothing else
 function actions(one, plan, way, sending, seen) {
-  if (!isOpen(one)) return h('p', { class: 'acts soft', tabindex: -1, 'data-rest': true }, one.state === 'ended'
-    ? 'The journey has ended: all its places stay taken, and it cannot be changed any more.'
-    : 'The journey is undone: it holds nothing, and cannot be changed any more.');
+  if (!isOpen(one)) return h('p', { class: 'acts soft', tabindex: -1, 'data-rest': true }, t('over.' + one.state));
   const id = number, wait = sending.length > 0 || settling.has(id), drawnAt = performance.now();
   const off = { 'aria-disabled': wait && 'true' }, next = way.pos + 1, isBack = one.state === 'back';
   // the second click of two quick ones was not meant for what stands here since the first
@@ -1705,64 +1960,50 @@ function actions(one, plan, way, sending, seen) {
   const act = (path, what, all) => event => wait || isQuick(event) || send(`/journeys/${id}/${path}`, '', what, id, seen, all);
   const left = plan.steps.length - way.pos, doAll = async () => {
     const bad = plan.steps.findIndex((step, at) => at >= way.pos && !fits(optionAt(plan, at + 1, way.used)).is) + 1;
-    if (!wait && await sure(`Do all ${left} steps that are left?`, 'They are done one after another, up to the first one that does not fit'
-      + `${bad ? `, which is step ${bad} now` : ''}. The last one ends the journey, which then cannot be cancelled any more.`, 'Do them')
-    ) act('step', `Step ${next} of journey ${id}`, true)();
+    if (!wait && await sure(t('doAllSure', left), t('doAllSay', bad ? t('doAllBad', bad) : ''), t('doAllYes'))) act('step', t('doStepWhat', next, id), true)();
   };
   const turnBack = (p, to) => async () => {
     if (wait) return;
-    const what = `Turn journey ${id} back to ${to}`;
-    if (await sure(what + '?', turnText(p, way.pos - p), `Turn back to ${to}`)) act('abort/' + p, what)();
+    if (await sure(t('turnSure', id, to), turnText(p, way.pos - p), t('turn', to))) act('abort/' + p, t('turnWhat', id, to))();
   };
   const canSave = !isBack && way.pos > 0 && !way.saves.includes(way.pos);
   const turns = [0, ...way.saves].filter(p => !isBack || p < one.target).sort((a, b) => b - a);
   return h('div', { class: 'acts' },
-    h('div', { class: 'row', role: 'group', 'aria-label': 'What may be done now' },
-      isBack ? button(`Give back step ${way.pos}`, 'step', act('step', `Give back step ${way.pos} of journey ${id}`), { class: 'main', ...off })
-        : button(`Do step ${next}`, 'step', act('step', `Step ${next} of journey ${id}`), { class: 'main', 'aria-describedby': 'next', ...off }),
-      !isBack && left > 1 && fits(optionAt(plan, next, way.used)).is && button(`Do all ${left} steps that are left`, 'all', doAll, off),
-      canSave && button(`Take save-point ${way.pos}`, 'mark', act('save', `Save-point ${way.pos} of journey ${id}`), off),
-      turns.map(p => [p, p ? `save-point ${p}` : 'the start'])
-        .map(([p, to]) => button(`Turn back to ${to}`, 'turn.' + p, turnBack(p, to), off)),
-      wait && h('span', { class: 'soft', role: 'status' }, 'Sending …')),
+    h('div', { class: 'row', role: 'group', 'aria-label': t('may') },
+      isBack ? button(t('giveStep', way.pos), 'step', act('step', t('giveStepWhat', way.pos, id)), { class: 'main', ...off })
+        : button(t('doStep', next), 'step', act('step', t('doStepWhat', next, id)), { class: 'main', 'aria-describedby': 'next', ...off }),
+      !isBack && left > 1 && fits(optionAt(plan, next, way.used)).is && button(t('doAll', left), 'all', doAll, off),
+      canSave && button(t('save', way.pos), 'mark', act('save', t('saveWhat', way.pos, id)), off),
+      turns.map(p => [p, p ? t('toSave', p) : t('toStart')]).map(([p, to]) => button(t('turn', to), 'turn.' + p, turnBack(p, to), off)),
+      wait && h('span', { class: 'soft', role: 'status' }, t('sendingNow'))),
     isBack ? backText(one.target) : nextText(plan, way));
 }
 // nextText(plan, way): what the next step takes, what of it cannot be undone, and what it does if it does not fit
 function nextText(plan, way) {
   const next = way.pos + 1, want = optionAt(plan, next, way.used), to = way.used < plan.tries ? Math.max(0, ...way.saves) : 0;
-  const turned = to ? `to save-point ${to}${to === way.pos ? ', where it is' : ''}`
-    : `to its start${way.saves.length ? ', since no tries are left' : ''}, and so undo it. An undone journey cannot be begun again`;
+  const turned = !to ? t('undoes', way.saves.length ? t('noTries') : '') : to === way.pos ? t('whereItIs', t('toSave', to)) : t('toSave', to);
   const isKnown = stockText !== null;
-  return h('div', { id: 'next' }, h('p', {}, `Step ${next} will take ${wantText(want)}. `, isKnown && [fitText(want), '.']),
-    isKnown && !fits(want).is && h('p', { class: 'bad' }, `As it is now, it would turn the journey back ${turned}.`),
-    next === plan.steps.length && h('p', { class: 'warn' },
-      'This is the last step. Once it has its places, the journey has ended, and cannot be cancelled any more.'));
+  return h('div', { id: 'next' }, h('p', {}, t('willTake', next, wantText(want)), isKnown && [fitText(want), '.']),
+    isKnown && !fits(want).is && h('p', { class: 'bad' }, t('asItIs', turned)),
+    next === plan.steps.length && h('p', { class: 'warn' }, t('lastStep')));
 }
-const backText = target => h('p', { class: 'warn' },
-  `The journey goes back to ${target ? `save-point ${target}` : 'its start'}. Its places are held until each step is given back.`);
+const backText = target => h('p', { class: 'warn' }, t('goesBack', target ? t('toSave', target) : t('toItsStart')));
 // turnText(p, many): what comes of a turn to p, below which so many steps stand
-function turnText(p, many) {
-  const given = `${count(many, 'step')} will then be given back${many > 1 ? ', one at a time' : ''}`;
-  if (!p) return `${many ? `${given}, and` : 'It has done nothing yet, and'} the journey will be undone. It cannot be begun again.`;
-  return many ? `${given}. From there it goes forward again.` : 'The journey is there. Nothing is given back.';
-}
+const turnText = (p, many) => many ? t(p ? 'turnOn' : 'turnUndo', t('givenThen', many)) : t(p ? 'turnHere' : 'turnEmpty');
 
 function planned(step, at, one, plan, way) {
   const done = way.stands[at], isNext = one.state === 'run' && at === way.pos, next = isNext && optionAt(plan, at + 1, way.used);
   const was = !done && way.steps.some(item => item.letter === 'T' && item.a === at + 1);
-  const word = done ? 'stands' : isNext ? 'comes next' : was ? 'undone' : one.state === 'undone' ? 'not done' : 'to come';
-  return h('li', { class: done ? 'isdone' : isNext ? 'isnext' : '' }, h('b', {}, `Step ${at + 1}`), ` ${word}`, way.saves.includes(at + 1) ? ', save-point after it' : step.save && ', a save-point once it is done',
-    h('ul', {}, step.options.map((want, n) => h('li', {}, product(want), `, ${spanOf(want)}, ${count(want.count, 'place')}`,
-      done && +done.b === n + 1 ? h('b', { class: 'good' }, ' – taken')
-        : next === want && step.options.length > 1 && h('b', {}, ' – tried next')))));
+  const word = t('plan.' + (done ? 'done' : isNext ? 'next' : was ? 'undone' : one.state === 'undone' ? 'never' : 'ahead'));
+  return h('li', { class: done ? 'isdone' : isNext ? 'isnext' : '' }, h('b', {}, t('stepHead', at + 1)), word, way.saves.includes(at + 1) ? t('saveIs') : step.save && t('saveThen'),
+    h('ul', {}, step.options.map((want, n) => h('li', {}, product(want), `, ${spanOf(want)}, ${t('places', want.count)}`,
+      done && +done.b === n + 1 ? h('b', { class: 'good' }, t('taken'))
+        : next === want && step.options.length > 1 && h('b', {}, t('triedNext'))))));
 }
 
-const SIGNS = [
-  ['stands', 'done, and stands'], ['gone', 'done, and undone later'], ['down', 'given back'],
-  ['turning', 'turned back'], ['safe', 'save-point'], ['ahead', 'to come']
-];
+const SIGNS = ['stands', 'gone', 'down', 'turning', 'safe', 'ahead'];
 const signs = () => h('ul', { class: 'signs drawn', 'aria-hidden': 'true' }, SIGNS.map(
-  ([name, text]) => h('li', {}, s('svg', { width: 30, height: 10 }, s('path', { class: name, d: 'M3 5H27' })), text)));
+  name => h('li', {}, s('svg', { width: 30, height: 10 }, s('path', { class: name, d: 'M3 5H27' })), t('sign.' + name))));
 
 // pathPicture: the journey over its steps, up and down between save-points
 function pathPicture(one, plan, way) {
@@ -1783,7 +2024,7 @@ function pathPicture(one, plan, way) {
     text(left - 10, y(p) + 4, p, { 'text-anchor': 'end', class: 'code' });
     if (isScrolled) text(width - 8, y(p) + 4, p, { 'text-anchor': 'end', class: 'code' });
     const name = p && `${LETTER[want.kind]} ${left < 148 ? '' : want.supplier + ' '}${want.product}`.slice(0, 17);
-    text(8, y(p) + 4, name || 'start', { class: taken ? '' : 'dim' });
+    text(8, y(p) + 4, name || t('start'), { class: taken ? '' : 'dim' });
     if (isSafe) kids.push(s('path', { class: 'flag', d: `M${left - 4} ${y(p) + 5}v-13l9 3.5l-9 3.5` }));
   }
   steps.forEach((step, k) => {
@@ -1800,9 +2041,7 @@ function pathPicture(one, plan, way) {
     }
     if (step.letter === 'S') kids.push(s('path', { class: 'flag', d: `M${mid - 2} ${y0}v-17l11 4.5l-11 4.5` }));
     text(mid, y(0) + 34, step.item, { 'text-anchor': 'middle', class: 'code' });
-    const words = {
-      T: step.want?.product, C: 'given back', S: 'saved', B: { r: 'no place', s: 'restart', a: 'asked' }[step.b],
-    }[step.letter] || '';
+    const words = step.letter === 'T' ? step.want?.product || '' : t('path.' + (step.letter === 'B' ? step.b : step.letter));
     // longer words are set as narrow as the column is
     const isLong = words.length * (step.letter === 'T' ? 8.4 : 6.4) > wide - 4;
     text(mid, y(0) + 51, words, {
@@ -1810,21 +2049,20 @@ function pathPicture(one, plan, way) {
     });
   });
   const next = one.state === 'run' && optionAt(plan, way.pos + 1, way.used);
-  if (next) [['next', 34, 'code'], [next.product, 51, 'dim']].forEach(([words, low, name]) => text(
+  if (next) [[t('next'), 34, 'code'], [next.product, 51, 'dim']].forEach(([words, low, name]) => text(
     x(at) + wide / 2, y(0) + low, words, { 'text-anchor': 'middle', class: name }
   ));
   if (rest) line('ahead', `M${x(at)} ${y(way.pos)}L${x(at) + rest * wide / 2} ${y(goal)}`);
   steps.forEach((step, k) => kids.push(s('circle', { class: 'dot', cx: x(k), cy: y(step.from), r: 3 })));
   kids.push(s('circle', { class: 'here', cx: x(at), cy: y(way.pos), r: 6 }));
-  text(x(at) + 12, y(way.pos) - 10, isOpen(one) ? 'here' : STATES[one.state], { class: 'code' });
-  const told = steps.map(step => `${step.item}: ${itemText(step)}`).concat(next ? `next: ${wantText(next)}` : []).join('; ');
+  text(x(at) + 12, y(way.pos) - 10, isOpen(one) ? t('here') : t('state.' + one.state), { class: 'code' });
+  const told = steps.map(step => `${step.item}: ${itemText(step)}`).concat(next ? t('nextIs', wantText(next)) : []).join('; ');
   return s('svg', { width, height, viewBox: `0 0 ${width} ${height}`, role: 'img', 'aria-labelledby': 'path-title path-desc' },
-    s('title', { id: 'path-title' }, `The path of journey ${number}: ${stateText(one)}`), s('desc', { id: 'path-desc' }, told || 'Nothing happened yet.'), kids);
+    s('title', { id: 'path-title' }, t('pathTitle', number, stateText(one))), s('desc', { id: 'path-desc' }, told || t('nothingEver')), kids);
 }
 
 // ---- the whole
 
-const TITLES = { stock: 'Stock', plan: 'New journey', list: 'My journeys', who: 'Who works here?' };
 // what has the focus once a view was opened
 const STARTS = { stock: 'h-stock', plan: 'h-plan', list: 'h-list', journey: 'h-one', who: 'agent' };
 function route(isMoved) {
@@ -1832,7 +2070,7 @@ function route(isMoved) {
   number = found ? +found[1] : 0;
   view = !agent || (path === 'who' && !given) ? 'who' : found ? 'journey' : { plan: 'plan', journeys: 'list' }[path] || 'stock';
   document.body.dataset.view = view;
-  const title = found && agent ? `Journey ${number}` : TITLES[view];
+  const title = found && agent ? t('journey', number) : t('view.' + view);
   document.title = `${title} – Desk`;
   $('title').textContent = title;
   $('v-who').hidden = view !== 'who' || !isKnown;
@@ -1841,8 +2079,8 @@ function route(isMoved) {
   $('nav').hidden = !agent;
   $('who').hidden = !agent || given;
   $('given').hidden = !given;
-  $('given').textContent = $('who').textContent = `Agent ${agent}`;
-  $('who').setAttribute('aria-label', `Agent ${agent}, change`);
+  $('given').textContent = $('who').textContent = t('agentIs', agent);
+  $('who').setAttribute('aria-label', t('agentChange', agent));
   for (const link of $('nav').children) link.ariaCurrent = link.dataset.for.split(' ').includes(view) ? 'page' : null;
   draw();
   if (view === 'who') drawWho();
@@ -1854,7 +2092,7 @@ function draw() {
   drawBar();
   drawList();
   drawOne();
-  $('sheet').textContent = `Agent ${agent}, ${new Date().toLocaleDateString('en-GB', { dateStyle: 'long' })}`
+  $('sheet').textContent = `${t('agentIs', agent)}, ${new Date().toLocaleDateString(TONGUE, { dateStyle: 'long' })}`
     + (view === 'stock' && filter.month ? `: ${monthText(filter.month)}` : '');
   $('steps-in-plan').textContent = draft.steps.length ? ` (${draft.steps.length})` : '';
 }
