@@ -1,125 +1,73 @@
 """An office behind each of the proxies named, by the recipe of OPERATING.md: FOLDER PROXY ..
 
 The folder has desk.pem, the certificate and the key of the proxies. Prints what went wrong."""
-import base64
 import os
-import re
-import ssl
+import shutil
 import subprocess
 import sys
 import time
-import urllib.error
-import urllib.request
 
 from selenium.webdriver.common.keys import Keys
 
-from page_driving import Browser, Desk, wait_until
+from office_proxies import ARE, Proxy, in_folder, with_certificates, with_names
+from page_driving import DESK, Browser, Desk
 from page_scenes import JUNE, comes, same
-from ports import free_port
 
 HERE = os.path.dirname(os.path.abspath(__file__))
 LINE = "F/AL/A1/2030-06-01/1/1*;T/BUS/X/2030-06-01/1/1!0"
-# a line of HAProxy's user list, and one of nginx's file
-USER = {"haproxy": "  user {0} password {1}\n", "nginx": "{0}:{1}\n"}
 NO_AGENT = '{"name":"NoAgent","refused":2}'
-TRUSTING = ssl.create_default_context()
-TRUSTING.check_hostname, TRUSTING.verify_mode = False, ssl.CERT_NONE
-
-
-def printed():
-    """The page with the recipes."""
-    with open(os.path.join(os.path.dirname(HERE), "docs", "OPERATING.md"), encoding="utf-8") as page:
-        return page.read()
-
-
-def recipe(proxy):
-    """The recipe of a proxy, as it is printed."""
-    blocks = re.findall(r"^```text\n(.*?)^```$", printed(), re.MULTILINE | re.DOTALL)
-    marks = {"haproxy": "userlist agents", "nginx": "auth_basic_user_file"}
-    return next(block for block in blocks if marks[proxy] in block)
-
-
-def quoted(begin):
-    """What the page has in backticks that begins so."""
-    return re.search(f"`({re.escape(begin)}[^`]*)`", printed())[1]
-
-
-def with_names(proxy, folder):
-    """The recipe of a proxy that maps the names of users to agents, as it is printed; for HAProxy in a file of the folder."""
-    if proxy == "haproxy":
-        with open(f"{folder}/agents", "w", encoding="utf-8") as file:
-            file.write(quoted("ann.miller@") + "\n")
-        old, new = "set-header Desk-Agent %[http_auth_user]", quoted("set-header Desk-Agent %[http_auth_user,")
-        return recipe(proxy).replace(old, new)
-    old, new = "proxy_set_header Desk-Agent $remote_user", quoted("proxy_set_header Desk-Agent $agent")
-    return quoted("map $remote_user") + "\n" + recipe(proxy).replace(old, new)
-
-
-def hash_of(password):
-    made = subprocess.run(["openssl", "passwd", "-5", password], check=True, capture_output=True, text=True)
-    return made.stdout.strip()
-
-
-class Proxy:
-    """A proxy with TLS and passwords before the desk at this port."""
-
-    def __init__(self, folder, name, desk_port):
-        self.folder, self.name, self.desk_port, self.port, self.process = folder, name, desk_port, free_port(), None
-        self.text = recipe(name)
-        self.passwords({"ann": "secret-a", "bob": "secret-b"})
-        self.start()
-
-    def passwords(self, of):
-        """Who may come in from now on; HAProxy has to be started again for it."""
-        users = "".join(USER[self.name].format(user, hash_of(password)) for user, password in of.items())
-        text = self.text.replace("127.0.0.1:8080", f"127.0.0.1:{self.desk_port}")
-        if self.name == "haproxy":
-            text = re.sub(r"(  user \S+ password \S+\n)+", lambda _: users, text)
-            text = text.replace("bind :443", f"bind 127.0.0.1:{self.port}").replace("/etc/haproxy", self.folder)
-        else:
-            with open(f"{self.folder}/agents", "w", encoding="utf-8") as file:
-                file.write(users)
-            text = text.replace("listen 443", f"listen 127.0.0.1:{self.port}").replace("/etc/nginx", self.folder)
-            text = f"daemon off; pid {self.folder}/nginx.pid; events {{}} http {{ access_log off;\n{text}}}\n"
-        with open(f"{self.folder}/{self.name}.conf", "w", encoding="utf-8") as file:
-            file.write(text)
-
-    def start(self):
-        conf = f"{self.folder}/{self.name}.conf"
-        words = {"haproxy": ["haproxy", "-f", conf], "nginx": ["nginx", "-p", self.folder, "-c", conf, "-e", f"{self.folder}/error.log"]}
-        self.process = subprocess.Popen(words[self.name], stdin=subprocess.DEVNULL, stdout=sys.stderr, stderr=sys.stderr)
-        wait_until(lambda: self.ask("/health")[0] == 200, f"{self.name} answers")
-
-    def changes(self, of):
-        """Other passwords, by a proxy that is started again."""
-        self.end()
-        self.passwords(of)
-        self.start()
-
-    def ask(self, path, user="", password="", **fields):
-        """The status and the text of a page."""
-        if user:
-            fields["Authorization"] = "Basic " + base64.b64encode(f"{user}:{password}".encode()).decode()
-        request = urllib.request.Request(f"https://127.0.0.1:{self.port}{path}", headers=fields)
-        try:
-            with urllib.request.urlopen(request, timeout=30, context=TRUSTING) as page:
-                return page.status, page.read().decode()
-        except urllib.error.HTTPError as page:
-            return page.code, page.read().decode()
-        except OSError as why:
-            return 0, str(why)
-
-    def end(self):
-        self.process.terminate()
-        self.process.wait()
 
 
 def maps_names(proxy):
     """The names of users are no agents."""
-    proxy.text = with_names(proxy.name, proxy.folder)
-    proxy.changes({"ann.miller@office.example": "secret-a", "bob": "secret-b"})
+    proxy.changes({"ann.miller@office.example": "secret-a", "bob": "secret-b"}, with_names(proxy.name, proxy.folder))
     same("a user who is mapped", (200, '{"agent":"ann"}'), proxy.ask("/agent", "ann.miller@office.example", "secret-a"))
     same("one who is not", (400, NO_AGENT), proxy.ask("/agent", "bob", "secret-b", **{"Desk-Agent": "bob"}))
+
+
+def serves_in_folder(proxy):
+    """The page in a folder, and nothing beside it."""
+    proxy.health = "/desk/health"
+    proxy.changes(ARE, in_folder(proxy.name))
+    same("in the folder", (200, '{"agent":"ann"}'), proxy.ask("/desk/agent", "ann", "secret-a"))
+    same("the folder without its last sign leads there", True, proxy.ask("/desk", "ann", "secret-a")[0] in (301, 302, 307, 308))
+    same("it asks for a password", 401, proxy.ask("/desk/")[0])
+    same("the page", (200, "<!doctype html>"), (lambda status, text: (status, text[:15]))(*proxy.ask("/desk/", "ann", "secret-a")))
+
+
+def signs(folder, name, by=None):
+    """A certificate of this common name, signed by that authority or by itself; the file has its key too."""
+    key, request = f"{folder}/{name}.key", f"{folder}/{name}.csr"
+    new = ["openssl", "req", "-newkey", "rsa:2048", "-nodes", "-subj", f"/CN={name}", "-keyout", key]
+    if by:
+        subprocess.run([*new, "-out", request], check=True, capture_output=True)
+        signing = ["openssl", "x509", "-req", "-in", request, "-CA", f"{folder}/{by}.pem", "-CAkey", f"{folder}/{by}.key"]
+        made = subprocess.run([*signing, "-set_serial", "1", "-days", "2"], check=True, capture_output=True).stdout
+    else:
+        made = subprocess.run([*new, "-x509", "-days", "2"], check=True, capture_output=True).stdout
+    with open(key, "rb") as part, open(f"{folder}/{name}.pem", "wb") as file:
+        file.write(made + part.read())
+    return f"{folder}/{name}.pem"
+
+
+def asks_for_certificates(proxy):
+    """A certificate says who asks; without one nothing is had but how much there is."""
+    folder = proxy.folder
+    authority = signs(folder, "authority")
+    os.replace(authority, f"{folder}/agents.pem")
+    shutil.copy(f"{folder}/agents.pem", authority)
+    proxy.health = "/health"
+    proxy.changes(ARE, with_certificates(proxy.name))
+    bob = {"Desk-Agent": "bob"}
+    same("no certificate", (403, 403), (proxy.ask("/agent", **bob)[0], proxy.ask("/")[0]))
+    proxy.certificate = signs(folder, "ann", "authority")
+    same("whose it is", (200, '{"agent":"ann"}'), proxy.ask("/agent", **bob))
+    same("meant for another", (400, NO_AGENT), proxy.ask("/mine", **bob, **{"Desk-For": "bob"}))
+    proxy.certificate = signs(folder, "Nobody Here", "authority")
+    same("it names no agent", True, proxy.ask("/agent", **bob)[0] in (400, 403))
+    proxy.certificate = signs(folder, "ann")
+    same("another authority", True, proxy.ask("/agent", **bob)[0] in (0, 400))
+    proxy.certificate = None
 
 
 def comes_in(browser, proxy, user, password):
@@ -142,6 +90,16 @@ def begins(browser):
     browser.named("Do step 2", ".acts")
 
 
+def backs_up(desk, to):
+    """A backup while the desk serves: it has the three journeys, as they are."""
+    tools = os.path.join(os.path.dirname(HERE), "tools", "backup")
+    made = subprocess.run([tools, desk.file, to], capture_output=True, text=True, env={**os.environ, "DESK": DESK})
+    same("a backup", (0, f"saved {to}\n"), (made.returncode, made.stdout))
+    shown = subprocess.run([DESK, "journeys", to], check=True, capture_output=True, text=True).stdout
+    same("what it has", [["1", "ann", "run", "1"], ["2", "bob", "run", "1"], ["3", "ann", "run", "1"], ["journeys", "3"]],
+         [line.split() for line in shown.splitlines()])
+
+
 def in_office(proxy, desk, ann, bob):
     """A short day of two agents."""
     same("health needs no password", 200, proxy.ask("/health")[0])
@@ -155,13 +113,25 @@ def in_office(proxy, desk, ann, bob):
     comes_in(bob, proxy, "bob", "secret-b")
     begins(ann)
     begins(bob)
+    # a second window of ann's needs no password again
+    windows = [ann.driver.current_window_handle]
+    ann.driver.switch_to.new_window("window")
+    windows.append(ann.driver.current_window_handle)
+    ann.open(f"https://127.0.0.1:{proxy.port}/")
+    ann.shows("Up to date", "#state")
+    begins(ann)
+    backs_up(desk, f"{proxy.folder}/{proxy.name}-backup.db")
     desk.kill()
     ann.press("Do step 2", ".acts")
-    ann.shows("The desk cannot be reached", "#away")
-    bob.shows("The desk cannot be reached", "#away")
+    for browser, window in ((ann, windows[0]), (ann, windows[1]), (bob, None)):
+        if window:
+            ann.driver.switch_to.window(window)
+        browser.shows("The desk cannot be reached", "#away")
     desk.start()
-    # the opening has turned both journeys back to their save-points, and finished them
-    for browser in (ann, bob):
+    # the opening has turned the journeys back to their save-points, and finished them
+    for browser, window in ((ann, windows[1]), (ann, windows[0]), (bob, None)):
+        if window:
+            ann.driver.switch_to.window(window)
         browser.shows("Up to date", "#state")
         browser.shows("The journey has ended", ".acts")
     begins(ann)
@@ -169,17 +139,17 @@ def in_office(proxy, desk, ann, bob):
     ann.press("Do step 2", ".acts")
     ann.shows("No answer yet", "#state")
     bob.shows("Up to date", "#state")
-    proxy.changes({"ann": "secret-a", "bob": "secret-b"})
+    proxy.changes(ARE)
     comes_in(ann, proxy, "ann", "secret-a")
-    comes("what ann pressed is done", "T2.1", lambda: desk.history(3)[-1])
+    comes("what ann pressed is done", "T2.1", lambda: desk.history(4)[-1])
     journeys = {agent: desk.ask("GET", "/mine", agent)[1]["mine"] for agent in ("ann", "bob")}
-    same("each journey is there once, and has ended", {"ann": [(1, "ended"), (3, "ended")], "bob": [(2, "ended")]}, {
+    same("each journey is there once, and has ended", {"ann": [(1, "ended"), (3, "ended"), (4, "ended")], "bob": [(2, "ended")]}, {
         agent: [(one["journey"], one["state"]) for one in mine] for agent, mine in journeys.items()})
     stock = desk.ask("GET", "/stock")[1]
     comes_in(ann, proxy, "bob", "secret-b")
     ann.press("My journeys")
     ann.shows("all (1)", "#list")
-    same("each place is taken once", [["9", "3", "6"], ["9", "3", "6"]], [line.split()[4:] for line in stock.splitlines()[1:3]])
+    same("each place is taken once", [["9", "4", "5"], ["9", "4", "5"]], [line.split()[4:] for line in stock.splitlines()[1:3]])
 
 
 def run(folder, name):
@@ -193,6 +163,8 @@ def run(folder, name):
             browsers.append(Browser(f"{folder}/{name}-{agent}", words=["--ignore-certificate-errors"]))
         in_office(proxy, desk, *browsers)
         maps_names(proxy)
+        serves_in_folder(proxy)
+        asks_for_certificates(proxy)
         return ""
     except AssertionError as wrong:
         return f"{name}: {wrong}"

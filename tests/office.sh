@@ -1,7 +1,8 @@
 #!/usr/bin/env bash
-# The two recipes of OPERATING.md for an office, as printed but for ports, files and passwords: HAProxy and nginx with TLS and
-# passwords before a desk with its page, and headless Chromium before them. Two agents book at once, the desk is killed and started
-# again, a password is changed, and names are mapped to agents. A proxy that is absent is left out.
+# The recipes of OPERATING.md for an office, as printed but for ports, files and passwords: HAProxy, nginx, Apache and Caddy with TLS
+# and passwords before a desk with its page, and headless Chromium before them. Two agents book at once in three windows, a backup is
+# made, the desk is killed and started again, a password is changed, names are mapped to agents, the page is served in a folder, and
+# certificates say who asks. A proxy that is absent is left out.
 . "$(dirname "${BASH_SOURCE[0]}")/helping.bash"
 . "$(dirname "$tests")/scripts/needs.bash"
 
@@ -11,7 +12,7 @@ if ! has_browser || ! command -v openssl >/dev/null 2>&1; then
 fi
 PATH=$PATH:/usr/sbin
 proxies=()
-for proxy in haproxy nginx; do
+for proxy in haproxy nginx apache2 caddy; do
   if command -v "$proxy" >/dev/null 2>&1; then
     proxies+=("$proxy")
   else
