@@ -161,16 +161,30 @@ def take(camera, network):
     camera.keeps("away", 1280, 520)
 
 
+def take_german(camera):
+    """The journey, in German."""
+    agency, browser = camera.agency, camera.browser
+    browser.works_as(agency.desk.url(), "ann")
+    camera.opens(f"#/journeys/{agency.path}", "C3.1")
+    browser.shows("16 frei", ".acts")
+    time.sleep(1)
+    camera.keeps("german", 1280, 760)
+
+
 def main(names):
     with tempfile.TemporaryDirectory() as folder:
         os.environ["HOME"] = folder
         agency, network = Agency(folder), Network()
         browser = Browser(f"{folder}/profile", network, width=1280, height=860)
+        german = Browser(f"{folder}/german", network, width=1280, height=860, languages="de-DE,de")
         try:
-            browser.scheme("light")
+            for one in (german, browser):
+                one.scheme("light")
+            take_german(Camera(agency, german, names))
             take(Camera(agency, browser, names), network)
         finally:
             browser.end()
+            german.end()
             network.end()
             agency.desk.kill()
 
