@@ -188,12 +188,13 @@ def nothing_is_fetched(scene):
     scene.begins(plan(TRANSFER), "silent-3", agent="bob")
     asked = asked_for(6)
     del asked["/health"]
-    same("after an event of another agent", {"/stock": 1, "/unfinished": 1, "/mine/2": 1, "/journeys/1": 1}, dict(asked))
+    same("after an event of another agent", {"/stock": 1, "/unfinished": 1, "/mine/2": 1, "/journeys/1": 1, "/journeys/1/why": 1}, dict(asked))
     before = len(network.paths)
     browser.press("Journey 2", "#list")
     browser.named("Do step 1", ".acts")
     time.sleep(4.5)
-    same("another journey is read, and nothing else", {"/health", "/journeys/2"}, {path for _, path, _ in network.paths[before:]})
+    asked = {path for _, path, _ in network.paths[before:]}
+    same("another journey is read, and nothing else", {"/health", "/journeys/2", "/journeys/2/why"}, asked)
     scene.desk.post("/journeys/2/step", "silent-4")
     browser.shows("T1.1", "ol.items")
     browser.shows("ended", "#list")

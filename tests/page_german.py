@@ -115,7 +115,8 @@ def in_german(scene):
         if item == "T1.1":
             browser.shows("So wie es jetzt ist, ginge die Reise zurück zu Sicherungspunkt 1, wo sie schon ist.", ".acts")
         if item == "B1r":
-            scene.note("Reise 1: der Schritt fand keinen Platz; sie geht zurück zu Sicherungspunkt 1. Sie ist schon dort.")
+            scene.note(f"Reise 1: der Schritt fand keinen Platz ({SEA}: nichts frei am 2. Juni 2030); sie geht zurück zu "
+                       "Sicherungspunkt 1. Sie ist schon dort.")
         is_german(browser, item)
     browser.shows("Dies ist der letzte Schritt. Hat er seine Plätze, ist die Reise abgeschlossen und kann nicht mehr storniert werden.",
                   ".acts")

@@ -8,6 +8,7 @@ import time
 import traceback
 from concurrent.futures import ThreadPoolExecutor
 
+import page_asking
 import page_day
 import page_driving
 import page_foreign
@@ -25,7 +26,8 @@ SCENES = {
         page_lost.nothing_twice, page_office.signed_out, page_rules.large, page_rules.rules, page_scenes.by_clicks,
         page_scenes.by_keys, page_views.not_while_hidden, page_lost.many_wait, page_lost.hang_and_kill, page_lost.after_restart,
         page_scenes.last_place, page_foreign.foreign_pages, page_scenes.refused_by_the_desk, page_scenes.refusals_in_words,
-        page_scenes.said_before, page_scenes.asked_twice, page_scenes.all_steps, page_views.draft_is_changed,
+        page_scenes.said_before, page_scenes.said_by_page, page_asking.said_by_desk, page_asking.by_booking_number, page_scenes.asked_twice, page_scenes.all_steps,
+        page_views.draft_is_changed,
         page_views.agents_are_apart, page_views.another_file, page_day.by_what_is_held, page_views.filters,
         page_day.begin_in_view, page_day.notes_cover_nothing, page_day.notes_end, page_day.nights_in_words,
         page_day.nothing_is_fetched, page_day.as_table, page_day.printed, page_rules.focus_order, page_rules.first_visit,
@@ -81,10 +83,16 @@ german.without_agent, german.languages = True, page_german.GERMAN
 SPOILED = (
     ("a last step that is like any other", "next === plan.steps.length && h('p'", "next > 24 && h('p'", page_scenes.said_before,
      "'This is the last step.' in .acts"),
-    ("tries that are never used up", "way.used < plan.tries ? Math", "plan.tries ? Math", page_scenes.said_before,
+    ("tries that are never used up", "way.used < plan.tries ? Math", "plan.tries ? Math", page_scenes.said_by_page,
      "since no tries are left"),
     ("a list by what was planned", "named(stands.map(step => step.want))", "named(plan.steps.map(step => step.options[0]))",
      page_day.by_what_is_held, "journey 4"),
+    ("what the desk says of another option", "said.want !== optionText(want)", "false", page_asking.said_by_desk, "Fits now: 4 free"),
+    ("what the page thinks where the desk knows", "said?.state !== 'run'", "said?.state", page_asking.said_by_desk,
+     "none free on 2 Jun 2030"),
+    ("a number that is no key", "'Desk-Key': booking || key", "'Desk-Key': key", page_asking.by_booking_number, "its key"),
+    ("a number of another file", "!plan || planLine(plan) === line ? booking", "line ? booking", page_asking.by_booking_number,
+     "a number of another file"),
     ("a path that names the first option", "taken.want : optionAt(plan, p, way.used)", "taken.want : plan.steps[p - 1].options[0]",
      page_day.by_what_is_held, "the option at its step"),
     ("a plan that hides how it is begun", ".begin { position: sticky;", ".begin {", page_day.begin_in_view, "at step 1"),
@@ -126,7 +134,7 @@ SPOILED = (
      "agent, date and month"),
     ("a refusal that goes by itself", "  if (isOwn && request.seen !== undefined) settling.set(request.about, request.key);\n", "",
      page_scenes.refused_by_the_desk, "it is still told"),
-    ("a new key each time", "'Desk-Key': key", "'Desk-Key': newKey()", one_row("lose", "nothing"),
+    ("a new key each time", "'Desk-Key': booking || key", "'Desk-Key': newKey()", one_row("lose", "nothing"),
      "one key and one body"),
     ("a request that is not kept", "if (!keep(local, 'post.' + request.key, request)) {",
      "if (!keep(session, 'post.' + request.key, request)) {", one_row("lose", "nothing"), "lose, nothing: the request"),

@@ -54,6 +54,11 @@ def html_page(status, text="<!doctype html><title>Login</title><h1>Sign in</h1>"
     return page_of(status, "Elsewhere", [("Content-Type", "text/html"), *fields], text.encode())
 
 
+def json_page(status, value):
+    """The bytes of a page of a desk."""
+    return page_of(status, "Instead", [("Content-Type", "application/json")], json.dumps(value).encode())
+
+
 def answer_to(request):
     """What the desk answers: status, reason, fields and text; None where it is not reached."""
     line = http.client.HTTPConnection("127.0.0.1", request.where.port or 80, timeout=SECONDS)
@@ -172,7 +177,7 @@ class Network:
             return None
         if instead:
             self.instead = None
-            return page_of(instead[0], "Instead", [("Content-Type", "application/json")], json.dumps(instead[1]).encode())
+            return json_page(*instead)
         before, self.before = self.before, None
         if before:
             before()

@@ -4,7 +4,7 @@ import json
 from selenium.webdriver.common.keys import Keys
 
 from page_driving import Browser, Desk, wait_until
-from page_network import Network
+from page_network import Network, json_page
 
 JUNE = [f"2030-06-{day:02}" for day in range(1, 31)]
 LINE = "F/AL/A1/2030-06-01/1/1*;R/INN/SEA/2030-06-01/2/1|R/INN/YARD/2030-06-01/2/1;T/BUS/X/2030-06-01/1/1!1"
@@ -169,7 +169,8 @@ def by_clicks(scene):
     scene.does("Do step 1", "T1.1")
     scene.may("Do step 2", "Turn back to save-point 1", START)
     scene.does("Do step 2", "B1r")
-    scene.note("the step found no place: it turns back to save-point 1. It is there.")
+    scene.note("the step found no place (room INN SEA, 1 Jun 2030, 2 nights, leaving Mon 3 June, 1 place: none free on 2 Jun 2030): "
+               "it turns back to save-point 1. It is there.")
     scene.may("Do step 2", "Do all 2 steps that are left", "Turn back to save-point 1", START)
     scene.does("Do step 2", "T2.2")
     scene.may("Do step 3", "Take save-point 2", "Turn back to save-point 1", START)
@@ -337,6 +338,11 @@ SAID_BEFORE = (
 )
 
 
+def is_older(request):
+    """The answer of a desk that does not say what a step would make, where it is asked for that."""
+    return json_page(404, {"name": "UnknownPath", "refused": 7}) if request.where.path.endswith("/why") else None
+
+
 def said_before(scene):
     """What cannot be undone, and what comes of a step that does not fit, is said before the press; it then comes so."""
     for identity, (body, presses) in enumerate(SAID_BEFORE, 1):
@@ -346,6 +352,12 @@ def said_before(scene):
             scene.browser.shows(words, ".acts > :last-child")
             same(f"journey {identity}, before {item}: {others}", False, others in scene.browser.text(".acts > :last-child"))
             scene.does(scene.browser.names(".acts button.main")[0], item, identity)
+
+
+def said_by_page(scene):
+    """The same, before a desk that leaves it to the page."""
+    scene.network.front = is_older
+    said_before(scene)
 
 
 def all_steps(scene):

@@ -2,7 +2,7 @@
 
 /// What the page may load and do: its own style and script, and requests to the desk that served it.
 pub const POLICY: &str =
-    r#"default-src 'none'; script-src 'sha256-zoYxOIKCfcj1Ml1XDn72yafcI99jPeurmnXonUkjMes='; style-src 'sha256-VaT9aXyUTPNlmCHucGRWh1t6nHAGW5iN/NXZESOo7OE='; connect-src 'self'; frame-ancestors 'none'; base-uri 'none'; form-action 'none'"#;
+    r#"default-src 'none'; script-src 'sha256-7yXjFmmga8f7whAW30olNpzyhNTL2+3DFlbqAlruHws='; style-src 'sha256-VaT9aXyUTPNlmCHucGRWh1t6nHAGW5iN/NXZESOo7OE='; connect-src 'self'; frame-ancestors 'none'; base-uri 'none'; form-action 'none'"#;
 
 /// The page, in HTML.
 pub const PAGE: &str = r##"<!doctype html>
@@ -537,6 +537,10 @@ const WORDS = {
   clearYes: ['Clear it', 'Leeren'],
   begin: ['Begin the journey', 'Die Reise beginnen'],
   beginWhat: ['Begin a journey', 'Eine Reise beginnen'],
+  booking: ['Booking number (optional)', 'Buchungsnummer (optional)'],
+  bookingBad: ['A booking number is 1 to 32 letters, digits and hyphens.', 'Eine Buchungsnummer hat 1 bis 32 Buchstaben, Ziffern und Bindestriche.'],
+  bookingUsed: ['The booking number {0} is taken: another request of yours has it.', 'Die Buchungsnummer {0} ist vergeben: Eine andere Anfrage von Ihnen hat sie.'],
+  bookingIs: ['booking {0}', 'Buchung {0}'],
   tries: ['Tries', 'Versuche'],
   triesNone: ['A step that finds no place leads the journey back to its start.', 'Ein Schritt, der keinen Platz findet, führt die Reise zum Start zurück.'],
   triesNoSave: ['There is no save-point, so a step that finds no place leads back to the start, whatever the tries.', 'Es gibt keinen Sicherungspunkt: Ein Schritt, der keinen Platz findet, führt zum Start zurück, wie viele Versuche es auch sind.'],
@@ -572,7 +576,7 @@ const WORDS = {
   toStock: ['To the stock', 'Zum Bestand'],
   listShown: ['Which journeys are shown', 'Welche Reisen gezeigt werden'],
   state: ['State', 'Stand'],
-  seek: ['Number, or what it holds', 'Nummer, oder was belegt ist'],
+  seek: ['Number, booking, or what it holds', 'Nummer, Buchung oder Belegung'],
   allOf: ['all ({0})', 'alle ({0})'],
   openOf: ['not finished ({0})', 'nicht fertig ({0})'],
   noMatch: ['No journey matches.', 'Keine Reise passt dazu.'],
@@ -707,7 +711,7 @@ const planLine = plan => plan.steps.map(
 ).join(';') + '!' + plan.tries;
 
 const causeText = cause => WORDS['cause.' + cause] ? t('cause.' + cause) : cause;
-const refusalText = ({ name, step, cause }) => name === 'BadPlan'
+const refusalText = ({ name, step, cause }, booking) => name === 'KeyReused' && booking ? t('bookingUsed', booking) : name === 'BadPlan'
   ? t('refusedPlan', step ? t('inStep', step, causeText(cause)) : causeText(cause))
   : WORDS['refused.' + name] ? t('refused.' + name) : t('refusedOther', name);
 
@@ -838,7 +842,9 @@ let agent = kept(session, 'agent', kept(local, 'agent', ''));
 let given = '', isKnown = false;
 let view = 'stock', number = 0, turn = 0;
 let stockText = null, stock = new Map(), months = [];
-let own = new Map(), histories = new Map(), plans = new Map(), complete = false;
+let own = new Map(), histories = new Map(), plans = new Map(), whys = new Map(), complete = false;
+// the agency's numbers of journeys, each with the plan that was begun under it; whether the desk says why a step would not fit
+let bookings = {}, knowsWhy = true;
 let draft = null, chosen = null, into = 0, badStep = 0, places = 1;
 // journeys of which a page came, until it is known how they are now
 let settling = new Map();
@@ -1003,7 +1009,7 @@ async function lookAtOwn(mine) {
   await readMine(most, own, mine);
 }
 function forget() {
-  own = new Map(); histories = new Map(); plans = new Map(); complete = false;
+  own = new Map(); histories = new Map(); plans = new Map(); whys = new Map(); complete = false;
   read.clear();
 }
 // lookAnew(): the desk has another file now, or an older one: nothing that was known is
@@ -1075,6 +1081,12 @@ async function lookAtOne(id, mine) {
   if (mine !== turn) return;
   if (one) take(id, one); else plans.set(id, null);
   if (settling.get(id) === was) settling.delete(id);
+  if (!one || !isOpen(one) || !knowsWhy) return;
+  try { whys.set(id, await get(`/journeys/${id}/why`, page => page.step)); } catch (why) {
+    if (!(why instanceof Refused)) throw why;
+    // an older desk does not say it
+    knowsWhy = why.page.name !== 'UnknownPath';
+  }
 }
 
 // ---- sending: each request is kept with its key until its page came, and retried as it was
@@ -1116,11 +1128,12 @@ async function ownWaiting() {
   );
 }
 
-// send(.., seen, all): with `seen`, what is shown of the journey; with `all`, the steps after this one are meant too
-async function send(path, body, what, about, seen, all) {
+// send(.., seen, all, booking): with `seen`, what is shown of the journey; with `all`, the steps after this one are meant too; with
+// `booking`, the number of the agency is the key that the desk gets
+async function send(path, body, what, about, seen, all, booking) {
   end(about);
   await named;
-  const request = { key: newKey(), tab, at: Date.now(), turn: sent++, agent, path, body, what, about, seen, all };
+  const request = { key: newKey(), tab, at: Date.now(), turn: sent++, agent, path, body, what, about, seen, all, booking };
   if (!keep(local, 'post.' + request.key, request)) {
     say('bad', t('notKept'), about);
     return;
@@ -1175,14 +1188,14 @@ async function sendKept(request) {
 // pageOf(request): what the desk answers to it; nothing where its journey has moved since it was shown. A request that was sent
 // before is not held back: only the desk knows whether it was done. The windows of this browser take turns at a journey
 async function pageOf(request) {
-  const { path, key, agent, body, about, seen, isTried } = request;
+  const { path, key, booking, agent, body, about, seen, isTried } = request;
   const tried = is => { request.isTried = is; keep(local, 'post.' + key, request); };
   const go = async () => {
     if (seen !== undefined && !isTried && (await get('/journeys/' + about, isJourney, agent)).history.join() !== seen) return null;
     tried(true);
     try {
       return await ask(path, page => page.journey, {
-        method: 'POST', body, headers: { ...meantFor(agent), 'Desk-Key': key, 'Content-Type': 'application/json' },
+        method: 'POST', body, headers: { ...meantFor(agent), 'Desk-Key': booking || key, 'Content-Type': 'application/json' },
       });
     } catch (why) {
       // what never came to the desk was not done
@@ -1202,16 +1215,18 @@ function hear(request, page, isTold) {
     say('warn', t('hasMoved', request.what, whose, request.about), request.about);
   } else if (page.refused) {
     if (isOwn && request.about === 'new' && page.step) badStep = page.step;
-    say('bad', `${request.what}${whose}: ${refusalText(page)}`, request.about);
+    say('bad', `${request.what}${whose}: ${refusalText(page, request.booking)}`, request.about);
   } else if (request.about === 'new') {
     say('good', t('begun', page.journey, whose), page.journey);
     if (isOwn) {
-      own.set(page.journey, { journey: page.journey, pos: 0, state: 'run' });
-      if (request.body === JSON.stringify(draft)) setDraft({ steps: [], tries: draft.tries });
+      // a number that was used before leads to the journey that has it
+      if (!own.has(page.journey)) own.set(page.journey, { journey: page.journey, pos: 0, state: 'run' });
+      if (request.booking) book(page.journey, request.booking, JSON.parse(request.body));
+      if (request.body === bodyOf(draft)) setDraft({ steps: [], tries: draft.tries });
       if (request.tab === tab && (view === 'plan' || view === 'stock')) location.hash = '#/journeys/' + page.journey;
     }
   } else {
-    const plan = plans.get(page.journey), { word, text } = itemSaid(page, isOwn ? plan : null);
+    const plan = plans.get(page.journey), { word, text } = itemSaid(page, isOwn ? plan : null, request.seen);
     say(word, t('ofJourney', page.journey, whose, text), page.journey);
     if (request.all && page.state !== 'ended') goOn(request, page, text);
   }
@@ -1228,7 +1243,7 @@ async function goOn({ about, seen, agent: whose, tab: of }, { item, pos }, text)
   else say('warn', why ? t('stoppedAt', about, text, pos + 1, why) : t('stopped', about, text), about);
 }
 
-function itemSaid({ item, state, target }, plan) {
+function itemSaid({ item, state, target }, plan, seen) {
   const [, letter, a, b] = /^([TCBS])(\d+)\.?(\w*)$/.exec(item);
   const want = plan && plan.steps[a - 1] && plan.steps[a - 1].options[b - 1];
   const of = want ? ` (${wantText(want)})` : '', isOver = state === 'ended' || state === 'undone';
@@ -1237,7 +1252,12 @@ function itemSaid({ item, state, target }, plan) {
   if (letter === 'C') return { word: 'good', text: t('stepGiven', a, of, end(state === 'run' && state)) };
   if (letter === 'S') return { word: 'good', text: t('saveTaken', a) };
   const to = +a ? t('toSave', a) : t('toStart');
-  return { word: b === 'a' ? 'good' : 'warn', text: t('turnsSince', t('turned.' + b), to, end(target === undefined ? 'there' : 'back')) };
+  let since = t('turned.' + b);
+  if (b === 'r' && plan && stockText !== null) {
+    const { pos, used } = walk(seen ? seen.split(',') : [], plan), want = optionAt(plan, pos + 1, used), { is, why } = fits(want);
+    if (!is) since += ` (${wantText(want)}: ${why})`;
+  }
+  return { word: b === 'a' ? 'good' : 'warn', text: t('turnsSince', since, to, end(target === undefined ? 'there' : 'back')) };
 }
 
 // ---- what is said
@@ -1347,6 +1367,8 @@ function startAgent() {
   forget();
   settling = new Map(); chosen = null; badStep = 0; stockText = null;
   draft = kept(local, 'draft.' + agent, { steps: [], tries: 0 });
+  bookings = kept(local, 'bookings.' + agent, {});
+  askedFor = '';
 }
 function drawWho() {
   const known = kept(local, 'agents', []);
@@ -1368,21 +1390,28 @@ $('who-form').addEventListener('submit', event => {
 
 const places2 = n => n < 10000 ? String(n) : `${Math.floor(n / 1000)}k`;
 
-// fits(want): whether it has its places now, and why
-function fits(want) {
+// fits(want, cellOf): whether it has its places now, and why
+function fits(want, cellOf = when => stock.get(productOf(want))?.nights.get(when)) {
   let least = Infinity, at = '';
   for (let n = 0; n < want.nights; n++) {
-    const when = plus(want.first, n), cell = stock.get(productOf(want))?.nights.get(when);
-    if (!cell) return { is: false, why: t('notAllotted', short(when)) };
+    const when = plus(want.first, n), cell = cellOf(when);
+    if (cell?.free === undefined) return { is: false, why: t('notAllotted', short(when)) };
     if (cell.free < want.count) return { is: false, why: cell.free ? t('onlyFree', cell.free, short(when)) : t('noneFree', short(when)) };
     if (cell.free < least) { least = cell.free; at = when; }
   }
   return { is: true, why: want.nights > 1 ? t('freeAt', least, short(at)) : t('free', least) };
 }
-const fitText = want => {
-  const { is, why } = fits(want);
-  return h('span', { class: is ? 'good' : 'bad' }, t(is ? 'fitsNow' : 'notNow', why));
-};
+const fitText = (want, { is, why } = fits(want)) => h('span', { class: is ? 'good' : 'bad' }, t(is ? 'fitsNow' : 'notNow', why));
+// nextOf(plan, way): what the next step takes, whether that fits and why, and to where it would else turn the journey: as the desk says, and
+// by the stock where it does not
+function nextOf(plan, way) {
+  const want = optionAt(plan, way.pos + 1, way.used), said = whys.get(number);
+  if (said?.state !== 'run' || said.pos !== way.pos || said.want !== optionText(want)) {
+    return { want, isKnown: stockText !== null, to: way.used < plan.tries ? Math.max(0, ...way.saves) : 0, ...fits(want) };
+  }
+  const { why } = fits(want, when => said.nights.find(one => one.night === when)), [, to] = /^B(\d+)/.exec(said.step) || [];
+  return { want, isKnown: true, is: !to, why, to: +to };
+}
 
 const NAMES = ['kind', 'supplier', 'product'];
 // isShown(one): whether the filters, or the first ones of them, let a product through
@@ -1681,10 +1710,11 @@ function drawPlan() {
     h('ol', { class: 'steps' }, steps.map((step, at) => [stepItem(step, at), saveItem(step, at)])),
     wholeField(t('tries'), 'tries', 0, 9, draft.tries, tries => setDraft({ ...draft, tries }), { 'aria-describedby': 'tries-say' }),
     h('p', { class: 'hint', id: 'tries-say' }, triesText(hasSave)),
+    bookingInput(),
     lineInput(),
     h('div', { class: 'row begin' },
       button(t(isSent ? 'sendingNow' : 'begin'), 'begin',
-        () => isSent || send('/journeys', JSON.stringify(draft), t('beginWhat'), 'new'),
+        () => isSent || send('/journeys', bodyOf(draft), t('beginWhat'), 'new', undefined, false, draft.booking),
         { class: 'main', 'aria-disabled': isSent && 'true' }),
       button(t('clear'), 'clear', clear, { 'aria-label': t('clearAll') })));
 }
@@ -1701,12 +1731,34 @@ function triesText(hasSave) {
   return !tries ? t('triesNone') : hasSave ? t('triesSay', tries) : t('triesNoSave');
 }
 
+// the journey that is begun, without the number of the agency, which is its key
+const bodyOf = ({ steps, tries }) => JSON.stringify({ steps, tries });
+const isBooking = text => /^[A-Za-z0-9-]{1,32}$/.test(text);
+// book(journey, booking, plan): the number of the agency is kept with what was begun under it, since another file has other journeys
+function book(journey, booking, plan) {
+  bookings = Object.fromEntries(Object.entries({ ...bookings, [journey]: [booking, planLine(plan)] }).slice(-2000));
+  keep(local, 'bookings.' + agent, bookings);
+}
+function bookingOf(journey) {
+  const [booking, line] = bookings[journey] || [], plan = plans.get(journey);
+  return !plan || planLine(plan) === line ? booking : '';
+}
+const bookingInput = () => h('label', {}, t('booking'), h('input', {
+  class: 'code', size: 14, maxlength: 32, value: draft.booking || '', 'data-f': 'booking', spellcheck: 'false', autocomplete: 'off',
+  onchange: ({ target }) => {
+    const booking = target.value.trim();
+    if (!booking || isBooking(booking)) { setDraft({ ...draft, booking }); return; }
+    say('bad', t('bookingBad'), 'new');
+    target.setAttribute('aria-invalid', 'true');
+  },
+}));
+
 function lineInput() {
   const text = draft.steps.length ? planLine(draft) : '';
   const onchange = event => {
     const typed = event.target.value.trim();
     if (typed === text) return;
-    try { setDraft(typed ? readLine(typed) : { steps: [], tries: 0 }); } catch (why) {
+    try { setDraft({ ...typed ? readLine(typed) : { steps: [], tries: 0 }, booking: draft.booking }); } catch (why) {
       if (typeof why !== 'string') throw why;
       say('bad', why, 'new');
       event.target.setAttribute('aria-invalid', 'true');
@@ -1791,11 +1843,15 @@ function drawList() {
   if (view !== 'list' && view !== 'journey') return;
   const sum = state => all.filter(one => one.state === state).length;
   const text = sought.text.trim().toLowerCase();
-  const isText = one => !text || String(one.journey).startsWith(text) || saidOf(one)?.held.toLowerCase().includes(text);
+  const isText = one => !text || String(one.journey).startsWith(text) || saidOf(one)?.held.toLowerCase().includes(text)
+    || bookingOf(one.journey)?.toLowerCase().includes(text);
   const isState = one => !sought.state || (sought.state === 'open' ? isOpen(one) : one.state === sought.state);
   const some = all.filter(one => isState(one) && isText(one));
   const rows = some.slice(0, sought.rows);
-  const key = JSON.stringify([complete, all.length, open, sought, some.length, view, number, rows.map(one => [one, saidOf(one)])]);
+  const said = rows.map(one => [one, saidOf(one), bookingOf(one.journey)]);
+  const key = JSON.stringify([complete, all.length, open, sought, some.length, view, number, said]);
+  // digits may stand in the number or the dates of one journey, and be the booking of another
+  seekBooking(complete && (!some.length || /^\d+$/.test(text)) ? sought.text.trim() : '');
   if (isDrawn($('list'), key)) return;
   if (!all.length) {
     paint($('list'),
@@ -1824,6 +1880,26 @@ function drawList() {
   fillPlans(text && !/^\d+$/.test(text) ? all.filter(one => one.pos) : rows);
 }
 
+const bookingText = ({ journey }) => bookingOf(journey) && h('span', { class: 'small' }, ` ${t('bookingIs', bookingOf(journey))}`);
+// seekBooking(text): asks the desk, once this was typed, for the journey that was begun under it
+let askedFor = '', asking = 0;
+function seekBooking(text) {
+  clearTimeout(asking);
+  if (text === askedFor || !isBooking(text) || [...own.keys()].some(journey => bookingOf(journey) === text)) return;
+  asking = setTimeout(async () => {
+    const mine = turn;
+    askedFor = text;
+    try {
+      const one = await get('/journeys/by-key/' + text, page => page.journey), plan = await get(`/journeys/${one.journey}/plan`, isPlan);
+      if (mine !== turn) return;
+      own.set(one.journey, one);
+      plans.set(one.journey, plan);
+      book(one.journey, text, plan);
+      drawList();
+    } catch { /* there is none, or an older desk does not know it */ }
+  }, 500);
+}
+
 function listRow(one) {
   const isShown = view === 'journey' && one.journey === number, said = saidOf(one);
   return h('tr', { class: isShown && 'now' },
@@ -1831,7 +1907,7 @@ function listRow(one) {
       href: '#/journeys/' + one.journey, 'data-f': 'to.' + one.journey, 'aria-label': t('journey', one.journey),
       'aria-current': isShown && 'page',
     }, one.journey)),
-    h('td', {}, stateMark(one), said && h('div', { class: 'plan small' }, t('holds', said.held), h('span', { class: 'soft' }, said.rest))));
+    h('td', {}, stateMark(one), said && bookingText(one), said && h('div', { class: 'plan small' }, t('holds', said.held), h('span', { class: 'soft' }, said.rest))));
 }
 
 // fillPlans(rows): asks for the plans and histories of those that are listed, one after another
@@ -1906,7 +1982,9 @@ function drawOne() {
   if (view !== 'journey') { if (view === 'list') drawNone(); return; }
   const plan = plans.get(number), { history, where: one } = histories.get(number) || {};
   const sending = waiting().filter(request => isDue(request) && request.about === number && request.agent === agent);
-  const key = JSON.stringify([number, one, history, plan && 1, plan === null, sending.map(request => request.key), settling.has(number)]) + (plan && one && isOpen(one) && plan.steps.map(step => step.options.map(want => fits(want).why)).join());
+  const known = [number, one, history, plan && 1, plan === null, sending.map(request => request.key), settling.has(number)];
+  const key = JSON.stringify([...known, whys.get(number), bookings[number]])
+    + (plan && one && isOpen(one) && plan.steps.map(step => step.options.map(want => fits(want).why)).join());
   if (isDrawn($('one'), key)) return;
   $('h-one').textContent = t('journey', number);
   if (plan === null) {
@@ -1917,7 +1995,7 @@ function drawOne() {
   const way = walk(history, plan), drawn = `${number} ${history.length}`;
   const steps = t('stands', way.stands.length, plan.steps.length, way.saves.length ? t('saves', way.saves.join(', ')) : '');
   paint($('one'),
-    h('p', {}, stateMark(one), ' ', h('span', { class: 'soft' }, steps)),
+    h('p', {}, stateMark(one), bookingText(one), ' ', h('span', { class: 'soft' }, steps)),
     actions(one, plan, way, sending, history.join()),
     h('div', {
       class: 'path drawn', tabindex: 0, role: 'region', 'data-f': 'path',
@@ -1972,7 +2050,7 @@ function actions(one, plan, way, sending, seen) {
     h('div', { class: 'row', role: 'group', 'aria-label': t('may') },
       isBack ? button(t('giveStep', way.pos), 'step', act('step', t('giveStepWhat', way.pos, id)), { class: 'main', ...off })
         : button(t('doStep', next), 'step', act('step', t('doStepWhat', next, id)), { class: 'main', 'aria-describedby': 'next', ...off }),
-      !isBack && left > 1 && fits(optionAt(plan, next, way.used)).is && button(t('doAll', left), 'all', doAll, off),
+      !isBack && left > 1 && nextOf(plan, way).is && button(t('doAll', left), 'all', doAll, off),
       canSave && button(t('save', way.pos), 'mark', act('save', t('saveWhat', way.pos, id)), off),
       turns.map(p => [p, p ? t('toSave', p) : t('toStart')]).map(([p, to]) => button(t('turn', to), 'turn.' + p, turnBack(p, to), off)),
       wait && h('span', { class: 'soft', role: 'status' }, t('sendingNow'))),
@@ -1980,11 +2058,10 @@ function actions(one, plan, way, sending, seen) {
 }
 // nextText(plan, way): what the next step takes, what of it cannot be undone, and what it does if it does not fit
 function nextText(plan, way) {
-  const next = way.pos + 1, want = optionAt(plan, next, way.used), to = way.used < plan.tries ? Math.max(0, ...way.saves) : 0;
+  const next = way.pos + 1, { want, isKnown, is, why, to } = nextOf(plan, way);
   const turned = !to ? t('undoes', way.saves.length ? t('noTries') : '') : to === way.pos ? t('whereItIs', t('toSave', to)) : t('toSave', to);
-  const isKnown = stockText !== null;
-  return h('div', { id: 'next' }, h('p', {}, t('willTake', next, wantText(want)), isKnown && [fitText(want), '.']),
-    isKnown && !fits(want).is && h('p', { class: 'bad' }, t('asItIs', turned)),
+  return h('div', { id: 'next' }, h('p', {}, t('willTake', next, wantText(want)), isKnown && [fitText(want, { is, why }), '.']),
+    isKnown && !is && h('p', { class: 'bad' }, t('asItIs', turned)),
     next === plan.steps.length && h('p', { class: 'warn' }, t('lastStep')));
 }
 const backText = target => h('p', { class: 'warn' }, t('goesBack', target ? t('toSave', target) : t('toItsStart')));
@@ -2117,6 +2194,7 @@ addEventListener('online', () => {
 addEventListener('storage', event => {
   if (event.key === MARK + 'out') if (event.newValue) { isReached('out'); draw(); } else isSignedIn();
   if (event.key === MARK + 'draft.' + agent) { draft = kept(local, 'draft.' + agent, draft); draw(); }
+  if (event.key === MARK + 'bookings.' + agent) { bookings = kept(local, 'bookings.' + agent, bookings); draw(); }
   if (event.key && event.key.startsWith(POST)) draw();
 });
 startAgent();

@@ -1,0 +1,89 @@
+"""What the page asks the desk for beside its views: what a step would make, and which journey has a number of the agency."""
+import json
+
+from selenium.webdriver.common.keys import Keys
+
+from page_driving import wait_until
+from page_network import json_page
+from page_scenes import FLIGHT, JUNE, LAST, TRANSFER, comes, option, plan, same
+
+
+def said_by_desk(scene):
+    """What a step would make is told as the desk says it, also where the page would think otherwise. A proxy answers for the desk here."""
+    browser, network, want = scene.browser, scene.network, "R/INN/YARD/2030-06-01/2/1"
+    full = [{"free": 4, "night": JUNE[0]}, {"free": 0, "night": JUNE[1]}]
+    # the nights and the step that the desk names, and what is said of them
+    rows = ((full, "B1r", "Does not fit now: none free on 2 Jun 2030.", "turn the journey back to save-point 1, where it is."),
+            (full[:1] + [{"night": JUNE[1]}], "B0r", "Does not fit now: nothing is allotted on 2 Jun 2030.", "and so undo it."),
+            (full[:1] + [{"free": 3, "night": JUNE[1]}], "T2.1", "Fits now: 3 free on 2 Jun 2030, the fullest night.", LAST))
+    for identity, (nights, step, fits, comes_of_it) in enumerate(rows, 1):
+        scene.begins(plan(FLIGHT, option("room", "INN", "YARD", nights=2), saves=(1,)), f"by-desk-{identity}", 1)
+        said = {"agent": "ann", "journey": identity, "next": "T2.1", "nights": nights, "pos": 1, "state": "run", "step": step,
+                "want": want}
+        network.front = lambda request, said=said: json_page(200, said) if request.where.path.endswith("/why") else None
+        scene.shows_journey(identity)
+        browser.shows(fits, "#next")
+        browser.shows(comes_of_it, "#next")
+        same(f"{step}: all steps that are left", [], [name for name in browser.names(".acts button") if "Do all" in name])
+    # what the desk said of an option that is not the next one any more is not shown
+    said["want"] = "R/INN/SEA/2030-06-01/2/1"
+    scene.begins(plan(FLIGHT, option("room", "INN", "YARD", nights=2)), "by-desk-4", 1)
+    scene.shows_journey(4)
+    browser.shows("Fits now: 4 free on 1 Jun 2030, the fullest night.", "#next")
+
+
+def by_booking_number(scene):
+    """A journey that is begun under a number of the agency has that for its key; it is shown in the list, and found by it."""
+    browser, desk, network = scene.browser, scene.desk, scene.network
+
+    def types_number(text):
+        browser.types('[data-f="booking"]', Keys.CONTROL + "a" + Keys.NULL, Keys.DELETE, text, Keys.TAB)
+
+    def found_by(text, *journeys):
+        browser.types('[data-f="list.text"]', Keys.CONTROL + "a" + Keys.NULL, Keys.DELETE, text)
+        comes(f"found by {text}", [f"Journey {n}" for n in journeys], lambda: browser.names("#list tbody a"))
+    browser.types("#line", "F/AL/A1/2030-06-01/1/1!0", Keys.TAB)
+    types_number("A 1")
+    scene.note("A booking number is 1 to 32 letters, digits and hyphens.")
+    types_number("Trip-A-07")
+    browser.press("Begin the journey")
+    browser.shows("booking Trip-A-07", "#one")
+    same("its key", ("/journeys", "ann", "Trip-A-07"), network.posts[-1][:3])
+    same("its plan has no number", ["steps", "tries"], sorted(json.loads(network.posts[-1][3])))
+    scene.does("Do step 1", "T1.1")
+    same("the key of a step", 32, len(network.posts[-1][2]))
+    browser.shows("booking Trip-A-07", "#list")
+    # it is that of one journey alone
+    browser.open(desk.url("#/plan"))
+    browser.types("#line", "T/BUS/X/2030-06-01/1/1!0", Keys.TAB)
+    same("the next journey has none", "", browser.one('[data-f="booking"]').get_attribute("value"))
+    types_number("Trip-A-07")
+    browser.press("Begin the journey")
+    scene.note("The booking number Trip-A-07 is taken")
+    same("nothing was begun", 1, len(desk.ask("GET", "/mine")[1]["mine"]))
+    types_number("")
+    browser.press("Begin the journey")
+    browser.shows("Journey 2", "#h-one")
+    # another client begins under numbers, of which this browser knows none; one is found in the dates too
+    for booking, agent in (("30", "ann"), ("Other-4", "bob")):
+        scene.begins(plan(TRANSFER), booking, agent=agent)
+    browser.open(desk.url("#/journeys"))
+    comes("three journeys", 3, lambda: len(browser.all("#list tbody tr")))
+    found_by("trip-a", 1)
+    found_by("Other-4")
+    browser.shows("No journey matches.", "#list")
+    wait_until(lambda: ("GET", "/journeys/by-key/Other-4") in [one[:2] for one in network.paths], "the desk is asked")
+    found_by("30", 3, 1)
+    browser.shows("booking 30", "#list")
+    asked = [path for _, path, _ in network.paths if "/by-key/" in path]
+    same("it is asked for what is not known alone, once", ["/journeys/by-key/30", "/journeys/by-key/Other-4"], sorted(set(asked)))
+    same("once", 2, len(asked))
+    found_by("", 3, 2, 1)
+    # a desk over another file has another journey of this number
+    desk.kill()
+    desk.file = f"{scene.folder}/other.db"
+    desk.start()
+    scene.begins(plan(TRANSFER), "another")
+    browser.driver.refresh()
+    browser.shows("transfer X", "#list")
+    same("a number of another file", False, "booking" in browser.text("#list tbody"))
