@@ -119,7 +119,7 @@ def take(camera, network):
         browser.gives(f'[data-f="filter.{name}"]', day)
     browser.shows("2 places free from Mon, 10 June 2030 to Thu, 13 June 2030", "#cals")
     browser.script("document.activeElement.blur()")
-    camera.keeps("table", 1366, 480)
+    camera.keeps("table", 1366, 520)
     browser.gives('[data-f="filter.from"]', "")
     browser.types('[data-f="filter.places"]', Keys.CONTROL + "a" + Keys.NULL, "1", Keys.TAB)
     browser.click_on('[data-f="filter.table"]')
