@@ -29,6 +29,13 @@ state_named text =
     else if bytes_eq text (state_word Undone) then Some Undone
     else None
 
+-- the state of a journey in this phase
+abbrev pub state_of : Phase → JourneyState
+state_of phase.Run = Run
+state_of (phase.Back target) = Back
+state_of phase.Ended = Ended
+state_of phase.Undone = Undone
+
 -- a journey in this phase is in this state
 abbrev pub is_in_state : JourneyState → Phase → Bool
 is_in_state Run phase.Run = true

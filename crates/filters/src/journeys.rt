@@ -1,6 +1,6 @@
 //! Which journeys are asked for.
 ghost use Rattle.std.specs.Prelude.{◌≡◌};
-ghost use Rattle.filters.specs.JourneyFilters.{is_in_state, is_journey_asked, is_phase_asked, state_named};
+ghost use Rattle.filters.specs.JourneyFilters.{is_in_state, is_journey_asked, is_phase_asked, state_named, state_word};
 ghost use Rattle.filters.specs.CellFilters.{is_name_asked};
 
 use commands::{Agent, Phase};
@@ -30,6 +30,18 @@ impl JourneyState {
             "ended" => Some(JourneyState::Ended),
             "undone" => Some(JourneyState::Undone),
             _ => None,
+        }
+    }
+
+    /// Its word.
+    pub fn word(self) -> &'static str
+        ensures word { result.now ≡ state_word self }
+    {
+        match self {
+            JourneyState::Run => "run",
+            JourneyState::Back => "back",
+            JourneyState::Ended => "ended",
+            JourneyState::Undone => "undone",
         }
     }
 

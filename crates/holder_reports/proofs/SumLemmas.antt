@@ -12,7 +12,7 @@ use Rattle.ledger.specs.History.{net}
 use Rattle.holder_reports.specs.Holders.{holder_if, holders_by, holders_in_journey, holders_of}
 use Rattle.holder_reports.specs.declared.holders.Holder.{Holder}
 
-abbrev places : Holder → ℕ
+abbrev pub places : Holder → ℕ
 places h = h.places
 
 -- what a transaction holds is what its holder has, if it is one

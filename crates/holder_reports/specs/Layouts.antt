@@ -48,7 +48,11 @@ holder_row Text h = holder_line h
 holder_row Json h = json_line (holder_data h)
 holder_row Csv h = csv_line (holder_fields h)
 
--- the report of these holders: for Text it ends with how many there are
+-- a report of rows: its heading, the line of each, and for Text how many there are
+abbrev pub rows_in : {T : Type 0} → List ℕ → (T → List ℕ) → Format → List T → List ℕ
+rows_in head row format rows =
+    head ++ flat_map row rows ++ last_line format (codes "holders") (length rows)
+
+-- the report of these holders
 abbrev pub holders_in : Format → List Holder → List ℕ
-holders_in format rows =
-    holders_head format ++ flat_map (holder_row format) rows ++ last_line format (codes "holders") (length rows)
+holders_in format rows = rows_in (holders_head format) (holder_row format) format rows

@@ -6,13 +6,28 @@ ghost use Rattle.reports.specs.Records.{csv_line};
 ghost use Rattle.serde_json.specs.View.{view};
 
 use crate::holders::Holder;
+use crate::writing::Laid;
 use csv::ByteRecord;
 use reports::{Format, csv_line, json_line, put_number};
 use serde_json::{Value, json};
 use std::alloc::{AllocError, Global};
 
+impl Laid for Holder {
+    ghost heading = { holders_head };
+
+    ghost shown = { holder_row };
+
+    fn head(format: Format) -> &'static str {
+        holders_head(format)
+    }
+
+    fn row(&self, alloc: Global, format: Format) -> Result<Vec<u8>, AllocError> {
+        holder_row(alloc, format, self)
+    }
+}
+
 /// The heading of the report in this format.
-pub(crate) fn holders_head(format: Format) -> &'static str
+fn holders_head(format: Format) -> &'static str
     ensures head { result.now ≡ holders_head format }
 {
     match format {
@@ -30,11 +45,7 @@ fn record_heading() -> &'static str
 }
 
 /// The line of a holder in this format.
-pub(crate) fn holder_row(
-    alloc: Global,
-    format: Format,
-    holder: &Holder,
-) -> Result<Vec<u8>, AllocError>
+fn holder_row(alloc: Global, format: Format, holder: &Holder) -> Result<Vec<u8>, AllocError>
     ensures row { IfOk result (λ bytes. bytes.items ≡ holder_row format holder.now) }
 {
     match format {

@@ -1,7 +1,6 @@
 use Rattle.std.proofs.Common.{◌≡◌, ◌+◌, ◌-◌, ◌^◌}
-use Rattle.holder_reports.specs.Layouts.{holder_row}
 use Rattle.reports.proofs.RowLemmas.{SoManyWritten}
-use Rattle.holder_reports.proofs.writing.send_holders.Given as goal
+use Rattle.holder_reports.proofs.writing.send_rows.Given as goal
 
 -- the first rows were written, as many as were counted
 abbrev pub invariant-loop-row : goal.invariant-loop-row
@@ -9,7 +8,7 @@ invariant-loop-row g l =
     let source = g.R.RowSource in
     let contents = g.W.Write.contents in
     record {
-      written : SoManyWritten source l.fn.rows l.rows (λ rows. rows) (source.rests l.rows) (holder_row l.fn.format) (contents l.fn.out) (contents l.out) l.count;
+      written : SoManyWritten source l.fn.rows l.rows (λ rows. rows) (source.rests l.rows) (g.T.Laid.shown l.fn.format) (contents l.fn.out) (contents l.out) l.count;
       given : source.given l.rows ≡ l.count + source.given l.fn.rows;
     }
 

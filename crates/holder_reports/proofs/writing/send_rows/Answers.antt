@@ -5,7 +5,7 @@ use Rattle.saga_core.specs.RowSources.{Hands}
 use Rattle.streams.specs.Written.{WroteFront}
 use Rattle.reports.proofs.RowLemmas.{written_all, written_less, written_more, written_part}
 use Rattle.reports.proofs.TakeLemmas.{given_none, given_one, none_left}
-use Rattle.holder_reports.proofs.writing.send_holders.Goals as goal
+use Rattle.holder_reports.proofs.writing.send_rows.Goals as goal
 
 -- one more row was returned and written
 pub loop-row-preserved : goal.loop-row-preserved
