@@ -26,14 +26,12 @@ use Rattle.desk_sql.specs.Causes.{IsUp, HasReason}
 use Rattle.desk_sql.specs.Meanings.{sorted_rows}
 use Rattle.desk_sql.specs.RemainingRows.{Rests}
 use Rattle.desk_sql.specs.Schema.{schema_of}
-use Rattle.desk_sql.proofs.Causing.{Takes, takes, of_store, query_reason}
+use Rattle.desk_sql.proofs.Causing.{Takes, takes, of_store, one_table}
 use Rattle.desk_sql.proofs.Meaning.{MeansEach}
+use Rattle.sql_lists.proofs.QueryReasons.{IsSure, sure_reason}
 
-module _ {S : Type 0} (g : Ghosts S) {text : List ℕ} {tree : ℕ} {filter project : List Term} {order : List (Term × Key)}
-    {names : List (List ℕ)} (m : MeansEach text (sorted_rows tree filter project order) names) where
-  abbrev q : Query
-  q = sorted_rows tree filter project order
-
+module _ {S : Type 0} (g : Ghosts S) {q : Query} (sure : IsSure q) {text : List ℕ} {names : List (List ℕ)}
+    (m : MeansEach text q names) where
   abbrev program : Program
   program = record { lets = []; body = q }
 
@@ -82,11 +80,19 @@ module _ {S : Type 0} (g : Ghosts S) {text : List ℕ} {tree : ℕ} {filter proj
       }
 
   -- so the next row is not read only out of memory, or where the disk failed or refused
-  pub advance_reason : (old new : Held S) (later : List Row) (e : Error) → IsUp (state g old) → Rests g text q old later
+  pub advance_reason_sure : (old new : Held S) (later : List Row) (e : Error) → IsUp (state g old) → Rests g text q old later
       → FailsToAdvance g old new e → (IsEnded old → Fails (state g old) (state g new) ⊥ e) → HasReason (state g old) (state g new) e
-  advance_reason old new later e up (inr over) fails ended =
+  advance_reason_sure old new later e up (inr over) fails ended =
       let why = ended over.0 in of_store (state g old) (state g new) up why.0 e why.1 why.2
-  advance_reason old new later e up (inl runs) fails ended =
+  advance_reason_sure old new later e up (inl runs) fails ended =
       let v = runs.1.version in
-      query_reason (m v) (takes_given v runs.0 old runs.1.given runs.1.schema runs.1.gave) (state g old) (state g new) up runs.1.schema e
+      sure_reason sure (m v) (takes_given v runs.0 old runs.1.given runs.1.schema runs.1.gave) (state g old) (state g new) up runs.1.schema e
       (fails text runs.0 runs.1.given runs.1.gave)
+
+-- the same of a query of one table
+pub advance_reason : {S : Type 0} (g : Ghosts S) {text : List ℕ} {tree : ℕ} {filter project : List Term} {order : List (Term × Key)}
+    {names : List (List ℕ)} (m : MeansEach text (sorted_rows tree filter project order) names) (old new : Held S) (later : List Row)
+    (e : Error) → IsUp (state g old) → Rests g text (sorted_rows tree filter project order) old later
+    → FailsToAdvance g old new e → (IsEnded old → Fails (state g old) (state g new) ⊥ e) → HasReason (state g old) (state g new) e
+advance_reason g {tree = tree} {filter = filter} {project = project} {order = order} m =
+    advance_reason_sure g (one_table tree filter project order) m

@@ -1,5 +1,6 @@
 pub mod ListMeanings
 pub mod HandedRows
+pub mod QueryReasons
 pub mod HandedReasons
 pub mod HandedCells
 pub mod HandedJourneys
@@ -7,3 +8,6 @@ pub mod CellAnswers
 pub mod JourneyAnswers
 pub mod Handed
 pub mod HolderAnswers
+pub mod JoinedRows
+pub mod HoldingTypes
+pub mod HoldingAnswers

@@ -2,3 +2,4 @@ pub mod CellLists
 pub mod JourneyLists
 pub mod HolderLists
 pub mod ListedRows
+pub mod HoldingLists

@@ -1,0 +1,235 @@
+-- The holders of the cells that a filter lets through, night by night, are the answer of their query. For `holdings`.
+use Rattle.std.proofs.Common.{◌≡◌, inl, ℕ, ℤ, pos, ◌+◌, ◌+ℤ◌, ◌<◌, ◌^◌, ◌==◌, ◌&&◌, List, [], ◌∷◌, map, Bool, true, false, is_lt, Ordering, Less, Equal, Greater, Option, None, Some, refl, sym, ap, ap₂, subst, ◌∙◌, arith, bytes_eq, nat_le, nat_lt, eq-eqb}
+use Rattle.std.specs.List.{AllByRecursion, list_all}
+use Rattle.std.specs.Ordering.{int_cmp, nat_cmp, ordering_then}
+use Rattle.std.specs.Cmp.Lexicographic.{slice_cmp}
+use Rattle.std.proofs.lemmas.Int.{ints}
+use Rattle.std.proofs.lemmas.Bool.Decides.{nat_tests}
+use Rattle.std.proofs.lemmas.Slice.Eq.{bytes_eq-Decides}
+use Rattle.sqlite.specs.declared.types.Value.TheVariants.{Text}
+use Rattle.sqlite.specs.Order.{Row}
+use Rattle.sqlite.specs.Term.{holds}
+use Rattle.sqlite.specs.Query.{Output, IsAnswer, output_cmp}
+use Rattle.sqlite.specs.Program.{overlay}
+use Rattle.sqlite.specs.Given.{HasBegun}
+use Rattle.sqlite.specs.Store.{Ghosts}
+use Rattle.sqlite.specs.Held.{Held, state}
+use Rattle.sqlite.specs.State.{HasCleanDisk}
+use Rattle.sqlite.specs.Listing.{understood}
+use Rattle.sqlite.specs.Ops.{binary, fits_i64, is_true, unary}
+use Rattle.sqlite_sql.specs.declared.ops.UnaryOp.TheVariants.{ToNumeric}
+use Rattle.sqlite_sql.specs.declared.ops.BinaryOp.TheVariants.{Arith, Coalesce, Compare}
+use Rattle.sqlite_sql.specs.declared.ops.ArithOp.TheVariants.{Add}
+use Rattle.sqlite_sql.specs.declared.ops.CompareOp.TheVariants.{Eq, Ge, Le, Lt}
+use Rattle.sqlite_value.specs.declared.keys.Collation.TheVariants.{Binary}
+use Rattle.sqlite_value.proofs.OrderLemmas.{value_cmp-Int, value_cmp-Text, then-Equal}
+use Rattle.sqlite_tied.specs.Compute.{everything}
+use Rattle.sqlite_trees.specs.Tree.{Trees}
+use Rattle.sqlite_trees.proofs.ListLemmas.{ascending_weaker}
+use Rattle.allotment.specs.Cells.{kind_number}
+use Rattle.allotment.specs.declared.codes.Kind.{Kind}
+use Rattle.filters.specs.CellFilters.{is_from, is_kind_asked, is_name_asked, is_to}
+use Rattle.filters.specs.declared.cells.CellFilter.{CellFilter}
+use Rattle.desk_sql.specs.declared.versions.Version.{Version}
+use Rattle.desk_sql.specs.declared.versions.Version.TheVariants.{One, Two}
+use Rattle.desk_sql.specs.FoundRows.{ten_of}
+use Rattle.desk_sql.specs.Lists.{IsNumbered, IsTableOf, numbered_row}
+use Rattle.desk_sql.specs.RemainingRows.{Begins, IsOnlyOrder}
+use Rattle.desk_sql.specs.Rows.{whole, JourneyRow, StepRow, StockRow, journey_row, step_columns, stock_columns}
+use Rattle.desk_sql.proofs.Causing.{Takes}
+use Rattle.desk_sql.proofs.Meaning.{MeansEach}
+use Rattle.desk_sql.proofs.Testing.{and_true, eq_text, eq_whole, ge_whole, le_whole, truth_is}
+use Rattle.sql_lists.specs.HoldingLists.{HoldingRow, HoldingsRest, IsByNight, Joined, ListsHoldings, holding_found, holding_of, holding_shown, holding_tests, holdings_names, holdings_params, holdings_query, holdings_text, is_joined, is_stock_asked, joined, joined_cmp, kind_param, step_cmp, name_param, night_param, shows_holding}
+use Rattle.sql_lists.specs.declared.holdings.HoldingFound.{HoldingFound}
+use Rattle.sql_lists.proofs.HandedCells.{number_cmp}
+use Rattle.sql_lists.proofs.HandedRows.{starts}
+use Rattle.sql_lists.proofs.HoldingTypes.{holdings_typed}
+use Rattle.sql_lists.proofs.JoinedRows.{joined_answers}
+
+-- The text means the query, and takes its parameters.
+
+pub holdings_means : MeansEach holdings_text holdings_query holdings_names
+unfolding understood everything
+holdings_means One = record { is = refl; plain = (refl, refl); unlisted = refl; selects = refl }
+holdings_means Two = record { is = refl; plain = (refl, refl); unlisted = refl; selects = refl }
+
+pub holdings_take : (kind : Option Kind) (supplier product : Option (List ℕ)) (first last : Option ℕ) (v : Version)
+    → Takes v holdings_text holdings_query
+    (kind_param kind ∷ name_param supplier ∷ name_param product ∷ night_param first ∷ night_param last ∷ [])
+unfolding understood everything
+holdings_take kind supplier product first last One = record { whole = refl; typed = holdings_typed One kind supplier product first last }
+holdings_take kind supplier product first last Two = record { whole = refl; typed = holdings_typed Two kind supplier product first last }
+
+-- The tests.
+
+kind_test : (asked : Option Kind) (n : ℕ)
+    → is_true (binary (Compare Eq Binary) (whole n) (unary ToNumeric (binary Coalesce (kind_param asked) (whole n)))) ≡ is_kind_asked asked n
+unfolding binary unary
+kind_test None n = eq_whole n n ∙ eq-eqb n n refl
+kind_test (Some kind) n = eq_whole n (kind_number kind)
+
+name_test : (asked : Option (List ℕ)) (name : List ℕ)
+    → is_true (binary (Compare Eq Binary) (Text name) (binary Coalesce (name_param asked) (Text name))) ≡ is_name_asked asked name
+unfolding binary
+name_test None name = eq_text name name ∙ (bytes_eq-Decides name name).1 refl
+name_test (Some asked) name = eq_text name asked
+
+same_low : (n : ℕ) → nat_le n n ≡ true
+same_low n = grind (arith, nat_tests)
+
+from_test : (first : Option ℕ) (n : ℕ)
+    → is_true (binary (Compare Ge Binary) (whole n) (unary ToNumeric (binary Coalesce (night_param first) (whole n)))) ≡ is_from first n
+unfolding binary unary
+from_test None n = ge_whole n n ∙ same_low n
+from_test (Some first) n = ge_whole n first
+
+to_test : (last : Option ℕ) (n : ℕ)
+    → is_true (binary (Compare Le Binary) (whole n) (unary ToNumeric (binary Coalesce (night_param last) (whole n)))) ≡ is_to last n
+unfolding binary unary
+to_test None n = le_whole n n ∙ same_low n
+to_test (Some last) n = le_whole n last
+
+-- tests in a row are those of the cell, and the others
+five_apart : (a b c d e rest : Bool) → (a && (b && (c && (d && (e && rest))))) ≡ ((a && (b && (c && (d && e)))) && rest)
+five_apart true true true true e rest = refl
+five_apart true true true false e rest = refl
+five_apart true true false d e rest = refl
+five_apart true false c d e rest = refl
+five_apart false b c d e rest = refl
+
+-- and of these, those of the option, and the others
+six_apart : (a b c d e f rest : Bool)
+    → (a && (b && (c && (d && (e && (f && rest)))))) ≡ ((a && (b && (c && (d && (e && (f && true)))))) && rest)
+six_apart true true true true true true rest = refl
+six_apart true true true true true false rest = refl
+six_apart true true true true false f rest = refl
+six_apart true true true false e f rest = refl
+six_apart true true false d e f rest = refl
+six_apart true false c d e f rest = refl
+six_apart false b c d e f rest = refl
+
+-- The order.
+
+-- the output of the query for rows that pass together
+abbrev joined_out : Joined → Output
+joined_out r = (
+  whole r.cell.night ∷ whole r.cell.kind ∷ Text r.cell.supplier ∷ Text r.cell.product ∷ whole r.step.journey
+      ∷ whole r.step.place ∷ whole r.step.opt ∷ [],
+  holding_shown (holding_of r),
+)
+
+-- four comparisons before the rest
+four_first : (a b c d rest : Ordering)
+    → ordering_then a (ordering_then b (ordering_then c (ordering_then d rest)))
+    ≡ ordering_then (ordering_then a (ordering_then b (ordering_then c d))) rest
+four_first Less b c d rest = refl
+four_first Greater b c d rest = refl
+four_first Equal Less c d rest = refl
+four_first Equal Greater c d rest = refl
+four_first Equal Equal Less d rest = refl
+four_first Equal Equal Greater d rest = refl
+four_first Equal Equal Equal d rest = refl
+
+-- the order of the query is that of the rows
+order_is : (a b : Joined) → output_cmp holdings_query (joined_out a) (joined_out b) ≡ joined_cmp a b
+order_is a b =
+    simp (number_cmp, value_cmp-Text, then-Equal)
+    (four_first (nat_cmp a.cell.night b.cell.night) (nat_cmp a.cell.kind b.cell.kind) (slice_cmp nat_cmp a.cell.supplier b.cell.supplier)
+    (slice_cmp nat_cmp a.cell.product b.cell.product) (step_cmp a.step b.step))
+
+-- a row is shown as what is shown of it
+shown_twice : (rows : List Joined) → map (λ (r : Joined). holding_shown (holding_of r)) rows ≡ map holding_shown (map holding_of rows)
+shown_twice [] = refl
+shown_twice (r ∷ rows) = ap (λ more. holding_shown (holding_of r) ∷ more) (shown_twice rows)
+
+-- the nights of an option, as the store counts them
+abbrev IsSmall : StepRow → Type 0
+IsSmall s = s.night + s.nights < 2 ^ 63
+
+fits : (n : ℕ) → n < 2 ^ 63 → fits_i64 (pos n) ≡ true
+fits n low = grind (arith, ints, nat_tests)
+
+int_plus : (a b : ℕ) → pos a +ℤ pos b ≡ pos (a + b)
+int_plus a b = omega (arith, ints)
+
+sum_is : (a b : ℕ) → a + b < 2 ^ 63 → binary (Arith Add) (whole a) (whole b) ≡ whole (a + b)
+unfolding binary
+sum_is a b low = rw (int_plus a b, fits (a + b) low) refl
+
+int_lt : (a b : ℕ) → is_lt (int_cmp (pos a) (pos b)) ≡ nat_lt a b
+int_lt a b = grind (arith, ints, nat_tests)
+
+lt_whole : (a b : ℕ) → is_true (binary (Compare Lt Binary) (whole a) (whole b)) ≡ nat_lt a b
+unfolding binary
+lt_whole a b = truth_is _ ∙ ap is_lt (value_cmp-Int (pos a) (pos b)) ∙ int_lt a b
+
+night_test : (first nights night : ℕ) → first + nights < 2 ^ 63
+    → is_true (binary (Compare Lt Binary) (whole night) (binary (Arith Add) (whole first) (whole nights))) ≡ nat_lt night (first + nights)
+night_test first nights night low =
+    ap (λ v. is_true (binary (Compare Lt Binary) (whole night) v)) (sum_is first nights low) ∙ lt_whole night (first + nights)
+
+module _ (f : CellFilter) where
+  test_is : (p : ℤ × StockRow) (r : ℤ × StepRow) → IsSmall r.1 → (j : JourneyRow)
+      → list_all (holds (holdings_params f ∷ numbered_row stock_columns p ∷ numbered_row step_columns r ∷ journey_row j ∷ [])) holding_tests
+      ≡ is_joined f p.1 r.1 j
+  test_is p r small j =
+      let c = p.1 in
+      let s = r.1 in
+      let own = j.id == s.journey in
+      simp (kind_test, name_test, from_test, to_test, eq_whole, eq_text, le_whole, night_test s.night s.nights c.night small)
+      (five_apart (is_kind_asked f.kind c.kind) (is_name_asked f.supplier c.supplier) (is_name_asked f.product c.product)
+      (is_from f.from c.night) (is_to f.to c.night) _
+      ∙ ap (λ b. is_stock_asked f c && b)
+      (six_apart (s.taken == 1) (s.kind == c.kind) (bytes_eq s.supplier c.supplier) (bytes_eq s.product c.product)
+      (nat_le s.night c.night) (nat_lt c.night (s.night + s.nights)) (own && true)
+      ∙ ap₂ (λ a b. a && b)
+      (ap (λ n. (s.taken == 1) && ((s.kind == c.kind) && (bytes_eq s.supplier c.supplier && (bytes_eq s.product c.product && (nat_le s.night c.night && n)))))
+      (and_true (nat_lt c.night (s.night + s.nights))))
+      (and_true own)))
+
+  holdings_answer : (db : Trees) (stock : List StockRow) (steps : List StepRow) (journeys : List JourneyRow) (listed : List Joined)
+      → IsTableOf stock_columns (db 1) stock → IsTableOf step_columns (db 8) steps
+      → IsNumbered (λ (j : JourneyRow). j.id) journey_row (db 6) journeys → AllByRecursion IsSmall steps
+      → IsOnlyOrder IsByNight (joined (is_joined f) stock steps journeys) listed
+      → (rows : List Row) → IsAnswer holdings_query (overlay db []) (holdings_params f) rows
+      → rows ≡ map holding_shown (map holding_of listed)
+  holdings_answer db stock steps journeys listed cells options begun small one rows a =
+      let it = joined_answers (holdings_params f) (is_joined f) joined_out IsSmall test_is (λ p r j. refl) db stock steps journeys
+      cells options begun small rows a in
+      let values : it.values ≡ listed = one it.values (record {
+        same = it.same;
+        rising = ascending_weaker _ _ (λ a b up. subst (λ o. is_lt o ≡ false) (order_is b a) up) it.values it.rising;
+      }) in
+      let shown : rows ≡ map (λ (r : Joined). holding_shown (holding_of r)) it.values = it.rows_are in
+      shown ∙ ap (map (λ (r : Joined). holding_shown (holding_of r))) values ∙ shown_twice listed
+
+  -- the rows of a query that has started are these
+  pub holdings_begin : {S : Type 0} (g : Ghosts S) (old new : Held S)
+      → (HasCleanDisk (state g new) → HasBegun g holdings_text (holdings_params f) old new)
+      → Begins g old new (ListsHoldings f) (HoldingsRest g)
+  holdings_begin g old new begun clean v t sees later is =
+      inl (
+        holdings_params f,
+        starts g holdings_text holdings_query holdings_names holdings_means (holdings_params f) v old new
+            (map holding_shown later) (λ live. (sees live).schema) (begun clean)
+            (λ live rows a. holdings_answer (state g old).now.trees t.stock t.step t.journey is.0 (sees live).rows.stock
+            (sees live).rows.step (sees live).rows.journey is.3 is.1 rows a ∙ ap (map holding_shown) (sym is.2)),
+      )
+
+-- the row that was read is the one that is shown
+pub holding_back : (row : Row) (h : HoldingFound) (x : HoldingRow) → shows_holding h ≡ ten_of row → row ≡ holding_shown x
+    → Some (holding_found h) ≡ Some x
+holding_back row h x read is =
+    let e : shows_holding h ≡ holding_shown x = read ∙ ap ten_of is in
+    let kind : (holding_found h).cell.kind ≡ x.cell.kind = cc in
+    let supplier : (holding_found h).cell.supplier ≡ x.cell.supplier = cc in
+    let product : (holding_found h).cell.product ≡ x.cell.product = cc in
+    let night : (holding_found h).cell.night ≡ x.cell.night = cc in
+    let allot : (holding_found h).cell.allot ≡ x.cell.allot = cc in
+    let free : (holding_found h).cell.free ≡ x.cell.free = cc in
+    let journey : (holding_found h).journey ≡ x.journey = cc in
+    let agent : (holding_found h).agent ≡ x.agent = cc in
+    let phase : (holding_found h).phase ≡ x.phase = cc in
+    let places : (holding_found h).places ≡ x.places = cc in
+    let cell : (holding_found h).cell ≡ x.cell = rw (kind, supplier, product, night, allot, free) refl in
+    let same : holding_found h ≡ x = rw (cell, journey, agent, phase, places) refl in ap Some same
