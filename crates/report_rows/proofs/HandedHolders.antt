@@ -47,11 +47,11 @@ module _ {A X : Type 0} (R : X → X → Type 0) (key : X → ℕ) (lower : (a b
 -- The rows of all plans.
 
 -- an earlier step, or the same one and an earlier option
-abbrev IsPlacedBefore : StepRow → StepRow → Type 0
+abbrev pub IsPlacedBefore : StepRow → StepRow → Type 0
 IsPlacedBefore a b = (a.place < b.place) ⊎ ((a.place ≡ b.place) × (a.opt < b.opt))
 
 -- an earlier journey, or the same one and an earlier place in it
-abbrev IsBefore : StepRow → StepRow → Type 0
+abbrev pub IsBefore : StepRow → StepRow → Type 0
 IsBefore a b = (a.journey < b.journey) ⊎ ((a.journey ≡ b.journey) × IsPlacedBefore a b)
 
 module _ (taken : ℕ → ℕ → Bool) (id : ℕ) where
@@ -83,7 +83,7 @@ module _ (taken : ℕ → ℕ → Bool) (id : ℕ) where
       options_placed options_rise 1 plan.steps)
 
 -- the rows that a ledger calls for ascend
-called_rise : (l : List Event) → IsAscending IsBefore (steps_called l)
+pub called_rise : (l : List Event) → IsAscending IsBefore (steps_called l)
 called_rise l =
     rise IsBefore (λ (r : StepRow). r.journey) (λ a b low. inl low)
     (λ (a : ℕ × Journey). step_rows (is_standing (history l a.0)) a.0 a.1.plan)
@@ -131,7 +131,7 @@ strict (y ∷ ys) up apart = (both y ys up.0 apart.0, strict ys up.1 apart.1)
     both y [] up apart = tt
     both y (z ∷ zs) up apart = (strict_of y z up.0 apart.0, both y zs up.1 apart.1)
 
-not_before : (a b : StepRow) → IsBefore a b → IsBefore b a → ⊥
+pub not_before : (a b : StepRow) → IsBefore a b → IsBefore b a → ⊥
 not_before a b one two = not_both a b one (by_step b a two)
 
 -- two lists that ascend, with the same elements, are equal

@@ -30,7 +30,7 @@ use Rattle.sql_model.proofs.Finding.{find-none}
 use Rattle.sql_model.proofs.Orders.{pairs-permutation}
 use Rattle.sql_model.proofs.StockRows.{stock_at-row, row-stock_at, same_back}
 
-stock_total : IsTotalOrder stock_cmp
+pub stock_total : IsTotalOrder stock_cmp
 stock_total =
     then_total (on_total (λ (r : StockRow). r.kind) nat_cmp_total)
     (then_total (on_total (λ (r : StockRow). r.supplier) nat_list_cmp_total)
@@ -46,7 +46,7 @@ not_before r e = go (stock_cmp r r) (stock_total.antisymm r r) e
     go Greater f g = cc
 
 -- a row is of the same cell as itself
-same_self : (r : StockRow) → is_same_stock r r ≡ true
+pub same_self : (r : StockRow) → is_same_stock r r ≡ true
 same_self r =
     and_from _ _ (and_from _ _ (and_from _ _ (eq-eqb r.kind r.kind refl) ((bytes_eq-Decides r.supplier r.supplier).1 refl)) ((bytes_eq-Decides r.product r.product).1 refl))
     (eq-eqb r.night r.night refl)

@@ -4,3 +4,5 @@ pub mod HandedBriefs
 pub mod HeldRows
 pub mod HandedHolders
 pub mod HandedRows
+pub mod NightOrder
+pub mod HandedHoldings

@@ -1,3 +1,5 @@
 pub mod RowsLeft
 pub mod HoldersLeft
 pub mod Stopping
+pub mod States
+pub mod HoldingsLeft
