@@ -68,6 +68,7 @@ failed_report : (held : Option (List ℕ)) (asked : Report) (f : ProgramFault) (
 failed_report held (shown.Stock filter format) f s = λ rows stock. reported_none held _ (finish.Fault f) tt
 failed_report held (shown.Journeys name filter format) f s = reported_none held _ (finish.Fault f) tt
 failed_report held (shown.Holders cell format) f s = reported_none held _ (finish.Fault f) tt
+failed_report held (shown.Holdings filter format) f s = λ rows stock. reported_none held _ (finish.Fault f) tt
 failed_report held (shown.Months months filter) f s = λ rows stock. reported_none held _ (finish.Fault f) tt
 failed_report held (shown.History id format) f s = reported_fault held _ (record_of s.ledger id) f
 failed_report held (shown.Why id format) f s = λ rows stock. reported_fault held _ (record_of s.ledger id) f

@@ -11,7 +11,7 @@ use Rattle.openings.specs.Connections.{RepresentsIn, StillRepresents}
 use Rattle.program_ends.specs.Ends.{EndsJob, IfFault, IfRefused}
 use Rattle.program_ends.specs.declared.ends.End.{End}
 use Rattle.sql_model.specs.Keeping.{WasClean}
-use Rattle.report_jobs.specs.Reporting.{IsFaultOfReport, IsNoJourney, RefusesVersion, ReportsHistory, ReportsHolders, ReportsJourneys, ReportsMonths, ReportsStock}
+use Rattle.report_jobs.specs.Reporting.{IsFaultOfReport, IsNoJourney, RefusesVersion, ReportsHistory, ReportsHolders, ReportsHoldings, ReportsJourneys, ReportsMonths, ReportsStock}
 use Rattle.report_jobs.specs.Whys.{ReportsWhy}
 use Rattle.report_jobs.specs.declared.report_kinds.Report.{Report}
 use Rattle.report_jobs.specs.declared.report_kinds.Report.TheVariants as report
@@ -21,6 +21,7 @@ abbrev pub Reports : Option (List ℕ) → Option (List ℕ) → Report → End 
 Reports held holds (report.Stock f format) e s = ReportsStock held holds format f e s
 Reports held holds (report.Journeys name f format) e s = ReportsJourneys held holds name format f e s
 Reports held holds (report.Holders x format) e s = ReportsHolders held holds format x e s
+Reports held holds (report.Holdings f format) e s = ReportsHoldings held holds format f e s
 Reports held holds (report.Months months f) e s = ReportsMonths held holds months f e s
 Reports held holds (report.History id format) e s = ReportsHistory held holds format id e s
 Reports held holds (report.Why id format) e s = ReportsWhy held holds format id e s

@@ -20,6 +20,8 @@ use Rattle.filters.specs.JourneyFilters.{asked_of}
 use Rattle.filters.specs.declared.cells.CellFilter.{CellFilter}
 use Rattle.filters.specs.declared.journeys.JourneyFilter.{JourneyFilter}
 use Rattle.holder_reports.specs.Holders.{holders_of}
+use Rattle.holder_reports.specs.HoldingLayouts.{holdings_shown}
+use Rattle.holder_reports.specs.Holdings.{cells_asked, holdings_in}
 use Rattle.holder_reports.specs.Layouts.{holders_in}
 use Rattle.saga_core.specs.Views.{IsStock, record_of}
 use Rattle.saga_core.specs.declared.records.Record.{Record}
@@ -127,6 +129,12 @@ module _ (held holds : Option (List ℕ)) where
   -- the report of the holders of a cell
   abbrev pub ReportsHolders : Format → Cell → End → State → Type 0
   ReportsHolders format x e s = ReportsText (holders_in format (holders_of s.ledger x)) e
+
+  -- the report of the holders of the cells that have an allotment and are asked for, night by night
+  abbrev pub ReportsHoldings : Format → CellFilter → End → State → Type 0
+  ReportsHoldings format f e s =
+      (rows : List (Cell × Places)) → IsStock s.ledger rows
+      → ReportsText (holdings_shown format (holdings_in s.ledger (cells_asked f rows))) e
 
   -- the report of the journeys that are asked for, in order of number
   abbrev pub WritesJourneys : {T : Type 0} → JourneyReport → Format → JourneyFilter

@@ -24,6 +24,11 @@ pub enum Report {
         cell: Cell,
         format: Format,
     },
+    /// The journeys that hold places of the cells that the filter lets through, night by night.
+    Holdings {
+        filter: CellFilter,
+        format: Format,
+    },
     /// The months of the cells that the filter lets through.
     Months {
         months: MonthReport,

@@ -17,7 +17,7 @@ ghost use Rattle.report_jobs.specs.Jobs.{EndsReport, KeepsDesk, RefusesAbsent, R
 ghost use Rattle.report_jobs.specs.Reporting.{asked_cells, end_of_report, IsNoJourney, ReportsHistory, ReportsText, ShowsDesk, ShowsOpened, WritesJourneys, WritesText};
 
 use crate::asked_reports::{write_asked, write_kinds};
-use crate::holding::write_holders;
+use crate::holding::{write_holders, write_holdings};
 use crate::month_reporting::write_months;
 use crate::plain_reports::{write_unfinished, write_whole_stock};
 use crate::report_kinds::Report;
@@ -86,6 +86,10 @@ pub fn tell_report<S: Alter, O: Write>(
         }
         Report::Holders { cell, format } => {
             let done = write_holders(alloc, cell, *format, opened.connection(), out);
+            finish(done, out)
+        }
+        Report::Holdings { filter, format } => {
+            let done = write_holdings(alloc, filter, *format, opened.connection(), out);
             finish(done, out)
         }
         Report::Months { months, filter } => {

@@ -22,6 +22,12 @@ returns-in-Holders-clause-shows g c =
     subst (λ shown. Reports (g.O.Write.contents c.args.out.now) (g.O.Write.contents c.finish-in-Holders.new.out) shown c.finish-in-Holders.result s) (sym c.in-Holders.is)
     (c.finish-in-Holders.ensures.told _ _ shown))
 
+pub returns-in-Holdings-clause-shows : goal.returns-in-Holdings-clause-shows
+returns-in-Holdings-clause-shows g c =
+    shows_lent g.S.Store c.connection-in-Holdings.ensures.same c.write_holdings-done.ensures.shows (search rules) (search rules) (λ s shown.
+    subst (λ shown. Reports (g.O.Write.contents c.args.out.now) (g.O.Write.contents c.finish-in-Holdings.new.out) shown c.finish-in-Holdings.result s) (sym c.in-Holdings.is)
+    (λ rows stock. c.finish-in-Holdings.ensures.told _ _ (shown rows stock)))
+
 pub returns-in-Months-clause-shows : goal.returns-in-Months-clause-shows
 returns-in-Months-clause-shows g c =
     shows_lent g.S.Store c.connection-in-Months.ensures.same c.write_months-done.ensures.shows (search rules) (search rules) (λ s shown.
