@@ -2,6 +2,7 @@
 use Rattle.std.proofs.Common.{◌≡◌, ◌+◌, ◌<◌, ◌≤◌, ℕ, List, length, Option, Some, None, IsTrue, refl, sym, ap, subst, ◌∙◌, is_some, option_map, IsUtf8}
 use Rattle.commands.specs.Asks.{Asked}
 use Rattle.commands.specs.Request as request
+use Rattle.commands.specs.Texts.{reply_line}
 use Rattle.commands.specs.declared.replies.Refusal.TheVariants.{Limit}
 use Rattle.commands.specs.declared.replies.Reply.{Reply}
 use Rattle.commands.specs.declared.replies.Reply.TheVariants.{Begun as Begins, Refused}
@@ -23,23 +24,22 @@ use Rattle.sql_writes.specs.declared.events.Numbers.{Numbers}
 use Rattle.sql_writes.specs.declared.events.JourneyBegun.{JourneyBegun}
 use Rattle.sql_writes.specs.declared.events.Event.TheVariants.{Begin}
 use Rattle.sql_commands.specs.Answering.{AnswersAgain, Counts, Finds, IsKeptLine, ReadsReply}
-use Rattle.sql_commands.specs.Moving.{LeadsTo}
+use Rattle.sql_writes.specs.Kinds.{LeadsTo}
 use Rattle.sql_transitions.proofs.Keeping.{outcome-room, outcome-full}
 use Rattle.sql_commands.proofs.Executing.{IsUnmoved}
-use Rattle.sql_commands.proofs.LineTexts.{line_text}
+use Rattle.sql_commands.proofs.LeadLemmas.{leads_of}
+use Rattle.sql_commands.proofs.ReplyLines.{line_text}
 
 -- with the next numbers, the rows of a new journey lead to the outcome of its begin
 pub begin_leads : (s : State) (ask : Option Asked) (counts : Meta) (n : Numbers) (b : JourneyBegun) → IsDesk s
     → kept_for s ask ≡ None → IsTrue (is_plan b.plan.now) → Counts s counts → length s.ledger < most_events
     → n.num ≡ counts.events + 1 → n.journeys ≡ counts.journeys + 1 → b.agent.now ≡ beginner ask
-    → LeadsTo n (Begin b) ask (Begins n.journeys) s (outcome s ask (request.Begin b.plan.now)).state
+    → LeadsTo n (Begin b) ask (reply_line (Begins n.journeys)) s (outcome s ask (request.Begin b.plan.now)).state
 begin_leads s ask counts n b desk new good counted room num_is journeys_are agent =
     let num = num_is ∙ ap (λ k. k + 1) counted.events in
     let journey = journeys_are ∙ ap (λ k. k + 1) counted.journeys_are in
-    record {
-      fits = λ t st. rw journey (next_is_above t s st desk);
-      stands = λ t st. rw (agent, journey, num) (begin_stands t s ask b.plan.now st desk.legal good room new);
-    }
+    leads_of n _ ask (Begins n.journeys) (λ t st. rw journey (next_is_above t s st desk))
+    (λ t st. rw (agent, journey, num) (begin_stands t s ask b.plan.now st desk.legal good room new))
 
 -- if the ledger has room, the reply is the number of the new journey; if it is full, nothing changes
 pub begin_replied : (s : State) (ask : Option Asked) (plan : Planned) → kept_for s ask ≡ None → length s.ledger < most_events

@@ -1,6 +1,7 @@
 -- The outcome of a move of a journey, by the answer of the rules. For `make_event`, `carry_out` and `answer_move`.
 use Rattle.std.proofs.Common.{◌≡◌, ℕ, ◌+◌, ◌<◌, ◌≤◌, length, Option, Some, None, IsTrue, refl, sym, ap, subst, ◌∙◌, Ok, Err}
 use Rattle.commands.specs.Asks.{Asked}
+use Rattle.commands.specs.Texts.{reply_line}
 use Rattle.commands.specs.declared.items.Cursor.{Cursor}
 use Rattle.commands.specs.declared.items.Item.{Item}
 use Rattle.commands.specs.declared.replies.Refusal.{Refusal}
@@ -15,7 +16,8 @@ use Rattle.desk_sql.specs.declared.meta.Meta.{Meta}
 use Rattle.sql_transitions.proofs.Keeping.{outcome-room, outcome-no_event, outcome-full, outcome-event}
 use Rattle.sql_writes.specs.declared.events.Numbers.{Numbers}
 use Rattle.sql_writes.specs.declared.events.Event.{Event}
-use Rattle.sql_commands.specs.Moving.{asked_for, IsDue, IsEventOf, LeadsTo}
+use Rattle.sql_writes.specs.Kinds.{LeadsTo}
+use Rattle.sql_commands.specs.Moving.{asked_for, IsDue, IsEventOf}
 use Rattle.sql_commands.specs.Placing.{begun_as}
 use Rattle.sql_commands.specs.declared.moves.Motion.{Motion}
 use Rattle.sql_commands.specs.declared.moves.Motion.TheVariants as motion
@@ -89,7 +91,7 @@ module _ (s : State) (ask : Option Asked) (why : Motion) (counts : Meta) (id : �
   pub due_leads : (x : Item) (n : Numbers) (e : Event) → IsDue s ask (asked_for id why) counts id r (Ok x)
       → length s.ledger < most_events → n.num ≡ counts.events + 1 → n.journeys ≡ counts.journeys
       → IsEventOf id r.plan r.cursor x e
-      → LeadsTo n e ask (reply.Moved id x (then_at x).pos (then_at x).phase) s (outcome s ask (asked_for id why)).state
+      → LeadsTo n e ask (reply_line (reply.Moved id x (then_at x).pos (then_at x).phase)) s (outcome s ask (asked_for id why)).state
   due_leads x n e due room num journeys_are says =
       let within = answer_within s.ledger (asker ask) (asked_for id why) in
       let answer : reply.Moved id x (then_at x).pos (then_at x).phase ≡ within.reply =
@@ -99,7 +101,7 @@ module _ (s : State) (ask : Option Asked) (why : Motion) (counts : Meta) (id : �
       let state : (outcome s ask (asked_for id why)).state
       ≡ state_with s ask (reply.Moved id x (then_at x).pos (then_at x).phase) (Some (Did id x)) =
       comes.1 ∙ ap (λ v. state_with s ask v (Some (Did id x))) (sym answer) in
-      subst (λ next. LeadsTo n e ask (reply.Moved id x (then_at x).pos (then_at x).phase) s next) (sym state)
+      subst (λ next. LeadsTo n e ask (reply_line (reply.Moved id x (then_at x).pos (then_at x).phase)) s next) (sym state)
       (item_leads s ask (reply.Moved id x (then_at x).pos (then_at x).phase) id (begun_as r) n (then_at x) x e says
       (record {
         desk = due.desk;
@@ -115,7 +117,7 @@ module _ (s : State) (ask : Option Asked) (why : Motion) (counts : Meta) (id : �
   pub due_leads_at : (x : Item) (n : Numbers) (e : Event) (then : Cursor) → then ≡ then_at x
       → IsDue s ask (asked_for id why) counts id r (Ok x) → length s.ledger < most_events
       → n.num ≡ counts.events + 1 → n.journeys ≡ counts.journeys → IsEventOf id r.plan r.cursor x e
-      → LeadsTo n e ask (reply.Moved id x then.pos then.phase) s (outcome s ask (asked_for id why)).state
+      → LeadsTo n e ask (reply_line (reply.Moved id x then.pos then.phase)) s (outcome s ask (asked_for id why)).state
   due_leads_at x n e then is due room num journeys_are says =
-      subst (λ (a : Cursor). LeadsTo n e ask (reply.Moved id x a.pos a.phase) s (outcome s ask (asked_for id why)).state)
+      subst (λ (a : Cursor). LeadsTo n e ask (reply_line (reply.Moved id x a.pos a.phase)) s (outcome s ask (asked_for id why)).state)
       (sym is) (due_leads x n e due room num journeys_are says)

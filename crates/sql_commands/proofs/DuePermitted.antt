@@ -1,7 +1,7 @@
 -- The rows of a desk permit the item that the rules answer, with its reply. For `make_event`.
 use Rattle.std.proofs.Common.{◌≡◌, ◌+◌, ◌<◌, ℕ, length, ◌++◌, [], ◌∷◌, Option, IsTrue, sym, ap, subst, ◌∙◌, Ok}
 use Rattle.commands.specs.Asks.{Asked}
-use Rattle.commands.specs.Texts.{is_accepted}
+use Rattle.commands.specs.Texts.{is_accepted, reply_line}
 use Rattle.commands.specs.declared.items.Cursor.{Cursor}
 use Rattle.commands.specs.declared.items.Item.{Item}
 use Rattle.commands.specs.declared.replies.Reply.TheVariants as reply
@@ -19,7 +19,8 @@ use Rattle.sql_model.proofs.Accepting.{moved-good}
 use Rattle.sql_transitions.proofs.Moves.{cursor_next}
 use Rattle.sql_writes.specs.declared.events.Numbers.{Numbers}
 use Rattle.sql_writes.specs.declared.events.Event.{Event}
-use Rattle.sql_commands.specs.Committing.{HasShortText, PermitsAnswer}
+use Rattle.sql_writes.specs.Permits.{PermitsEvent}
+use Rattle.sql_commands.specs.Failing.{HasShortText}
 use Rattle.sql_commands.specs.Moving.{IsDue, IsEventOf, Says, asked_for}
 use Rattle.sql_commands.specs.Placing.{begun_as}
 use Rattle.sql_commands.specs.declared.moves.Motion.{Motion}
@@ -47,7 +48,7 @@ module _ (s : State) (spelled : IsSpelled s.ledger) (ask : Option Asked) (why : 
 
   pub due_permitted : (n : Numbers) (e : Event) (then : Cursor) → then ≡ cursor_after r.plan r.cursor x → length s.ledger < most_events
       → n.num ≡ counts.events + 1 → n.journeys ≡ counts.journeys → IsEventOf id r.plan r.cursor x e → HasShortText ask
-      → (t : Tables) → StandsFor t s → PermitsAnswer n e ask (reply.Moved id x then.pos then.phase) t
+      → (t : Tables) → StandsFor t s → PermitsEvent n e ask (reply_line (reply.Moved id x then.pos then.phase)) t
   due_permitted n e then is room num journeys_are says short t st =
       let it = made n then is num journeys_are in
       let own = subst (λ c. Says id r.plan c x e) (sym is) says in

@@ -6,6 +6,7 @@ use Rattle.sqlite.specs.Held.{Held, state}
 use Rattle.sqlite.specs.State.{HasCleanDisk}
 use Rattle.commands.specs.Asks.{Asked}
 use Rattle.commands.specs.Request.{Request}
+use Rattle.commands.specs.Texts.{reply_line}
 use Rattle.commands.specs.declared.replies.Fault.{Fault}
 use Rattle.commands.specs.declared.replies.Fault.TheVariants.{Memory, Store}
 use Rattle.commands.specs.declared.replies.Reply.{Reply}
@@ -28,10 +29,11 @@ use Rattle.sql_reads.specs.Reads.{ReadIn}
 use Rattle.sql_reads.proofs.ReadLemmas.{then_err}
 use Rattle.sql_writes.specs.declared.events.Numbers.{Numbers}
 use Rattle.sql_writes.specs.declared.events.Event.{Event}
-use Rattle.sql_commands.specs.Committing.{CommitsReply, HasShortText, PermitsAnswer, answer_rowids, answer_rows}
+use Rattle.sql_writes.specs.Commits.{CommitsEvent}
+use Rattle.sql_writes.specs.Kinds.{LeadsTo, event_rows}
+use Rattle.sql_writes.specs.Permits.{PermitsEvent, event_rowids}
 use Rattle.sql_commands.specs.Executing.{Executes}
-use Rattle.sql_commands.specs.Failing.{asked_rowids}
-use Rattle.sql_commands.specs.Moving.{LeadsTo}
+use Rattle.sql_commands.specs.Failing.{HasShortText, asked_rowids}
 
 -- the outcome of a request that changes nothing: its reply, and the same state
 pub record IsUnmoved (s : State) (ask : Option Asked) (asked : Request) (r : Reply) : Type 0 where
@@ -45,10 +47,10 @@ on_ok_given (Err e) A B f = tt
 
 -- the rows of the event lead to the request's outcome, with this reply and no more rowids than the request has, and are permitted
 pub record LeadsToOutcome (n : Numbers) (e : Event) (ask : Option Asked) (asked : Request) (reply : Reply) (s : State) : Type 0 where
-  pub leads : LeadsTo n e ask reply s (outcome s ask asked).state
+  pub leads : LeadsTo n e ask (reply_line reply) s (outcome s ask asked).state
   pub replied : reply ≡ (outcome s ask asked).reply
-  pub few : answer_rowids n e ask ≤ asked_rowids ask asked
-  pub permits : IsSpelled s.ledger → HasShortText ask → (t : Tables) → StandsFor t s → PermitsAnswer n e ask reply t
+  pub few : event_rowids n e ask ≤ asked_rowids ask asked
+  pub permits : IsSpelled s.ledger → HasShortText ask → (t : Tables) → StandsFor t s → PermitsEvent n e ask (reply_line reply) t
 
 -- which fault a failed call has, whatever it was to return
 err_is : {V : Type 0} (f h : Fault) → IsErrOf {T = V} (Err f) h → f ≡ h
@@ -203,27 +205,27 @@ module _ {S : Type 0} {g : Ghosts S} {ask : Option Asked} {asked : Request} {IsD
 
   -- the rows of the outcome are committed, or the commit fails
   module _ {a b : Held S} {n : Numbers} {e : Event} {reply : Reply} (comes : (s : State) → IsDueIn s → LeadsToOutcome n e ask asked reply s) where
-    commits_as : {W : Type 0} (committed : Result W Fault) → CommitsReply g a b n e ask reply committed → (result : Result V Fault)
+    commits_as : {W : Type 0} (committed : Result W Fault) → CommitsEvent g a b n e ask (reply_line reply) committed → (result : Result V Fault)
         → ((f : Fault) → IsErrOf result f → IsErrOf committed f)
-        → ((s : State) → LeadsTo n e ask reply s (outcome s ask asked).state → Keeps (state g a) s → OnOk result (Keeps (state g b) (outcome s ask asked).state))
+        → ((s : State) → LeadsTo n e ask (reply_line reply) s (outcome s ask asked).state → Keeps (state g a) s → OnOk result (Keeps (state g b) (outcome s ask asked).state))
         → ((s : State) → reply ≡ (outcome s ask asked).reply → IfOk result (λ v. reply_of v ≡ (outcome s ask asked).reply))
         → Executes g a b ask asked IsDueIn reply_of result
     commits_as committed it result too done replied = record {
-      outside = it.outside;
+      outside = it.leaves.outside;
       reply = λ clean s keeps due. replied s (comes s due).replied;
       after = λ s keeps due. done s (comes s due).leads keeps;
-      left = λ s keeps due. it.left s (outcome s ask asked).state (comes s due).leads keeps;
+      left = λ s keeps due. it.leaves.either s (outcome s ask asked).state (comes s due).leads keeps;
       memory = λ s keeps ran. it.memory s keeps (too Memory ran);
-      sound = it.sound;
+      sound = it.leaves.less;
       store = λ clean s spelled keeps due short has up failed. (
           let led = comes s due in
-          let few = rowids_fewer (answer_rowids n e ask) (asked_rowids ask asked) (state g a).now.trees led.few has in
+          let few = rowids_fewer (event_rowids n e ask) (asked_rowids ask asked) (state g a).now.trees led.few has in
           elim (it.store clean s keeps (led.permits spelled short) few up (too Store failed)) [
             | inl faulted ↦ inl faulted
             | inr ran ↦ inr (record {
               before = ran.tables;
               stands = ran.stands;
-              after = answer_rows n e ask reply ran.tables;
+              after = event_rows n e ask (reply_line reply) ran.tables;
               reaches = led.leads.stands ran.tables ran.stands;
               early = a;
               late = ran.late;
@@ -233,20 +235,20 @@ module _ {S : Type 0} {g : Ghosts S} {ask : Option Asked} {asked : Request} {IsD
           ]);
       rowids = λ clean s keeps due m has up. (
           let led = comes s due in
-          let few = rowids_fewer (answer_rowids n e ask + m) (asked_rowids ask asked + m) (state g a).now.trees (let low = led.few in omega (arith, low)) has in
-          elim (it.up.up clean up) [
-            | inl now ↦ inl (it.rowids clean s keeps led.leads.fits m few now.is_open)
+          let few = rowids_fewer (event_rowids n e ask + m) (asked_rowids ask asked + m) (state g a).now.trees (let low = led.few in omega (arith, low)) has in
+          elim (it.leaves.up.up clean up) [
+            | inl now ↦ inl (it.leaves.rowids clean s keeps led.leads.fits m few now.is_open)
             | inr faulted ↦ inr faulted
           ]);
-      up = it.up;
+      up = it.leaves.up;
     }
 
-    pub commits : {W : Type 0} {w : W} → CommitsReply g a b n e ask reply (Ok w) → {v : V} → reply_of v ≡ reply
+    pub commits : {W : Type 0} {w : W} → CommitsEvent g a b n e ask (reply_line reply) (Ok w) → {v : V} → reply_of v ≡ reply
         → Executes g a b ask asked IsDueIn reply_of (Ok v)
     commits {w = w} it {v} is = commits_as (Ok w) it (Ok v) (λ f failed. absurd (ok_is_not_err f failed))
         (λ s leads keeps. it.done s (outcome s ask asked).state leads keeps) (λ s replied. is ∙ replied)
 
-    pub commit_fails : {W : Type 0} {f : Fault} {result : Result V Fault} → result ≡ Err f → CommitsReply g a b n e ask reply {V = W} (Err f)
+    pub commit_fails : {W : Type 0} {f : Fault} {result : Result V Fault} → result ≡ Err f → CommitsEvent g a b n e ask (reply_line reply) {V = W} (Err f)
         → Executes g a b ask asked IsDueIn reply_of result
     commit_fails {W = W} {f = f} is it = subst (Executes g a b ask asked IsDueIn reply_of) (sym is)
         (commits_as (Err f) it (Err f) (λ h same. ap {B = Result W Fault} Err (err_is f h same)) (λ s leads keeps. tt) (λ s replied. tt))

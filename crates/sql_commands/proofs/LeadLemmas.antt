@@ -1,5 +1,5 @@
--- The rows of each event of a journey lead to the state with it. For DueLemmas, `commit_kept` and `commit_answered`.
-use Rattle.std.proofs.Common.{◌≡◌, ℕ, ◌+◌, length, List, Option, Some, None, IsTrue, refl, sym, ap, subst, ◌∙◌}
+-- The rows of an event lead to the state with it. For the lemmas of each request.
+use Rattle.std.proofs.Common.{◌≡◌, ℕ, ◌+◌, length, Option, Some, None, IsTrue, sym, ap, subst, ◌∙◌}
 use Rattle.allotment.specs.Want.{Wanted}
 use Rattle.plan.specs.PlanModel.{want_at}
 use Rattle.commands.specs.Asks.{Asked}
@@ -14,9 +14,9 @@ use Rattle.ledger.specs.Ledger.{Did, Journey, journeys, journey_at, history, is_
 use Rattle.ledger_transitions.specs.JourneyChanges.{cursor_after}
 use Rattle.ledger_transitions.specs.Cursors.{cursor_of}
 use Rattle.ledger_transitions.proofs.Places.{transaction_fits}
-use Rattle.desk_sql.specs.Changes.{kept}
-use Rattle.sql_model.specs.Beginning.{answer_row_of}
-use Rattle.sql_model.specs.Standing.{IsDesk}
+use Rattle.desk_sql.specs.Rows.{Tables}
+use Rattle.sql_model.specs.Beginning.{with_answer}
+use Rattle.sql_model.specs.Standing.{IsDesk, StandsFor}
 use Rattle.sql_transitions.proofs.Conditions.{items_below, nights_have_free, nights_have_room}
 use Rattle.sql_transitions.proofs.GivingBack.{compensation_stands}
 use Rattle.sql_transitions.proofs.Plans.{wanted_nights, wanted_count}
@@ -24,41 +24,17 @@ use Rattle.sql_transitions.proofs.Saving.{save_stands}
 use Rattle.sql_transitions.proofs.Taking.{transaction_stands}
 use Rattle.sql_transitions.proofs.Turning.{turn_stands}
 use Rattle.ledger.specs.Ledger.{fits}
-use Rattle.sql_writes.specs.Kinds as kinds
+use Rattle.sql_writes.specs.Kinds.{Fits, LeadsTo, rows_after}
 use Rattle.sql_writes.specs.declared.events.Numbers.{Numbers}
-use Rattle.sql_writes.specs.declared.events.Keeping.{Keeping}
 use Rattle.sql_writes.specs.declared.events.Event.{Event}
 use Rattle.sql_writes.specs.declared.events.Event.TheVariants.{Transaction, Compensation, Turn, Save}
-use Rattle.sql_commands.specs.Moving.{LeadsTo, Says}
+use Rattle.sql_commands.specs.Moving.{Says}
 
--- Replies.
-
--- without an ask the rows are those of the event
-pub unkept_leads : (n : Numbers) (e : Event) (reply : Reply) (s next : State) → LeadsTo n e None reply s next
-    → kinds.LeadsTo n e None s next
-unkept_leads n e reply s next leads = record { fits = leads.fits; stands = leads.stands }
-
--- the kept reply is that of the ask, with the line of the reply
-pub record IsKeeping (k : Keeping) (ask : Asked) (reply : Reply) : Type 0 where
-  pub agent : k.agent.now ≡ ask.agent
-  pub key : k.key.now ≡ ask.key
-  pub text : k.text.now ≡ ask.text
-  pub line : k.line.now ≡ reply_line reply
-
--- the row that is kept is that of the ask and the reply
-pub kept_row : (agent key text line : List ℕ) (ask : Asked) (reply : Reply) → agent ≡ ask.agent → key ≡ ask.key → text ≡ ask.text
-    → line ≡ reply_line reply → kept agent key text line ≡ answer_row_of ask reply
-kept_row agent key text line ask reply agent_is key_is text_is line_is = rw (agent_is, key_is, text_is, line_is) refl
-
--- with an ask there is one more row, that of its reply
-pub kept_leads : (n : Numbers) (e : Event) (k : Keeping) (ask : Asked) (reply : Reply) (s next : State)
-    → IsKeeping k ask reply → LeadsTo n e (Some ask) reply s next → kinds.LeadsTo n e (Some k) s next
-kept_leads n e k ask reply s next is leads = record {
-  fits = leads.fits;
-  stands = λ t st. rw (is.agent, is.key, is.text, is.line) (leads.stands t st);
-}
-
--- Events.
+-- the rows of an event, and that of its reply if there is an ask, lead to the next state
+pub leads_of : (n : Numbers) (e : Event) (ask : Option Asked) (reply : Reply) {s next : State} → ((t : Tables) → StandsFor t s → Fits n e t)
+    → ((t : Tables) → StandsFor t s → StandsFor (with_answer ask reply (rows_after n e t)) next) → LeadsTo n e ask (reply_line reply) s next
+leads_of n e None reply fits stands = record { fits = fits; stands = stands }
+leads_of n e (Some ask) reply fits stands = record { fits = fits; stands = stands }
 
 -- the journey may make this item next, and these are the numbers and the cursor after it
 pub record IsMade (s : State) (ask : Option Asked) (id : ℕ) (a : Journey) (x : Item) (n : Numbers)
@@ -74,65 +50,61 @@ pub record IsMade (s : State) (ask : Option Asked) (id : ℕ) (a : Journey) (x :
 module _ (s : State) (ask : Option Asked) (reply : Reply) (id : ℕ) (a : Journey) (n : Numbers) (then : Cursor) where
   -- a turn
   turn_leads : (p : ℕ) (cause : Cause) → IsMade s ask id a (item.Turn p cause) n then
-      → LeadsTo n (Turn (record { journey = id; target = p; cause = cause; cursor = then })) ask reply s
+      → LeadsTo n (Turn (record { journey = id; target = p; cause = cause; cursor = then })) ask (reply_line reply) s
       (state_with s ask reply (Some (Did id (item.Turn p cause))))
-  turn_leads p cause is = record {
-    fits = λ t st. rw is.num (items_below s.ledger t st.entries);
-    stands = λ t st. rw (is.num, is.journeys_are, is.cursor)
-        (turn_stands t s ask reply id p cause a st is.desk is.at is.may is.new);
-  }
+  turn_leads p cause is = leads_of n _ ask reply
+      (λ t st. rw is.num (items_below s.ledger t st.entries))
+      (λ t st. rw (is.num, is.journeys_are, is.cursor)
+      (turn_stands t s ask reply id p cause a st is.desk is.at is.may is.new))
 
   -- a save-point
   save_leads : (p : ℕ) → IsMade s ask id a (item.Save p) n then
-      → LeadsTo n (Save (record { journey = id; position = p })) ask reply s
+      → LeadsTo n (Save (record { journey = id; position = p })) ask (reply_line reply) s
       (state_with s ask reply (Some (Did id (item.Save p))))
-  save_leads p is = record {
-    fits = λ t st. rw is.num (items_below s.ledger t st.entries);
-    stands = λ t st. rw (is.num, is.journeys_are)
-        (save_stands t s ask reply id p a st is.desk is.at is.may is.new);
-  }
+  save_leads p is = leads_of n _ ask reply
+      (λ t st. rw is.num (items_below s.ledger t st.entries))
+      (λ t st. rw (is.num, is.journeys_are)
+      (save_stands t s ask reply id p a st is.desk is.at is.may is.new))
 
   -- a step that is done, whose want fits
   transaction_leads : (i c : ℕ) (w : Wanted) → want_at a.plan i c ≡ Some w → IsMade s ask id a (item.Transaction i c) n then
-      → LeadsTo n (Transaction (record { journey = id; step = i; option = c; want = w; cursor = then })) ask reply s
+      → LeadsTo n (Transaction (record { journey = id; step = i; option = c; want = w; cursor = then })) ask (reply_line reply) s
       (state_with s ask reply (Some (Did id (item.Transaction i c))))
-  transaction_leads i c w want is = record {
-    fits = λ t st. record {
-      free = λ r range. nights_have_free s.ledger t is.desk.legal st.stock r w range
-          (wanted_nights s.ledger id i c a w is.desk.legal is.at want)
-          (ap (fits s.ledger) (sym want) ∙ transaction_fits s.ledger id i c a is.at is.may);
-      below = rw is.num (items_below s.ledger t st.entries);
-    };
-    stands = λ t st. rw (is.num, is.journeys_are, is.cursor)
-        (transaction_stands t s ask reply id i c w a st is.desk is.at want is.may is.new);
-  }
+  transaction_leads i c w want is = leads_of n _ ask reply
+      (λ t st. record {
+        free = λ r range. nights_have_free s.ledger t is.desk.legal st.stock r w range
+            (wanted_nights s.ledger id i c a w is.desk.legal is.at want)
+            (ap (fits s.ledger) (sym want) ∙ transaction_fits s.ledger id i c a is.at is.may);
+        below = rw is.num (items_below s.ledger t st.entries);
+      })
+      (λ t st. rw (is.num, is.journeys_are, is.cursor)
+      (transaction_stands t s ask reply id i c w a st is.desk is.at want is.may is.new))
 
   -- a step that is compensated
   compensation_leads : (i c : ℕ) (w : Wanted) → want_at a.plan i c ≡ Some w → IsMade s ask id a (item.Compensation i c) n then
-      → LeadsTo n (Compensation (record { journey = id; step = i; option = c; want = w; cursor = then })) ask reply s
+      → LeadsTo n (Compensation (record { journey = id; step = i; option = c; want = w; cursor = then })) ask (reply_line reply) s
       (state_with s ask reply (Some (Did id (item.Compensation i c))))
-  compensation_leads i c w want is = record {
-    fits = λ t st. record {
-      room = λ r range. nights_have_room s.ledger t is.desk.legal st.stock r w
-          (wanted_count s.ledger id i c a w is.desk.legal is.at want);
-      below = rw is.num (items_below s.ledger t st.entries);
-    };
-    stands = λ t st. rw (is.num, is.journeys_are, is.cursor)
-        (compensation_stands t s ask reply id i c w a st is.desk is.at want is.may is.new);
-  }
+  compensation_leads i c w want is = leads_of n _ ask reply
+      (λ t st. record {
+        room = λ r range. nights_have_room s.ledger t is.desk.legal st.stock r w
+            (wanted_count s.ledger id i c a w is.desk.legal is.at want);
+        below = rw is.num (items_below s.ledger t st.entries);
+      })
+      (λ t st. rw (is.num, is.journeys_are, is.cursor)
+      (compensation_stands t s ask reply id i c w a st is.desk is.at want is.may is.new))
 
   -- an item of any kind
   pub item_leads : (x : Item) (e : Event) → Says id a.plan then x e → IsMade s ask id a x n then
-      → LeadsTo n e ask reply s (state_with s ask reply (Some (Did id x)))
+      → LeadsTo n e ask (reply_line reply) s (state_with s ask reply (Some (Did id x)))
   item_leads (item.Transaction i c) e says is =
-      subst (λ v. LeadsTo n v ask reply s (state_with s ask reply (Some (Did id (item.Transaction i c)))))
+      subst (λ v. LeadsTo n v ask (reply_line reply) s (state_with s ask reply (Some (Did id (item.Transaction i c)))))
       (sym says.2) (transaction_leads i c says.0 says.1 is)
   item_leads (item.Compensation i c) e says is =
-      subst (λ v. LeadsTo n v ask reply s (state_with s ask reply (Some (Did id (item.Compensation i c)))))
+      subst (λ v. LeadsTo n v ask (reply_line reply) s (state_with s ask reply (Some (Did id (item.Compensation i c)))))
       (sym says.2) (compensation_leads i c says.0 says.1 is)
   item_leads (item.Turn p cause) e says is =
-      subst (λ v. LeadsTo n v ask reply s (state_with s ask reply (Some (Did id (item.Turn p cause)))))
+      subst (λ v. LeadsTo n v ask (reply_line reply) s (state_with s ask reply (Some (Did id (item.Turn p cause)))))
       (sym says) (turn_leads p cause is)
   item_leads (item.Save p) e says is =
-      subst (λ v. LeadsTo n v ask reply s (state_with s ask reply (Some (Did id (item.Save p)))))
+      subst (λ v. LeadsTo n v ask (reply_line reply) s (state_with s ask reply (Some (Did id (item.Save p)))))
       (sym says) (save_leads p is)

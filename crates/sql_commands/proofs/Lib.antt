@@ -1,13 +1,12 @@
 pub mod AnswerLemmas
 pub mod ComingLemmas
-pub mod CommitReasons
 pub mod DueLemmas
 pub mod DuePermitted
 pub mod EventCommits
 pub mod Executing
 pub mod ItemsPermitted
 pub mod LeadLemmas
-pub mod LineTexts
+pub mod ReplyLines
 pub mod LoadComes
 pub mod LoadRows
 pub mod NextLemmas

@@ -11,6 +11,7 @@ use Rattle.commands.specs.Asks.{Asked}
 use Rattle.commands.specs.Names.{is_batch_name}
 use Rattle.commands.specs.Batches.{is_batch, is_good_row, are_distinct}
 use Rattle.commands.specs.Request.{Request, Load}
+use Rattle.commands.specs.Texts.{reply_line}
 use Rattle.commands.specs.declared.replies.Refusal.{Refusal}
 use Rattle.commands.specs.declared.replies.Refusal.TheVariants.{BelowHeld, BatchDiffers, Limit}
 use Rattle.commands.specs.declared.replies.Reply.{Reply}
@@ -33,8 +34,9 @@ use Rattle.sql_writes.specs.declared.events.Numbers.{Numbers}
 use Rattle.sql_writes.specs.declared.events.BatchLoaded.{BatchLoaded}
 use Rattle.sql_writes.specs.declared.events.Event.TheVariants as event
 use Rattle.sql_commands.specs.Loading.{IsTextOf, TellsName, AnswersKnown, HavePlaces, TellsBelow, IsNewName, IsLoadDue}
-use Rattle.sql_commands.specs.Moving.{LeadsTo}
+use Rattle.sql_writes.specs.Kinds.{LeadsTo}
 use Rattle.sql_commands.proofs.Executing.{IsUnmoved}
+use Rattle.sql_commands.proofs.LeadLemmas.{leads_of}
 use Rattle.sql_commands.proofs.LoadRows.{put_told, none_below}
 
 -- the rows of a batch keep the limits
@@ -151,27 +153,26 @@ pub record IsLoading (s : State) (n : Numbers) (b : BatchLoaded) (name : List �
 -- the rows of the event lead to the state with the batch
 load_leads : (s : State) (ask : Option Asked) (answered : Reply) (n : Numbers) (b : BatchLoaded) (name : List ℕ) (rows : List Row)
     → IsLoading s n b name rows → IsTrue (is_allowed s.ledger (Loaded name rows)) → kept_for s ask ≡ None
-    → LeadsTo n (event.Load b) ask answered s (state_with s ask answered (Some (Loaded name rows)))
-load_leads s ask answered n b name rows is may new = record {
-  fits = λ t st. st.stock.once;
-  stands = λ t st. rw
-      (is.num, is.journeys_are, is.named, is.content, put_told s rows b.cells.now t.stock is.places.told)
-      (load_stands t s ask answered name rows st may new);
-}
+    → LeadsTo n (event.Load b) ask (reply_line answered) s (state_with s ask answered (Some (Loaded name rows)))
+load_leads s ask answered n b name rows is may new =
+    leads_of n _ ask answered (λ t st. st.stock.once)
+    (λ t st. rw
+    (is.num, is.journeys_are, is.named, is.content, put_told s rows b.cells.now t.stock is.places.told)
+    (load_stands t s ask answered name rows st may new))
 
 -- the rows of the event lead to the outcome of the load
 pub due_load_leads : (s : State) (ask : Option Asked) (counts : Meta) (n : Numbers) (b : BatchLoaded) (name : List ℕ)
     (rows : List Row) (answered : Reply) → IsLoadDue ask counts name rows b.cells.now s → IsTrue (is_batch name rows)
     → length s.ledger < most_events → n.num ≡ counts.events + 1 → n.journeys ≡ counts.journeys → b.name.now ≡ name
     → b.content.now ≡ batch_text rows → answered ≡ loaded name rows
-    → LeadsTo n (event.Load b) ask answered s (outcome s ask (Load name rows)).state
+    → LeadsTo n (event.Load b) ask (reply_line answered) s (outcome s ask (Load name rows)).state
 due_load_leads s ask counts n b name rows answered due batch room num journeys_are named content is =
     let fit = fitting s ask name rows counts b.cells.now due in
     let comes = outcome-event s ask (Load name rows) due.new_name.new (Loaded name rows) batch room
     (ap (λ (a : Answer). a.event) fit) in
     let state : (outcome s ask (Load name rows)).state ≡ state_with s ask answered (Some (Loaded name rows)) =
     comes.1 ∙ ap (λ v. state_with s ask v (Some (Loaded name rows))) (ap (λ (a : Answer). a.reply) fit ∙ sym is) in
-    subst (λ next. LeadsTo n (event.Load b) ask answered s next) (sym state)
+    subst (λ next. LeadsTo n (event.Load b) ask (reply_line answered) s next) (sym state)
     (load_leads s ask answered n b name rows
     (record {
       num = num ∙ ap (λ k. k + 1) due.new_name.counted.events;

@@ -14,10 +14,9 @@ use Rattle.commands.specs.declared.items.Item.TheVariants as item
 use Rattle.ledger.specs.Answer.{State}
 use Rattle.sql_model.specs.ExpectedRows.{counted_from, none_taken, option_rows, step_rows_of}
 use Rattle.sql_model.specs.Reading.{stock_row_of}
-use Rattle.sql_writes.specs.Permits.{rowids_of}
+use Rattle.sql_writes.specs.Permits.{event_rowids, rowids_of}
 use Rattle.sql_writes.specs.declared.events.Numbers.{Numbers}
 use Rattle.sql_writes.specs.declared.events.Event.{Event}
-use Rattle.sql_commands.specs.Committing.{answer_rowids}
 use Rattle.sql_commands.specs.Failing.{asked_rowids, options_in, request_rowids}
 use Rattle.sql_commands.specs.Loading.{HavePlaces, row_loaded}
 use Rattle.sql_commands.specs.Moving.{Says, asked_for}
@@ -26,7 +25,7 @@ use Rattle.sql_commands.specs.declared.moves.Motion.TheVariants as motion
 
 -- with its reply an event takes at most what is counted for its request, if it does without
 pub few_with_reply : (ask : Option Asked) (n : Numbers) (e : Event) (asked : Request) → rowids_of n e ≤ request_rowids asked
-    → answer_rowids n e ask ≤ asked_rowids ask asked
+    → event_rowids n e ask ≤ asked_rowids ask asked
 few_with_reply None n e asked few = few
 few_with_reply (Some ask) n e asked few = omega (arith, few)
 
@@ -45,7 +44,7 @@ one_counted id motion.Stop = refl
 one_counted id motion.Save = refl
 
 pub item_rowids : (ask : Option Asked) (id : ℕ) (why : Motion) (plan : Planned) (then : Cursor) (n : Numbers) (x : Item) (e : Event)
-    → Says id plan then x e → answer_rowids n e ask ≤ asked_rowids ask (asked_for id why)
+    → Says id plan then x e → event_rowids n e ask ≤ asked_rowids ask (asked_for id why)
 item_rowids ask id why plan then n x e says =
     let few = item_few id plan then n x e says in
     let one = one_counted id why in

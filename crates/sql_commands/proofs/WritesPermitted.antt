@@ -24,14 +24,15 @@ use Rattle.sql_model.specs.Reading.{IsAnswerOf, Tells}
 use Rattle.sql_model.specs.Standing.{IsDesk, StandsFor}
 use Rattle.sql_model.proofs.Answered.{answer_found}
 use Rattle.sql_model.proofs.Readings.{next_is_above}
-use Rattle.sql_writes.specs.Permits.{HasNoOptions, MayBegin, MayLoadBatch, Permits}
+use Rattle.sql_writes.specs.Permits.{HasNoOptions, MayBegin, MayLoadBatch, Permits, PermitsEvent}
 use Rattle.sql_writes.specs.declared.events.BatchLoaded.{BatchLoaded}
 use Rattle.sql_writes.specs.declared.events.Event.{Event}
 use Rattle.sql_writes.specs.declared.events.JourneyBegun.{JourneyBegun}
 use Rattle.sql_writes.specs.declared.events.Numbers.{Numbers}
-use Rattle.sql_commands.specs.Committing.{HasShortText, MayAnswer, PermitsAnswer}
+use Rattle.sql_commands.specs.Failing.{HasShortText}
 use Rattle.sql_commands.proofs.RowLimits.{batches_unnamed, batches_unnumbered, journeys_unnumbered, next_has_no_options, short_cells, word_within}
-use Rattle.sql_commands.proofs.TextLengths.{batch_within, line_within}
+use Rattle.sql_commands.proofs.ReplyLines.{line_within}
+use Rattle.sql_commands.proofs.TextLengths.{batch_within}
 
 module _ (t : Tables) (s : State) (st : StandsFor t s) (desk : IsDesk s) where
   -- a begin, for an agent
@@ -73,12 +74,16 @@ module _ (t : Tables) (s : State) (st : StandsFor t s) (desk : IsDesk s) where
         cells = short_cells t s st desk;
       }
 
-  -- a reply, where none is kept for the ask, whose text is short
+  -- a reply, where none is kept for the ask, whose text is short, by an agent under a key
   pub answer_permitted : (ask : Asked) (reply : Reply) → kept_for s (Some ask) ≡ None → HasShortText (Some ask)
-      → IsTrue (is_accepted reply) → MayAnswer ask reply t
-  answer_permitted ask reply new short accepted =
+      → IsTrue (is_accepted reply) → IsTrue (is_agent ask.agent) → IsTrue (is_key ask.key) → MayKeep (answer_row_of ask reply) t
+  answer_permitted ask reply new short accepted agent key =
       let line = line_within reply accepted in
       let text : length ask.text ≤ 10 ^ 7 = short in
+      let whose = word_within is_agent_byte longest_agent ask.agent agent in
+      let under = word_within is_key_byte longest_key ask.key key in
+      let all : length ask.agent + (length ask.key + (length ask.text + length (reply_line reply))) ≤ 10 ^ 8 =
+      omega (arith, line, text, whose, under) in
       record {
         unkept =
             all_from _ t.answer
@@ -87,23 +92,12 @@ module _ (t : Tables) (s : State) (st : StandsFor t s) (desk : IsDesk s) where
             (λ on. subst (Tells IsAnswerOf (Some k)) new
             (answer_found s.kept t.answer ask.agent ask.key (Some k) st.answer desk.keepable
             (has_kept (is_for ask.agent ask.key) t.answer k has on))));
-        short = omega (arith, line, text);
+        short = all;
       }
-
--- the row of a reply may be kept, by an agent under a key
-pub may_keep : (ask : Asked) (reply : Reply) (t : Tables) → IsTrue (is_agent ask.agent) → IsTrue (is_key ask.key) → MayAnswer ask reply t
-    → MayKeep (answer_row_of ask reply) t
-may_keep ask reply t agent key may =
-    let whose = word_within is_agent_byte longest_agent ask.agent agent in
-    let under = word_within is_key_byte longest_key ask.key key in
-    let short = may.short in
-    let all : length ask.agent + (length ask.key + (length ask.text + length (reply_line reply))) ≤ 10 ^ 8 =
-    omega (arith, whose, under, short) in
-    record { unkept = may.unkept; short = all }
 
 -- an event is permitted with its reply, if there is an ask for which none is kept
 pub answered_permitted : (t : Tables) (s : State) → StandsFor t s → IsDesk s → (n : Numbers) (e : Event) (ask : Option Asked) (reply : Reply)
-    → Permits n e t → kept_for s ask ≡ None → HasShortText ask → IsTrue (is_accepted reply) → PermitsAnswer n e ask reply t
+    → Permits n e t → kept_for s ask ≡ None → HasShortText ask → IsTrue (is_accepted reply) → PermitsEvent n e ask (reply_line reply) t
 answered_permitted t s st desk n e None reply permits new short accepted = permits
 answered_permitted t s st desk n e (Some ask) reply permits new short accepted =
     (permits, answer_permitted t s st desk ask reply new short accepted)

@@ -1,18 +1,16 @@
--- What a call over a connection keeps, returns and leaves.
-use Rattle.std.specs.Prelude.{◌≡◌, ◌≤◌, not, true, is_some, length, Option, Some, None, Result, Err, IsTrue, string_bytes}
+-- What a call over a connection returns.
+use Rattle.std.specs.Prelude.{◌≡◌, ◌≤◌, not, true, is_some, length, Option, Some, None, Result, IsTrue, string_bytes}
 use Rattle.sqlite.specs.Store.{Ghosts}
-use Rattle.sqlite.specs.Held.{Held, state}
+use Rattle.sqlite.specs.Held.{Held}
 use Rattle.commands.specs.Asks.{Asked}
 use Rattle.commands.specs.Request.{Request}
 use Rattle.commands.specs.declared.replies.Fault.{Fault}
-use Rattle.commands.specs.declared.replies.Fault.TheVariants.{Memory}
 use Rattle.commands.specs.declared.replies.Reply.{Reply}
 use Rattle.commands.specs.Texts.{reply_line, is_accepted}
 use Rattle.desk_sql.specs.declared.meta.Meta.{Meta}
 use Rattle.desk_sql.specs.declared.answers.KeptAnswer.{KeptAnswer}
 use Rattle.ledger.specs.Ledger.{journeys}
 use Rattle.ledger.specs.Answer.{State, KeptReply, most_events, kept_for, answered_again, outcome}
-use Rattle.sql_model.specs.Keeping.{Keeps}
 use Rattle.sql_reads.specs.Reading.{ShowsKept}
 use Rattle.sql_commands.specs.declared.answering.Answered.{Answered}
 
@@ -52,13 +50,7 @@ pub record IsKeptLine (found : KeptAnswer) : Type 0 where
   pub accepted : IsTrue (is_accepted reply)
   pub line : string_bytes found.reply ≡ reply_line reply
 
-module _ {S : Type 0} (g : Ghosts S) (old new : Held S) where
-  -- out of memory, the connection keeps what it kept
-  abbrev pub KeepsAtMemory : {V : Type 0} → Result V Fault → Type 0
-  KeepsAtMemory result =
-      (s : State) → Keeps (state g old) s → result ≡ Err Memory → Keeps (state g new) s
-
-  -- the reply is new if none was kept for the ask
-  abbrev pub TellsNew : Option Asked → Result Answered Fault → Type 0
-  TellsNew ask result =
-      ShowsKept g old new result (λ s (r : Answered). r.is_new ≡ not (is_some (kept_for s ask)))
+-- the reply is new if none was kept for the ask
+abbrev pub TellsNew : {S : Type 0} → Ghosts S → (old new : Held S) → Option Asked → Result Answered Fault → Type 0
+TellsNew g old new ask result =
+    ShowsKept g old new result (λ s (r : Answered). r.is_new ≡ not (is_some (kept_for s ask)))

@@ -10,7 +10,7 @@ use Rattle.commands.specs.declared.replies.Reply.{Reply}
 use Rattle.ledger.specs.Answer.{State, outcome}
 use Rattle.sql_model.specs.Keeping.{Keeps, MayLeave, WasClean}
 use Rattle.sql_model.specs.Staying.{StaysUp}
-use Rattle.sql_commands.specs.Answering.{KeepsAtMemory}
+use Rattle.sql_writes.specs.Commits.{KeepsAtMemory}
 use Rattle.sql_commands.specs.Failing.{FailsFor, LeavesRowidsFor}
 
 -- On each state that is kept, and in which the request is due: the reply is that of its outcome, after a success the connection

@@ -1,5 +1,5 @@
 -- Why a command fails with a fault of the store, and how many of the rowids that the store may choose it takes.
-use Rattle.std.specs.Prelude.{◌≡◌, ◌⊎◌, ◌+◌, ℕ, suc, true, length, sum_by, Option, Some, None, Result, IsErrOf}
+use Rattle.std.specs.Prelude.{◌≡◌, ◌⊎◌, ◌+◌, ◌^◌, ◌≤◌, ⊤, ℕ, suc, true, length, sum_by, Option, Some, None, Result, IsErrOf}
 use Rattle.sqlite.specs.Store.{Ghosts}
 use Rattle.sqlite.specs.Held.{Held, state}
 use Rattle.sqlite.specs.State.{HasCleanDisk}
@@ -19,9 +19,13 @@ use Rattle.ledger.specs.Answer.{State, kept_for, outcome}
 use Rattle.sql_model.specs.Keeping.{Keeps}
 use Rattle.sql_model.specs.Spelling.{IsSpelled}
 use Rattle.sql_model.specs.Standing.{IsDesk, StandsFor}
-use Rattle.sql_commands.specs.Committing.{HasShortText}
 use Rattle.sql_commands.specs.Moving.{IsUnfit, Runs}
 use Rattle.sql_commands.specs.declared.moves.Motion.{Motion}
+
+-- the text of an ask, if there is one, has at most ten million bytes
+abbrev pub HasShortText : Option Asked → Type 0
+HasShortText None = ⊤
+HasShortText (Some ask) = length ask.text ≤ 10 ^ 7
 
 -- how many options a plan has
 abbrev pub options_in : Planned → ℕ

@@ -1,5 +1,4 @@
 pub mod Answering
-pub mod Committing
 pub mod Failing
 pub mod Executing
 pub mod Loading

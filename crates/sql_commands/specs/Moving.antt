@@ -14,7 +14,6 @@ use Rattle.commands.specs.declared.items.Item.TheVariants as item
 use Rattle.commands.specs.declared.items.Phase.TheVariants.{Run}
 use Rattle.commands.specs.declared.replies.Refusal.{Refusal}
 use Rattle.commands.specs.declared.replies.Refusal.TheVariants.{Finished}
-use Rattle.commands.specs.declared.replies.Reply.{Reply}
 use Rattle.ledger.specs.Answer.{State, asker, answer_within, kept_for}
 use Rattle.ledger.specs.History.{net, last_of}
 use Rattle.ledger.specs.Ledger.{Journey, journey_at, history, fits}
@@ -22,13 +21,8 @@ use Rattle.ledger.specs.Replies.{Answer}
 use Rattle.savepoints.specs.Rules as rules
 use Rattle.ledger_transitions.specs.JourneyChanges.{cursor_after}
 use Rattle.saga_core.specs.declared.records.Record.{Record}
-use Rattle.desk_sql.specs.Rows.{Tables}
 use Rattle.desk_sql.specs.declared.meta.Meta.{Meta}
-use Rattle.sql_model.specs.Beginning.{with_answer}
-use Rattle.sql_model.specs.Standing.{StandsFor, IsDesk}
-use Rattle.sql_writes.specs.Kinds as kinds
-use Rattle.sql_writes.specs.Kinds.{rows_after}
-use Rattle.sql_writes.specs.declared.events.Numbers.{Numbers}
+use Rattle.sql_model.specs.Standing.{IsDesk}
 use Rattle.sql_writes.specs.declared.events.Event.{Event}
 use Rattle.sql_writes.specs.declared.events.Event.TheVariants.{Transaction, Compensation, Turn, Save}
 use Rattle.sql_commands.specs.Answering.{Counts}
@@ -170,14 +164,6 @@ MayCome stand (coming.Up choice) = (stand.cursor.pos < stand.steps) × (choice.o
 MayCome stand (coming.Down choice) = (1 ≤ stand.cursor.pos) × (choice.option ≤ most_options)
 MayCome stand coming.Refused = stand.cursor.phase ≡ Run
 MayCome stand coming.Nothing = ⊤
-
--- with the rows of an event, and of its reply if there is an ask, tables that represent the old state
--- represent the new one
-pub record LeadsTo (n : Numbers) (e : Event) (ask : Option Asked) (reply : Reply) (old new : State)
-    : Type 0 where
-  pub fits : (t : Tables) → StandsFor t old → kinds.Fits n e t
-  pub stands : (t : Tables) → StandsFor t old
-      → StandsFor (with_answer ask reply (rows_after n e t)) new
 
 -- The rules answer a request for which no reply is kept by this item of a journey, or by this refusal. The caller
 -- sees the journey, and the numbers of `meta` are those of the ledger.

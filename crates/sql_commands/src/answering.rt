@@ -5,12 +5,13 @@ ghost use Rattle.std.specs.Option.{option_copied as asker};
 ghost use Rattle.commands.specs.Orders.{request_of};
 ghost use Rattle.ledger.specs.Answer.{is_request};
 ghost use Rattle.sql_commands.specs.Answering.{AnswersAgain, IsKeptLine, Finds, TellsNew, Counts, IsCounted};
-ghost use Rattle.sql_commands.specs.Committing.{CommitsReply};
 ghost use Rattle.sql_commands.specs.Executing.{Executes, Replies};
 ghost use Rattle.sql_commands.specs.Failing.{IsNewTo};
 ghost use Rattle.sql_model.specs.Standing.{IsDesk};
 ghost use Rattle.sql_reads.specs.GoodRows.{IsMemory};
 ghost use Rattle.sql_reads.specs.Reads.{Read};
+ghost use Rattle.commands.specs.Texts.{reply_line};
+ghost use Rattle.sql_writes.specs.Commits.{CommitsEvent};
 ghost use Rattle.sql_writes.specs.Kinds.{IsSmall};
 
 use crate::begins::answer_begin;
@@ -133,36 +134,6 @@ pub fn know_limits(command: &Command)
     }
 }
 
-/// Writes an event and the reply to this ask in one commit.
-fn commit_kept<S: Alter>(
-    alloc: Global,
-    conn: &mut Connection<S>,
-    numbers: Numbers,
-    event: &Event<'_>,
-    reply: &Reply,
-    ask: &Ask,
-) -> Result<(), Fault>
-    requires outside { conn.old.in_transaction ≡ false }
-    requires small { IsSmall event.now }
-
-    ensures { CommitsReply S.Store conn.old conn.new numbers event.now
-        (Some ask.now) reply.now result }
-{
-    let line = match reply.line(alloc) {
-        Ok(line) => line,
-        Err(_) => return Err(Fault::Memory),
-    };
-    let agent = ask.agent();
-    let key = ask.key();
-    let keeping = Keeping {
-        agent: agent.as_str(),
-        key: key.as_str(),
-        text: ask.text(),
-        line: line.as_str(),
-    };
-    commit_event(conn, numbers, event, Some(keeping))
-}
-
 /// Writes an event in one commit, with its reply if there is an ask.
 pub(crate) fn commit_answered<S: Alter>(
     alloc: Global,
@@ -175,12 +146,18 @@ pub(crate) fn commit_answered<S: Alter>(
     requires outside { conn.old.in_transaction ≡ false }
     requires small { IsSmall event.now }
 
-    ensures { CommitsReply S.Store conn.old conn.new numbers event.now
-        (asker ask.entry) reply.now result }
+    ensures { CommitsEvent S.Store conn.old conn.new numbers event.now
+        (asker ask.entry) (reply_line reply.now) result }
 {
     match ask {
         None => commit_event(conn, numbers, event, None),
-        Some(ask) => commit_kept(alloc, conn, numbers, event, reply, ask),
+        Some(ask) => match reply.line(alloc) {
+            Ok(line) => {
+                let line = line.as_str();
+                commit_event(conn, numbers, event, Some(Keeping { ask, line }))
+            }
+            Err(_) => Err(Fault::Memory),
+        },
     }
 }
 

@@ -1,12 +1,15 @@
 -- Why an event is not committed, and what is left of the rowids. For the functions of `committing`.
-use Rattle.std.proofs.Common.{◌≡◌, ◌⊎◌, ◌+◌, inl, inr, ℕ, Option, true, false, IsTrue, refl, sym, subst, ◌∙◌, arith}
+use Rattle.std.proofs.Common.{◌≡◌, ◌⊎◌, ◌+◌, inl, inr, ℕ, List, Option, Result, Ok, Err, true, false, IsTrue, refl, sym, subst, ◌∙◌, arith}
 use Rattle.sqlite.specs.Store.{Ghosts}
 use Rattle.sqlite.specs.Effect.{Database}
 use Rattle.sqlite.specs.Tree.{Trees}
-use Rattle.sqlite.specs.State.{State as Connected, HasCleanDisk, IsRolledBack, Survives}
+use Rattle.sqlite.specs.State.{State as Connected, HasCleanDisk, IsRolledBack, Shows, Survives}
 use Rattle.sqlite.specs.Steps.{FailsToCommit}
 use Rattle.sqlite.specs.Held.{Held, state}
 use Rattle.sqlite.specs.declared.error.Error.{Error}
+use Rattle.commands.specs.Asks.{Asked}
+use Rattle.commands.specs.declared.replies.Fault.{Fault}
+use Rattle.commands.specs.declared.replies.Fault.TheVariants.{Memory, Store}
 use Rattle.desk_sql.specs.Calls.{MayRun}
 use Rattle.desk_sql.specs.Causes.{IsUp, HasFaulted}
 use Rattle.desk_sql.specs.Rows.{Tables}
@@ -19,12 +22,12 @@ use Rattle.sql_model.specs.Standing.{StandsFor}
 use Rattle.sql_model.proofs.KeepLemmas.{left_before}
 use Rattle.sql_model.proofs.Staying.{commit_why, faulted_later, stays_begun, stays_committing, stays_twice, stays_up}
 use Rattle.sql_writes.specs.declared.events.Numbers.{Numbers}
-use Rattle.sql_writes.specs.declared.events.Keeping.{Keeping}
 use Rattle.sql_writes.specs.declared.events.Event.{Event}
-use Rattle.sql_writes.specs.Commits.{RanOut, LeavesEvent, LeavesRowids}
+use Rattle.sql_writes.specs.Commits.{RanOut, LeavesEvent, LeavesRowids, CommitsEvent}
 use Rattle.sql_writes.specs.Kinds.{Fits, LeadsTo, event_rows}
 use Rattle.sql_writes.specs.Permits.{event_rowids}
-use Rattle.sql_writes.proofs.CommitLemmas.{Left, Wrote, either_left}
+use Rattle.sql_writes.proofs.CommitLemmas.{KeepsOne, Left, Wrote, either_left, keeps_next}
+use Rattle.sql_writes.proofs.EventLemmas.{event_fits}
 
 -- a commit that failed in a transaction was rolled back
 back_of : (late end : Connected) (e : Error) → IsTrue late.in_transaction → FailsToCommit late end e → IsRolledBack late end
@@ -61,32 +64,32 @@ module _ {S : Type 0} (g : Ghosts S) (old late end : Held S) where
       ]
 
   -- an event that was committed took its rowids
-  commit_rowids : (n : Numbers) (e : Event) (k : Option Keeping)
-      → Wrote g (record old { in_transaction = true }) late (Fits n e) (event_rowids n e k) (event_rows n e k)
+  commit_rowids : (n : Numbers) (e : Event) (ask : Option Asked) (line : List ℕ)
+      → Wrote g (record old { in_transaction = true }) late (Fits n e) (event_rowids n e ask) (event_rows n e ask line)
       → (HasCleanDisk (state g end) → HasCleanDisk (state g late)) → (HasCleanDisk (state g end) → (state g end).now ≡ (state g late).now)
-      → LeavesRowids g old end n e k
-  commit_rowids n e k wrote less now_is clean s keeps fits m has live =
+      → LeavesRowids g old end n e ask
+  commit_rowids n e ask line wrote less now_is clean s keeps fits m has live =
       let saw = saw_of wrote.left s keeps (less clean) (wrote.live (less clean) refl) in
       subst (λ (d : Database). HasRowids m d.trees) (sym (now_is clean))
       (wrote.rowids (less clean) saw.tables (run_of s saw) (wrote.live (less clean) refl) (fits saw.tables saw.stands) m has)
 
   -- one that was rolled back took none
-  back_rowids : (n : Numbers) (e : Event) (k : Option Keeping) → Left g (record old { in_transaction = true }) late
+  back_rowids : (n : Numbers) (e : Event) (ask : Option Asked) → Left g (record old { in_transaction = true }) late
       → (HasCleanDisk (state g end) → HasCleanDisk (state g late)) → (HasCleanDisk (state g end) → IsRolledBack (state g late) (state g end))
-      → LeavesRowids g old end n e k
-  back_rowids n e k left less undone clean s keeps fits m has live =
+      → LeavesRowids g old end n e ask
+  back_rowids n e ask left less undone clean s keeps fits m has live =
       let back = undone clean in
       let kept = left.commit (less clean) refl in
       let late_live = back.was_open live in
       let saw = saw_of left s keeps (less clean) (kept.was_open late_live) in
       let now_is : (state g end).now ≡ (state g old).now = (back.undone live).0 ∙ kept.committed late_live ∙ sym saw.committed in
-      subst (λ (d : Database). HasRowids m d.trees) (sym now_is) (rowids_fewer m (event_rowids n e k + m) (state g old).now.trees (omega arith) has)
+      subst (λ (d : Database). HasRowids m d.trees) (sym now_is) (rowids_fewer m (event_rowids n e ask + m) (state g old).now.trees (omega arith) has)
 
   -- What is left after an event.
-  module _ (outside : end.in_transaction ≡ false) (n : Numbers) (e : Event) (k : Option Keeping) where
+  module _ (outside : end.in_transaction ≡ false) (n : Numbers) (e : Event) (ask : Option Asked) (line : List ℕ) where
     leaves_of : Left g (record old { in_transaction = true }) late → (Commits : Trees → Type 0) → Survives (state g late) (state g end) Commits
-        → LeavesRowids g old end n e k
-        → ((s next : State) → LeadsTo n e k s next → Keeps (state g old) s → MayLeave (state g end) s next) → LeavesEvent g old end n e k
+        → LeavesRowids g old end n e ask
+        → ((s next : State) → LeadsTo n e ask line s next → Keeps (state g old) s → MayLeave (state g end) s next) → LeavesEvent g old end n e ask line
     leaves_of left Commits survives rowids either = record {
       outside = outside;
       either = either;
@@ -96,27 +99,45 @@ module _ {S : Type 0} (g : Ghosts S) (old late end : Held S) where
       less = λ clean. omega (arith, left.less.clean, survives.clean, clean);
     }
 
-    module _ (wrote : Wrote g (record old { in_transaction = true }) late (Fits n e) (event_rowids n e k) (event_rows n e k))
+    module _ (wrote : Wrote g (record old { in_transaction = true }) late (Fits n e) (event_rowids n e ask) (event_rows n e ask line))
         (survives : Survives (state g late) (state g end) (λ db. db ≡ (state g late).now.trees)) where
-      by_commit : LeavesRowids g old end n e k → LeavesEvent g old end n e k
+      by_commit : LeavesRowids g old end n e ask → LeavesEvent g old end n e ask line
       by_commit rowids = leaves_of wrote.left (λ db. db ≡ (state g late).now.trees) survives rowids
-          (λ s next leads keeps clean db left. either_left g old late (Fits n e) (event_rowids n e k) (event_rows n e k) s next wrote leads.fits leads.stands keeps
+          (λ s next leads keeps clean db left. either_left g old late (Fits n e) (event_rowids n e ask) (event_rows n e ask line) s next wrote leads.fits leads.stands keeps
           (omega (arith, survives.clean, clean)) db (survives.crash clean db left))
 
-      -- it was committed
-      pub leaves_committed : (HasCleanDisk (state g end) → (state g end).now ≡ (state g late).now) → LeavesEvent g old end n e k
-      leaves_committed now_is = by_commit (commit_rowids n e k wrote (λ clean. omega (arith, survives.clean, clean)) now_is)
+      at_late : HasCleanDisk (state g end) → HasCleanDisk (state g late)
+      at_late clean = omega (arith, survives.clean, clean)
 
-      -- its commit failed
-      pub leaves_uncommitted : (error : Error) → (HasCleanDisk (state g end) → FailsToCommit (state g late) (state g end) error) → LeavesEvent g old end n e k
-      leaves_uncommitted error failed = by_commit (back_rowids n e k wrote.left (λ clean. omega (arith, survives.clean, clean))
-          (λ clean. back_of (state g late) (state g end) error (wrote.inside (omega (arith, survives.clean, clean)) refl) (failed clean)))
+      -- it was committed: the connection keeps the next state
+      pub commits_ok : {V : Type 0} {v : V} → KeepsOne g
+          → (HasCleanDisk (state g end) → Shows (state g late) (state g end) (state g late).now (state g late).now false)
+          → CommitsEvent g old end n e ask line (Ok v)
+      commits_ok {V} {v} law shown = record {
+        done = λ s next leads keeps clean. keeps_next g old late (Fits n e) (event_rowids n e ask) (event_rows n e ask line) s next wrote leads.fits leads.stands
+            keeps (at_late clean) law end (shown clean);
+        memory = λ s keeps ran. absurd (let same : ◌≡◌ {A = Result V Fault} (Ok v) (Err Memory) = ran in cc);
+        store = λ clean s keeps permits has up failed. absurd (let same : ◌≡◌ {A = Result V Fault} (Ok v) (Err Store) = failed in cc);
+        leaves = by_commit (commit_rowids n e ask line wrote at_late (λ clean. (shown clean).now_is));
+      }
+
+      -- its commit failed: the disk did, or there was no memory
+      pub commits_err : {V : Type 0} {error : Error} → (HasCleanDisk (state g end) → FailsToCommit (state g late) (state g end) error)
+          → CommitsEvent g old end n e ask line {V = V} (Err Store)
+      commits_err {V} {error} failed = record {
+        done = λ s next leads keeps. tt;
+        memory = λ s keeps ran. absurd (let same : ◌≡◌ {A = Result V Fault} (Err Store) (Err Memory) = ran in cc);
+        store = λ clean s keeps permits has up is. commit_store (Fits n e) (event_rowids n e ask) (event_rows n e ask line) wrote s keeps (at_late clean)
+            (λ t st. event_fits n e ask line t (permits t st)) up error (failed clean);
+        leaves = by_commit (back_rowids n e ask wrote.left at_late
+            (λ clean. back_of (state g late) (state g end) error (wrote.inside (at_late clean) refl) (failed clean)));
+      }
 
     -- a write failed, and the transaction was rolled back
     pub leaves_undone : Left g (record old { in_transaction = true }) late → Survives (state g late) (state g end) (λ _. ⊥)
-        → (HasCleanDisk (state g end) → IsRolledBack (state g late) (state g end)) → LeavesEvent g old end n e k
+        → (HasCleanDisk (state g end) → IsRolledBack (state g late) (state g end)) → LeavesEvent g old end n e ask line
     leaves_undone left survives undone = leaves_of left (λ _. ⊥) survives
-        (back_rowids n e k left (λ clean. omega (arith, survives.clean, clean)) undone)
+        (back_rowids n e ask left (λ clean. omega (arith, survives.clean, clean)) undone)
         (λ s next leads keeps clean db may. inl ((keeps (omega (arith, left.less.clean, survives.clean, clean))).leaves db
         (left_before (state g (record old { in_transaction = true })) (state g end)
         (survives_twice (state g (record old { in_transaction = true })) (state g late) (state g end) left.less survives) clean db may)))

@@ -1,5 +1,6 @@
 -- The rows that an event of any kind writes, with those of the reply that is kept with it.
-use Rattle.std.specs.Prelude.{⊤, Option, Some, None}
+use Rattle.std.specs.Prelude.{◌≡◌, ℕ, List, ⊤, Option, Some, None, option_map}
+use Rattle.commands.specs.Asks.{Asked}
 use Rattle.desk_sql.specs.Rows.{Tables}
 use Rattle.desk_sql.specs.Changes.{AreItemsBelow, AreJourneysBelow, adds_answer, kept}
 use Rattle.ledger.specs.Answer.{State}
@@ -39,16 +40,22 @@ rows_after n (Turn m) t = turn_rows n m t
 rows_after n (Save m) t = save_rows n m t
 rows_after n (Load b) t = load_rows n b t
 
--- the rows after an event, and the row of the reply that is kept with it
-abbrev pub with_kept : Numbers → Event → Keeping → Tables → Tables
-with_kept n e k t = adds_answer (kept k.agent.now k.key.now k.text.now k.line.now) (rows_after n e t)
+-- the ask for which a reply is kept, if one is
+abbrev pub asks : Option Keeping → Option Asked
+asks keeping = option_map (λ (k : Keeping). k.ask.now) keeping
 
--- the rows after an event, with or without a reply
-abbrev pub event_rows : Numbers → Event → Option Keeping → Tables → Tables
-event_rows n e None t = rows_after n e t
-event_rows n e (Some k) t = with_kept n e k t
+-- the line that is kept, if one is; else any
+abbrev pub KeepsLine : Option Keeping → List ℕ → Type 0
+KeepsLine None line = ⊤
+KeepsLine (Some k) line = k.line.now ≡ line
 
--- tables that represent the old state fit the event, and with its rows represent the new state
-pub record LeadsTo (n : Numbers) (e : Event) (k : Option Keeping) (old new : State) : Type 0 where
+-- the rows after an event, and the row of its reply's line if there is an ask
+abbrev pub event_rows : Numbers → Event → Option Asked → List ℕ → Tables → Tables
+event_rows n e None line t = rows_after n e t
+event_rows n e (Some ask) line t = adds_answer (kept ask.agent ask.key ask.text line) (rows_after n e t)
+
+-- tables that represent the old state fit the event, and with its rows, and that of its reply if there is an ask, represent
+-- the new state
+pub record LeadsTo (n : Numbers) (e : Event) (ask : Option Asked) (line : List ℕ) (old new : State) : Type 0 where
   pub fits : (t : Tables) → StandsFor t old → Fits n e t
-  pub stands : (t : Tables) → StandsFor t old → StandsFor (event_rows n e k t) new
+  pub stands : (t : Tables) → StandsFor t old → StandsFor (event_rows n e ask line t) new

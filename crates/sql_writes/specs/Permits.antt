@@ -1,9 +1,11 @@
 -- What the writes of an event ask of the rows before it, so that no rule of the tables refuses one, and how many rowids the
 -- store chooses for it.
-use Rattle.std.specs.Prelude.{◌≡◌, ◌<◌, ◌≤◌, ◌+◌, ◌^◌, ◌==◌, ◌&&◌, ℕ, suc, true, false, length, Option, Some, None}
+use Rattle.std.specs.Prelude.{◌≡◌, ◌<◌, ◌≤◌, ◌+◌, ◌^◌, ◌==◌, ◌&&◌, ℕ, suc, true, false, List, length, Option, Some, None, IsTrue}
 use Rattle.std.specs.List.{AllByRecursion}
 use Rattle.allotment.specs.Want.{Wanted}
 use Rattle.plan.specs.PlanModel.{step_count}
+use Rattle.commands.specs.Asks.{Asked}
+use Rattle.commands.specs.Names.{is_agent, is_key}
 use Rattle.desk_sql.specs.Rows.{Tables, StockRow, JourneyRow, StepRow}
 use Rattle.desk_sql.specs.Stock.{is_within}
 use Rattle.desk_sql.specs.Changes.{AreItemsBelow, begun, is_option, kept}
@@ -12,7 +14,6 @@ use Rattle.desk_sql.specs.declared.stock.NightRange.{NightRange}
 use Rattle.sql_model.specs.ExpectedRows.{step_rows_of}
 use Rattle.sql_model.specs.Reading.{IsRangeOf}
 use Rattle.sql_writes.specs.declared.events.Numbers.{Numbers}
-use Rattle.sql_writes.specs.declared.events.Keeping.{Keeping}
 use Rattle.sql_writes.specs.declared.events.JourneyBegun.{JourneyBegun}
 use Rattle.sql_writes.specs.declared.events.StepMade.{StepMade}
 use Rattle.sql_writes.specs.declared.events.SaveMade.{SaveMade}
@@ -93,14 +94,11 @@ Permits n (Turn m) t = MayMoveOn n m.journey t
 Permits n (Save m) t = MaySave n m t
 Permits n (Load b) t = MayLoadBatch n b t
 
--- the rows permit a reply to be kept
-abbrev pub PermitsReply : Keeping → Tables → Type 0
-PermitsReply k t = MayKeep (kept k.agent.now k.key.now k.text.now k.line.now) t
-
--- the rows permit an event, with or without a reply
-abbrev pub PermitsEvent : Numbers → Event → Option Keeping → Tables → Type 0
-PermitsEvent n e None t = Permits n e t
-PermitsEvent n e (Some k) t = Permits n e t × PermitsReply k t
+-- the rows permit an event, and its reply with this line if there is an ask, whose agent and key have their forms
+abbrev pub PermitsEvent : Numbers → Event → Option Asked → List ℕ → Tables → Type 0
+PermitsEvent n e None line t = Permits n e t
+PermitsEvent n e (Some ask) line t =
+    Permits n e t × (IsTrue (is_agent ask.agent) → IsTrue (is_key ask.key) → MayKeep (kept ask.agent ask.key ask.text line) t)
 
 -- how many rowids the store chooses for the rows of an event: one for each option, cell, batch and save-point
 abbrev pub rowids_of : Numbers → Event → ℕ
@@ -112,9 +110,9 @@ rowids_of n (Save m) = 1
 rowids_of n (Load b) = suc (length b.cells.now)
 
 -- and one for the reply that is kept with it
-abbrev pub event_rowids : Numbers → Event → Option Keeping → ℕ
+abbrev pub event_rowids : Numbers → Event → Option Asked → ℕ
 event_rowids n e None = rowids_of n e
-event_rowids n e (Some k) = suc (rowids_of n e)
+event_rowids n e (Some ask) = suc (rowids_of n e)
 
 -- The parts of a begin and of a load.
 

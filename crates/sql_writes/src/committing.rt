@@ -1,12 +1,9 @@
 //! The transaction of one event, with one commit.
-ghost use Rattle.ledger.specs.Answer.{State};
-ghost use Rattle.sql_model.specs.Keeping.{Keeps};
-ghost use Rattle.sql_writes.specs.Commits.{FailsToCommitFor, LeavesEvent};
+ghost use Rattle.sql_writes.specs.Commits.{CommitsEvent};
 ghost use Rattle.sql_writes.specs.Did.{Did};
-ghost use Rattle.sql_writes.specs.Kinds.{IsSmall, LeadsTo, Fits, rows_after, with_kept, event_rows};
+ghost use Rattle.sql_writes.specs.Kinds.{IsSmall, Fits, KeepsLine, event_rows, asks, rows_after};
 ghost use Rattle.sql_writes.specs.Permits.{Permits, PermitsEvent, event_rowids, rowids_of};
-ghost use Rattle.sqlite.specs.Held.{state};
-ghost use Rattle.std.specs.Prelude.{◌≡◌, false, Err, OnOk, suc, Some};
+ghost use Rattle.std.specs.Prelude.{◌≡◌, ℕ, List, false, Some, suc};
 
 use crate::begins::write_begin;
 use crate::events::{Event, Keeping, Numbers};
@@ -27,13 +24,8 @@ pub fn commit_event<S: Alter>(
     requires outside { conn.old.in_transaction ≡ false }
     requires small { IsSmall event.now }
 
-    ensures done { (s next : State) → LeadsTo numbers event.now keeping.entry s next
-        → Keeps (state S.Store conn.old) s → OnOk result (Keeps (state S.Store conn.new) next) }
-    ensures memory { (s : State) → Keeps (state S.Store conn.old) s → result ≡ Err Fault.Memory
-        → Keeps (state S.Store conn.new) s }
-    ensures store { FailsToCommitFor S.Store conn.old conn.new numbers event.now
-        keeping.entry result }
-    ensures leaves { LeavesEvent S.Store conn.old conn.new numbers event.now keeping.entry }
+    ensures commits { (line : List ℕ) → KeepsLine keeping.entry line
+        → CommitsEvent S.Store conn.old conn.new numbers event.now (asks keeping.entry) line result }
 {
     let mut tx = conn.transaction();
     if let Err(error) = write_event(&mut tx, numbers, event, keeping) {
@@ -77,12 +69,17 @@ fn write_kept<S: Alter>(
 ) -> Result<(), Error>
     requires { IsSmall event.now }
 
-    ensures did { Did S.Store tx.old.conn tx.new.conn result
-        (Fits numbers event.now) (PermitsEvent numbers event.now (Some keeping.entry))
-        (suc (rowids_of numbers event.now)) (with_kept numbers event.now keeping.entry) }
+    ensures did { (line : List ℕ) → keeping.entry.line.now ≡ line
+        → Did S.Store tx.old.conn tx.new.conn result
+        (Fits numbers event.now) (PermitsEvent numbers event.now (Some keeping.entry.ask.now) line)
+        (suc (rowids_of numbers event.now))
+        (event_rows numbers event.now (Some keeping.entry.ask.now) line) }
 {
     write_rows(tx, numbers, event)?;
-    insert_answer(tx, keeping.agent, keeping.key, keeping.text, keeping.line)?;
+    let ask = keeping.ask;
+    let agent = ask.agent();
+    let key = ask.key();
+    insert_answer(tx, agent.as_str(), key.as_str(), ask.text(), keeping.line)?;
     Ok(())
 }
 
@@ -95,10 +92,11 @@ pub fn write_event<S: Alter>(
 ) -> Result<(), Error>
     requires { IsSmall event.now }
 
-    ensures did { Did S.Store tx.old.conn tx.new.conn result
-        (Fits numbers event.now) (PermitsEvent numbers event.now keeping.entry)
-        (event_rowids numbers event.now keeping.entry)
-        (event_rows numbers event.now keeping.entry) }
+    ensures did { (line : List ℕ) → KeepsLine keeping.entry line
+        → Did S.Store tx.old.conn tx.new.conn result
+        (Fits numbers event.now) (PermitsEvent numbers event.now (asks keeping.entry) line)
+        (event_rowids numbers event.now (asks keeping.entry))
+        (event_rows numbers event.now (asks keeping.entry) line) }
 {
     match keeping {
         None => write_rows(tx, numbers, event),

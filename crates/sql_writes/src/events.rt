@@ -2,7 +2,7 @@
 ghost use Rattle.std.specs.Prelude.{◌<◌, ◌^◌};
 
 use allotment::{Cell, Held, Want};
-use commands::{Cause, Cursor};
+use commands::{Ask, Cause, Cursor};
 use plan::Plan;
 
 /// The numbers that `meta` has after an event.
@@ -93,12 +93,8 @@ pub enum Event<'a> {
 /// A reply that is kept with an event.
 #[derive(Clone, Copy)]
 pub struct Keeping<'a> {
-    /// The agent who asked.
-    pub agent: &'a str,
-    /// The key that the agent gave.
-    pub key: &'a str,
-    /// The bytes that were asked under the key.
-    pub text: &'a [u8],
+    /// The ask for which it is kept.
+    pub ask: &'a Ask,
     /// The line of the reply.
     pub line: &'a str,
 }

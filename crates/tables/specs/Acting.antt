@@ -16,8 +16,7 @@ use Rattle.desk_sql.specs.Writable.{HasRowids}
 use Rattle.ledger.specs.Answer.{State, outcome, start}
 use Rattle.saga_core.specs.Reasons as reasons
 use Rattle.saga_core.specs.Runs.{Asks}
-use Rattle.sql_commands.specs.Committing.{HasShortText}
-use Rattle.sql_commands.specs.Failing.{RanOutOf, asked_rowids}
+use Rattle.sql_commands.specs.Failing.{HasShortText, RanOutOf, asked_rowids}
 use Rattle.sql_model.specs.Spelling.{IsSpelled}
 use Rattle.tables.specs.BookTerms.{StandsBook}
 use Rattle.tables.specs.declared.books.TableBook.{TableBook}

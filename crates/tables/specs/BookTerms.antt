@@ -16,8 +16,7 @@ use Rattle.ledger.specs.Answer.{State}
 use Rattle.saga_core.specs.Books as books
 use Rattle.saga_core.specs.Views.{first_unfinished}
 use Rattle.saga_core.specs.declared.records.Brief.{Brief}
-use Rattle.sql_commands.specs.Committing.{HasShortText}
-use Rattle.sql_commands.specs.Failing.{HasReason, asked_rowids}
+use Rattle.sql_commands.specs.Failing.{HasReason, HasShortText, asked_rowids}
 use Rattle.sql_model.specs.Spelling.{IsSpelled}
 use Rattle.tables.specs.Keeping.{Stands, MayLeave}
 use Rattle.tables.specs.declared.books.TableBook.{TableBook}

@@ -1,28 +1,36 @@
--- With an ask there is one more row.
-use Rattle.std.proofs.Common.{subst, sym}
+-- With an ask there is one more row, that of its reply.
+use Rattle.std.proofs.Common.{inl, subst, sym, ◌∙◌, arith}
 use Rattle.std.specs.Option.{option_copied}
-use Rattle.sql_commands.specs.Committing.{CommitsReply}
-use Rattle.sql_commands.proofs.LeadLemmas.{unkept_leads}
+use Rattle.commands.specs.Texts.{reply_line}
+use Rattle.desk_sql.proofs.Quieting.{quiet_alone}
+use Rattle.desk_sql.proofs.Rowids.{rowids_fewer}
+use Rattle.sql_model.proofs.Quieting.{quiet_up}
+use Rattle.sql_writes.specs.Commits.{CommitsEvent}
 use Rattle.sql_commands.proofs.answering.commit_answered.Goals as goal
 
 pub returns-in-None : goal.returns-in-None
 returns-in-None g c =
-    let n = c.args.numbers in
-    let e = c.args.event.now in
-    let reply = c.args.reply.now in
-    subst (λ o. CommitsReply g.S.Store c.args.conn.now c.commit_event.new.conn n e (option_copied o) reply c.commit_event.result) (sym c.in-None.is)
-    (record {
-      outside = c.commit_event.ensures.leaves.outside;
-      done = λ s next leads keeps. c.commit_event.ensures.done s next (unkept_leads n e reply s next leads) keeps;
-      left = λ s next leads keeps. c.commit_event.ensures.leaves.either s next (unkept_leads n e reply s next leads) keeps;
-      memory = c.commit_event.ensures.memory;
-      sound = c.commit_event.ensures.leaves.less;
-      store = c.commit_event.ensures.store;
-      rowids = c.commit_event.ensures.leaves.rowids;
-      up = c.commit_event.ensures.leaves.up;
-    })
+    subst (λ o. CommitsEvent g.S.Store c.args.conn.now c.commit_event.new.conn c.args.numbers c.args.event.now (option_copied o) (reply_line c.args.reply.now) c.commit_event.result)
+    (sym c.in-None.is) (c.commit_event.ensures.commits (reply_line c.args.reply.now) tt)
 
-pub returns-in-Some : goal.returns-in-Some
-returns-in-Some g c =
-    subst (λ o. CommitsReply g.S.Store c.args.conn.now c.commit_kept.new.conn c.args.numbers c.args.event.now (option_copied o) c.args.reply.now c.commit_kept.result)
-    (sym c.in-Some.is) c.commit_kept.ensures
+pub returns-in-Ok : goal.returns-in-Ok
+returns-in-Ok g c =
+    subst (λ o. CommitsEvent g.S.Store c.args.conn.now c.commit_event-in-Ok.new.conn c.args.numbers c.args.event.now (option_copied o) (reply_line c.args.reply.now) c.commit_event-in-Ok.result)
+    (sym c.in-Some.is) (c.commit_event-in-Ok.ensures.commits (reply_line c.args.reply.now) (c.as_str-line.ensures.value ∙ c.in-Ok.ensures.line))
+
+-- nothing was written
+pub returns-in-Err : goal.returns-in-Err
+returns-in-Err g c =
+    let conn = c.args.conn.now in
+    record {
+      done = λ s next leads keeps. tt;
+      memory = λ s keeps ran. keeps;
+      store = λ clean s keeps permits has up failed. absurd (cc);
+      leaves = record {
+        outside = c.requires.outside;
+        either = λ s next leads keeps clean db may. inl ((keeps clean).leaves db may);
+        rowids = λ clean s keeps fits m has live. rowids_fewer m _ _ (omega arith) has;
+        up = quiet_up g.S.Store conn conn (quiet_alone g.S.Store conn);
+        less = λ clean. clean;
+      };
+    }
