@@ -11,7 +11,7 @@ use Rattle.desk_lines.specs.Lines.{journey_in}
 use Rattle.desk_jobs.specs.Ends.{recovered_line, TellsAccepted}
 use Rattle.command_line.specs.declared.jobs.Job.{Job}
 use Rattle.command_line.specs.Version.{version_line}
-use Rattle.command_line.specs.declared.jobs.Job.TheVariants.{Run, Serve, Recover, Load, Stock, Calendar, Summary, Holders, Unfinished, Journeys, History, Why, Migrate, Version}
+use Rattle.command_line.specs.declared.jobs.Job.TheVariants.{Run, Serve, Recover, Load, Stock, Calendar, Summary, Holders, Holdings, Unfinished, Journeys, History, Why, Migrate, Version}
 use Rattle.program_ends.specs.declared.ends.End.{End}
 use Rattle.program_ends.specs.declared.ends.End.TheVariants as finish
 use Rattle.program_ends.specs.declared.faults.ProgramFault.TheVariants as fault
@@ -53,6 +53,7 @@ TellsOf (Stock file filter format) held holds = ⊤
 TellsOf (Calendar file filter) held holds = ⊤
 TellsOf (Summary file filter format) held holds = ⊤
 TellsOf (Holders file cell format) held holds = ⊤
+TellsOf (Holdings file filter format) held holds = ⊤
 TellsOf (Unfinished file filter format) held holds = ⊤
 TellsOf (Journeys file filter format) held holds = ⊤
 TellsOf (History file id format) held holds = ⊤

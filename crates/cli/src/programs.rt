@@ -149,6 +149,14 @@ fn carry_out<R: Read, O: Write, N: Write>(
             let report = Report::Holders { cell, format };
             report_file(rt, alloc, file.as_str(), &report, out)
         }
+        Job::Holdings {
+            file,
+            filter,
+            format,
+        } => {
+            let report = Report::Holdings { filter, format };
+            report_file(rt, alloc, file.as_str(), &report, out)
+        }
         Job::Unfinished {
             file,
             filter,

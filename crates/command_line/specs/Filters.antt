@@ -1,5 +1,5 @@
 -- The values that ask for cells and journeys, by their names: for those of a filter, or for one.
-use Rattle.std.specs.Prelude.{◌≡◌, ◌||◌, ℕ, Bool, is_none, List, codes, Option, None, Some, option_map}
+use Rattle.std.specs.Prelude.{◌≡◌, ◌||◌, ℕ, Bool, is_none, is_some, if◌then◌else◌, List, codes, Option, None, Some, option_map}
 use Rattle.std.specs.Option.{option_and_then}
 use Rattle.allotment.specs.Limits.{is_code}
 use Rattle.allotment.specs.Nights.{night_in}
@@ -44,6 +44,13 @@ has_bad_cells value =
     || (is_none (spelled code_named (value (codes "PRODUCT")))
     || (is_none (spelled night_in (value (codes "FROM"))) || is_none (spelled night_in (value (codes "TO"))))))
 
+-- one of the values that ask for cells is given
+abbrev pub asks_for_cells : (Text → Option Text) → Bool
+asks_for_cells value =
+    is_some (value (codes "KIND"))
+    || (is_some (value (codes "SUPPLIER"))
+    || (is_some (value (codes "PRODUCT")) || (is_some (value (codes "FROM")) || is_some (value (codes "TO")))))
+
 -- the phases in which journeys are asked for: of a state, or of all journeys
 abbrev pub only : Option JourneyState → Phases
 only None = All
@@ -80,6 +87,11 @@ has_bad_journeys reads value =
 -- the one cell that is asked for, by its text
 abbrev pub cell_asked : (Text → Option Text) → Option Cell
 cell_asked value = option_and_then cell_in (value (codes "CELL"))
+
+-- one cell is given: it spells none, or values that ask for cells are given too; else one of those spells nothing
+abbrev pub has_bad_holders : (Text → Option Text) → Bool
+has_bad_holders value =
+    if is_some (value (codes "CELL")) then is_none (cell_asked value) || asks_for_cells value else has_bad_cells value
 
 -- the one journey that is asked for, by its number, from 1 on
 abbrev pub journey_asked : (Text → Option Text) → Option ℕ

@@ -1,21 +1,22 @@
 -- The jobs of the words of the command line. The first word names the subcommand, and the other words are read by
 -- clap's rules for that subcommand.
-use Rattle.std.specs.Prelude.{◌≡◌, ◌||◌, ◌⊎◌, ⊤, Bool, true, false, is_none, bytes_eq, if◌then◌else◌, List, [], ◌∷◌, codes, Option, None, Some, option_map, Result, Ok, Err}
+use Rattle.std.specs.Prelude.{◌≡◌, ◌||◌, ◌⊎◌, ⊤, Bool, true, false, is_none, is_some, bytes_eq, if◌then◌else◌, List, [], ◌∷◌, codes, Option, None, Some, option_map, Result, Ok, Err}
 use Rattle.std.specs.Option.{option_map_or}
 use Rattle.std.specs.String.{string_bytes}
 use Rattle.clap.specs.Words.{App, Text, first_of, matches_of}
-use Rattle.command_line.specs.Filters.{HasCells, HasJourneys, cell_asked, has_bad_cells, has_bad_journeys, journey_asked, phases_in, unfinished_in}
+use Rattle.command_line.specs.Filters.{HasCells, HasJourneys, asks_for_cells, cell_asked, has_bad_cells, has_bad_holders, has_bad_journeys, journey_asked, phases_in, unfinished_in}
 use Rattle.command_line.specs.Subcommands.{app_for, is_refused_by, name_of, subcommand_in}
 use Rattle.command_line.specs.Values.{NamesFile, calendar_in, connections_in, format_in, house_in, is_malformed, log_in, most_connections, page_in, port_in, stock_format_in, wide_in}
 use Rattle.command_line.specs.declared.jobs.Job.{Job}
-use Rattle.command_line.specs.declared.jobs.Job.TheVariants.{Run, Serve, Recover, Load, Stock, Calendar, Summary, Holders, Unfinished, Journeys, History, Why, Migrate, Version}
+use Rattle.command_line.specs.declared.jobs.Job.TheVariants.{Run, Serve, Recover, Load, Stock, Calendar, Summary, Holders, Holdings, Unfinished, Journeys, History, Why, Migrate, Version}
 use Rattle.command_line.specs.declared.jobs.JobFault.{JobFault}
 use Rattle.command_line.specs.declared.jobs.JobFault.TheVariants.{Usage, Memory}
 use Rattle.command_line.specs.declared.subcommands.Subcommand.{Subcommand}
 use Rattle.command_line.specs.declared.subcommands.Subcommand.TheVariants as sub
 use Rattle.reports.specs.declared.formats.Format.TheVariants as format
 
--- the subcommand of a job; the calendar is one of the stock, and the job that prints the version has none
+-- the subcommand of a job; the calendar is one of the stock, the holders of cells are those of `holders` where no one cell is
+-- given, and the job that prints the version has none
 abbrev pub subcommand_of : Job → Option Subcommand
 subcommand_of (Run file) = Some sub.Run
 subcommand_of (Serve file port connections house page log wide) = Some sub.Serve
@@ -25,6 +26,7 @@ subcommand_of (Stock file filter format) = Some sub.Stock
 subcommand_of (Calendar file filter) = Some sub.Stock
 subcommand_of (Summary file filter format) = Some sub.Summary
 subcommand_of (Holders file cell format) = Some sub.Holders
+subcommand_of (Holdings file filter format) = Some sub.Holders
 subcommand_of (Unfinished file filter format) = Some sub.Unfinished
 subcommand_of (Journeys file filter format) = Some sub.Journeys
 subcommand_of (History file id format) = Some sub.History
@@ -59,6 +61,11 @@ HasValues value (Summary file filter format) = NamesFile value (string_bytes fil
     × (format_in value ≡ Some format)
 HasValues value (Holders file cell format) = NamesFile value (string_bytes file)
     × (cell_asked value ≡ Some cell)
+    × (asks_for_cells value ≡ false)
+    × (format_in value ≡ Some format)
+HasValues value (Holdings file filter format) = NamesFile value (string_bytes file)
+    × (is_some (value (codes "CELL")) ≡ false)
+    × HasCells value filter
     × (format_in value ≡ Some format)
 HasValues value (Unfinished file filter format) = NamesFile value (string_bytes file)
     × HasJourneys unfinished_in value filter
@@ -114,7 +121,7 @@ abbrev pub has_bad_value : Subcommand → (Text → Option Text) → Bool
 has_bad_value sub.Serve value = is_none (port_in value) || is_malformed most_connections (value (codes "N"))
 has_bad_value sub.Stock value = has_bad_cells value || is_none (stock_format_in value)
 has_bad_value sub.Summary value = has_bad_cells value || is_none (format_in value)
-has_bad_value sub.Holders value = is_none (cell_asked value) || is_none (format_in value)
+has_bad_value sub.Holders value = has_bad_holders value || is_none (format_in value)
 has_bad_value sub.Unfinished value = has_bad_journeys unfinished_in value || is_none (format_in value)
 has_bad_value sub.Journeys value = has_bad_journeys phases_in value || is_none (format_in value)
 has_bad_value sub.History value = is_none (format_in value)

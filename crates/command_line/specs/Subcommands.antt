@@ -9,7 +9,7 @@ use Rattle.clap.specs.declared.builder.Command.{Command}
 use Rattle.clap.specs.declared.builder.command.Command.TheViews.{out-Command}
 use Rattle.clap.specs.declared.parser.ArgMatches.{ArgMatches}
 use Rattle.command_line.specs.declared.subcommand_words.Word.{Word}
-use Rattle.command_line.specs.declared.subcommand_words.Word.TheVariants.{Needed, NeededAfter, After, Flag}
+use Rattle.command_line.specs.declared.subcommand_words.Word.TheVariants.{Needed, Extra, NeededAfter, After, Flag}
 use Rattle.command_line.specs.declared.subcommands.Subcommand.{Subcommand}
 use Rattle.command_line.specs.declared.subcommands.Subcommand.TheVariants.{Run, Serve, Recover, Load, Stock, Summary, Holders, Unfinished, Journeys, History, Why, Migrate}
 
@@ -98,6 +98,7 @@ named_by name rule = record rule { long = Some name }
 -- how clap reads a value
 abbrev pub rule_said : Word → Rule
 rule_said (Needed id help) = needed id.now
+rule_said (Extra id help) = optional id.now
 rule_said (NeededAfter id name help) = named_by name.now (needed id.now)
 rule_said (After id name help) = named_by name.now (optional id.now)
 rule_said (Flag id name help) = named_by name.now (flagged id.now)
@@ -128,7 +129,7 @@ rules_for Recover = needed (codes "FILE") ∷ []
 rules_for Load = needed (codes "FILE") ∷ needed (codes "CSV") ∷ batch_name ∷ []
 rules_for Stock = needed (codes "FILE") ∷ calendar_flag ∷ cell_rules
 rules_for Summary = needed (codes "FILE") ∷ cell_rules
-rules_for Holders = needed (codes "FILE") ∷ one_rules (codes "CELL")
+rules_for Holders = needed (codes "FILE") ∷ optional (codes "CELL") ∷ cell_rules
 rules_for Unfinished = needed (codes "FILE") ∷ journey_rules
 rules_for Journeys = needed (codes "FILE") ∷ journey_rules
 rules_for History = needed (codes "FILE") ∷ one_rules (codes "ID")

@@ -4,7 +4,7 @@ ghost use Rattle.std.specs.Prelude.{◌≡◌, None, false, true, IfOk, IsOk, So
 ghost use Rattle.allotment.specs.Nights.{night_in};
 ghost use Rattle.allotment.specs.Texts.{kind_of_word};
 ghost use Rattle.filters.specs.JourneyFilters.{state_named};
-ghost use Rattle.command_line.specs.Filters.{agent_named, cell_asked, code_named, has_bad_cells, has_bad_journeys, journey_asked, phases_in, spelled, unfinished_in, unfinished_named, unfinished_state, HasCells, HasJourneys};
+ghost use Rattle.command_line.specs.Filters.{agent_named, asks_for_cells, cell_asked, code_named, has_bad_cells, has_bad_journeys, journey_asked, phases_in, spelled, unfinished_in, unfinished_named, unfinished_state, HasCells, HasJourneys};
 ghost use Rattle.command_line.specs.Jobs.{IsUsage};
 
 use crate::jobs::JobFault;
@@ -67,6 +67,46 @@ pub(crate) fn cell_in(alloc: Global, matches: &ArgMatches) -> Result<Cell, JobFa
     match Cell::parse(word) {
         Some(cell) => Ok(cell),
         None => Err(no_value(alloc, word, "<CELL>", "a cell, as R/INN/DBL/2030-06-01")),
+    }
+}
+
+/// Whether there is a value of this name.
+pub(crate) fn has_value(matches: &ArgMatches, id: &str) -> bool
+    ensures given { result ≡ is_some (values_read matches.now id.now) }
+{
+    match matches.get_str(id) {
+        Some(_) => true,
+        None => false,
+    }
+}
+
+/// The first option of those that ask for cells that is given, if one is.
+fn cells_option<'a>(matches: &ArgMatches) -> Option<&'a str>
+    ensures given { is_some result ≡ asks_for_cells (values_read matches.now) }
+{
+    if has_value(matches, "KIND") {
+        Some("--kind <KIND>")
+    } else if has_value(matches, "SUPPLIER") {
+        Some("--supplier <SUPPLIER>")
+    } else if has_value(matches, "PRODUCT") {
+        Some("--product <PRODUCT>")
+    } else if has_value(matches, "FROM") {
+        Some("--from <FROM>")
+    } else if has_value(matches, "TO") {
+        Some("--to <TO>")
+    } else {
+        None
+    }
+}
+
+/// Refuses options that ask for cells, beside one cell.
+pub(crate) fn no_cells_in(alloc: Global, matches: &ArgMatches) -> Result<(), JobFault>
+    ensures taken { IsOk result → asks_for_cells (values_read matches.now) ≡ false }
+    ensures usage { IsUsage result → asks_for_cells (values_read matches.now) ≡ true }
+{
+    match cells_option(matches) {
+        Some(option) => Err(no_option(alloc, option)),
+        None => Ok(()),
     }
 }
 
@@ -221,6 +261,17 @@ fn unfinished_state(state: JourneyState) -> Option<Phases>
 fn no_value(alloc: Global, word: &str, option: &str, allowed: &str) -> JobFault {
     let text = format!(in alloc;
         "error: invalid value '{word}' for '{option}': not {allowed}\n\nFor more information, try '--help'.\n"
+    );
+    match text {
+        Ok(text) => JobFault::Usage(text),
+        Err(_) => JobFault::Memory,
+    }
+}
+
+/// The error of an option that asks for cells, beside one cell.
+fn no_option(alloc: Global, option: &str) -> JobFault {
+    let text = format!(in alloc;
+        "error: the argument '{option}' cannot be used with '[CELL]'\n\nFor more information, try '--help'.\n"
     );
     match text {
         Ok(text) => JobFault::Usage(text),

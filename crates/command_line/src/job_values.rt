@@ -6,7 +6,9 @@ ghost use Rattle.command_line.specs.Values.{NamesFile, values_read};
 ghost use Rattle.command_line.specs.Subcommands.{needed_for};
 ghost use Rattle.command_line.specs.declared.subcommands.Subcommand.TheVariants as sub;
 
-use crate::asked::{cell_in, cells_in, journey_in, journeys_in, unfinished_in};
+use crate::asked::{
+    cell_in, cells_in, has_value, journey_in, journeys_in, no_cells_in, unfinished_in,
+};
 use crate::jobs::{Job, JobFault};
 use crate::subcommands::Subcommand;
 use crate::values::{
@@ -118,8 +120,28 @@ fn summary_in(alloc: Global, file: String, matches: &ArgMatches) -> Result<Job, 
     })
 }
 
-/// The journeys that hold places of a cell.
+/// The journeys that hold places of a cell, or of the cells that are asked for.
 fn holders_in(alloc: Global, file: String, matches: &ArgMatches) -> Result<Job, JobFault>
+    requires file { NamesFile (values_read matches.now) (string_bytes file) }
+
+    ensures job { IfOk result (IsJobWith sub.Holders (values_read matches.now)) }
+    ensures taken { IsOk result → has_bad_value sub.Holders (values_read matches.now) ≡ false }
+    ensures usage { IsUsage result → has_bad_value sub.Holders (values_read matches.now) ≡ true }
+{
+    if has_value(matches, "CELL") {
+        return holders_of(alloc, file, matches);
+    }
+    let filter = cells_in(alloc, matches)?;
+    let format = format_in(alloc, matches)?;
+    Ok(Job::Holdings {
+        file,
+        filter,
+        format,
+    })
+}
+
+/// The journeys that hold places of a cell.
+fn holders_of(alloc: Global, file: String, matches: &ArgMatches) -> Result<Job, JobFault>
     requires file { NamesFile (values_read matches.now) (string_bytes file) }
     requires cell { is_some (values_read matches.now (codes "CELL")) ≡ true }
 
@@ -128,6 +150,7 @@ fn holders_in(alloc: Global, file: String, matches: &ArgMatches) -> Result<Job, 
     ensures usage { IsUsage result → has_bad_value sub.Holders (values_read matches.now) ≡ true }
 {
     let cell = cell_in(alloc, matches)?;
+    no_cells_in(alloc, matches)?;
     let format = format_in(alloc, matches)?;
     Ok(Job::Holders { file, cell, format })
 }

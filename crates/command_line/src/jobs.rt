@@ -63,6 +63,12 @@ pub enum Job {
         cell: Cell,
         format: Format,
     },
+    /// Print who holds places of the cells of the desk over this file that are asked for, night by night.
+    Holdings {
+        file: String,
+        filter: CellFilter,
+        format: Format,
+    },
     /// Print the unfinished journeys of the desk over this file that are asked for.
     Unfinished {
         file: String,

@@ -11,6 +11,8 @@ use std::alloc::{AllocError, Global};
 pub(crate) enum Word<'a> {
     /// A required value, by its place.
     Needed(&'a str, &'a str),
+    /// A value that may be left out, by its place.
+    Extra(&'a str, &'a str),
     /// A required value, after an option.
     NeededAfter(&'a str, &'a str, &'a str),
     /// A value that may be left out, after an option.
@@ -62,8 +64,16 @@ pub(crate) static STOCK: [Word<'static>; 7] = [
 pub(crate) static SUMMARY: [Word<'static>; 6] = [KIND, SUPPLIER, PRODUCT, FROM, TO, FORMAT];
 
 /// The values of `holders`, after the file.
-pub(crate) static HOLDERS: [Word<'static>; 2] = [
-    Word::Needed("CELL", "The cell, as R/INN/DBL/2030-06-01"),
+pub(crate) static HOLDERS: [Word<'static>; 7] = [
+    Word::Extra(
+        "CELL",
+        "One cell, as R/INN/DBL/2030-06-01, in place of options that choose cells",
+    ),
+    KIND,
+    SUPPLIER,
+    PRODUCT,
+    FROM,
+    TO,
     FORMAT,
 ];
 
@@ -117,6 +127,7 @@ impl<'a> Word<'a> {
     {
         match self {
             Word::Needed(id, help) => value(alloc, id, help),
+            Word::Extra(id, help) => extra(alloc, id, help),
             Word::NeededAfter(id, name, help) => value(alloc, id, help).long(name),
             Word::After(id, name, help) => extra(alloc, id, help).long(name),
             Word::Flag(id, name, help) => flag(alloc, id, help).long(name),

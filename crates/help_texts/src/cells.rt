@@ -104,13 +104,19 @@ Example:
 
 /// What `holders` reads and prints.
 pub const HOLDERS: &str = "\
-Print which journeys hold places of a cell
+Print which journeys hold places of a cell, or of cells night by night
 
 Opens the database FILE without recovering it, and changes no row of it.
-Prints a heading, a line for each step of a journey that holds places of CELL,
-by journey and step, and 'holders N'. A step holds the places that it took
-until it is compensated, also after its journey has ended. Standard input is
-not read.";
+With CELL, prints a heading, a line for each step of a journey that holds
+places of it, by journey and step, and 'holders N'.
+
+Without CELL, prints a heading, a line for each cell and each step of a
+journey that holds places of it, and 'holders N': by night, and of a night by
+kind, supplier, product, journey and step, with the agent and the state of the
+journey. With options, only cells that have each of the values named are shown.
+
+A step holds the places that it took until it is compensated, also after its
+journey has ended. Standard input is not read.";
 
 /// The forms of `holders`, its exit statuses, and an example.
 pub const HOLDERS_NOTES: &str = "\
@@ -118,9 +124,18 @@ Words:
   CELL  KIND/SUPPLIER/PRODUCT/NIGHT, as in R/INN/DBL/2030-06-01
   KIND  F (flight), R (room), T (transfer) or C (cover)
 
+Options that choose cells, without CELL:
+  --kind KIND          flight, room, transfer or cover
+  --supplier SUPPLIER  1 to 8 of A-Z and 0-9
+  --product PRODUCT    1 to 8 of A-Z and 0-9
+  --from FROM          The first night, as 2030-06-01
+  --to TO              The last night
+
 Formats:
   text  A heading, a line for each holder, and 'holders N'
-  json  An object on a line for each holder: journey, option, places and step
+  json  An object on a line for each holder: journey, option, places and step;
+        without CELL agent, journey, kind, night, places, product, state and
+        supplier
   csv   A heading and a record for each holder; lines end with CR LF
 
 Exit status:
@@ -141,4 +156,7 @@ Example:
              1      1      1      2
   holders 1
   $ desk holders trips.db F/AL/A1/2030-06-01 --format json
-  {\"journey\":1,\"option\":1,\"places\":2,\"step\":1}";
+  {\"journey\":1,\"option\":1,\"places\":2,\"step\":1}
+  $ desk holders trips.db --from 2030-06-01 --to 2030-06-01 --format csv | tr -d '\\r'
+  night,kind,supplier,product,journey,agent,state,places
+  2030-06-01,flight,AL,A1,1,desk,ended,2";

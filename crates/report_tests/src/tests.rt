@@ -2,6 +2,7 @@
 mod calendars;
 mod fakes;
 mod holders;
+mod holdings;
 mod months;
 mod whys;
 

@@ -143,6 +143,13 @@ fn asked(alloc: Global, words: Vec<String>) -> Result<String, AllocError> {
             shown(format)
         ),
         Ok(
+            Job::Holdings {
+                file,
+                filter,
+                format,
+            },
+        ) => stock_asked(alloc, "holdings", file.as_str(), filter, format),
+        Ok(
             Job::Unfinished {
                 file,
                 filter,
@@ -170,7 +177,7 @@ fn asked(alloc: Global, words: Vec<String>) -> Result<String, AllocError> {
 
 // the words, separated by bars, and the job with its values; a bad number of a journey is no usage
 #[rattlefmt::skip]
-const JOBS: [(&str, &str); 74] = [
+const JOBS: [(&str, &str); 76] = [
     ("run|x.db",                    "run|x.db"),
     ("run|a b/x.db",                "run|a b/x.db"),
     ("run|--|-x.db",                "run|-x.db"),
@@ -234,6 +241,9 @@ const JOBS: [(&str, &str); 74] = [
     ("holders|x.db|R/INN/DBL/2030-06-01", "holders|x.db|R/INN/DBL/2030-06-01"),
     ("holders|--format|json|x.db|F/AL/A1/2099-12-31", "holders|x.db|F/AL/A1/2099-12-31|json"),
     ("holders|--|-x.db|C/Z/Z/2000-01-01", "holders|-x.db|C/Z/Z/2000-01-01"),
+    ("holders|x.db",                "holdings|x.db"),
+    ("holders|x.db|--kind|room|--supplier|INN|--from|2030-06-01|--to|2030-06-01|--format|csv",
+        "holdings|x.db|csv|kind room|supplier INN|from 2030-06-01|to 2030-06-01"),
     ("why|x.db|1",                  "why|x.db|1"),
     ("why|x.db|999999999999|--format|csv", "why|x.db|999999999999|csv"),
     ("why|--|-x.db|12",             "why|-x.db|12"),
@@ -353,8 +363,8 @@ const REFUSED_OF_ONE: [(&str, &str, &str); 25] = [
     ("a calendar with a value",  "stock|x|--calendar=yes", "error: unexpected value 'yes' for '--calendar' found; no more were expected\n"),
     ("two calendars",            "stock|x|--calendar|--calendar", "error: the argument '--calendar' cannot be used multiple times\n"),
     ("a calendar of a summary",  "summary|x|--calendar", "error: unexpected argument '--calendar' found\n"),
-    ("no cell",                  "holders|x.db", "error: the following required arguments were not provided:\n  <CELL>\n\nUsage: desk holders <FILE> <CELL>\n"),
-    ("two cells",                "holders|x|R/INN/DBL/2030-06-01|R/INN/DBL/2030-06-02", "error: unexpected argument 'R/INN/DBL/2030-06-02' found\n\nUsage: desk holders [OPTIONS] <FILE> <CELL>\n"),
+    ("a cell and a product",     "holders|x|R/INN/DBL/2030-06-01|--product|DBL", "error: the argument '--product <PRODUCT>' cannot be used with '[CELL]'\n\nFor more information, try '--help'.\n"),
+    ("two cells",                "holders|x|R/INN/DBL/2030-06-01|R/INN/DBL/2030-06-02", "error: unexpected argument 'R/INN/DBL/2030-06-02' found\n\nUsage: desk holders [OPTIONS] <FILE> [CELL]\n"),
     ("a cell without a night",   "holders|x|R/INN/DBL", "error: invalid value 'R/INN/DBL' for '<CELL>': not a cell, as R/INN/DBL/2030-06-01\n\nFor more information, try '--help'.\n"),
     ("a kind in a word",         "holders|x|room/INN/DBL/2030-06-01", "error: invalid value 'room/INN/DBL/2030-06-01' for '<CELL>': not a cell"),
     ("a supplier of 9 letters",  "holders|x|R/ABCDEFGHI/DBL/2030-06-01", "error: invalid value 'R/ABCDEFGHI/DBL/2030-06-01' for '<CELL>': not a cell"),
@@ -362,7 +372,7 @@ const REFUSED_OF_ONE: [(&str, &str, &str); 25] = [
     ("a want",                   "holders|x|R/INN/DBL/2030-06-01/1/1", "error: invalid value 'R/INN/DBL/2030-06-01/1/1' for '<CELL>': not a cell"),
     ("a bad cell before a bad format", "holders|x|R|--format|xml", "error: invalid value 'R' for '<CELL>'"),
     ("holders in an unknown format", "holders|x|R/INN/DBL/2030-06-01|--format|xml", "error: invalid value 'xml' for '--format <FORMAT>': not text, json or csv\n"),
-    ("help of holders",          "holders|--help", "Print which journeys hold places of a cell\n\nOpens the database FILE without recovering it"),
+    ("help of holders",          "holders|--help", "Print which journeys hold places of a cell, or of cells night by night\n\nOpens the database FILE without recovering it"),
     ("journey 0",                "why|x|0", "error: invalid value '0' for '<ID>': not a number from 1 to 999999999999\n\nFor more information, try '--help'.\n"),
     ("a journey past all",       "why|x|1000000000000", "error: invalid value '1000000000000' for '<ID>': not a number from 1 to 999999999999\n"),
     ("a journey with a zero",    "why|x|01", "error: invalid value '01' for '<ID>'"),

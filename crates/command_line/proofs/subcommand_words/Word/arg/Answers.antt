@@ -10,6 +10,12 @@ returns-in-Needed c = record {
   word = value_word c.value.result c.value.ensures.value;
 }
 
+pub returns-in-Extra : goal.returns-in-Extra
+returns-in-Extra c = record {
+  rule = c.extra.ensures.rule ∙ ap rule_said (sym c.in-Extra.is);
+  word = value_word c.extra.result c.extra.ensures.value;
+}
+
 pub returns-in-NeededAfter : goal.returns-in-NeededAfter
 returns-in-NeededAfter c =
     let arg = c.value-in-NeededAfter in
@@ -22,7 +28,7 @@ returns-in-NeededAfter c =
 
 pub returns-in-After : goal.returns-in-After
 returns-in-After c =
-    let arg = c.extra in
+    let arg = c.extra-in-After in
     let named = c.long-in-After in
     record {
       rule = long_rule arg.result named.result _ (optional c.in-After.id.now) named.ensures arg.ensures.rule
