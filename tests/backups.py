@@ -15,7 +15,7 @@ import threading
 import time
 
 from driving import PATIENCE, Client, Lines, Server, desk, request
-from ledger import Ledger, is_settled, statements_of, tables_of
+from ledger import is_settled, tables_of
 from scenes import BUS, FLIGHT, JSON_PLAN, PLANS, SEA, YARD
 from shown import Events, look, read_files
 
@@ -189,26 +189,11 @@ def back_up_while(tool, work, chance, names):
     return made, wrong
 
 
-class States(dict):
-    """The tables after each prefix of a ledger, worked out where they are asked for."""
-
-    def __init__(self, ledger):
-        super().__init__()
-        self.ledger = ledger
-
-    def __missing__(self, count):
-        self[count] = self.ledger.after(count)
-        return self[count]
-
-
 class Book(Events):
     """What backups of a desk may hold: its ledger after some of its events."""
 
     def __init__(self, final, pages):
-        self.ledger, self.pages, self.on = Ledger(final), pages, {}
-        self.states = States(self.ledger)
-        self.statements = statements_of("cut/trips.db")
-        assert self.states[self.ledger.count] == final, "the rules give the tables"
+        self.begin(final, pages)
 
     def fault(self, backup, chance):
         """What is wrong with a backup."""

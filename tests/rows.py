@@ -113,11 +113,12 @@ def recovers(count):
 
 
 def is_sound():
-    """What the row leaves is sound to SQLite."""
-    if os.path.exists("trips.db") and open("trips.db", "rb").read(6) == b"SQLite":
-        sql("PRAGMA integrity_check => ok")
-        sql("PRAGMA foreign_key_check => (none)")
-        sql("SELECT count(*) FROM sqlite_schema WHERE name = 'entry' AND (SELECT count(*) FROM entry) > 0 => 0") if has_entry() else None
+    """What a row leaves is sound to SQLite."""
+    if os.path.exists("trips.db"):
+        with open("trips.db", "rb") as file:
+            if file.read(6) == b"SQLite":
+                sql("PRAGMA integrity_check => ok")
+                sql("PRAGMA foreign_key_check => (none)")
 
 
 def http(lines):
@@ -199,8 +200,11 @@ def runs(parts, as_lines):
             write(words, lines)
         elif word == "sql":
             sql(words)
+        elif word == "recovers":
+            recovers(int(words))
         else:
             http(lines)
+    is_sound()
 
 
 def main():

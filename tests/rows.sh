@@ -22,6 +22,8 @@ finds() {
 finds "one seat" 's/^step 1 => journey 1 T1.1 ended 1$/step 1 => journey 1 T1.1 run 1/'
 finds "one seat" 's/     10      1      9$/     10      0     10/'
 finds "recovered to the start" 's/^| recovered 3$/| recovered 4/'
+finds "recovery of two steps of three" 's/^recovers 3$/recovers 4/'
+finds "recovery back to the first mark, and on" 's/B1s C2.1 T2.1 T3.1 T4.1/B1s C2.1 T2.1 T3.1/'
 finds "a turn gives back its own places" 's/=> 10|7$/=> 10|10/'
 finds "the last event" 's/^begin \(.*\) => refused 16 Limit$/begin \1 => journey 2 begun/'
 finds "a file that comes twice" 's/FROM meta => 1$/FROM meta => 2/'

@@ -26,13 +26,14 @@ class Events:
     tables does that Python's SQLite made."""
 
     def __init__(self, record):
-        final = look(read_files(record.folder))
-        self.ledger = Ledger(final)
+        self.begin(look(read_files(record.folder)), [pair for pages in record.pages for pair in zip(*pages)])
+
+    def begin(self, final, pages):
+        """Takes in the tables that were just looked at, the last ones, and the pairs of requests and pages."""
+        self.ledger, self.pages, self.on = Ledger(final), pages, {}
         self.states = [self.ledger.after(count) for count in range(self.ledger.count + 1)]
         assert self.states[-1] == final, "the rules give the tables"
         self.statements = statements_of("cut/trips.db")
-        self.pages = [pair for pages in record.pages for pair in zip(*pages)]
-        self.on = {}
 
     def find(self, tables):
         """After how many events the tables are as these."""
