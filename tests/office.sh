@@ -1,8 +1,8 @@
 #!/usr/bin/env bash
 # The recipes of OPERATING.md for an office, as printed but for ports, files and passwords: HAProxy, nginx, Apache and Caddy with TLS
 # and passwords before a desk with its page, and headless Chromium before them. Two agents book at once in three windows, a backup is
-# made, the desk is killed and started again, a password is changed, names are mapped to agents, the page is served in a folder, and
-# certificates say who asks. A proxy that is absent is left out.
+# made, the desk is killed and started again, a password is changed. Firefox does a journey, where it is there. Then names are mapped to
+# agents, the page is served in a folder, and certificates say who asks. A proxy that is absent is left out.
 . "$(dirname "${BASH_SOURCE[0]}")/helping.bash"
 . "$(dirname "$tests")/scripts/needs.bash"
 

@@ -2,7 +2,7 @@
 
 /// What the page may load and do: its own style and script, and requests to the desk that served it.
 pub const POLICY: &str =
-    r#"default-src 'none'; script-src 'sha256-7yXjFmmga8f7whAW30olNpzyhNTL2+3DFlbqAlruHws='; style-src 'sha256-VaT9aXyUTPNlmCHucGRWh1t6nHAGW5iN/NXZESOo7OE='; connect-src 'self'; frame-ancestors 'none'; base-uri 'none'; form-action 'none'"#;
+    r#"default-src 'none'; script-src 'sha256-ROhBpVQ1m1CCSo8FuX9qDqnaJI6bGAvxnVopxYUZQro='; style-src 'sha256-VaT9aXyUTPNlmCHucGRWh1t6nHAGW5iN/NXZESOo7OE='; connect-src 'self'; frame-ancestors 'none'; base-uri 'none'; form-action 'none'"#;
 
 /// The page, in HTML.
 pub const PAGE: &str = r##"<!doctype html>
@@ -2178,7 +2178,8 @@ $('who').addEventListener('click', () => { location.hash = '#/who'; });
 document.querySelector('.skip').addEventListener('click', event => { event.preventDefault(); $('main').focus(); });
 // a key that is held down acts once
 $('one').addEventListener('keydown', event => { if (event.repeat && event.target.closest('.acts')) event.preventDefault(); });
-addEventListener('hashchange', route);
+// where the address of the page had a password, Firefox tells the first change as popstate alone
+for (const name of ['hashchange', 'popstate']) addEventListener(name, route);
 document.addEventListener('visibilitychange', () => { if (!document.hidden) { look(); flush(); } });
 let resized = 0;
 addEventListener('resize', () => {
