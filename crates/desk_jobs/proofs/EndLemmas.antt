@@ -21,6 +21,8 @@ use Rattle.tables.specs.Opening.{FailsOpening, FailsToFound, FailsToOpen, Opens,
 use Rattle.tables.specs.declared.faults.OpenFault.{OpenFault}
 use Rattle.tables.specs.declared.faults.OpenFault.TheVariants as opening
 use Rattle.tables.specs.declared.opening.Opened.{Opened}
+use Rattle.histories.specs.Following.{EachMayReopen}
+use Rattle.histories.proofs.FollowLemmas.{not_opened}
 use Rattle.openings.specs.Connections.{RefusesOtherTables}
 use Rattle.openings.specs.Ends.{end_of_open}
 use Rattle.desk_jobs.specs.Ends.{IsFaultOfLoad, IsFaultOfRecovery, IsFaultOfRun, IsOfBook, IsOfWriting}
@@ -102,7 +104,7 @@ not_done P (finish.Refused why) bad = tt
 not_done P (finish.Fault f) bad = tt
 not_done P (finish.Usage text) bad = tt
 
-module _ {S : Type 0} (g : Ghosts S) (old new : Held S) where
+module _ (law : EachMayReopen) {S : Type 0} (g : Ghosts S) (old new : Held S) where
   -- an opening that failed refuses tables of an unknown version, which is not the newest
   unopened_refuses : (f : OpenFault) → Tells g old new f → IfRefused (end_of_open f) (RefusesOtherTables g old new)
   unopened_refuses (opening.UnknownSchema n) tells = (tells.0 Two, tells.1, λ clean s stood. tells.2 clean Two s stood)
@@ -125,6 +127,7 @@ module _ {S : Type 0} (g : Ghosts S) (old new : Held S) where
     reason = λ clean why. absurd (not_recovering f (sym is ∙ why));
     fault = opening_fault f e is;
     bad = bad;
+    left = λ clean. not_opened law g old new clean (λ s stood. (stood.0, fails.stands stood.0 s stood.1));
     leaves = record { idle = fails.idle; sound = fails.sound };
   }
 
@@ -133,10 +136,10 @@ one_of : (v : Version) → (v ≡ Two → ⊥) → v ≡ One
 one_of One never = refl
 one_of Two never = absurd (never refl)
 
-pub unmade : {S : Type 0} (g : Ghosts S) (old : Held S) (o left : Opened S) (new : Held S) (f : OpenFault) (e : End) → e ≡ end_of_open f
+pub unmade : EachMayReopen → {S : Type 0} (g : Ghosts S) (old : Held S) (o left : Opened S) (new : Held S) (f : OpenFault) (e : End) → e ≡ end_of_open f
     → EndsBadly e → Opens g old o.conn o.version → (o.conn.in_transaction ≡ false → o.version ≡ Two → ⊥) → MakesNoBook o left f
     → GivesBack g left new → NotReady g old new e
-unmade g old o left new f e is bad opens never made back =
+unmade law g old o left new f e is bad opens never made back =
     let given : GivesBack g o new = subst (λ x. GivesBack g x new) made.refused back in
     let first : o.version ≡ One = one_of o.version (never opens.idle.outside) in
     let named : e ≡ finish.Refused (refusal.UnknownSchema 1) = is ∙ ap end_of_open (made.unknown_schema.1 first) in
@@ -155,6 +158,10 @@ unmade g old o left new f e is bad opens never made back =
       reason = λ clean why. absurd (no_fault fault.Store why);
       fault = opening_fault f e is;
       bad = bad;
+      left = λ clean. not_opened law g old new clean (λ s stood. (
+        o.version,
+        given.found s (λ at. opens.finds at stood.0 s stood.1),
+      ));
       leaves = record {
         idle = record { outside = given.outside opens.idle.outside; unlimited = given.unlimited };
         sound = λ clean. opens.sound (given.sound clean);

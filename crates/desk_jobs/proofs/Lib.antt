@@ -4,3 +4,4 @@ pub mod LoadLemmas
 pub mod RecoveredLemmas
 pub mod ReasonLemmas
 pub mod EndLemmas
+pub mod FollowLemmas

@@ -1,5 +1,5 @@
 -- How a load ends, from what it came to and what was written. For load_over.
-use Rattle.std.proofs.Common.{inl, inr, ℕ, List, Option, Result, Ok, Err}
+use Rattle.std.proofs.Common.{◌≡◌, sym, subst, inl, inr, ℕ, List, Option, Result, Ok, Err}
 use Rattle.commands.specs.BatchData.{Batched}
 use Rattle.commands.specs.declared.replies.Reply.{Reply}
 use Rattle.commands.specs.declared.replies.Reply.TheVariants as reply
@@ -7,7 +7,14 @@ use Rattle.allotment_csv.specs.declared.faults.CsvFault.{CsvFault}
 use Rattle.ledger.specs.Answer.{State}
 use Rattle.program_ends.specs.declared.ends.End.{End}
 use Rattle.program_ends.specs.declared.ends.End.TheVariants as finish
+use Rattle.sqlite.specs.Store.{Ghosts}
+use Rattle.sqlite.specs.Held.{Held}
+use Rattle.tables.specs.BookTerms.{LeavesBook, StandsBook}
+use Rattle.tables.specs.Making.{LetsGo}
+use Rattle.tables.specs.declared.books.TableBook.{TableBook}
+use Rattle.openings.specs.Connections.{MayBeLeft, Represents}
 use Rattle.desk_jobs.specs.Loading.{EndsLoad, EndsWith}
+use Rattle.desk_jobs.proofs.JobLemmas.{represented}
 
 module _ (held holds : Option (List ℕ)) {stands after : State → Type 0} {leaves left : State → State → Type 0}
     (s : State) (on : (t : State) → stands t → after t)
@@ -16,9 +23,9 @@ module _ (held holds : Option (List ℕ)) {stands after : State → Type 0} {lea
       → EndsWith held holds after left s told t e
   ends_with_as told t finish.Done ends = (ends.0, ends.1, on t ends.2)
   ends_with_as told t (finish.Refused why) ends = (ends.0, ends.1, on t ends.2)
-  ends_with_as told t (finish.Fault fault) (front, inl stood) = (front, inl (on s stood))
-  ends_with_as told t (finish.Fault fault) (front, inr (inl stands)) = (front, inr (inl (on t stands)))
-  ends_with_as told t (finish.Fault fault) (front, inr (inr may)) = (front, inr (inr (further s t may)))
+  ends_with_as told t (finish.Fault fault) (inl (kept, stood)) = inl (kept, on s stood)
+  ends_with_as told t (finish.Fault fault) (inr (inl (front, stands))) = inr (inl (front, on t stands))
+  ends_with_as told t (finish.Fault fault) (inr (inr (kept, may))) = inr (inr (kept, further s t may))
   ends_with_as told t (finish.Usage text) ends = absurd ends
 
   -- the same of what follows from the book's states
@@ -29,3 +36,14 @@ module _ (held holds : Option (List ℕ)) {stands after : State → Type 0} {lea
   ends_as (Err wrong) (finish.Refused told) ends = (ends.0, ends.1, on s ends.2)
   ends_as (Err wrong) (finish.Fault fault) ends = (ends.0, on s ends.1)
   ends_as (Err wrong) (finish.Usage text) ends = absurd ends
+
+-- the same of the connection of a book that was let go
+pub loaded_over : {S : Type 0} (g : Ghosts S) (now inner : TableBook S g) (new : Held S) → inner ≡ now → LetsGo g inner new
+    → (held holds : Option (List ℕ)) (s : State) (read : Result Batched CsvFault) (e : End)
+    → EndsLoad held holds (StandsBook g now) (LeavesBook g now) s read e
+    → EndsLoad held holds (Represents g new) (MayBeLeft g new) s read e
+loaded_over g now inner new same go held holds s read e ends =
+    ends_as held holds s
+    (λ t stood. represented g inner new go.found t (subst (λ b. StandsBook g b t) (sym same) stood))
+    (λ t u may. go.left t u (subst (λ b. LeavesBook g b t u) (sym same) may))
+    read e ends

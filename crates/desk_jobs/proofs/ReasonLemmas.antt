@@ -43,7 +43,8 @@ use Rattle.tables.specs.declared.books.TableBook.{TableBook}
 use Rattle.tables.specs.declared.opening.Opened.{Opened}
 use Rattle.tables.proofs.OpenKept.{not_bare}
 use Rattle.desk_jobs.specs.Jobs.{OpensBook}
-use Rattle.desk_jobs.specs.Reasons.{FailsAmongFrom, FailsToLoad, FailsToLoadFor, FailsToRecover, FailsToRun, HasReasonFrom, MayActFrom, MayStart, ask_of_batch, rowids_of_job}
+use Rattle.histories.specs.Openings.{ask_of_batch}
+use Rattle.desk_jobs.specs.Reasons.{FailsAmongFrom, FailsToLoad, FailsToLoadFor, FailsToRecover, FailsToRun, HasReasonFrom, MayActFrom, MayStart, rowids_of_job}
 use Rattle.desk_jobs.proofs.RecoveredLemmas.{recovery_of}
 
 -- Ends.
@@ -130,6 +131,7 @@ opens_book g old o b opens made law =
     let stands : (s : State) → Represents g old s → StandsBook g b s = λ s was. made.stands s was.desk (λ at. opens.finds at Two s was.stood) in
     record {
       stands = stands;
+      newest = λ clean v s was. opens.only (subst (λ h. HasCleanDisk (state g h)) made.book clean) v s was ∙ made.newest;
       sound = sound;
       up = up;
       may_act = λ clean later s may. may_act_opened g old b (sound clean) clean up

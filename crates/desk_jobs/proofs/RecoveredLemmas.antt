@@ -12,7 +12,7 @@ use Rattle.desk_jobs.specs.Notes.{recovered_note, NotesOrKeeps}
 use Rattle.desk_jobs.specs.Running.{Answers, AnswersAfterRecovery, AnswersFront, AnswersFrontAfterRecovery, NotesRecovery}
 
 -- what follows where all was done
-done_as : {P Q : Type 0} (e : End) → (P → Q) → IfDone e P → IfDone e Q
+pub done_as : {P Q : Type 0} (e : End) → (P → Q) → IfDone e P → IfDone e Q
 done_as finish.Done follows holds = follows holds
 done_as (finish.Refused why) follows holds = tt
 done_as (finish.Fault fault) follows holds = tt

@@ -8,6 +8,7 @@ use Rattle.allotment_csv.specs.declared.faults.CsvFault.{CsvFault}
 use Rattle.desk_lines.specs.Lines.{lines}
 use Rattle.desk_lines.specs.Worlds.{asks_in}
 use Rattle.ledger.specs.Answer.{State}
+use Rattle.histories.specs.Following.{HasComeUp, HasNotComeUp}
 use Rattle.openings.specs.Connections.{MayBeLeft, RefusesOtherTables, Represents}
 use Rattle.program_ends.specs.Ends.{EndsBadly, EndsJob, IfDone, IfFault, IfRefused}
 use Rattle.program_ends.specs.declared.ends.End.{End}
@@ -20,7 +21,8 @@ use Rattle.sql_model.specs.Keeping.{WasClean}
 use Rattle.sql_model.specs.Staying.{StaysUp}
 use Rattle.tables.specs.BookTerms.{StandsBook}
 use Rattle.desk_sql.specs.Calls.{Idle}
-use Rattle.tables.specs.Opening.{FailsToFound, FailsToOpen}
+use Rattle.desk_sql.specs.declared.versions.Version.TheVariants.{Two}
+use Rattle.tables.specs.Opening.{FailsToFound, FailsToOpen, StoodOnlyIn}
 use Rattle.tables.specs.declared.books.TableBook.{TableBook}
 use Rattle.tables.specs.declared.faults.OpenFault.TheVariants.{Store}
 use Rattle.desk_jobs.specs.Ends.{IsFaultOfRecovery, IsFaultOfRun}
@@ -56,6 +58,8 @@ module _ {S : Type 0} (g : Ghosts S) (old new : Held S) where
     pub reason : HasCleanDisk (state g new) → end ≡ finish.Fault program.Store → FailsToRecover g old new
     pub fault : IfFault end IsFaultOfRecovery
     pub bad : EndsBadly end
+    -- whatever may be found stands for where the recovery stopped
+    pub left : HasCleanDisk (state g new) → HasNotComeUp g old new
     pub leaves : Leaves
 
   -- The end of a run: of its opening, its recovery, or its lines.
@@ -84,6 +88,8 @@ module _ {S : Type 0} (g : Ghosts S) where
   -- A book over the desk of a connection, which may not be recovered yet.
   pub record OpensBook (old : Held S) (b : TableBook S g) : Type 0 where
     pub stands : (s : State) → Represents g old s → StandsBook g b s
+    -- in tables of another version than the newest the connection represented no state
+    pub newest : StoodOnlyIn g old b.conn Two
     pub sound : WasClean g old b.conn
     pub up : StaysUp g old b.conn
     pub may_act : MayActOnceOpened g old b
@@ -91,6 +97,8 @@ module _ {S : Type 0} (g : Ghosts S) where
   -- A recovered desk over a connection, whose recovery made so many events.
   pub record Readies (old : Held S) (b : TableBook S g) (made : ℕ) : Type 0 where
     pub recovered : HasCleanDisk (state g b.conn) → Recovers (Represents g old) (StandsBook g b) made
+    -- each execution at whose end the connection stood goes on with the recovery
+    pub world : HasCleanDisk (state g b.conn) → HasComeUp g old (StandsBook g b)
     -- it may act for later asks, where a job might start for them
     pub may_act : HasCleanDisk (state g b.conn) → (later : Asks) → RecoversToAct g old b later made
     pub sound : WasClean g old b.conn

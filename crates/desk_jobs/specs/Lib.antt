@@ -1,4 +1,5 @@
 pub mod Ends
+pub mod Following
 pub mod Jobs
 pub mod Loading
 pub mod Notes

@@ -57,15 +57,16 @@ module _ (stands : State → Type 0) (leaves : State → State → Type 0) (s : 
 module _ (held holds : Option (List ℕ)) (represents : State → Type 0) (leaves : State → State → Type 0)
     (s : State) where
   -- a load came to this reply and this state: its line was written, or its refusal is the end; after a fault the state
-  -- before it is represented, or the one after it, or a crash leaves one of the two
+  -- before it is represented, and nothing was written; or the one after it, and a prefix of its line was; or a crash leaves one
+  -- of the two, and nothing was written
   abbrev pub EndsWith : Reply → State → End → Type 0
   EndsWith told after finish.Done =
       IsAccepted told × Appends held holds (ended (reply_line told)) × represents after
   EndsWith told after (finish.Refused why) =
       (told ≡ reply.Refused why) × Keeps held holds × represents after
   EndsWith told after (finish.Fault fault) =
-      WroteFront held holds (ended (reply_line told))
-      × (represents s ⊎ (represents after ⊎ leaves s after))
+      (Keeps held holds × represents s)
+      ⊎ ((WroteFront held holds (ended (reply_line told)) × represents after) ⊎ (Keeps held holds × leaves s after))
   EndsWith told after (finish.Usage text) = ⊥
 
   -- the fault of a name or a file is the end, with nothing written and the same state; or out of memory

@@ -1,5 +1,5 @@
 -- Why a job failed with Store: how its connection was before it, and what came meanwhile.
-use Rattle.std.specs.Prelude.{◌≡◌, ◌≢◌, ◌⊎◌, ◌+◌, ◌<◌, ◌^◌, ℕ, suc, [], ◌∷◌, List, Option, None, Result, Ok, Err}
+use Rattle.std.specs.Prelude.{◌≡◌, ◌≢◌, ◌⊎◌, ◌+◌, ◌<◌, ◌^◌, ℕ, suc, [], List, Option, Result, Ok, Err}
 use Rattle.sqlite.specs.Store.{Ghosts}
 use Rattle.sqlite.specs.Held.{Held, state}
 use Rattle.sqlite.specs.State.{HasCleanDisk}
@@ -7,7 +7,6 @@ use Rattle.desk_sql.specs.Causes.{IsUp, HasFaulted}
 use Rattle.desk_sql.specs.Schema.{no_schema}
 use Rattle.desk_sql.specs.Writable.{HasRowids}
 use Rattle.commands.specs.BatchData.{Batched}
-use Rattle.commands.specs.Request.{Load}
 use Rattle.commands.specs.declared.replies.Fault.TheVariants.{Store}
 use Rattle.allotment_csv.specs.declared.faults.CsvFault.{CsvFault}
 use Rattle.ledger.specs.Answer.{State}
@@ -22,6 +21,7 @@ use Rattle.sql_model.specs.Spelling.{IsSpelled}
 use Rattle.tables.specs.Acting.{AreShort, MayAct, MayActSince, rowids_for}
 use Rattle.tables.specs.BookTerms.{StandsBook}
 use Rattle.tables.specs.declared.books.TableBook.{TableBook}
+use Rattle.histories.specs.Openings.{ask_of_batch}
 use Rattle.openings.specs.Connections.{Represents}
 
 -- how many rowids recovery and these asks after it take at most: recovery one for each event for which the ledger has room, and
@@ -90,10 +90,6 @@ module _ {S : Type 0} (g : Ghosts S) where
   FailsAmongFrom b new asks = (old : Held S) (s : State) → MayActFrom old b s asks → HasReasonAmong (HasReasonFrom old new) s asks
 
 -- Loads.
-
--- the ask of a batch, by the house
-abbrev pub ask_of_batch : Batched → Asks
-ask_of_batch batch = (Load batch.name batch.rows, None) ∷ []
 
 -- where a book might act for the batch of a file, its load failed for a reason; a name or a file that is refused asks for nothing
 abbrev pub FailsToLoad : (State → Asks → Type 0) → (State → State → Type 0) → Result Batched CsvFault → Type 0

@@ -1,13 +1,15 @@
 //! Loads of allotment files into a recovered desk.
-ghost use Rattle.std.specs.Prelude.{◌≡◌, ◌≢◌, None, IfErr, IsErrOf, OnOk};
+ghost use Rattle.std.specs.Prelude.{◌≡◌, ◌≢◌, None, Some, IfErr, IsErrOf, OnOk};
 ghost use Rattle.std.specs.Io.KnownBytes.{Appends};
 ghost use Rattle.commands.specs.Texts.{reply_line};
 ghost use Rattle.allotment_csv.specs.Files.{batch_of};
+ghost use Rattle.histories.specs.Openings.{File};
 ghost use Rattle.ledger.specs.Answer.{State};
 ghost use Rattle.streams.specs.Written.{WroteFront};
 ghost use Rattle.protocols.specs.Scenes.{ended};
 ghost use Rattle.program_ends.specs.Ends.{IfDone};
 ghost use Rattle.desk_jobs.specs.Ends.{IsFaultOfLoad, IsOfBook, IsOfWriting, TellsAccepted};
+ghost use Rattle.desk_jobs.specs.Following.{FollowsDesk};
 ghost use Rattle.desk_jobs.specs.Jobs.{EndsOpened, LeavesDesk, LoadsDesk};
 ghost use Rattle.desk_jobs.specs.Loading.{EndsLoad, LoadsFile, TellsLoaded};
 ghost use Rattle.desk_jobs.specs.Reasons.{FailsToLoad};
@@ -36,6 +38,8 @@ pub fn load_over<S: Alter + Drop, O: Write>(
     ensures loads { LoadsDesk S.Store desk result.0 (batch_of name.now bytes.now)
         (O.contents out.old) (O.contents out.new) result.1 }
     ensures told { IfDone result.1 (TellsAccepted (O.contents out.old) (O.contents out.new)) }
+    ensures follows { FollowsDesk S.Store desk result.0 (Some (File name.now bytes.now))
+        (O.contents out.old) (O.contents out.new) result.1 }
 
     ensures ends { EndsOpened IsFaultOfLoad result.1 }
     ensures leaves { LeavesDesk S.Store desk result.0 }

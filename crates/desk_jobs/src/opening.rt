@@ -3,6 +3,7 @@ ghost use Rattle.std.specs.Prelude.{IfErr, IfOk};
 ghost use Rattle.desk_sql.specs.Calls.{Idle};
 ghost use Rattle.desk_jobs.specs.Jobs.{NotReady, OpensBook, Readies};
 
+use histories::reopenings;
 use openings::end_of_opening;
 use program_ends::End;
 use protocols::ServeFault;
@@ -23,6 +24,7 @@ pub fn ready_over<S: Alter + Drop>(
     ensures ready { IfOk result (λ r. Readies S.Store conn r.0 r.1) }
     ensures failed { IfErr result (λ e. NotReady S.Store conn e.0 e.1) }
 {
+    reopenings();
     let book = match book_over(alloc, conn) {
         Ok(book) => book,
         Err(failed) => return Err(failed),
@@ -46,6 +48,7 @@ fn book_over<S: Alter + Drop>(
     ensures opened { IfOk result (OpensBook S.Store conn) }
     ensures failed { IfErr result (λ e. NotReady S.Store conn e.0 e.1) }
 {
+    reopenings();
     let opened = match open_from(conn) {
         Ok(opened) => opened,
         Err((conn, fault)) => return Err((conn, end_of_opening(fault))),

@@ -1,5 +1,5 @@
 //! Recovery as a job, and the line that reports it.
-ghost use Rattle.std.specs.Prelude.{IfErr, IfOk, OnOk};
+ghost use Rattle.std.specs.Prelude.{ℕ, List, Option, Some, IfErr, IfOk, OnOk};
 ghost use Rattle.std.specs.Io.KnownBytes.{Appends};
 ghost use Rattle.sqlite.specs.Held.{state};
 ghost use Rattle.sqlite.specs.State.{HasCleanDisk};
@@ -9,9 +9,12 @@ ghost use Rattle.program_ends.specs.Ends.{EndsJob, IfDone};
 ghost use Rattle.openings.specs.Connections.{Represents};
 ghost use Rattle.desk_sql.specs.Calls.{Idle};
 ghost use Rattle.desk_jobs.specs.Ends.{EndsWriting, IsOfWriting, recovered_line};
+ghost use Rattle.desk_jobs.specs.Following.{Follows, end_of_recovery};
 ghost use Rattle.desk_jobs.specs.Jobs.{Leaves, NotReady};
+ghost use Rattle.histories.specs.Openings.{Nothing};
 
 use crate::opening::ready_over;
+use histories::reopenings;
 use program_ends::End;
 use protocols::ServeFault;
 use sqlite::{Alter, Connection};
@@ -62,8 +65,11 @@ pub fn recover_over<S: Alter + Drop>(
     ensures recovered { HasCleanDisk (state S.Store result.0) → IfOk result.1 (λ made.
         Recovers (Represents S.Store conn) (Represents S.Store result.0) made) }
     ensures failed { IfErr result.1 (NotReady S.Store conn result.0) }
+    ensures follows { (held : Option (List ℕ)) →
+        Follows S.Store conn result.0 (Some Nothing) held held (end_of_recovery result.1) }
     ensures leaves { Leaves S.Store conn result.0 }
 {
+    reopenings();
     match ready_over(alloc, conn) {
         Ok((desk, made)) => (desk.into_inner().into_store(), Ok(Recovered { made })),
         Err((conn, end)) => (conn, Err(end)),

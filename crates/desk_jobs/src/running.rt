@@ -1,13 +1,17 @@
 //! The answers to the lines of a reader, over a recovered desk.
 ghost use Rattle.std.specs.Io.KnownBytes.{IsAtEnd};
+ghost use Rattle.std.specs.Prelude.{option_map};
 ghost use Rattle.program_ends.specs.Ends.{IfDone, IsNotRefused};
 ghost use Rattle.desk_sql.specs.Calls.{Idle};
 ghost use Rattle.desk_jobs.specs.Ends.{IsFaultOfRun};
+ghost use Rattle.desk_jobs.specs.Following.{Follows, FollowsDesk};
+ghost use Rattle.histories.specs.Openings.{Lines};
 ghost use Rattle.desk_jobs.specs.Jobs.{EndsOpened, EndsRun, Leaves, LeavesDesk, NotesRun, RunsDesk, RunsOver};
 
 use crate::notes::note_recovered;
 use crate::opening::ready_over;
 use desk_lines::run_lines;
+use histories::reopenings;
 use program_ends::End;
 use recovery::{Ready, one_recovery};
 use sqlite::{Alter, Connection};
@@ -30,11 +34,14 @@ pub fn run_over<S: Alter + Drop, R: Read, O: Write, N: Write>(
         (O.contents out.old) (O.contents out.new) result.1 }
     ensures read { IfDone result.1 (IsAtEnd (R.remaining reader.new)) }
     ensures notes { NotesRun S.Store conn result.0 (N.contents notes.old) (N.contents notes.new) }
+    ensures follows { Follows S.Store conn result.0 (option_map Lines (R.remaining reader.old))
+        (O.contents out.old) (O.contents out.new) result.1 }
 
     ensures ends { EndsRun S.Store conn result.0 result.1 }
     ensures leaves { Leaves S.Store conn result.0 }
 {
     one_recovery();
+    reopenings();
     match ready_over(alloc, conn) {
         Ok((desk, made)) => {
             note_recovered(alloc, made, notes);
@@ -54,6 +61,8 @@ fn run_desk<S: Alter + Drop, R: Read, O: Write>(
     ensures answers { RunsDesk S.Store desk result.0 (R.remaining reader.old)
         (O.contents out.old) (O.contents out.new) result.1 }
     ensures read { IfDone result.1 (IsAtEnd (R.remaining reader.new)) }
+    ensures follows { FollowsDesk S.Store desk result.0 (option_map Lines (R.remaining reader.old))
+        (O.contents out.old) (O.contents out.new) result.1 }
 
     ensures ends { EndsOpened IsFaultOfRun result.1 }
     ensures taken { IsNotRefused result.1 }

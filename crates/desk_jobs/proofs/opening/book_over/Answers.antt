@@ -12,7 +12,7 @@ returns-in-Ok-into_book-clause-opened g c =
 
 pub returns-in-Err-clause-failed : goal.returns-in-Err-clause-failed
 returns-in-Err-clause-failed g c =
-    unopened g.S.Store c.args.conn c.in-Err.conn c.in-Err.fault c.end_of_opening.result c.end_of_opening.ensures.end c.end_of_opening.ensures.bad
+    unopened c.reopenings.ensures.reopens g.S.Store c.args.conn c.in-Err.conn c.in-Err.fault c.end_of_opening.result c.end_of_opening.ensures.end c.end_of_opening.ensures.bad
     c.in-Err.ensures.fails
 
 -- no book is made of tables of the version before the newest
@@ -20,6 +20,6 @@ pub returns-in-Err-into_book-clause-failed : goal.returns-in-Err-into_book-claus
 returns-in-Err-into_book-clause-failed g c =
     let failed = c.in-Err-into_book in
     let end = c.end_of_opening-in-Err-into_book in
-    unmade g.S.Store c.args.conn c.in-Ok.opened failed.opened c.into_store.result failed.fault end.result end.ensures.end end.ensures.bad
+    unmade c.reopenings.ensures.reopens g.S.Store c.args.conn c.in-Ok.opened failed.opened c.into_store.result failed.fault end.result end.ensures.end end.ensures.bad
     c.in-Ok.ensures.opens (λ outside newest. (let never : false ≡ true = failed.ensures.ready outside newest in cc)) failed.ensures.unmade
     c.into_store.ensures

@@ -1,6 +1,14 @@
 -- The book over a connection from which a job may start may recover, and what is said of it is said of the connection.
 use Rattle.std.proofs.Common.{[]}
+use Rattle.sqlite.specs.Held.{state}
+use Rattle.ledger.specs.Answer.{start}
+use Rattle.ledger.specs.World.{after}
+use Rattle.saga_core.specs.Chains.{reopened}
+use Rattle.tables.specs.BookTerms.{LeavesBook, StandsBook}
+use Rattle.histories.proofs.FollowLemmas.{stands_reopened}
+use Rattle.histories.proofs.StageLemmas.{has_recovered, stopped_recovering}
 use Rattle.desk_jobs.proofs.EndLemmas.{book_fault, not_opening}
+use Rattle.desk_jobs.proofs.FollowLemmas.{book_stands}
 use Rattle.desk_jobs.proofs.ReasonLemmas.{acts_from, book_store, fails_as, may_recover, reason_from, run_store}
 use Rattle.desk_jobs.proofs.opening.ready_over.Goals as goal
 
@@ -12,6 +20,11 @@ returns-in-Ok-recover-clause-ready g c =
     let first = record c.in-Ok.book { conn = c.args.conn; outside = c.requires.idle.outside } in
     record {
       recovered = λ sound s was. did.recovered sound s (opened.stands s was);
+      world = λ sound w world stood. (
+          let law = c.reopenings.ensures.reopens in
+          let there = book_stands store c.args.conn c.in-Ok.book opened (did.stays.sound sound) (after start w) (law w world).desk stood in
+          has_recovered (StandsBook store c.in-Ok-recover.recovered.0) (LeavesBook store c.in-Ok-recover.recovered.0) (reopened w)
+          (did.world sound (reopened w) (stands_reopened law (StandsBook store c.in-Ok.book) w world there)));
       may_act = λ sound later s may. acts_from store first c.in-Ok-recover.recovered.0 later s _ (did.may_act sound first later s
           (may_recover store first c.in-Ok.book opened.up later s may (opened.may_act (did.stays.sound sound) later s may)
           (opened.stands s may.represents)));
@@ -41,6 +54,14 @@ returns-in-Err-recover-clause-failed g c =
           (book_store c.in-Err-recover.fault c.from.result c.from.ensures (run_store c.from.result c.into.result c.into.ensures why))));
       fault = book_fault c.in-Err-recover.fault c.from.result c.into.result c.from.ensures c.into.ensures;
       bad = tt;
+      left = λ clean w world stood. (
+          let law = c.reopenings.ensures.reopens in
+          let sound = c.into_store.ensures.sound clean in
+          let there = book_stands store c.args.conn c.in-Ok.book opened (did.stays_at_fault.sound sound) (after start w) (law w world).desk
+          stood in
+          stopped_recovering (state store c.into_store.result) (LeavesBook store c.in-Err-recover.book) clean
+          (λ s t may. c.into_store.ensures.left s t may) (StandsBook store c.in-Err-recover.book) (reopened w) _
+          (did.world_at_fault sound (reopened w) (stands_reopened law (StandsBook store c.in-Ok.book) w world there)));
       leaves = record {
         idle = c.into_store.ensures.idle;
         sound = λ clean. opened.sound (did.stays_at_fault.sound (c.into_store.ensures.sound clean));

@@ -1,13 +1,21 @@
 -- Whatever the end, a prefix of the answers was written.
-use Rattle.std.proofs.Common.{◌≡◌, None, sym, subst, ℕ}
+use Rattle.std.proofs.Common.{◌≡◌, None, option_map, sym, subst, ℕ}
 use Rattle.sqlite.specs.Held.{state}
 use Rattle.sqlite.specs.State.{HasCleanDisk}
 use Rattle.protocols.specs.Scenes.{scene}
 use Rattle.tables.specs.BookTerms.{LeavesBook, StandsBook}
 use Rattle.desk_lines.specs.Lines.{lines}
 use Rattle.desk_lines.specs.Worlds.{asks_in}
+use Rattle.desk_sql.specs.declared.versions.Version.TheVariants.{Two}
+use Rattle.program_ends.specs.declared.ends.End.TheVariants as finish
+use Rattle.histories.specs.Following.{LeavesAnswered, StandsAnswered}
+use Rattle.histories.specs.Openings.{Lines}
+use Rattle.histories.specs.Stages.{Stood}
+use Rattle.histories.proofs.KnownLemmas.{if_some_more, of_lines}
+use Rattle.histories.proofs.StageLemmas.{lines_answered_if_known, stopped_at_line}
 use Rattle.desk_jobs.proofs.AnswerLemmas.{all_for_all, front_for_all, front_for_some, none_owed}
 use Rattle.desk_jobs.proofs.EndLemmas.{not_of_opening, run_fault}
+use Rattle.desk_jobs.proofs.FollowLemmas.{leaves_follows, stands_follows}
 use Rattle.desk_jobs.proofs.JobLemmas.{desk_left, represented}
 use Rattle.desk_jobs.proofs.ReasonLemmas.{fails_among_known, run_fails}
 use Rattle.desk_jobs.proofs.running.run_desk.Goals as goal
@@ -71,3 +79,39 @@ returns-in-Err-clause-ends g c = record {
   opened = not_of_opening c.in-Err.fault c.into.result c.into.ensures;
   fault = run_fault c.in-Err.fault c.into.result c.into.ensures;
 }
+
+-- the connection stands for the end of what the lines ask for; at a fault what is left of the book is left of its connection
+pub returns-in-Ok-clause-follows : goal.returns-in-Ok-clause-follows
+returns-in-Ok-clause-follows g c =
+    let store = g.S.Store in
+    let contents = g.O.Write.contents in
+    let new = c.run_lines-answered.new in
+    let same = c.into_inner.ensures.same in
+    let known = g.R.Read.remaining c.args.reader.now in
+    let out = c.into_store-conn in
+    let x = scene (contents c.args.out.now) (contents new.writer) (StandsBook store new.book) (LeavesBook store new.book) in
+    let sound : HasCleanDisk (state store out.result) → HasCleanDisk (state store new.book.conn) =
+    λ clean. subst (λ b. HasCleanDisk (state store b.conn)) same (out.ensures.sound clean) in
+    stands_follows store c.args.desk out.result (option_map Lines known) (contents c.args.out.now) (contents new.writer) finish.Done
+    (λ clean. of_lines known (StandsAnswered store (StandsBook store c.args.desk) out.result (contents c.args.out.now) (contents new.writer))
+    (lines_answered_if_known x known _ (StandsBook store c.args.desk) (Stood (state store out.result))
+    (λ s stood. (Two, out.ensures.found s (subst (λ b. StandsBook store b s) (sym same) stood)))
+    (c.in-Ok.ensures.all (sound clean)) (c.in-Ok.ensures.world (sound clean))))
+
+pub returns-in-Err-clause-follows : goal.returns-in-Err-clause-follows
+returns-in-Err-clause-follows g c =
+    let store = g.S.Store in
+    let contents = g.O.Write.contents in
+    let new = c.run_lines-answered.new in
+    let same = c.into_inner.ensures.same in
+    let known = g.R.Read.remaining c.args.reader.now in
+    let out = c.into_store-conn in
+    let x = scene (contents c.args.out.now) (contents new.writer) (StandsBook store new.book) (LeavesBook store new.book) in
+    let sound : HasCleanDisk (state store out.result) → HasCleanDisk (state store new.book.conn) =
+    λ clean. subst (λ b. HasCleanDisk (state store b.conn)) same (out.ensures.sound clean) in
+    leaves_follows store c.args.desk out.result (option_map Lines known) (contents c.args.out.now) (contents new.writer) _ tt
+    (λ clean. of_lines known (LeavesAnswered store (StandsBook store c.args.desk) out.result (contents c.args.out.now) (contents new.writer))
+    (if_some_more known _ _ (λ bytes goes w here.
+    stopped_at_line x (state store out.result) clean
+    (λ s t left. out.ensures.left s t (subst (λ b. LeavesBook store b s t) (sym same) left)) w bytes _ (goes w here))
+    (c.in-Err.ensures.world_at_fault (sound clean))))

@@ -1,11 +1,13 @@
 -- The desk that answers was recovered.
-use Rattle.std.proofs.Common.{inl}
+use Rattle.std.proofs.Common.{inl, option_map}
 use Rattle.streams.proofs.ByteLemmas.{keeps_same}
 use Rattle.desk_lines.specs.Lines.{lines}
 use Rattle.desk_lines.specs.Worlds.{asks_in}
 use Rattle.program_ends.proofs.EndLemmas.{unrefused}
+use Rattle.histories.specs.Openings.{Lines}
 use Rattle.desk_jobs.proofs.AnswerLemmas.{undone_for}
 use Rattle.desk_jobs.proofs.EndLemmas.{bad_job, not_done, recovery_fault}
+use Rattle.desk_jobs.proofs.FollowLemmas.{follows_not_up, follows_up, lines_unserved}
 use Rattle.desk_jobs.proofs.ReasonLemmas.{fails_after, fails_before}
 use Rattle.desk_jobs.proofs.RecoveredLemmas.{all_after_recovery, front_after_recovery, front_without_recovery, note_of_recovery}
 use Rattle.desk_jobs.proofs.running.run_over.Goals as goal
@@ -71,3 +73,17 @@ returns-in-Ok-clause-leaves g c =
 
 pub returns-in-Err-clause-read : goal.returns-in-Err-clause-read
 returns-in-Err-clause-read g c = not_done _ c.in-Err.end c.in-Err.ensures.failed.bad
+
+-- a run follows from how its desk came up
+pub returns-in-Ok-clause-follows : goal.returns-in-Ok-clause-follows
+returns-in-Ok-clause-follows g c =
+    let ran = c.run_desk.ensures in
+    follows_up g.S.Store c.in-Ok.desk _ (option_map Lines (g.R.Read.remaining c.args.reader.now)) _ _ c.reopenings.ensures.reopens
+    c.args.conn (λ clean. c.in-Ok.ensures.ready.world (ran.leaves.sound clean)) _ ran.follows
+
+pub returns-in-Err-clause-follows : goal.returns-in-Err-clause-follows
+returns-in-Err-clause-follows g c =
+    let known = g.R.Read.remaining c.args.reader.now in
+    let failed = c.in-Err.ensures.failed in
+    follows_not_up g.S.Store c.args.conn _ (option_map Lines known) _ _ c.reopenings.ensures.reopens failed.left failed.bad
+    (lines_unserved known)

@@ -1,0 +1,7 @@
+pub mod KnownLemmas
+pub mod TellingLemmas
+pub mod StageLemmas
+pub mod OpeningLemmas
+pub mod FollowLemmas
+pub mod FileLemmas
+pub mod ChainLemmas

@@ -1,0 +1,314 @@
+-- What was written are answers to asks that were carried out. For the answers over lines and messages.
+use Rattle.std.proofs.Common.{◌≡◌, ℕ, List, [], ◌∷◌, ◌++◌, length, take, drop, refl, sym, ap, subst, ◌∙◌, append_assoc, append-nil, inl, inr, Option, None}
+use Rattle.std.specs.List.{concat}
+use Rattle.std.specs.Io.KnownBytes.{Appends}
+use Rattle.std.proofs.lemmas.List.{take-append-drop}
+use Rattle.ledger.specs.Answer.{State}
+use Rattle.saga_core.specs.Runs.{Asks}
+use Rattle.protocols.specs.Scenes.{Scene, ended}
+use Rattle.protocols.specs.declared.faults.ServeFault.{ServeFault}
+use Rattle.protocols.specs.declared.faults.ServeFault.TheVariants.{Memory, Store, Read, Write}
+use Rattle.desk_lines.specs.Lines.{lines, answer_line, answer_lines, state_after_lines, meaning_in, written}
+use Rattle.desk_lines.specs.Serving as of_lines
+use Rattle.desk_lines.specs.Worlds as by_line
+use Rattle.http_messages.specs.Messages.{Message, BeginsWith, BeginsWithAll}
+use Rattle.http_messages.proofs.MessageLemmas.{one_message}
+use Rattle.desk_http.specs.Pages.{ArePages, IsPage, command_in, state_after, state_after_all}
+use Rattle.desk_http.specs.Serving as of_messages
+use Rattle.desk_http.specs.declared.doors.Door.TheVariants.{Port}
+use Rattle.desk_http.specs.Worlds as by_message
+use Rattle.http_ways.specs.Ways.{Said, Says}
+use Rattle.http_conversations.specs.Exchanges.{Exchange}
+use Rattle.http_live.specs.Worlds.{AreDone, HasPage, Heard, asks_of}
+use Rattle.histories.specs.Openings.{Input, Lines, Messages, Connections, AsksFor, IsTold}
+
+-- these bytes were written, and are answers to asks that were carried out
+pub record Tells (held holds : Option (List ℕ)) (s : State) (input : Input) (carried_out : Asks) : Type 0 where
+  pub told : List ℕ
+  pub wrote : Appends held holds told
+  pub is_told : IsTold s input carried_out told
+
+-- a text and its first bytes
+cut : (text more : List ℕ) (n : ℕ) → text ++ more ≡ (text ++ take n more) ++ drop n more
+cut text more n =
+    ap (λ l. text ++ l) (sym (take-append-drop n more)) ∙ sym (append_assoc text (take n more) (drop n more))
+
+-- Lines.
+
+asks_in-append : (ls ms : List (List ℕ)) → by_line.asks_in (ls ++ ms) ≡ by_line.asks_in ls ++ by_line.asks_in ms
+asks_in-append [] ms = refl
+asks_in-append (line ∷ ls) ms =
+    ap (λ l. by_line.asks_meant (meaning_in line) ++ l) (asks_in-append ls ms)
+    ∙ sym (append_assoc (by_line.asks_meant (meaning_in line)) (by_line.asks_in ls) (by_line.asks_in ms))
+
+-- the answers to lines, and to one more
+answers-more : (s : State) (ls : List (List ℕ)) (line : List ℕ)
+    → written (answer_lines s (ls ++ line ∷ []))
+    ≡ written (answer_lines s ls) ++ ended (answer_line (state_after_lines s ls) line).text
+answers-more s [] line = append-nil (ended (answer_line s line).text)
+answers-more s (first ∷ ls) line =
+    let one = answer_line s first in
+    ap (λ l. ended one.text ++ l) (answers-more one.after ls line)
+    ∙ sym (append_assoc (ended one.text) (written (answer_lines one.after ls))
+    (ended (answer_line (state_after_lines one.after ls) line).text))
+
+-- the answers to the first lines, or a prefix of them
+lines_told : (s : State) (bytes : List ℕ) (answered later : List (List ℕ)) (told unsent : List ℕ) (carried others : Asks)
+    → lines bytes ≡ answered ++ later → written (answer_lines s answered) ≡ told ++ unsent
+    → carried ≡ by_line.asks_in answered ++ others → IsTold s (Lines bytes) carried told
+lines_told s bytes answered later told unsent carried others parts sent done = record {
+  answered = by_line.asks_in answered;
+  others = others;
+  done = done;
+  answers = written (answer_lines s answered);
+  are = (answered, later, parts, refl, refl);
+  unsent = unsent;
+  sent = sent;
+}
+
+-- all of them
+whole_told : (s : State) (bytes : List ℕ) (answered later : List (List ℕ)) (carried others : Asks)
+    → lines bytes ≡ answered ++ later → carried ≡ by_line.asks_in answered ++ others
+    → IsTold s (Lines bytes) carried (written (answer_lines s answered))
+whole_told s bytes answered later carried others parts done =
+    lines_told s bytes answered later (written (answer_lines s answered)) [] carried others parts
+    (sym (append-nil (written (answer_lines s answered)))) done
+
+no_others : (carried asks : Asks) → carried ≡ asks → carried ≡ asks ++ []
+no_others carried asks same = same ∙ sym (append-nil asks)
+
+pub lines_tell_all : (x : Scene) (s : State) (bytes : List ℕ) (count : ℕ) → of_lines.AnswersAll x s bytes count
+    → Tells x.held x.holds s (Lines bytes) (by_line.asks_in (lines bytes))
+lines_tell_all x s bytes count all = record {
+  told = written (answer_lines s (lines bytes));
+  wrote = all.sent;
+  is_told = whole_told s bytes (lines bytes) [] (by_line.asks_in (lines bytes)) [] (sym (append-nil (lines bytes)))
+      (no_others _ _ refl);
+}
+
+module _ (x : Scene) (s : State) (bytes : List ℕ) (answered : List (List ℕ)) where
+  -- just these answers were written
+  just : (later : List (List ℕ)) (carried others : Asks) → lines bytes ≡ answered ++ later
+      → of_lines.WroteAll x s answered → carried ≡ by_line.asks_in answered ++ others
+      → Tells x.held x.holds s (Lines bytes) carried
+  just later carried others parts wrote done = record {
+    told = written (answer_lines s answered);
+    wrote = wrote;
+    is_told = whole_told s bytes answered later carried others parts done;
+  }
+
+  -- and the next line was carried out
+  and_next : (line : List ℕ) (later : List (List ℕ)) (carried : Asks) → lines bytes ≡ answered ++ line ∷ later
+      → of_lines.WroteAll x s answered → carried ≡ by_line.asks_in (answered ++ line ∷ [])
+      → Tells x.held x.holds s (Lines bytes) carried
+  and_next line later carried parts wrote done =
+      just (line ∷ later) carried (by_line.asks_in (line ∷ [])) parts wrote (done ∙ asks_in-append answered (line ∷ []))
+
+pub lines_tell : (x : Scene) (s : State) (bytes : List ℕ) (fault : ServeFault) (answered later : List (List ℕ))
+    (carried : Asks) → lines bytes ≡ answered ++ later → of_lines.Leaves fault x s answered later
+    → by_line.IsCarriedOut fault answered later carried → Tells x.held x.holds s (Lines bytes) carried
+lines_tell x s bytes Read answered later carried parts left done =
+    just x s bytes answered later carried [] parts left.0 (no_others carried _ done)
+lines_tell x s bytes Write answered [] carried parts left done = absurd left
+lines_tell x s bytes Write answered (line ∷ later) carried parts left done =
+    let next = ended (answer_line (state_after_lines s answered) line).text in
+    let before = written (answer_lines s answered) in
+    record {
+      told = before ++ take left.0 next;
+      wrote = left.1;
+      is_told = lines_told s bytes (answered ++ line ∷ []) later (before ++ take left.0 next) (drop left.0 next) carried []
+          (parts ∙ sym (append_assoc answered (line ∷ []) later))
+          (answers-more s answered line ∙ cut before next left.0) (no_others carried _ done);
+    }
+lines_tell x s bytes Memory answered [] carried parts left done =
+    elim done [
+      | inl same ↦ just x s bytes answered [] carried [] parts left.0 (no_others carried _ same)
+      | inr none ↦ absurd none
+    ]
+lines_tell x s bytes Memory answered (line ∷ later) carried parts left done =
+    elim done [
+      | inl same ↦ just x s bytes answered (line ∷ later) carried [] parts left.0 (no_others carried _ same)
+      | inr more ↦ and_next x s bytes answered line later carried parts left.0 more
+    ]
+lines_tell x s bytes Store answered later carried parts left done =
+    just x s bytes answered later carried [] parts left.0 (no_others carried _ done)
+
+-- Messages.
+
+messages-append : (ms ns : List Message)
+    → by_message.asks_in (ms ++ ns) ≡ by_message.asks_in ms ++ by_message.asks_in ns
+messages-append [] ns = refl
+messages-append (m ∷ ms) ns =
+    ap (λ l. by_message.asks_by (command_in Port m) ++ l) (messages-append ms ns)
+    ∙ sym (append_assoc (by_message.asks_by (command_in Port m)) (by_message.asks_in ms) (by_message.asks_in ns))
+
+-- messages, and one more
+begins-more : (input stream rest : List ℕ) (ms : List Message) (m : Message)
+    → BeginsWithAll input ms stream → BeginsWith stream m rest → BeginsWithAll input (ms ++ m ∷ []) rest
+begins-more input stream rest [] m all next = (rest, subst (λ bytes. BeginsWith bytes m rest) (sym all) next, refl)
+begins-more input stream rest (first ∷ ms) m all next =
+    (all.0, all.1, begins-more all.0 stream rest ms m all.2 next)
+
+-- their pages, and one more
+pages-more : (s : State) (ms : List Message) (m : Message) (ps : List (List ℕ)) (p : List ℕ)
+    → ArePages s ms ps → IsPage Port (state_after_all s ms) m p → ArePages s (ms ++ m ∷ []) (ps ++ p ∷ [])
+pages-more s [] m [] p are page = (page, refl)
+pages-more s [] m (q ∷ ps) p are page = cc
+pages-more s (first ∷ ms) m [] p are page = absurd are
+pages-more s (first ∷ ms) m (q ∷ ps) p are page = (are.0, pages-more (state_after Port s first) ms m ps p are.1 page)
+
+concat-more : (ps : List (List ℕ)) (p : List ℕ) → concat (ps ++ p ∷ []) ≡ concat ps ++ p
+concat-more [] p = append-nil p
+concat-more (q ∷ ps) p = ap (λ rest. q ++ rest) (concat-more ps p) ∙ sym (append_assoc q (concat ps) p)
+
+-- what messages ask for, and the next one, if there is one
+pub messages_come : (s : State) (bytes rest : List ℕ) (ms next : List Message) → BeginsWithAll bytes ms rest
+    → by_message.ComesNext rest next → AsksFor s (Messages bytes) (by_message.asks_in (ms ++ next))
+messages_come s bytes rest ms [] begins comes = (ms, rest, begins, ap by_message.asks_in (append-nil ms))
+messages_come s bytes rest ms (m ∷ []) begins comes =
+    (ms ++ m ∷ [], comes.0, begins-more bytes rest comes.0 ms m begins comes.1, refl)
+messages_come s bytes rest ms (m ∷ n ∷ later) begins comes = absurd comes
+
+-- the pages of the first messages
+pages_told : (s : State) (bytes : List ℕ) (ms : List Message) (rest : List ℕ) (pages : List (List ℕ))
+    (told unsent : List ℕ) (carried others : Asks) → of_messages.Answered s bytes ms rest pages
+    → concat pages ≡ told ++ unsent → carried ≡ by_message.asks_in ms ++ others
+    → IsTold s (Messages bytes) carried told
+pages_told s bytes ms rest pages told unsent carried others answered sent done = record {
+  answered = by_message.asks_in ms;
+  others = others;
+  done = done;
+  answers = concat pages;
+  are = (ms, rest, pages, answered, refl, refl);
+  unsent = unsent;
+  sent = sent;
+}
+
+pub messages_tell_all : (x : Scene) (s : State) (bytes : List ℕ) (count : ℕ)
+    (all : of_messages.ServesAll x s bytes count)
+    → Tells x.held x.holds s (Messages bytes) (by_message.asks_in all.messages)
+messages_tell_all x s bytes count all = record {
+  told = concat all.pages;
+  wrote = all.sent;
+  is_told = pages_told s bytes all.messages all.rest all.pages (concat all.pages) [] (by_message.asks_in all.messages) []
+      all.answered (sym (append-nil (concat all.pages))) (no_others _ _ refl);
+}
+
+module _ (x : Scene) (s : State) (bytes rest : List ℕ) (ms : List Message) (pages : List (List ℕ))
+    (answered : of_messages.Answered s bytes ms rest pages) where
+  -- just these pages were written
+  just_pages : (carried others : Asks) → Appends x.held x.holds (concat pages)
+      → carried ≡ by_message.asks_in ms ++ others → Tells x.held x.holds s (Messages bytes) carried
+  just_pages carried others wrote done = record {
+    told = concat pages;
+    wrote = wrote;
+    is_told = pages_told s bytes ms rest pages (concat pages) [] carried others answered
+        (sym (append-nil (concat pages))) done;
+  }
+
+  -- and a prefix of the next one
+  part_of_page : (m : Message) (after page : List ℕ) (part : ℕ) (carried : Asks) → BeginsWith rest m after
+      → IsPage Port (state_after_all s ms) m page → Appends x.held x.holds (concat pages ++ take part page)
+      → carried ≡ by_message.asks_in (ms ++ m ∷ []) → Tells x.held x.holds s (Messages bytes) carried
+  part_of_page m after page part carried next is wrote done = record {
+    told = concat pages ++ take part page;
+    wrote = wrote;
+    is_told = pages_told s bytes (ms ++ m ∷ []) after (pages ++ page ∷ []) (concat pages ++ take part page)
+        (drop part page) carried []
+        (record {
+          begins = begins-more bytes rest after ms m answered.begins next;
+          are = pages-more s ms m pages page answered.are is;
+        })
+        (concat-more pages page ∙ cut (concat pages) page part) (no_others carried _ done);
+  }
+
+  -- the next message, of which there is one
+  write_cut : (next : List Message) (carried : Asks) → by_message.ComesNext rest next
+      → of_messages.ForNext rest (of_messages.IsCut x (state_after_all s ms) pages)
+      → length next ≡ 1 → carried ≡ by_message.asks_in (ms ++ next) → Tells x.held x.holds s (Messages bytes) carried
+  write_cut [] carried comes left one done = cc
+  write_cut (m ∷ []) carried comes left one done =
+      let same = (one_message rest left.0 m left.1 comes.0 left.2 comes.1).0 in
+      let is_cut = left.3 in
+      part_of_page left.0 left.1 is_cut.0 is_cut.1 carried left.2 is_cut.2 is_cut.3
+      (done ∙ ap (λ n. by_message.asks_in (ms ++ n ∷ [])) (sym same))
+  write_cut (m ∷ n ∷ later) carried comes left one done = absurd comes
+
+pub messages_tell : (x : Scene) (s : State) (bytes rest : List ℕ) (fault : ServeFault) (ms next : List Message)
+    (pages : List (List ℕ)) (carried : Asks) → of_messages.Answered s bytes ms rest pages
+    → by_message.ComesNext rest next → of_messages.Leaves fault x (state_after_all s ms) pages rest
+    → by_message.IsCarriedOut fault ms next carried → Tells x.held x.holds s (Messages bytes) carried
+messages_tell x s bytes rest Read ms next pages carried answered comes left done =
+    just_pages x s bytes rest ms pages answered carried [] left.0 (no_others carried _ done)
+messages_tell x s bytes rest Write ms next pages carried answered comes left done =
+    write_cut x s bytes rest ms pages answered next carried comes left done.0 done.1
+messages_tell x s bytes rest Memory ms next pages carried answered comes left done =
+    elim done [
+      | inl same ↦ just_pages x s bytes rest ms pages answered carried [] left.0 (no_others carried _ same)
+      | inr more ↦ just_pages x s bytes rest ms pages answered carried (by_message.asks_in next) left.0
+          (more ∙ messages-append ms next)
+    ]
+messages_tell x s bytes rest Store ms next pages carried answered comes left done =
+    just_pages x s bytes rest ms pages answered carried [] left.0 (no_others carried _ done)
+
+-- Exchanges.
+
+module _ (last : Exchange) (m : Said) (is_message : Says last.way last.bytes m) (is_lost : last.page ≡ None) where
+  -- the last one was carried out, and its page was lost
+  pub done_next : (s : State) (before : List Exchange) (ms : List Heard) → AreDone s before ms
+      → AreDone s (before ++ last ∷ []) (ms ++ (last.door, m.meant) ∷ [])
+  done_next s [] ms none = (
+    state_after last.door s m.meant,
+    [],
+    record {
+      message = m;
+      is_message = is_message;
+      page = subst (HasPage last.door s m) (sym is_lost) tt;
+      done = inl (ap (λ l. l ++ (last.door, m.meant) ∷ []) none, refl);
+    },
+    refl,
+  )
+  done_next s (x ∷ before) ms all =
+      let one = all.2 in (
+        all.0,
+        all.1 ++ (last.door, m.meant) ∷ [],
+        record {
+          message = one.message;
+          is_message = one.is_message;
+          page = one.page;
+          done = elim one.done [
+            | inl carried ↦ inl (ap (λ l. l ++ (last.door, m.meant) ∷ []) carried.0, carried.1)
+            | inr lost ↦ inr (lost.0, ap (λ l. l ++ (last.door, m.meant) ∷ []) lost.1, lost.2)
+          ];
+        },
+        done_next all.0 before all.1 all.3,
+      )
+
+  -- the last one was not carried out
+  pub done_but_last : (s : State) (before : List Exchange) (ms : List Heard) → AreDone s before ms
+      → AreDone s (before ++ last ∷ []) ms
+  done_but_last s [] ms none = (
+    s,
+    [],
+    record {
+      message = m;
+      is_message = is_message;
+      page = subst (HasPage last.door s m) (sym is_lost) tt;
+      done = inr (is_lost, none, refl);
+    },
+    refl,
+  )
+  done_but_last s (x ∷ before) ms all = (all.0, all.1, all.2, done_but_last all.0 before all.1 all.3)
+
+-- the pages of exchanges are answers to what was carried out of them
+pub exchanges_told : (s : State) (exchanges : List Exchange) (ms : List Heard) (carried : Asks)
+    → AreDone s exchanges ms → carried ≡ asks_of ms → IsTold s (Connections exchanges) carried []
+exchanges_told s exchanges ms carried all is = record {
+  answered = asks_of ms;
+  others = [];
+  done = no_others carried _ is;
+  answers = [];
+  are = (ms, all, refl, refl);
+  unsent = [];
+  sent = refl;
+}
