@@ -183,6 +183,12 @@ tells "holders as records" 0 "journey,step,option,places$cr
 3,1,1,1$cr" "" holders --format csv trips.db $a1
 tells "no holder" 0 "$holding
 holders 0" "" holders trips.db $room
+by_night="night      kind     supplier product       journey agent            state  places"
+tells "holders of each cell, night by night" 0 "$by_night
+2030-06-01 flight   AL       A1                  1 desk             ended       1
+2030-06-01 flight   AL       A1                  2 desk             run         1
+2030-06-01 flight   AL       A1                  3 desk             back        1
+holders 3" "" holders trips.db
 tells "no holder as objects" 0 "" "" holders trips.db $room --format json
 tells "no holder as records" 0 "journey,step,option,places$cr" "" holders trips.db $room --format csv
 days=". none held  1 to 9 tenths held  # all held  - none allotted  blank no night
@@ -376,4 +382,35 @@ for word in stock summary unfinished journeys "history 1" "stock --format=json" 
   same "$word on a full disk: standard error" "fault 25 Write" "$(cat err)"
 done
 same "the file is sound" "ok" "$(rows 'PRAGMA integrity_check')"
+
+# who holds places, night by night
+rm -f trips.db trips.db-*
+inn=R/BAYSUI/STD
+answers "two journeys over two nights" "set a $inn/2024-06-09 5\nset b $inn/2024-06-10 5\nset c F/AL/A1/2024-06-10 9\nbegin $inn/2024-06-09/2/1;F/AL/A1/2024-06-10/1/3!0\nbegin $inn/2024-06-10/1/2!0\nstep 1\nstep 1\nstep 2\n" \
+  "loaded a 1
+loaded b 1
+loaded c 1
+journey 1 begun
+journey 2 begun
+journey 1 T1.1 run 1
+journey 1 T2.1 ended 2
+journey 2 T1.1 ended 1"
+tells "by night, then by kind, supplier, product and journey" 0 "$by_night
+2024-06-09 room     BAYSUI   STD                 1 desk             ended       1
+2024-06-10 flight   AL       A1                  1 desk             ended       3
+2024-06-10 room     BAYSUI   STD                 1 desk             ended       1
+2024-06-10 room     BAYSUI   STD                 2 desk             ended       2
+holders 4" "" holders trips.db
+tells "who holds rooms of a supplier on a day" 0 "night,kind,supplier,product,journey,agent,state,places$cr
+2024-06-10,room,BAYSUI,STD,1,desk,ended,1$cr
+2024-06-10,room,BAYSUI,STD,2,desk,ended,2$cr" "" \
+  holders trips.db --kind room --supplier BAYSUI --from 2024-06-10 --to 2024-06-10 --format csv
+tells "who holds places of a product" 0 \
+  '{"agent":"desk","journey":1,"kind":"flight","night":"2024-06-10","places":3,"product":"A1","state":"ended","supplier":"AL"}' "" \
+  holders trips.db --product A1 --format json
+tells "up to a night" 0 "$by_night
+2024-06-09 room     BAYSUI   STD                 1 desk             ended       1
+holders 1" "" holders trips.db --to 2024-06-09
+tells "from a night on that no cell has" 0 "$by_night
+holders 0" "" holders trips.db --from 2024-06-11
 finish
