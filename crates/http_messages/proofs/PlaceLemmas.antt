@@ -1,4 +1,4 @@
--- The walk through a stream finds the shortest decided prefix. For look and go_on.
+-- The walk through a stream finds the shortest decided prefix. For look and decided_front.
 use Rattle.std.proofs.Common.{◌≡◌, ◌∙◌, ap, sym, subst, refl, ℕ, ◌+◌, ◌-◌, ◌<◌, ◌≤◌, Bool, true, false, ◌||◌, List, [], ◌∷◌, ◌++◌, length, take, drop, get_or, take-append-drop, arith, length-append, inl, inr, ◌==◌}
 use Rattle.std.proofs.lemmas.Bool.{cases_lt}
 use Rattle.std.proofs.lemmas.List.{take_more, take_all, length-take-le, take-append-le, get_or-drop, take_rest}
@@ -83,10 +83,6 @@ module _ (bytes : List ℕ) (n : ℕ) (byte : ℕ) (inside : n < length bytes) (
   one_more : take n bytes ++ byte ∷ [] ≡ take (n + 1) bytes
   one_more = ap (λ b. take n bytes ++ b ∷ []) here ∙ sym (take_more bytes n 0 inside)
 
-  -- the search went one byte on
-  pub went_on : (new : Search) → WentThrough new (take n bytes ++ byte ∷ []) → WentThrough new (take (n + 1) bytes)
-  went_on new went = subst (WentThrough new) one_more went
-
   -- here a prefix is decided, and no shorter one is
   pub told_first : (old : Search)
       → WentThrough old (take n bytes)
@@ -100,8 +96,3 @@ module _ (bytes : List ℕ) (n : ℕ) (byte : ℕ) (inside : n < length bytes) (
         first = λ k less.
             ap is_told (sym (take_shorter k n bytes (omega arith) (omega arith))) ∙ went.calm k (omega arith);
       }
-
--- a byte of the suffix, by its place in the whole
-pub rest_at : (bytes : List ℕ) (from i : ℕ)
-    → get_or (take (length bytes - from) (drop from bytes)) i 0 ≡ get_or bytes (from + i) 0
-rest_at bytes from i = ap (λ rest. get_or rest i 0) (take_rest bytes from) ∙ get_or-drop from bytes i 0

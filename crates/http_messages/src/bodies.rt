@@ -3,28 +3,21 @@ ghost use Rattle.std.specs.Prelude.{◌≡◌, ◌<◌, ◌≤◌, ◌+◌, ◌+
 ghost use Rattle.commands.specs.Limits.{most_bytes};
 ghost use Rattle.http_messages.specs.Bodies.{Awaits, Exceeds, IsBody, Moves, NeverEnds, Reads, first_reading};
 ghost use Rattle.http_messages.specs.Framing.{IsWithinLimit};
+ghost use Rattle.http_messages.specs.declared.bodies.BodyFault.TheVariants.{Memory};
 
-use crate::faults::BodyFault;
 use crate::framing::BodyKind;
+use crate::heads::MOST_FIELDS;
+use crate::places::LONGEST_HEAD;
 use commands::MOST_BYTES;
 use http1::chunked::ChunkedDecoder;
 use http1::decode::{Decoded, Decoder};
 use httparse::spans::EMPTY_HEADER_SPAN;
-use std::alloc::Global;
+use std::alloc::{AllocError, Global};
 use std::marker::Model;
-
-/// How many bytes the extensions of all chunks of a body may have.
-const MOST_EXTENSIONS: usize = 8_192;
-
-/// How many bytes the trailer fields of a body may have, with the empty line after them.
-const LONGEST_TRAILERS: usize = 8_192;
-
-/// How many trailer fields a body may have.
-const MOST_TRAILERS: usize = 32;
 
 /// Reads the body of a request, in whatever pieces it arrives.
 ///
-/// It holds at most 262,144 bytes: those of the body so far.
+/// It holds at most 262,144 bytes: those of the body so far. Extensions of chunks and trailer fields have the limits of a head.
 #[derive(Drop)]
 pub struct BodyReader {
     decoder: Decoder,
@@ -38,6 +31,25 @@ pub enum Progress {
     More(usize),
     /// The body ends after so many bytes.
     Whole(usize),
+}
+
+/// Why a body is not read on. The reader is not to be used again.
+#[derive(Clone, Copy, Debug, PartialEq, Eq)]
+pub enum BodyFault {
+    /// Out of memory.
+    Memory,
+    /// The chunks have more than 262,144 bytes: 413.
+    TooLarge,
+    /// What came is not the beginning of any body: 400.
+    Malformed,
+}
+
+impl From<AllocError> for BodyFault {
+    ghost from_gives = { λ _ fault. fault ≡ Memory };
+
+    fn from(_error: AllocError) -> BodyFault {
+        BodyFault::Memory
+    }
 }
 
 /// What one step of a reader found.
@@ -74,8 +86,8 @@ impl BodyReader {
         let decoder = match kind {
             BodyKind::Sized(count) => Decoder::Length(count as u64),
             BodyKind::Chunked => Decoder::Chunked {
-                chunks: ChunkedDecoder::new(MOST_EXTENSIONS),
-                max_trailers_len: LONGEST_TRAILERS,
+                chunks: ChunkedDecoder::new(LONGEST_HEAD),
+                max_trailers_len: LONGEST_HEAD,
             },
         };
         BodyReader {
@@ -106,13 +118,6 @@ impl BodyReader {
     }
 
     /// The body so far: once it is whole, all of it.
-    pub fn body(&self) -> &[u8]
-        ensures body { result.now ≡ self.now.body }
-    {
-        &self.body
-    }
-
-    /// The body so far: once it is whole, all of it.
     pub fn into_body(self) -> Vec<u8>
         ensures body { result.items ≡ self.body }
     {
@@ -127,7 +132,7 @@ impl BodyReader {
         ensures malformed { IsErrOf result BodyFault.Malformed → NeverEnds self.old input.now }
     {
         let mut decoder = self.decoder;
-        let mut trailers = [EMPTY_HEADER_SPAN; MOST_TRAILERS];
+        let mut trailers = [EMPTY_HEADER_SPAN; MOST_FIELDS];
         match decoder.decode(input, &mut trailers) {
             Ok(Decoded::NeedMore(count)) => {
                 self.decoder = decoder;

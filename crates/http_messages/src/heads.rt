@@ -15,7 +15,7 @@ use httparse::{Error, Status};
 use std::alloc::{AllocError, Global};
 
 /// How many fields a head may have.
-const MOST_FIELDS: usize = 32;
+pub(crate) const MOST_FIELDS: usize = 32;
 
 /// Where the parts of a head stand in its bytes.
 #[derive(Clone, Copy)]

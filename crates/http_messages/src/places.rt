@@ -1,11 +1,14 @@
 //! Where a prefix of a stream is decided.
+ghost use Rattle.std.specs.Prelude.{◌≡◌, IfSome, IsNone, None};
+ghost use Rattle.http_messages.specs.Messages.{first_told};
+ghost use Rattle.http_messages.specs.Places.{IsToldAt};
 
 /// How many bytes a head may have.
 pub const LONGEST_HEAD: usize = 8192;
 
 /// What the bytes so far end with.
 #[derive(Clone, Copy)]
-pub(crate) enum Place {
+enum Place {
     /// Nothing but line ends.
     Before,
     /// A line that has begun.
@@ -45,40 +48,15 @@ impl Place {
 
 /// How far the bytes of a message were examined.
 #[derive(Drop)]
-pub(crate) struct Search {
+struct Search {
     place: Place,
     /// How many bytes were examined.
-    pub(crate) looked: usize,
+    looked: usize,
 }
 
 impl Search {
-    ghost use Rattle.std.specs.Prelude.{◌≡◌, ◌+◌, ◌<◌, [], take, MatchBool};
-    ghost use Rattle.http_messages.specs.Places.{IsToldAt, LooksAt, WentThrough};
-
-    /// No byte was examined.
-    pub(crate) fn new() -> Search
-        ensures none { WentThrough result [] }
-    {
-        Search {
-            place: Place::Before,
-            looked: 0,
-        }
-    }
-
-    /// Examines the bytes that follow, and returns whether a prefix is decided: then it is as long as the bytes
-    /// examined.
-    pub(crate) fn go_on(&mut self, bytes: &[u8]) -> bool
-        requires { WentThrough self.old (take self.old.looked bytes.now) }
-        ensures told { MatchBool result
-            (IsToldAt bytes.now self.new.looked) (WentThrough self.new bytes.now) }
-    {
-        for byte in &bytes[self.looked..] {
-            if self.look(*byte) {
-                return true;
-            }
-        }
-        false
-    }
+    ghost use Rattle.std.specs.Prelude.{◌≡◌, ◌+◌, ◌<◌};
+    ghost use Rattle.http_messages.specs.Places.{LooksAt};
 
     /// Examines one more byte, and returns whether a prefix is decided here.
     fn look(&mut self, byte: u8) -> bool
@@ -90,4 +68,21 @@ impl Search {
         self.looked += 1;
         self.place.is_told() || self.looked == LONGEST_HEAD
     }
+}
+
+/// The length of the shortest decided prefix of these bytes; `None` if no prefix is decided yet.
+pub fn decided_front(bytes: &[u8]) -> Option<usize>
+    ensures front { IfSome result (IsToldAt bytes.now) }
+    ensures none { IsNone result → first_told bytes.now ≡ None }
+{
+    let mut search = Search {
+        place: Place::Before,
+        looked: 0,
+    };
+    for byte in bytes {
+        if search.look(*byte) {
+            return Some(search.looked);
+        }
+    }
+    None
 }

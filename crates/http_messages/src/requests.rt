@@ -1,14 +1,10 @@
 //! What a message asks, as the desk takes it; how long its body is; and the first message of bytes that are in memory.
-ghost use Rattle.allotment.specs.Texts.{keep_if};
 ghost use Rattle.http_messages.specs.Fields.{length_of};
-ghost use Rattle.std.specs.Prelude.{◌≡◌, IfOk, IfSome, IsNone, None};
-ghost use Rattle.std.specs.Str.Parse.{digits_value};
-ghost use Rattle.http_messages.specs.Messages.{first_told};
-ghost use Rattle.http_messages.specs.Places.{IsToldAt};
+ghost use Rattle.std.specs.Prelude.{◌≡◌, IfOk};
 ghost use Rattle.http_messages.specs.Reading.{IsFirst};
 
 use crate::heads::Head;
-use crate::places::Search;
+use crate::places::decided_front;
 use commands::{Agent, Key, Refusal};
 use std::alloc::{AllocError, Global};
 
@@ -95,16 +91,4 @@ pub fn first_message(alloc: Global, bytes: &[u8]) -> Result<Option<(Message, usi
     let body = bytes[end..whole].to_vec(alloc)?;
     let request = head.request(alloc, front, body)?;
     Ok(Some((Message::Asks(request), whole)))
-}
-
-/// The length of the shortest decided prefix of these bytes; `None` if no prefix is decided yet.
-pub fn decided_front(bytes: &[u8]) -> Option<usize>
-    ensures front { IfSome result (IsToldAt bytes.now) }
-    ensures none { IsNone result → first_told bytes.now ≡ None }
-{
-    let mut search = Search::new();
-    if !search.go_on(bytes) {
-        return None;
-    }
-    Some(search.looked)
 }

@@ -1,21 +1,21 @@
-//! The first message of bytes as libraries, proxies and pools write HTTP.
-ghost use Rattle.std.specs.Prelude.{◌≡◌, ◌≤◌, IfOk, Ok, false, length, take};
+//! The first message of bytes as libraries, proxies and pools write HTTP, and when `100 Continue` is sent.
+ghost use Rattle.std.specs.Prelude.{◌≡◌, ◌≤◌, IfOk, IsTrue, Ok, false, length, take};
 ghost use Rattle.commands.specs.Limits.{most_bytes};
 ghost use Rattle.http_messages.specs.Places.{IsToldAt};
 ghost use Rattle.http_messages.specs.Framing.{IsWithinLimit, head_kind};
-ghost use Rattle.http_messages.specs.Wide.{has_no_method};
+ghost use Rattle.http_messages.specs.Wide.{begins_no_method, has_no_method};
 ghost use Rattle.http_messages.specs.Fields.{IsSomeHeadAt, LiesIn, parts_in};
-ghost use Rattle.http_messages.specs.WideReading.{AsksAt, IsFirstWide};
+ghost use Rattle.http_messages.specs.WideReading.{AsksAt, IsDue, IsFirstWide, has_body};
 
 use crate::asked::AskedKind;
-use crate::bodies::{BodyReader, Progress};
+use crate::bodies::{BodyFault, BodyReader, Progress};
 use crate::denials::Denial;
-use crate::faults::BodyFault;
-use crate::framing::BodyKind;
+use crate::framing::{BodyKind, Unframed};
 use crate::heads::Head;
-use crate::requests::{Request, decided_front};
-use crate::starts::has_no_method;
+use crate::places::{LONGEST_HEAD, decided_front};
+use crate::requests::Request;
 use crate::wide_heads::denial_for;
+use httparse::is_method_token;
 use std::alloc::{AllocError, Global};
 
 /// A message of a stream.
@@ -131,4 +131,58 @@ fn asked(alloc: Global, front: &[u8], head: &Head, body: Vec<u8>) -> Result<Wide
         kind: head.asked_kind(front),
         request: head.wide_request(alloc, front, body)?,
     })
+}
+
+/// Whether the bytes begin with no method, as far as a head may reach.
+fn has_no_method(bytes: &[u8]) -> bool
+    ensures none { result ≡ has_no_method bytes.now }
+{
+    begins_no_method(&bytes[..bytes.len().min(LONGEST_HEAD)])
+}
+
+/// Whether the first byte that is no line end begins no method.
+fn begins_no_method(bytes: &[u8]) -> bool
+    ensures none { result ≡ begins_no_method bytes.now }
+{
+    let mut left = bytes;
+    while let [first, rest @ ..] = left {
+        if *first != b'\r' && *first != b'\n' {
+            return !is_method_token(*first);
+        }
+        left = rest;
+    }
+    false
+}
+
+/// Whether `100 Continue` is to be sent now: a head of HTTP/1.1 that is read asks for it, nothing of its body came, which
+/// is not empty, and it was not sent for this head before (RFC 9110, section 10.1.1).
+pub fn go_on_is_due(bytes: &[u8], was_sent: bool) -> bool
+    ensures due { IsTrue result → IsDue bytes.now }
+    ensures once { IsTrue result → was_sent ≡ false }
+    ensures all { IsDue bytes.now → was_sent ≡ false → IsTrue result }
+{
+    if was_sent || has_no_method(bytes) {
+        return false;
+    }
+    let Some(end) = decided_front(bytes) else {
+        return false;
+    };
+    if end < bytes.len() {
+        return false;
+    }
+    match Head::read(bytes) {
+        Ok(head) => head.expects(bytes) && has_body(head.kind(bytes)),
+        Err(_) => false,
+    }
+}
+
+/// Whether a body is framed that is not empty.
+fn has_body(kind: Result<BodyKind, Unframed>) -> bool
+    ensures body { result ≡ has_body kind }
+{
+    match kind {
+        Ok(BodyKind::Sized(count)) => count > 0,
+        Ok(BodyKind::Chunked) => true,
+        Err(_) => false,
+    }
 }

@@ -2,7 +2,7 @@
 use Rattle.std.proofs.Common.{◌≡◌, ◌∙◌, ap, sym, subst, drop, arith, length-drop, Err}
 use Rattle.std.proofs.lemmas.List.{take_rest}
 use Rattle.std.proofs.lemmas.Result.{err_from_is_err_and}
-use Rattle.http_messages.specs.declared.faults.BodyFault.TheVariants.{Malformed, TooLarge}
+use Rattle.http_messages.specs.declared.bodies.BodyFault.TheVariants.{Malformed, TooLarge}
 use Rattle.http_messages.specs.Bodies.{Ends, Exceeds, Goes, Moves, NeverEnds}
 use Rattle.http_messages.proofs.ReadLemmas.{ends_more, goes_more, moves_more, moves_none, never_more}
 use Rattle.http_messages.proofs.bodies.BodyReader.read.Goals as goal

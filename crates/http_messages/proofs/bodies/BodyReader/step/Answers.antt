@@ -3,7 +3,7 @@ use Rattle.std.proofs.Common.{◌≡◌, ◌∙◌, ap, sym, subst, ◌+◌, ◌
 use Rattle.std.proofs.lemmas.Result.{err_from_is_err_and}
 use Rattle.httparse.specs.Spans.{span_bytes}
 use Rattle.commands.specs.Limits.{most_bytes}
-use Rattle.http_messages.specs.declared.faults.BodyFault.TheVariants.{TooLarge}
+use Rattle.http_messages.specs.declared.bodies.BodyFault.TheVariants.{TooLarge}
 use Rattle.http_messages.specs.Bodies.{Ends, Exceeds, Goes, Moves}
 use Rattle.http_messages.proofs.BodyLemmas.{ends, goes, moves_on, reading, too_large}
 use Rattle.http_messages.proofs.bodies.BodyReader.step.Goals as goal

@@ -1,6 +1,6 @@
 use Rattle.std.proofs.Common.{◌≡◌, length}
 use Rattle.http_messages.specs.Wide.{begins_no_method}
-use Rattle.http_messages.proofs.starts.begins_no_method.Given as goal
+use Rattle.http_messages.proofs.wide_messages.begins_no_method.Given as goal
 
 -- the bytes so far are line ends
 abbrev pub invariant-loop-left : goal.invariant-loop-left

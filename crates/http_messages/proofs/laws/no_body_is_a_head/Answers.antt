@@ -1,6 +1,6 @@
 -- The head, and then its body, are decided by themselves.
 use Rattle.http_messages.proofs.LawLemmas.{begins_alone, begins_with}
-use Rattle.http_messages.proofs.wide_laws.no_body_is_a_head.Goals as goal
+use Rattle.http_messages.proofs.laws.no_body_is_a_head.Goals as goal
 
 pub returns : goal.returns
 returns c = record {

@@ -4,7 +4,7 @@ use Rattle.std.proofs.lemmas.Bool.{cases_lt}
 use Rattle.std.proofs.lemmas.List.{take_all}
 use Rattle.http_messages.specs.Heads.{most_head_bytes}
 use Rattle.http_messages.specs.Wide.{begins_no_method}
-use Rattle.http_messages.proofs.starts.has_no_method.Goals as goal
+use Rattle.http_messages.proofs.wide_messages.has_no_method.Goals as goal
 
 -- the bytes that are looked at
 pub returns : goal.returns

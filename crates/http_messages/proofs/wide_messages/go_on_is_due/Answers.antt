@@ -5,7 +5,7 @@ use Rattle.http_messages.specs.Framing.{head_kind}
 use Rattle.http_messages.specs.WideHeads.{asks_to_go_on}
 use Rattle.http_messages.specs.WideReading.{has_body}
 use Rattle.http_messages.proofs.DueLemmas.{due_asks, due_is_all, is_due}
-use Rattle.http_messages.proofs.due.go_on_is_due.Goals as goal
+use Rattle.http_messages.proofs.wide_messages.go_on_is_due.Goals as goal
 
 -- more than a head came
 pub returns-then-end-bytes-clause-all : goal.returns-then-end-bytes-clause-all

@@ -18,7 +18,7 @@ use Rattle.http_messages.specs.Framing.{head_kind}
 use Rattle.http_messages.specs.Wide.{Asks, Wide, WideMessages, ends_after}
 use Rattle.http_messages.proofs.BodyLemmas.{begins}
 use Rattle.http_messages.proofs.LawLemmas.{body_more}
-use Rattle.http_messages.proofs.wide_laws.request_in_a_body.Goals as goal
+use Rattle.http_messages.proofs.laws.request_in_a_body.Goals as goal
 
 -- the POST is a head
 post_is_a_head : IsHead post_bytes post_page
