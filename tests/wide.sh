@@ -59,6 +59,12 @@ for method in GET HEAD POST OPTIONS DELETE; do
       sed -n 's/^HTTP[^ ]* \([0-9]*\).*/\1/p; s/^Connection: //p' | paste -sd ' ')"
   done
 done
+# of a target in absolute form its own host counts
+for hosts in "200 127.0.0.1:$port other.example" "400 other.example 127.0.0.1:$port"; do
+  read -r code target host <<<"$hosts"
+  same "a target at $target under the host $host" "$code" "$(curl -s -o /dev/null -w '%{http_code}' --max-time 20 \
+    --request-target "http://$target/stock" -H "Host: $host" -H 'Desk-Agent: ann' "http://127.0.0.1:$port/")"
+done
 page "the methods of the page" 204 "" -D head -X OPTIONS "http://127.0.0.1:$port/"
 same "its methods" "Allow: GET, HEAD, OPTIONS" "$(tr -d '\r' <head | grep '^Allow')"
 page "a POST to the page" 405 '{"name":"WrongMethod","refused":8}' -D head -X POST "http://127.0.0.1:$port/"
