@@ -3,60 +3,18 @@ use Rattle.std.proofs.Common.{◌≡◌, ℕ, ◌+◌, ◌<◌, ◌≤◌, List,
 use Rattle.std.specs.declared.io.traits.Read as Read
 use Rattle.std.specs.declared.io.traits.Write as Write
 use Rattle.sqlite.specs.Tree.{Trees}
-use Rattle.sqlite.specs.State.{State as Connected}
-use Rattle.ledger.specs.Answer.{State, start}
-use Rattle.ledger.specs.World.{Moment, after, IsWorld}
-use Rattle.ledger.specs.Ledger.{IsLegal}
-use Rattle.saga_core.specs.Chains.{Reopens}
-use Rattle.sql_model.specs.Worlds.{EachWorldIsADesk}
-use Rattle.recovery.specs.Recovers.{HasOneRecovery}
+use Rattle.ledger.specs.World.{Moment, IsWorld}
 use Rattle.http_live.specs.Merging.{Seated, exchange_of}
 use Rattle.http_live.proofs.Merged.{merged_none}
-use Rattle.sessions.specs.Openings.{Input, Lines, Messages, Connections}
+use Rattle.histories.specs.Openings.{Input, Lines, Messages, Connections}
+use Rattle.histories.specs.Chains.{Comes, IsNewDesk}
+use Rattle.histories.specs.Following.{EachMayReopen}
+use Rattle.histories.proofs.ChainLemmas.{comes_late, comes_then}
+use Rattle.histories.proofs.OpeningLemmas.{late, and_late}
 use Rattle.sessions.specs.Accounts.{AreSentTheirPages, IsAccount, connections_at}
 use Rattle.sessions.specs.Promises.{IsKeptPromise}
-use Rattle.sessions.specs.Chains.{StandsAs, Leads, LeadsEach, Comes, IsNewDesk, Headline, AreInputs, AreKnown, Came}
-use Rattle.sessions.specs.Stages.{ComesUp, Stood}
+use Rattle.sessions.specs.Chains.{Headline, AreInputs, AreKnown, Came}
 use Rattle.sessions.specs.declared.running.Session.{Session}
-use Rattle.sessions.proofs.OpeningLemmas.{goes_on_by_none, goes_on_by_both, late, and_late}
-
--- no session is a step
-pub comes_none : (found : Trees → Type 0) (held : Option (List ℕ)) → Comes found found held held []
-comes_none found held db may =
-    (db, may, λ w world stands. record { end = w; goes = goes_on_by_none held w world; stands = stands })
-
--- the step is transitive
-pub comes_then : (a b c : Trees → Type 0) (x y z : Option (List ℕ)) (first second : List Input)
-    → Comes a b x y first → Comes b c y z second → Comes a c x z (first ++ second)
-comes_then a b c x y z first second one two db may =
-    let late = two db may in
-    let early = one late.0 late.1 in (
-      early.0,
-      early.1,
-      λ w world stands.
-          let h = early.2 w world stands in
-          let k = late.2 h.end h.goes.world h.stands in
-          record {
-            end = k.end;
-            goes = goes_on_by_both x y z first second w h.end k.end h.goes k.goes;
-            stands = k.stands;
-          },
-    )
-
--- a session over a connection that came up is a step from what was found
-pub comes_up : (old new : Connected) (finds : Trees → Type 0) (held holds : Option (List ℕ)) (inputs : List Input)
-    → ComesUp old new
-    → ((w : List Moment) → IsWorld w → Stood new (after start w) → LeadsEach finds held holds inputs w)
-    → Comes old.may_leave finds held holds inputs
-comes_up old new finds held holds inputs up session db may =
-    (up.before, up.found, λ w world stands. session w world (up.stood (after start w) stands) db may)
-
--- a session that did not begin leaves what was there
-pub comes_late : (found finds : Trees → Type 0) (held : Option (List ℕ)) (inputs : List Input)
-    → ((db : Trees) → finds db → found db)
-    → ((w : List Moment) (db : Trees) → IsWorld w → StandsAs db (after start w) → Leads held held inputs w db)
-    → Comes found finds held held inputs
-comes_late found finds held inputs less late db may = (db, less db may, λ w world stands. late w db world stands)
 
 -- from a new desk on it leads to what is promised
 pub headline : ((w : List Moment) → IsWorld w → IsKeptPromise w) → (found finds : Trees → Type 0)
@@ -170,16 +128,15 @@ module _ {L M T R W : Type 0} {r : Read.Ghosts R} {w : Write.Ghosts W} (lines : 
   )
 
   -- a session that did not begin
-  pub came_unasked : Reopens → EachWorldIsADesk → ((s : State) → IsLegal s.ledger → HasOneRecovery s)
-      → (found finds : Trees → Type 0) (held : Option (List ℕ)) → ((db : Trees) → finds db → found db)
+  pub came_unasked : EachMayReopen → (found finds : Trees → Type 0) (held : Option (List ℕ)) → ((db : Trees) → finds db → found db)
       → (session : Session L M T R W r w) → AreKnown lines messages (session ∷ [])
       → Came lines messages (session ∷ []) (session ∷ []) (Comes found finds held held)
-  came_unasked reopens desks one found finds held less session known =
+  came_unasked law found finds held less session known =
       came_once session session (Comes found finds held held) known [] (merged_none _ _ refl)
       (comes_late found finds held (Lines known.0 ∷ Messages known.1 ∷ Connections [] ∷ []) less (λ v db world stands.
-      and_late reopens desks one held held (Lines known.0 ∷ Messages known.1 ∷ []) (Connections []) v db refl
-      (and_late reopens desks one held held (Lines known.0 ∷ []) (Messages known.1) v db tt
-      (late reopens desks one held (Lines known.0) v db tt world stands))))
+      and_late law held held (Lines known.0 ∷ Messages known.1 ∷ []) (Connections []) v db refl
+      (and_late law held held (Lines known.0 ∷ []) (Messages known.1) v db tt
+      (late law held (Lines known.0) v db tt world stands))))
 
 -- what each connection was sent is known of every connection
 pub sent_their_pages : {L M T R W : Type 0} {r : Read.Ghosts R} {w : Write.Ghosts W}

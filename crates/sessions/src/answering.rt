@@ -4,16 +4,14 @@ ghost use Rattle.sqlite.specs.Held.{state};
 ghost use Rattle.sqlite.specs.State.{HasCleanDisk};
 ghost use Rattle.desk_sql.specs.Calls.{Idle};
 ghost use Rattle.ledger.specs.Answer.{State};
-ghost use Rattle.ledger.specs.World.{Moment};
-ghost use Rattle.saga_core.specs.Worlds.{StandsAtEnd};
 ghost use Rattle.sql_model.specs.Keeping.{MayLeave};
 ghost use Rattle.tables.specs.BookTerms.{StandsBook, LeavesBook};
 ghost use Rattle.sessions.specs.Accounts.{Exchanged};
-ghost use Rattle.sessions.specs.Openings.{Connections, Lines, Messages};
-ghost use Rattle.sessions.specs.Stages.{Answering, LeavesAnswering, Stood};
+ghost use Rattle.histories.specs.Following.{LeavesAnswered, StandsAnswered};
+ghost use Rattle.histories.specs.Openings.{Connections, Messages};
+ghost use Rattle.histories.specs.Stages.{Stood};
 
 use crate::power::Power;
-use desk_lines::run_lines;
 use http_conversations::serve;
 use http_live::{Seat, Turns, serve_many};
 use recovery::Ready;
@@ -34,42 +32,8 @@ fn let_go<S: Alter>(ready: Ready<TableBook<S>>) -> Connection<S>
     ready.into_inner().into_store()
 }
 
-/// Answers the lines of a reader.
-pub(crate) fn answer_lines<S: Alter, P: Power, R: Read, W: Write>(
-    alloc: Global,
-    ready: Ready<TableBook<S>>,
-    power: &mut P,
-    lines: &mut R,
-    writer: &mut W,
-) -> Result<Connection<S>, Connection<S>>
-    ensures all { IfOk result (λ c. HasCleanDisk (state S.Store c) → IfSome (R.remaining lines.old)
-        (λ text. (w : List Moment) → StandsAtEnd (StandsBook S.Store ready) w
-        → Answering (W.contents writer.old) (W.contents writer.new) w (Lines text)
-        (Stood (state S.Store c)))) }
-    ensures idle { IfOk result Idle }
-    ensures sound { IfOk result (λ c. HasCleanDisk (state S.Store c)
-        → ⟦<TableBook<S> as Book>⟧.is_sound ready) }
-
-    ensures left { IfErr result
-        (λ c. HasCleanDisk (state S.Store c) → IfSome (R.remaining lines.old)
-        (λ text. (w : List Moment) → StandsAtEnd (StandsBook S.Store ready) w
-        → LeavesAnswering (state S.Store c).may_leave (W.contents writer.old)
-        (W.contents writer.new) w (Lines text))) }
-    ensures unharmed { IfErr result (λ c. HasCleanDisk (state S.Store c)
-        → ⟦<TableBook<S> as Book>⟧.is_sound ready) }
-{
-    let mut ready = ready;
-    if !power.is_on() {
-        return Err(let_go(ready));
-    }
-    match run_lines(alloc, lines, writer, &mut ready) {
-        Ok(_) => Ok(let_go(ready)),
-        Err(_) => Err(let_go(ready)),
-    }
-}
-
 /// Serves the messages of a connection.
-pub(crate) fn answer_messages<S: Alter, P: Power, R: Read, W: Write>(
+pub(crate) fn answer_messages<S: Alter + Drop, P: Power, R: Read, W: Write>(
     alloc: Global,
     ready: Ready<TableBook<S>>,
     power: &mut P,
@@ -78,18 +42,16 @@ pub(crate) fn answer_messages<S: Alter, P: Power, R: Read, W: Write>(
 ) -> Result<Connection<S>, Connection<S>>
     ensures all { IfOk result
         (λ c. HasCleanDisk (state S.Store c) → IfSome (R.remaining messages.old)
-        (λ bytes. (w : List Moment) → StandsAtEnd (StandsBook S.Store ready) w
-        → Answering (W.contents writer.old) (W.contents writer.new) w (Messages bytes)
-        (Stood (state S.Store c)))) }
+        (λ bytes. StandsAnswered S.Store (StandsBook S.Store ready) c
+        (W.contents writer.old) (W.contents writer.new) (Messages bytes))) }
     ensures idle { IfOk result Idle }
     ensures sound { IfOk result (λ c. HasCleanDisk (state S.Store c)
         → ⟦<TableBook<S> as Book>⟧.is_sound ready) }
 
     ensures left { IfErr result
         (λ c. HasCleanDisk (state S.Store c) → IfSome (R.remaining messages.old)
-        (λ bytes. (w : List Moment) → StandsAtEnd (StandsBook S.Store ready) w
-        → LeavesAnswering (state S.Store c).may_leave (W.contents writer.old)
-        (W.contents writer.new) w (Messages bytes))) }
+        (λ bytes. LeavesAnswered S.Store (StandsBook S.Store ready) c
+        (W.contents writer.old) (W.contents writer.new) (Messages bytes))) }
     ensures unharmed { IfErr result (λ c. HasCleanDisk (state S.Store c)
         → ⟦<TableBook<S> as Book>⟧.is_sound ready) }
 {
@@ -104,7 +66,7 @@ pub(crate) fn answer_messages<S: Alter, P: Power, R: Read, W: Write>(
 }
 
 /// Serves the connections of the seats, turn by turn.
-pub(crate) fn answer_connections<S: Alter, P: Power, T: Turns>(
+pub(crate) fn answer_connections<S: Alter + Drop, P: Power, T: Turns>(
     alloc: Global,
     ready: Ready<TableBook<S>>,
     power: &mut P,
@@ -112,9 +74,8 @@ pub(crate) fn answer_connections<S: Alter, P: Power, T: Turns>(
     turns: &mut T,
 ) -> Connection<S>
     ensures left { Exchanged seats.old.items seats.new.items
-        (λ exchanges. HasCleanDisk (state S.Store result)
-        → (w : List Moment) → StandsAtEnd (StandsBook S.Store ready) w → (held : Option (List ℕ))
-        → LeavesAnswering (state S.Store result).may_leave held held w (Connections exchanges)) }
+        (λ exchanges. HasCleanDisk (state S.Store result) → (held : Option (List ℕ))
+        → LeavesAnswered S.Store (StandsBook S.Store ready) result held held (Connections exchanges)) }
     ensures sound { HasCleanDisk (state S.Store result) → ⟦<TableBook<S> as Book>⟧.is_sound ready }
 {
     let mut ready = ready;

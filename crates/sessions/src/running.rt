@@ -5,16 +5,16 @@ ghost use Rattle.sqlite.specs.State.{HasCleanDisk};
 ghost use Rattle.desk_sql.specs.Calls.{Idle};
 ghost use Rattle.sql_restart.specs.Restarts.{LeavesNoMore};
 ghost use Rattle.sessions.specs.Accounts.{AreSentTheirPages};
-ghost use Rattle.sessions.specs.Chains.{AreKnown, Came, Comes, Headline, IsNewDesk, IsSoundDisk, MayBeFound};
-ghost use Rattle.sessions.specs.Stages.{ComesUp};
+ghost use Rattle.histories.specs.Chains.{Comes, IsNewDesk};
+ghost use Rattle.sessions.specs.Chains.{AreKnown, Came, Headline, IsSoundDisk, MayBeFound};
+ghost use Rattle.histories.specs.Stages.{ComesUp};
 
 use crate::laws::promises;
 use crate::power::Power;
 use crate::visiting::run_session;
+use histories::reopenings;
 use http_live::{Seat, Turns};
-use recovery::one_recovery;
-use saga_core::chains;
-use sql_model::{desks, openings};
+use sql_model::openings;
 use sql_restart::restart;
 use sqlite::{Alter, Connection};
 use sqlite_trees::store::Reopen;
@@ -69,9 +69,7 @@ fn run_after_crash<S: Alter + Reopen + Drop, P: Power, L: Read, M: Read, W: Writ
         (W.contents writer.old) (W.contents writer.new)) }
     ensures sound { IsSoundDisk S.Store result → HasCleanDisk (state S.Store conn) }
 {
-    chains();
-    desks();
-    one_recovery();
+    reopenings();
     match come_up(alloc, conn) {
         Ok(conn) => Ok(run_session(
             alloc,
@@ -102,9 +100,7 @@ fn run_next<S: Alter + Reopen + Drop, P: Power, L: Read, M: Read, W: Write, T: T
         (W.contents writer.old) (W.contents writer.new)) }
     ensures sound { IsSoundDisk S.Store result → IsSoundDisk S.Store at }
 {
-    chains();
-    desks();
-    one_recovery();
+    reopenings();
     match at {
         Ok(conn) => run_after_crash(alloc, conn, power, session, writer),
         Err(store) => Err(store),

@@ -5,9 +5,9 @@ use Rattle.ledger.specs.Answer.{start}
 use Rattle.ledger.specs.World.{after}
 use Rattle.protocols.specs.Scenes.{scene}
 use Rattle.tables.specs.BookTerms.{StandsBook, LeavesBook}
-use Rattle.sessions.specs.Stages.{Stood}
-use Rattle.sessions.proofs.KnownLemmas.{if_some_each, if_some_more}
-use Rattle.sessions.proofs.StageLemmas.{messages_answered, no_messages_asked, stopped_at_message}
+use Rattle.histories.specs.Stages.{Stood}
+use Rattle.histories.proofs.KnownLemmas.{if_some_each, if_some_more}
+use Rattle.histories.proofs.StageLemmas.{messages_answered, no_messages_asked, stopped_at_message}
 use Rattle.sessions.proofs.answering.answer_messages.Goals as goal
 
 pub returns-then-not-is_on-clause-left : goal.returns-then-not-is_on-clause-left

@@ -2,10 +2,11 @@
 use Rattle.std.proofs.Common.{[], ◌∷◌, map}
 use Rattle.sqlite.specs.Held.{state}
 use Rattle.http_live.specs.Merging.{exchange_of}
-use Rattle.sessions.specs.Chains.{Comes}
-use Rattle.sessions.specs.Openings.{Connections, Lines, Messages}
-use Rattle.sessions.proofs.KnownLemmas.{known_at}
-use Rattle.sessions.proofs.ChainLemmas.{came_once, came_unasked, comes_up}
+use Rattle.histories.specs.Chains.{Comes}
+use Rattle.histories.specs.Openings.{Connections, Lines, Messages}
+use Rattle.histories.proofs.KnownLemmas.{known_at}
+use Rattle.histories.proofs.ChainLemmas.{comes_up}
+use Rattle.sessions.proofs.ChainLemmas.{came_once, came_unasked}
 use Rattle.sessions.proofs.running.run_after_crash.Goals as goal
 
 pub returns-in-Ok-clause-step : goal.returns-in-Ok-clause-step
@@ -34,6 +35,6 @@ returns-in-Ok-clause-step g c clean known =
 
 pub returns-in-Err-clause-step : goal.returns-in-Err-clause-step
 returns-in-Err-clause-step g c clean known =
-    came_unasked g.L.Read.remaining g.M.Read.remaining c.chains.ensures.reopens c.desks.ensures.desk
-    c.one_recovery.ensures.one (state g.S.Store c.args.conn).may_leave (g.S.Store.recovers c.in-Err.store)
+    came_unasked g.L.Read.remaining g.M.Read.remaining c.reopenings.ensures.reopens
+    (state g.S.Store c.args.conn).may_leave (g.S.Store.recovers c.in-Err.store)
     (g.W.Write.contents c.args.writer.now) (c.in-Err.ensures.left.left clean) c.args.session.now known

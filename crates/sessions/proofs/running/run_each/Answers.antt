@@ -1,8 +1,10 @@
 -- One more session is one more step.
 use Rattle.std.proofs.Common.{◌+◌, ◌<◌, ◌≤◌, ◌++◌, [], ◌∷◌, length, length-append, get_or, refl, sym, ap, subst, ◌∙◌, arith}
 use Rattle.sqlite.specs.Held.{state}
-use Rattle.sessions.specs.Chains.{AreKnown, Came, Comes, MayBeFound}
-use Rattle.sessions.proofs.ChainLemmas.{at_end, came_then, comes_none, known_first, known_rest, sets_next}
+use Rattle.histories.specs.Chains.{Comes}
+use Rattle.histories.proofs.ChainLemmas.{comes_none}
+use Rattle.sessions.specs.Chains.{AreKnown, Came, MayBeFound}
+use Rattle.sessions.proofs.ChainLemmas.{at_end, came_then, known_first, known_rest, sets_next}
 use Rattle.sessions.proofs.running.run_each.Goals as goal
 
 pub loop-session-init : goal.loop-session-init

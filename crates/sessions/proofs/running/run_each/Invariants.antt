@@ -1,7 +1,8 @@
 use Rattle.std.proofs.Common.{◌≡◌, ◌++◌, List, length}
 use Rattle.sqlite.specs.Held.{state}
 use Rattle.sqlite.specs.State.{HasCleanDisk}
-use Rattle.sessions.specs.Chains.{AreKnown, Came, Comes, IsSoundDisk, MayBeFound}
+use Rattle.histories.specs.Chains.{Comes}
+use Rattle.sessions.specs.Chains.{AreKnown, Came, IsSoundDisk, MayBeFound}
 use Rattle.sessions.specs.declared.running.Session.{Session}
 use Rattle.sessions.proofs.running.run_each.Given as goal
 

@@ -1,11 +1,12 @@
 -- A world is reopened, recovers, and goes on with what the connections ask for.
-use Rattle.std.proofs.Common.{[], map, refl}
+use Rattle.std.proofs.Common.{[], ℕ, List, Option, map, refl, subst, sym}
 use Rattle.sqlite.specs.Held.{state}
+use Rattle.sqlite.specs.State.{HasCleanDisk}
 use Rattle.http_live.specs.Merging.{exchange_of}
 use Rattle.http_live.proofs.Merged.{merged_none}
-use Rattle.tables.specs.BookTerms.{StandsBook}
-use Rattle.sessions.specs.Openings.{Connections, recovered}
-use Rattle.sessions.proofs.OpeningLemmas.{answering_leads, recovering_leads}
+use Rattle.histories.specs.Following.{LeavesOpened}
+use Rattle.histories.specs.Openings.{Connections}
+use Rattle.histories.proofs.FollowLemmas.{leaves_answered, leaves_unanswered, not_opened}
 use Rattle.sessions.proofs.visiting.open_for_connections.Goals as goal
 
 pub returns-in-Ok-clause-opening : goal.returns-in-Ok-clause-opening
@@ -13,19 +14,37 @@ returns-in-Ok-clause-opening g c =
     let e = c.answer_connections.ensures in (
       e.left.0,
       e.left.1,
-      λ clean w world stood held.
-          let r = c.in-Ok.ensures.recovered (e.sound clean) w world stood in
-          answering_leads c.chains.ensures.reopens w world (StandsBook g.S.Store c.in-Ok.ready)
-          (state g.S.Store c.answer_connections.result).may_leave held held (Connections (map exchange_of e.left.0)) r
-          (e.left.2 clean (recovered w r.events) r.ends held),
+      λ clean held. leaves_answered c.reopenings.ensures.reopens g.S.Store c.args.conn c.answer_connections.result _
+          (c.in-Ok.ensures.ready.world (e.sound clean)) held held (Connections (map exchange_of e.left.0)) (e.left.2 clean held),
     )
 
--- it stopped before it was recovered, so nobody was served
+pub returns-in-Ok-clause-sound : goal.returns-in-Ok-clause-sound
+returns-in-Ok-clause-sound g c clean = c.in-Ok.ensures.ready.sound (c.answer_connections.ensures.sound clean)
+
+-- it stopped before it was recovered, or did not begin, so nobody was served
+pub returns-then-not-is_on-clause-opening : goal.returns-then-not-is_on-clause-opening
+returns-then-not-is_on-clause-opening g c =
+    let conn = c.args.conn in (
+      [],
+      merged_none _ _ refl,
+      λ clean held. leaves_unanswered c.reopenings.ensures.reopens g.S.Store conn conn held (Connections []) refl
+          (not_opened c.reopenings.ensures.reopens g.S.Store conn conn clean (λ s stood. stood)),
+    )
+
 pub returns-in-Err-clause-opening : goal.returns-in-Err-clause-opening
-returns-in-Err-clause-opening g c = (
-  [],
-  merged_none _ _ refl,
-  λ clean w world stood held.
-      recovering_leads c.chains.ensures.reopens w world (state g.S.Store c.in-Err.conn).may_leave held (Connections [])
-      refl (c.in-Err.ensures.left clean w world stood),
-)
+returns-in-Err-clause-opening g c =
+    let store = g.S.Store in (
+      [],
+      merged_none _ _ refl,
+      subst
+          (λ conn. HasCleanDisk (state store conn) → (held : Option (List ℕ))
+          → LeavesOpened store c.args.conn conn held held (Connections []))
+          (sym c.connection_of.ensures.same)
+          (λ clean held. leaves_unanswered c.reopenings.ensures.reopens store c.args.conn c.in-Err.failed.0 held (Connections []) refl
+          (c.in-Err.ensures.failed.left clean)),
+    )
+
+pub returns-in-Err-clause-sound : goal.returns-in-Err-clause-sound
+returns-in-Err-clause-sound g c =
+    subst (λ conn. HasCleanDisk (state g.S.Store conn) → HasCleanDisk (state g.S.Store c.args.conn)) (sym c.connection_of.ensures.same)
+    c.in-Err.ensures.failed.leaves.sound

@@ -1,36 +1,12 @@
--- A world is reopened, recovers, and goes on with what the lines ask for.
-use Rattle.sqlite.specs.Held.{state}
-use Rattle.tables.specs.BookTerms.{StandsBook}
-use Rattle.sessions.specs.Openings.{Lines, recovered}
-use Rattle.sessions.specs.Stages.{Stood}
-use Rattle.sessions.proofs.KnownLemmas.{if_err_both, if_ok_both, if_some_each, if_some_more}
-use Rattle.sessions.proofs.OpeningLemmas.{answering_leads, answering_opens, recovering_leads}
+-- The run of the lines is the opening. Where it did not begin, the connection stands for the same.
+use Rattle.histories.specs.Openings.{Lines}
+use Rattle.histories.proofs.FollowLemmas.{leaves_unanswered, not_opened}
+use Rattle.histories.proofs.KnownLemmas.{if_some_each}
 use Rattle.sessions.proofs.visiting.open_for_lines.Goals as goal
 
-pub returns-in-Ok-clause-all : goal.returns-in-Ok-clause-all
-returns-in-Ok-clause-all g c =
-    if_ok_both c.answer_lines.result _ _ _ (λ out all sound clean.
-    if_some_more (g.R.Read.remaining c.args.lines.now) _ _ (λ text answers w world stood.
-    let r = c.in-Ok.ensures.recovered (sound clean) w world stood in
-    answering_opens c.chains.ensures.reopens w world (StandsBook g.S.Store c.in-Ok.ready)
-    (g.W.Write.contents c.args.writer.now) (g.W.Write.contents c.answer_lines.new.writer) (Lines text)
-    (Stood (state g.S.Store out)) r (answers (recovered w r.events) r.ends))
-    (all clean))
-    c.answer_lines.ensures.all c.answer_lines.ensures.sound
-
-pub returns-in-Ok-clause-left : goal.returns-in-Ok-clause-left
-returns-in-Ok-clause-left g c =
-    if_err_both c.answer_lines.result _ _ _ (λ out left sound clean.
-    if_some_more (g.R.Read.remaining c.args.lines.now) _ _ (λ text answers w world stood.
-    let r = c.in-Ok.ensures.recovered (sound clean) w world stood in
-    answering_leads c.chains.ensures.reopens w world (StandsBook g.S.Store c.in-Ok.ready)
-    (state g.S.Store out).may_leave (g.W.Write.contents c.args.writer.now)
-    (g.W.Write.contents c.answer_lines.new.writer) (Lines text) r (answers (recovered w r.events) r.ends))
-    (left clean))
-    c.answer_lines.ensures.left c.answer_lines.ensures.unharmed
-
-pub returns-in-Err-clause-left : goal.returns-in-Err-clause-left
-returns-in-Err-clause-left g c clean =
-    if_some_each (g.R.Read.remaining c.args.lines.now) _ (λ text w world stood.
-    recovering_leads c.chains.ensures.reopens w world (state g.S.Store c.in-Err.conn).may_leave
-    (g.W.Write.contents c.args.writer.now) (Lines text) tt (c.in-Err.ensures.left clean w world stood))
+pub returns-then-not-is_on-clause-left : goal.returns-then-not-is_on-clause-left
+returns-then-not-is_on-clause-left g c clean =
+    let conn = c.args.conn in
+    if_some_each (g.R.Read.remaining c.args.lines.now) _ (λ text.
+    leaves_unanswered c.reopenings.ensures.reopens g.S.Store conn conn (g.W.Write.contents c.args.writer.now) (Lines text) tt
+    (not_opened c.reopenings.ensures.reopens g.S.Store conn conn clean (λ s stood. stood)))

@@ -3,10 +3,10 @@ use Rattle.std.proofs.Common.{[], ◌∷◌, map, refl}
 use Rattle.sqlite.specs.Held.{state}
 use Rattle.http_live.specs.Merging.{exchange_of}
 use Rattle.http_live.proofs.Merged.{merged_none}
-use Rattle.sessions.specs.Openings.{Connections, Lines, Messages}
-use Rattle.sessions.specs.Stages.{Stood}
-use Rattle.sessions.proofs.KnownLemmas.{if_some_each, if_some_more}
-use Rattle.sessions.proofs.OpeningLemmas.{and_late, opened_then}
+use Rattle.histories.specs.Openings.{Connections, Lines, Messages}
+use Rattle.histories.specs.Stages.{Stood}
+use Rattle.histories.proofs.KnownLemmas.{if_some_each, if_some_more}
+use Rattle.histories.proofs.OpeningLemmas.{and_late, opened_then}
 use Rattle.sessions.proofs.visiting.run_session.Goals as goal
 
 pub returns-in-Ok-clause-session : goal.returns-in-Ok-clause-session
@@ -35,9 +35,9 @@ returns-in-Err-clause-session g c =
       λ clean.
           if_some_more (g.L.Read.remaining c.args.lines.now) _ _ (λ text leads.
           if_some_each (g.M.Read.remaining c.args.messages.now) _ (λ bytes w world stood db may.
-          and_late c.chains.ensures.reopens c.desks.ensures.desk c.one_recovery.ensures.one held holds
+          and_late c.reopenings.ensures.reopens held holds
           (Lines text ∷ Messages bytes ∷ []) (Connections []) w db refl
-          (and_late c.chains.ensures.reopens c.desks.ensures.desk c.one_recovery.ensures.one held holds
+          (and_late c.reopenings.ensures.reopens held holds
           (Lines text ∷ []) (Messages bytes) w db tt (leads w world stood db may))))
           (c.in-Err.ensures.left clean),
     )
