@@ -80,9 +80,8 @@ LINES
 
 # the requests that serve names are the routes of the program, and two that it finds without its router
 routes() {
-  tr -d '\n' <"$top/crates/http_pages/src/routes.rt" |
-    grep -oE 'add\( *&mut router, *"[^"]*", *Verb::[A-Z][a-z]*' |
-    sed -E 's/.*"(.*)".*::(.*)/\U\2\E \1/; s/\{([a-z]*)\}/\U\1/g'
+  sed -nE '/^static LINES/,/^\];/s/^ *\("(.*)", Verb::([A-Z][a-z]*), .*/\U\2\E \1/p' "$top/crates/http_pages/src/routes.rt" |
+    sed -E 's/\{([a-z]*)\}/\U\1/g'
   printf '%s\n' 'GET /' 'POST /stop'
 }
 helps "serve --help" serve --help

@@ -67,7 +67,7 @@ pub(crate) static SUMMARY: [Word<'static>; 6] = [KIND, SUPPLIER, PRODUCT, FROM, 
 pub(crate) static HOLDERS: [Word<'static>; 7] = [
     Word::Extra(
         "CELL",
-        "One cell, as R/INN/DBL/2030-06-01, in place of options that choose cells",
+        "A cell, as R/INN/DBL/2030-06-01, in place of the options",
     ),
     KIND,
     SUPPLIER,

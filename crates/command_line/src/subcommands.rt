@@ -112,7 +112,7 @@ impl Subcommand {
             Subcommand::Load => "Load allotments from a CSV file, as one batch",
             Subcommand::Stock => "Print the allotted, held and free places of each cell",
             Subcommand::Summary => "Print the nights and places of each product by month",
-            Subcommand::Holders => "Print which journeys hold places of a cell",
+            Subcommand::Holders => "Print which journeys hold places of a cell, or of cells",
             Subcommand::Unfinished => "Print the journeys that have not ended",
             Subcommand::Journeys => "Print all journeys, ended ones too",
             Subcommand::History => "Print what happened to a journey, oldest first",

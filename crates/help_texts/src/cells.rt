@@ -104,7 +104,7 @@ Example:
 
 /// What `holders` reads and prints.
 pub const HOLDERS: &str = "\
-Print which journeys hold places of a cell, or of cells night by night
+Print which journeys hold places of a cell, or of cells
 
 Opens the database FILE without recovering it, and changes no row of it.
 With CELL, prints a heading, a line for each step of a journey that holds
@@ -113,7 +113,7 @@ places of it, by journey and step, and 'holders N'.
 Without CELL, prints a heading, a line for each cell and each step of a
 journey that holds places of it, and 'holders N': by night, and of a night by
 kind, supplier, product, journey and step, with the agent and the state of the
-journey. With options, only cells that have each of the values named are shown.
+journey. With options, only cells that have each of the values named count.
 
 A step holds the places that it took until it is compensated, also after its
 journey has ended. Standard input is not read.";
@@ -157,6 +157,6 @@ Example:
   holders 1
   $ desk holders trips.db F/AL/A1/2030-06-01 --format json
   {\"journey\":1,\"option\":1,\"places\":2,\"step\":1}
-  $ desk holders trips.db --from 2030-06-01 --to 2030-06-01 --format csv | tr -d '\\r'
+  $ desk holders trips.db --to 2030-06-01 --format csv | tr -d '\\r'
   night,kind,supplier,product,journey,agent,state,places
   2030-06-01,flight,AL,A1,1,desk,ended,2";

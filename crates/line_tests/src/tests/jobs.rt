@@ -372,7 +372,7 @@ const REFUSED_OF_ONE: [(&str, &str, &str); 25] = [
     ("a want",                   "holders|x|R/INN/DBL/2030-06-01/1/1", "error: invalid value 'R/INN/DBL/2030-06-01/1/1' for '<CELL>': not a cell"),
     ("a bad cell before a bad format", "holders|x|R|--format|xml", "error: invalid value 'R' for '<CELL>'"),
     ("holders in an unknown format", "holders|x|R/INN/DBL/2030-06-01|--format|xml", "error: invalid value 'xml' for '--format <FORMAT>': not text, json or csv\n"),
-    ("help of holders",          "holders|--help", "Print which journeys hold places of a cell, or of cells night by night\n\nOpens the database FILE without recovering it"),
+    ("help of holders",          "holders|--help", "Print which journeys hold places of a cell, or of cells\n\nOpens the database FILE without recovering it"),
     ("journey 0",                "why|x|0", "error: invalid value '0' for '<ID>': not a number from 1 to 999999999999\n\nFor more information, try '--help'.\n"),
     ("a journey past all",       "why|x|1000000000000", "error: invalid value '1000000000000' for '<ID>': not a number from 1 to 999999999999\n"),
     ("a journey with a zero",    "why|x|01", "error: invalid value '01' for '<ID>'"),
