@@ -133,7 +133,7 @@ SPOILED = (
     ("a sheet without its month", "view === 'stock' && filter.month ?", "view === 'sheet' ?", page_day.printed,
      "agent, date and month"),
     ("a refusal that goes by itself", "  if (isOwn && request.seen !== undefined) settling.set(request.about, request.key);\n", "",
-     page_scenes.refused_by_the_desk, "it is still told"),
+     page_scenes.refused_by_the_desk, "'No save-point can be taken here'"),
     ("a new key each time", "'Desk-Key': booking || key", "'Desk-Key': newKey()", one_row("lose", "nothing"),
      "one key and one body"),
     ("a request that is not kept", "if (!keep(local, 'post.' + request.key, request)) {",

@@ -320,7 +320,7 @@ def refused_by_the_desk(scene):
             browser.click_on("#sure-yes")
         scene.note(words)
         comes("what may be done then", False, lambda: button in browser.names(".acts button"))
-        same("it is still told", True, words in browser.text("#notes"))
+        same(f"it is still told: {words!r}", True, words in browser.text("#notes"))
 
 
 SEA = option("room", "INN", "SEA", nights=2)
