@@ -8,16 +8,19 @@ use reports::Format;
 use saga_core::Listed;
 use std::process::Abort;
 
-// a cell, the journey's number, its agent and state, and the places
+/// A cell, the journey's number, its agent and state, and the places.
+type Row<'a> = (&'a str, u64, &'a str, JourneyState, u64);
+
 #[rattlefmt::skip]
-const HOLDINGS: [(&str, u64, &str, JourneyState, u64); 4] = [
+const HOLDINGS: [Row; 4] = [
     ("F/AL/A1/2024-06-10",             3,               "ann",              JourneyState::Run,    2),
     ("R/BAYSUI/STD/2024-06-10",        41,              "bob",              JourneyState::Ended,  50),
     ("R/BAYSUI/STD/2024-06-10",        999_999_999_999, "abcdefghijklmnop", JourneyState::Back,   7),
     ("C/ABCDEFGH/12345678/2099-12-31", 1,               "desk",             JourneyState::Undone, 1),
 ];
 
-const TEXT: &str = "night      kind     supplier product       journey agent            state  places
+const TEXT: &str =
+    "night      kind     supplier product       journey agent            state  places
 2024-06-10 flight   AL       A1                  3 ann              run         2
 2024-06-10 room     BAYSUI   STD                41 bob              ended      50
 2024-06-10 room     BAYSUI   STD      999999999999 abcdefghijklmnop back        7
@@ -25,11 +28,13 @@ const TEXT: &str = "night      kind     supplier product       journey agent    
 holders 4
 ";
 
-const NONE: &str = "night      kind     supplier product       journey agent            state  places
+const NONE: &str =
+    "night      kind     supplier product       journey agent            state  places
 holders 0
 ";
 
-const OBJECTS: &str = r#"{"agent":"ann","journey":3,"kind":"flight","night":"2024-06-10","places":2,"product":"A1","state":"run","supplier":"AL"}
+const OBJECTS: &str =
+    r#"{"agent":"ann","journey":3,"kind":"flight","night":"2024-06-10","places":2,"product":"A1","state":"run","supplier":"AL"}
 {"agent":"bob","journey":41,"kind":"room","night":"2024-06-10","places":50,"product":"STD","state":"ended","supplier":"BAYSUI"}
 {"agent":"abcdefghijklmnop","journey":999999999999,"kind":"room","night":"2024-06-10","places":7,"product":"STD","state":"back","supplier":"BAYSUI"}
 {"agent":"desk","journey":1,"kind":"cover","night":"2099-12-31","places":1,"product":"12345678","state":"undone","supplier":"ABCDEFGH"}
@@ -50,9 +55,9 @@ const REPORTS: [(Format, &str, &str); 3] = [
     (Format::Csv, RECORDS, "night,kind,supplier,product,journey,agent,state,places\r\n"),
 ];
 
-/// The holder of this place in the table.
-fn holding(rt: &impl Abort, at: usize) -> Holding {
-    let (cell, journey, agent, state, places) = HOLDINGS[at];
+/// The holder of a row.
+fn holding(rt: &impl Abort, row: Row) -> Holding {
+    let (cell, journey, agent, state, places) = row;
     Holding {
         cell: Cell::parse(cell).expect(rt, "cell"),
         journey,
@@ -66,10 +71,10 @@ fn holding(rt: &impl Abort, at: usize) -> Holding {
 fn holders_of_cells_are_shown_in_each_format(rt: HostRuntime) {
     let alloc = rt.alloc();
     let rows = [
-        holding(&rt, 0),
-        holding(&rt, 1),
-        holding(&rt, 2),
-        holding(&rt, 3),
+        holding(&rt, HOLDINGS[0]),
+        holding(&rt, HOLDINGS[1]),
+        holding(&rt, HOLDINGS[2]),
+        holding(&rt, HOLDINGS[3]),
     ];
     for &(format, whole, empty) in &REPORTS {
         let mut out = with_room(&rt, alloc);
