@@ -1,5 +1,5 @@
 #!/usr/bin/env bash
-# Each command in README.md and docs/*.md prints what the page prints. docs.py says how blocks of commands are written, and
+# Each command in the pages, *.md and docs/*.md, prints what the page prints. docs.py says how blocks of commands are written, and
 # which commands are not run here.
 . "$(dirname "${BASH_SOURCE[0]}")/helping.bash"
 
@@ -53,7 +53,7 @@ refuses_page "a file that is named" "line 1: crates/nowhere/src is absent" 'see 
 refuses_page "a link to nowhere" "line 1: a link to nowhere.md, which is absent" 'see [this](nowhere.md)\n'
 
 cd "$top" || exit 2
-python3 "$tests/docs.py" "$DESK" "$work/rooms" README.md docs/*.md >"$work/out"
+python3 "$tests/docs.py" "$DESK" "$work/rooms" ./*.md docs/*.md >"$work/out"
 same "the pages: the status" 0 $?
 sed 's/^/docs.sh: /' "$work/out" >&2
 for page in docs/*; do
