@@ -39,8 +39,9 @@ UNCHANGED = re.compile(r"\bas (?:it|they) (?:was|were)\b", re.IGNORECASE)
 DECISIONS, RECORD_LINES = "docs/DECISIONS.md", 12
 RECORD = re.compile(r"(\d+)\. \*\*[^*]+\.\*\* \*\d{4}-\d\d-\d\d; (?:stands|(?:replaced|completed|extended)\b|tried and dropped)[^*]*\.\* ")
 
-# the most that there may be of each; what the house style asks for is 0 phrases, fewer than 10 long sentences, no long page
+# the most that there may be of each, and what is aimed at; a limit above its aim is lowered as soon as it can be
 LIMITS = {"phrases": 2, "sentences": 9, "pages": 4, "decisions": 0}
+AIMS = {"phrases": 0, "sentences": 9, "pages": 0, "decisions": 0}
 
 
 class Text:
@@ -167,7 +168,7 @@ def main(words):
     }
     above = {name: count for name, count in counts.items() if count > LIMITS[name]}
     for name, count in counts.items():
-        print(f"{name}: {count}, at most {LIMITS[name]}" + ("; lower the limit" if count < LIMITS[name] else ""))
+        print(f"{name}: {count}, at most {LIMITS[name]}" + ("; lower the limit" if max(count, AIMS[name]) < LIMITS[name] else ""))
     return 1 if above else 0
 
 
