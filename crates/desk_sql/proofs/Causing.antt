@@ -65,9 +65,12 @@ pub record Takes (v : Version) (text : List ℕ) (query : Query) (params : Row) 
   pub whole : takes (length text) (length params) (understood (schema_of v) text) ≡ true
   pub typed : accepts_program (schema_of v) [] query params ≡ true
 
+-- no sum of the query overflows
+abbrev pub IsSure : Query → Type 0
+IsSure q = (db : Trees) (params : Row) → ¬ QueryOverflows q db params
+
 -- a query of one table without sums has none that overflows
-pub one_table : (tree : ℕ) (filter project : List Term) (order : List (Term × Key)) (db : Trees) (params : Row)
-    → ¬ QueryOverflows (sorted_rows tree filter project order) db params
+pub one_table : (tree : ℕ) (filter project : List Term) (order : List (Term × Key)) → IsSure (sorted_rows tree filter project order)
 one_table tree filter project order db params (inl none) = none
 one_table tree filter project order db params (inr any) = any.4
 
@@ -107,13 +110,9 @@ module _ {schema : Schema} (text : List ℕ) (params : Row) (plain : IsPlain (un
   not_run e (inl (inr (c, known, inr (inr h)), same)) = absurd (h.0 (plain_at c known).1)
   not_run e (inr h) = of_store old new up h.0 e h.1 h.2
 
-module _ {v : Version} {text : List ℕ} {tree : ℕ} {filter project : List Term} {order : List (Term × Key)} {names : List (List ℕ)}
-    (m : MeansIn v text (sorted_rows tree filter project order) names) {params : Row}
-    (fits : Takes v text (sorted_rows tree filter project order) params)
-    (old new : State) (up : IsUp old) (has : old.now.schema ≡ schema_of v) where
-  abbrev q : Query
-  q = sorted_rows tree filter project order
-
+-- A query whose sums do not overflow, whichever tables it reads.
+module _ {q : Query} (sure : IsSure q) {v : Version} {text : List ℕ} {names : List (List ℕ)} (m : MeansIn v text q names)
+    {params : Row} (fits : Takes v text q params) (old new : State) (up : IsUp old) (has : old.now.schema ≡ schema_of v) where
   abbrev program : Program
   program = record { lets = []; body = q }
 
@@ -122,10 +121,10 @@ module _ {v : Version} {text : List ℕ} {tree : ℕ} {filter project : List Ter
       let typed : accepts_program db.schema [] q params ≡ true
       = subst (λ s. accepts_program s [] q params ≡ true) (sym (ap (λ (d : Database). d.schema) same ∙ has)) fits.typed in
       let bad : true ≡ false = sym typed ∙ wrong in cc
-  refused db e same (inr (inl (is, over))) = one_table tree filter project order (overlay db.trees []) params over
+  refused db e same (inr (inl (is, over))) = sure (overlay db.trees []) params over
   refused db e same (inr (inr (is, limit))) = let none : false ≡ true = subst (λ l. IsSome l) up.unlimited limit in cc
 
-  -- a query on the desk's tables fails out of memory, or where the disk failed or refused
+  -- such a query on the desk's tables fails out of memory, or where the disk failed or refused
   pub query_reason : (e : Error) → FailsToQuery text params old new e → HasReason old new e
   unfolding FailsToQuery
   query_reason e (inl h) = not_run text params m.plain fits.whole old new up has e h

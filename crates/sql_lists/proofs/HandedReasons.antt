@@ -26,9 +26,8 @@ use Rattle.desk_sql.specs.Causes.{IsUp, HasReason}
 use Rattle.desk_sql.specs.Meanings.{sorted_rows}
 use Rattle.desk_sql.specs.RemainingRows.{Rests}
 use Rattle.desk_sql.specs.Schema.{schema_of}
-use Rattle.desk_sql.proofs.Causing.{Takes, takes, of_store, one_table}
+use Rattle.desk_sql.proofs.Causing.{IsSure, Takes, takes, of_store, one_table, query_reason}
 use Rattle.desk_sql.proofs.Meaning.{MeansEach}
-use Rattle.sql_lists.proofs.QueryReasons.{IsSure, sure_reason}
 
 module _ {S : Type 0} (g : Ghosts S) {q : Query} (sure : IsSure q) {text : List ℕ} {names : List (List ℕ)}
     (m : MeansEach text q names) where
@@ -86,7 +85,7 @@ module _ {S : Type 0} (g : Ghosts S) {q : Query} (sure : IsSure q) {text : List 
       let why = ended over.0 in of_store (state g old) (state g new) up why.0 e why.1 why.2
   advance_reason_sure old new later e up (inl runs) fails ended =
       let v = runs.1.version in
-      sure_reason sure (m v) (takes_given v runs.0 old runs.1.given runs.1.schema runs.1.gave) (state g old) (state g new) up runs.1.schema e
+      query_reason sure (m v) (takes_given v runs.0 old runs.1.given runs.1.schema runs.1.gave) (state g old) (state g new) up runs.1.schema e
       (fails text runs.0 runs.1.given runs.1.gave)
 
 -- the same of a query of one table
