@@ -96,7 +96,7 @@ old_file() {
     echo 'set june F/AL/A1/2030-06-01 9'
     for id in 1 2 3; do printf 'begin F/AL/A1/2030-06-01/1/1!0\nstep %s\n' "$id"; done
   } | "$DESK" run old.db >/dev/null
-  sqlite3 old.db "INSERT INTO entry SELECT * FROM entry2; DROP TABLE entry2; DROP TABLE mark; UPDATE meta SET version = 1"
+  sqlite3 old.db "INSERT INTO entry SELECT * FROM entry2; DROP TABLE entry2; DROP TABLE mark; DROP INDEX journey_agent; UPDATE meta SET version = 1"
 }
 
 # shown_by EXAMPLE: what its commands print, on standard output; after one in the background it waits for a line

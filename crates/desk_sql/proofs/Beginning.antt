@@ -1,5 +1,5 @@
 -- Rows that could not be started: nothing has changed, and the failure has a reason. For the functions of `handing`.
-use Rattle.std.proofs.Common.{ℕ, List, Result, Ok, Err, OnErr}
+use Rattle.std.proofs.Common.{ℕ, List, [], Result, Ok, Err, OnErr}
 use Rattle.sqlite.specs.declared.error.Error.{Error}
 use Rattle.sqlite_value.specs.declared.keys.Key.{Key}
 use Rattle.sqlite.specs.Order.{Row}
@@ -24,10 +24,10 @@ pub not_begun_sure : {S : Type 0} (g : Ghosts S) {q : Query} (sure : IsSure q) {
     → OnErr r (IsRefused g text params old r new) → OnErr r (IsNotBegun g r old new)
 not_begun_sure g sure m fits old new (Ok it) refused = tt
 not_begun_sure g sure {text = text} m {params = params} fits old new (Err e) refused = record {
-  quiet = quiet_of g old new text (m Two).selects params
-      (λ clean. fails_quietly text (m Two).selects params (state g old) (state g new) e (refused.err clean)) refused.mode refused.survives;
-  reason = λ v clean t sees any up.
-      query_reason sure (m v) (fits v) (state g old) (state g new) up (sees up.is_open).schema e (refused.err clean);
+  quiet = quiet_of g old new text (m Two []).selects params
+      (λ clean. fails_quietly text (m Two []).selects params (state g old) (state g new) e (refused.err clean)) refused.mode refused.survives;
+  reason = λ v clean t sees any up. (
+      let of = (sees up.is_open).schema in query_reason sure (m v) (state g old) (state g new) up of (fits v of.extra) e (refused.err clean));
 }
 
 -- of a query of one table

@@ -33,7 +33,7 @@ has_number v n t s stands all =
 
 module _ {S : Type 0} (g : Ghosts S) (old mid : Held S) where
   -- a version that was seen shows that the connection was open: a closed one may be said to see any rows
-  saw_open : (n : ℕ) → SawVersion g old mid n → HasCleanDisk (state g mid) → IsTrue (state g old).is_open
+  pub saw_open : (n : ℕ) → SawVersion g old mid n → HasCleanDisk (state g mid) → IsTrue (state g old).is_open
   saw_open n saw clean = go (state g old).is_open refl
     where
       other : Tables
@@ -47,7 +47,7 @@ module _ {S : Type 0} (g : Ghosts S) (old mid : Held S) where
           absurd (let no : ⊥ = omega (arith, one) in no)
 
   -- tables that show a state have the number of their version
-  saw_number : (v : Version) (n : ℕ) (s : State) → SawVersion g old mid n → HasCleanDisk (state g mid)
+  pub saw_number : (v : Version) (n : ℕ) (s : State) → SawVersion g old mid n → HasCleanDisk (state g mid)
       → SeesOf v (state g old) s → number_of v ≡ n
   saw_number v n s saw clean desk =
       has_number v n desk.tables s desk.stands
@@ -93,7 +93,7 @@ module _ {S : Type 0} (g : Ghosts S) (old mid : Held S) where
     bare_not_old bare clean live s stood =
         let found : IsFound One (state g old) s = stood (at_first clean) in
         let desk : SeesOf One (state g old) s = found.sees live in
-        not_bare (sym desk.schema ∙ bare)
+        not_bare (sym desk.schema.is ∙ bare)
 
   -- so no refusal comes on tables of version 1
   pub refuses_others : Quiet g old mid → (why : MigrateFault) → Tells g old mid why → IsRefusal why → WasNotOld g old mid
