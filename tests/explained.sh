@@ -37,7 +37,7 @@ head -c 8192 other.db | tr 'S' 'T' >spoiled.db
 printf 'SQLite format 3\0' | cat - <(head -c 9000 /dev/zero | tr '\0' x) >damaged.db
 sums >../before 2>../err
 for file in june.csv other.db walled.db spoiled.db damaged.db; do
-  for words in "run $file" "recover $file" "stock $file" "history $file 1" "migrate $file" "load $file june.csv --batch b"; do
+  for words in "run $file" "recover $file" "stock $file" "history $file 1" "migrate $file" "index $file" "load $file june.csv --batch b"; do
     same "$words" "fault 21 Store" "$("$DESK" $words 2>&1 </dev/null)"
     same "$words: the folder and its files" "$(cat ../before)" "$(sums)"
   done
@@ -183,7 +183,7 @@ else
 fi
 
 # the word stands before the command only; after it, a line below the usage says so, and the usage is as for any other word
-for command in run serve recover load stock summary holders unfinished journeys history why migrate; do
+for command in run serve recover load stock summary holders unfinished journeys history why migrate index; do
   "$DESK" "$command" --explain x.db >out 2>err </dev/null
   same "$command --explain: the status" "2:" "$?:$(cat out)"
   same "$command --explain: where it belongs" "The word '--explain' stands before the command: 'desk --explain $command'." \

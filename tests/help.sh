@@ -8,7 +8,7 @@ program=$DESK
 say() { printf 'help.sh: %s\n' "$*" >&2; }
 . "$top/scripts/manual.bash"
 
-commands="run serve recover load stock summary holders unfinished journeys history why migrate"
+commands="run serve recover load stock summary holders unfinished journeys history why migrate index"
 
 # helps WHAT WORDS: the program prints a help on standard error, into the file err, and ends with 2
 helps() {
@@ -126,7 +126,7 @@ for command in "" $commands; do
   port=$(free_port)
   example=$(help_of $command | sed '1,/^Example:$/d; s/^  //' | sed "s/8080/$port/")
   mkdir "example-$command" && cd "example-$command" || exit 2
-  [ "$command" != migrate ] || old_file
+  case $command in migrate | index) old_file ;; esac
   : >printed
   same "the example of ${command:-desk}" "$(grep -v '^\$ ' <<<"$example")" "$(PATH=$work/path:$PATH shown_by "$example")"
   cd ..

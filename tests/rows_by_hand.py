@@ -289,9 +289,60 @@ def a_file_of_schema_0():
         expect(word, ("refused 20 UnknownSchema 0\n", "", 1), (ended.out, ended.err, ended.status))
 
 
+MADE = "CREATE INDEX journey_agent ON journey(agent, id)"
+
+
+def rows_of(statement):
+    """What a statement of sqlite3 finds in trips.db, or does there."""
+    connection = sqlite3.connect("trips.db")
+    found = connection.execute(statement).fetchall()
+    connection.commit()
+    connection.close()
+    return found
+
+
+def indexes(name, out, status=0, err=""):
+    ended = desk("index", "trips.db")
+    expect(f"index, {name}", (out, err, status), (ended.out, ended.err, ended.status))
+
+
+def ends_next(name, number):
+    """One more journey of this number is made."""
+    lines = f"begin {SHORT['$A1']}/1/1!0\nstep {number}\n"
+    expect(name, f"journey {number} begun\njourney {number} T1.1 ended 1\n", desk("run", "trips.db", lines=lines).out)
+
+
+def an_index_for_own_journeys():
+    """A file without the index, or with another one beside it, is used in the same way, and `index` adds it once."""
+    expect("a set", "loaded a 1\n", desk("run", "trips.db", lines=f"set a {SHORT['$A1']} 5\n").out)
+    made = "SELECT sql FROM sqlite_schema WHERE type = 'index' AND sql IS NOT NULL"
+    expect("that of a new desk", [(MADE,)], rows_of(made))
+    ends_next("with it", 1)
+    indexes("of a new desk", "already indexed journeys 1\n")
+    rows_of("DROP INDEX journey_agent")
+    ends_next("without it", 2)
+    indexes("where there is none", "indexed journeys 2\n")
+    expect("the index that was added", [(MADE,)], rows_of(made))
+    indexes("a second time", "already indexed journeys 2\n")
+    ends_next("with the index that was added", 3)
+    rows_of("CREATE INDEX item_journey ON entry2(journey, num)")
+    ends_next("with an index on the items too", 4)
+    expect("the items", [(3, 1), (5, 2), (7, 3), (9, 4)], rows_of("SELECT num, journey FROM entry2 ORDER BY num"))
+    expect("the file", [("ok",)], rows_of("PRAGMA integrity_check"))
+    rows_of("UPDATE meta SET version = 3")
+    indexes("of an unknown version", "refused 20 UnknownSchema 3\n", 1)
+
+
+def an_index_of_no_desk():
+    indexes("of an absent file", "", 1, "fault 26 File\n")
+    with open("trips.db", "wb"):
+        pass
+    indexes("of a file without tables", "refused 20 UnknownSchema 0\n", 1)
+
+
 ROWS = (
     two_requests_at_once, a_request_cut_after_each_byte, closed_pages, no_body, a_read_fails_behind_a_page,
     the_second_request_waits_for_the_first_page, a_write_of_twenty_bytes, a_page_that_is_lost,
     a_client_that_shuts_its_writing_side, each_front_of_a_file, recovery_stops_after_six_commits, a_file_of_schema_1,
-    a_file_of_schema_0,
+    a_file_of_schema_0, an_index_for_own_journeys, an_index_of_no_desk,
 )

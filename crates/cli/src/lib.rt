@@ -8,6 +8,7 @@
 
 mod listening;
 mod loads;
+mod indexes;
 mod migrations;
 mod programs;
 mod telling;

@@ -61,8 +61,8 @@ fn send_migrated<O: Write>(alloc: Global, events: u64, out: &mut O) -> Result<()
     Ok(send(out, line.as_bytes())?)
 }
 
-/// The end if a file could not be migrated.
-fn end_of_fault(fault: MigrateFault) -> End
+/// The end if a file could not be migrated, or got no index.
+pub(crate) fn end_of_fault(fault: MigrateFault) -> End
     ensures end { result ≡ end_of_migration fault }
     ensures bad { EndsBadly result }
 {

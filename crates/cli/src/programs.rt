@@ -12,6 +12,7 @@ ghost use Rattle.cli.specs.Ends.{HasBadId, ReadsFor, TellsOf, TellsRecovered};
 
 use crate::listening::{Served, serve_file};
 use crate::loads::load_file;
+use crate::indexes::index_file;
 use crate::migrations::migrate_file;
 use crate::telling::{history_file, report_file};
 use command_line::{Job, version_line};
@@ -191,6 +192,7 @@ fn carry_out<R: Read, O: Write, N: Write>(
             report_file(rt, alloc, file.as_str(), &report, out)
         }
         Job::Migrate { file } => migrate_file(rt, alloc, file.as_str(), out),
+        Job::Index { file } => index_file(rt, alloc, file.as_str(), out),
         Job::Version => Ended::from(tell_version(out)),
     }
 }
