@@ -1,46 +1,14 @@
-"""The log of a desk that serves, over real sockets. Prints what went wrong, and nothing else."""
-import itertools
+"""The log of a desk that serves, over real sockets. Prints what went wrong, and nothing else. Why connections end that wait too long,
+are cut off or displaced is looked at in live.py, where they are."""
 import os
-import re
-import socket
 import threading
 import time
 
-from driving import Client, Desk, asked, desk, request, same, wrong
+from driving import LOG_HEAD, Client, Logged, asked, desk, request, same, wrong
 
 FLIGHT = b'{"count":1,"first":"2030-06-01","kind":"flight","nights":1,"product":"A1","supplier":"AL"}'
 PLAN = b'{"steps":[{"options":[' + FLIGHT + b'],"save":false}],"tries":0}'
 STOCK = request("GET", "/stock")
-HEAD = "[INFO  desk] "
-LINE = re.compile(r"\[INFO  desk\] (request|ended|opened)( [a-z]+=[!-~]*)+")
-
-
-class Logged(Desk):
-    """A desk whose standard error is a file of its own, or goes to `errors`; None: nowhere, it is closed."""
-
-    count = itertools.count(1)
-
-    def __init__(self, file, *words, errors=-1):
-        self.name = f"errors.{next(Logged.count)}"
-        closed = ["sh", "-c", 'exec "$@" 2>&-', "sh"] if errors is None else []
-        with open(self.name, "wb") as kept:
-            super().__init__(file, *words, errors=kept if errors == -1 else errors, before=closed)
-
-    def log(self):
-        """The lines so far, each without its head."""
-        with open(self.name, encoding="utf-8") as lines:
-            found = lines.read().split("\n")
-        same("the log ends with a whole line", "", found[-1])
-        for line in found[:-1]:
-            same("a line of the log", True, LINE.fullmatch(line) is not None or line)
-        return [line.removeprefix(HEAD) for line in found[:-1]]
-
-    def has(self, what, line, within=30):
-        """A line is in the log, or soon comes."""
-        begun = time.monotonic()
-        while line not in self.log() and time.monotonic() - begun < within:
-            time.sleep(0.05)
-        same(what, True, line in self.log() or self.log())
 
 
 def kinds():
@@ -141,81 +109,6 @@ def odd_bytes():
     served.kill()
 
 
-def loads(port):
-    """Pages of the stock get long, over a connection of its own."""
-    nights = "".join(f"flight,AL,A{n},2030-06-{night:02},9\n" for n in range(66) for night in range(1, 31))
-    asked(port, request("POST", "/batches/b1", "k0", b"kind,supplier,product,night,places\n" + nights.encode()))
-
-
-def never_reads(port):
-    """A connection that asks until no more is taken in, and reads no page."""
-    stream = socket.socket()
-    stream.setsockopt(socket.SOL_SOCKET, socket.SO_RCVBUF, 4096)
-    stream.connect(("127.0.0.1", port))
-    stream.settimeout(2)
-    try:
-        while True:
-            stream.sendall(STOCK * 20)
-    except OSError:
-        pass
-    return stream
-
-
-def ended(served, number, within):
-    """Why a connection ended, once it has."""
-    begun = time.monotonic()
-    while time.monotonic() - begun < within:
-        for line in served.log():
-            if line.startswith(f"ended connection={number} "):
-                return line.rpartition("why=")[2]
-        time.sleep(0.2)
-    return "not ended"
-
-
-def cut():
-    """A connection that its peer ends within a request, or before its page was written whole."""
-    served = Logged("cut.db", "--log")
-    loads(served.port)
-    stream = Client(served.port)
-    stream.ask(request("GET", "/unfinished"))
-    stream.stream.sendall(STOCK[:20])
-    time.sleep(0.3)
-    stream.close()
-    served.has("a peer that leaves within a request", "ended connection=2 door=port requests=1 why=cut-off")
-    never_reads(served.port).close()
-    same("a peer that leaves before its page", "not-taken", ended(served, 3, 30))
-    served.kill()
-
-
-def late():
-    """A request that is not whole after 30 seconds, and a page that is not taken."""
-    served = Logged("late.db", "--log")
-    loads(served.port)
-    half = Client(served.port)
-    half.stream.sendall(STOCK[:20])
-    greedy = never_reads(served.port)
-    same("a late request", "late-request", ended(served, 2, 50))
-    same("a late page", "late-page", ended(served, 3, 120))
-    half.close()
-    greedy.close()
-    served.kill()
-
-
-def displaced():
-    """The connection that was silent for longest, where all places are taken."""
-    served = Logged("displaced.db", "--log")
-    clients = []
-    for _ in range(256):
-        clients.append(Client(served.port))
-        clients[-1].ask(STOCK)
-    time.sleep(0.3)
-    for client in clients[1:]:
-        client.ask(STOCK)
-    Client(served.port).ask(STOCK)
-    served.has("the one that was silent for longest", "ended connection=1 door=port requests=1 why=displaced")
-    served.kill()
-
-
 def broken():
     """Standard error that is closed, full, or a pipe that nobody reads from any more: each page comes, the desk goes on
     and ends well, and its database is whole."""
@@ -250,7 +143,7 @@ def silent():
     refused = desk("serve", "other.db", "--port", str(served.port), "--connections", "1")
     same("a fault without a log", (1, "fault 27 Net\n"), (refused.status, refused.err))
     refused = desk("serve", "other.db", "--port", str(served.port), "--connections", "1", "--log")
-    same("a fault with a log", (1, f"{HEAD}opened recovered=0\nfault 27 Net\n"), (refused.status, refused.err))
+    same("a fault with a log", (1, f"{LOG_HEAD}opened recovered=0\nfault 27 Net\n"), (refused.status, refused.err))
     one.close()
     served.ends("without a log")
     same("without a log: not a byte", 0, os.path.getsize(served.name))
@@ -264,7 +157,7 @@ def guarded(call):
 
 
 def main():
-    threads = [threading.Thread(target=guarded, args=(call,)) for call in (kinds, widely, odd_bytes, cut, late, displaced, broken, silent)]
+    threads = [threading.Thread(target=guarded, args=(call,)) for call in (kinds, widely, odd_bytes, broken, silent)]
     for thread in threads:
         thread.start()
     for thread in threads:
