@@ -52,6 +52,16 @@ same "the folder and its files" "$(cat ../before)" "$(sums)"
 same "another program still reads its file" 7 "$(sqlite3 other.db 'SELECT a FROM other')"
 cd .. || exit 2
 
+# a file of one byte becomes a desk, as an empty one does; one of two does not
+printf x >one.db
+: >none.db
+for name in one.db none.db; do
+  same "$name: the answer" "journey 1 begun" "$("$DESK" run "$name" <<<"$line" 2>&1)"
+  same "$name: the journey, and a sound file" "1|ok" "$(sqlite3 "$name" 'SELECT count(*), (SELECT * FROM pragma_integrity_check) FROM journey')"
+done
+printf xy >two.db
+explains "a file of two bytes" "fault 21 Store" "$why_no_database" run two.db
+
 mkdir folder
 explains "a folder" "fault 21 Store" "This is a folder, or another thing that is no file. Name a file." run folder
 explains "a folder that is absent" "fault 21 Store" \

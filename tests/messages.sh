@@ -1,27 +1,30 @@
 #!/usr/bin/env bash
-# A desk with --wide, over its sockets: what libraries, proxies and browsers send, and what would smuggle a request, whole, byte by
-# byte and cut at each length; a kill, with the request sent again in another form; and a stop at the house's door. The same
-# messages at a desk without --wide are answered as ever.
+# What libraries, proxies and browsers send, what is no request, and what would smuggle one, at a desk with --wide and at one without,
+# over sockets: whole, byte by byte and cut at each length. With --wide a kill, with the request sent again in another form; a stop at
+# the house's door; and the hosts of a desk with a page.
 #
-# EACH=1 DESK=.. tests/wide.sh    each length, and not each fifth alone
+# EACH=1 DESK=.. tests/messages.sh    each length, and not each fifth alone
 . "$(dirname "${BASH_SOURCE[0]}")/helping.bash"
 . "$tests/hostile.bash"
 . "$tests/serving.bash"
 
-told=$(python3 "$tests/wide_bytes.py" "${EACH:-5}") || wrong=1
+told=$(python3 "$tests/messages.py" "${EACH:-5}") || wrong=1
 echo "$told"
-for file in wide:7:8 plain:2:3; do
-  IFS=: read -r name journeys events <<<"$file"
-  same "$name: what acted, each once, and nothing else" "$journeys|$events|$events|ok" \
+for name in wide plain; do
+  same "$name: what acted, each once, and nothing else" "7|8|8|ok" \
     "$(sqlite3 "$name.db" 'SELECT journeys, events, (SELECT count(*) FROM answer) FROM meta; PRAGMA integrity_check' | paste -sd '|')"
 done
 
 key=7d444840-9dc0-11d1-b245-5ffdce74fad2
 plan='{"steps":[{"options":[{"count":1,"first":"2030-06-01","kind":"flight","nights":1,"product":"A1","supplier":"AL"}],"save":false}],"tries":0}'
 serves_with --wide || {
-  echo "wide.sh: no desk" >&2
+  echo "messages.sh: no desk" >&2
   exit 1
 }
+for host in 127.0.0.2 '[::1]'; do
+  curl -s -o got --max-time 5 "http://$host:$port/health"
+  same "no connection but at 127.0.0.1: $host" 7 $?
+done
 page "a begin in chunks" 200 '{"journey":1}' -H 'Desk-Agent: ann' -H "Desk-Key: $key" -H 'Transfer-Encoding: chunked' \
   --data-binary "$plan" "http://127.0.0.1:$port/journeys"
 {
