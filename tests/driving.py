@@ -124,7 +124,7 @@ class Desk(Server):
 
 
 LOG_HEAD = "[INFO  desk] "
-LOG_LINE = re.compile(r"\[INFO  desk\] (request|ended|opened)( [a-z]+=[!-~]*)+")
+LOG_LINE = re.compile(r"\[INFO  desk\] (request( [a-z]+=[!-~]*){9}(?P<millis> ms=[0-9]+)|(ended|opened)( [a-z]+=[!-~]*)+)")
 
 
 class Logged(Desk):
@@ -139,13 +139,17 @@ class Logged(Desk):
             super().__init__(file, *words, errors=kept if errors == -1 else errors, before=closed)
 
     def log(self):
-        """The lines so far, each without its head."""
+        """The lines so far, each without its head, and those of requests without their milliseconds."""
         with open(self.name, encoding="utf-8") as lines:
             found = lines.read().split("\n")
         same("the log ends with a whole line", "", found[-1])
-        for line in found[:-1]:
-            same("a line of the log", True, LOG_LINE.fullmatch(line) is not None or line)
-        return [line.removeprefix(LOG_HEAD) for line in found[:-1]]
+        return [self.told(line) for line in found[:-1]]
+
+    def told(self, line):
+        """What a line says."""
+        read = LOG_LINE.fullmatch(line)
+        same("a line of the log", True, read is not None or line)
+        return line.removeprefix(LOG_HEAD).removesuffix((read and read["millis"]) or "")
 
     def has(self, what, line, within=30):
         """A line is in the log, or soon comes."""

@@ -28,27 +28,27 @@ def kinds():
     first = "request connection=1 door=port agent="
     served.has("the first connection ends", "ended connection=1 door=port requests=6 why=left")
     same("its lines", [
-        f"{first}ann method=POST target=/journeys status=200 key=k1 again=no",
-        f"{first}ann method=POST target=/journeys status=200 key=k1 again=yes",
-        f"{first}ann method=POST target=/journeys/2/abort/0 status=409 key=k1 again=no",
-        f"{first}ann method=GET target=/stock status=200 key= again=no",
-        f"{first} method=GET target=/stock status=400 key= again=no",
+        f"{first}ann method=POST target=/journeys status=200 key=k1 again=no refused=",
+        f"{first}ann method=POST target=/journeys status=200 key=k1 again=yes refused=",
+        f"{first}ann method=POST target=/journeys/2/abort/0 status=409 key=k1 again=no refused=14",
+        f"{first}ann method=GET target=/stock status=200 key= again=no refused=",
+        f"{first} method=GET target=/stock status=400 key= again=no refused=2",
     ], served.log()[1:6])
     two = Client(served.port)
     two.ask(request("POST", "/journeys", "k1", PLAN).replace(b"ann", b"bob"))
     two.ask(b"\x00\x1b[31m\r\n\r\n")
     two.close()
-    served.has("another agent's key", "request connection=2 door=port agent=bob method=POST target=/journeys status=200 key=k1 again=no")
-    served.has("what is no head", "request connection=2 door=port agent= method= target= status=400 key= again=no")
+    served.has("another agent's key", "request connection=2 door=port agent=bob method=POST target=/journeys status=200 key=k1 again=no refused=")
+    served.has("what is no head", "request connection=2 door=port agent= method= target= status=400 key= again=no refused=1")
     served.has("a closing page", "ended connection=2 door=port requests=2 why=closed")
     asked("kinds.sock", b"GET /unfinished HTTP/1.1\r\nHost: d\r\n\r\n")
-    served.has("the house", "request connection=3 door=house agent= method=GET target=/unfinished status=200 key= again=no")
+    served.has("the house", "request connection=3 door=house agent= method=GET target=/unfinished status=200 key= again=no refused=")
     served.has("the house leaves", "ended connection=3 door=house requests=1 why=left")
     silent = Client(served.port)
     silent.ask(STOCK)
     asked("kinds.sock", b"POST /stop HTTP/1.1\r\nHost: d\r\nContent-Length: 0\r\n\r\n")
     served.ends("a stop")
-    served.has("the stop", "request connection=5 door=house agent= method=POST target=/stop status=200 key= again=no")
+    served.has("the stop", "request connection=5 door=house agent= method=POST target=/stop status=200 key= again=no refused=")
     served.has("a silent connection at a stop", "ended connection=4 door=port requests=1 why=stopped")
     silent.close()
 
@@ -73,14 +73,14 @@ def widely():
     first = "request connection=1 door=port agent=ann"
     served.has("the first connection ends", "ended connection=1 door=port requests=3 why=left")
     same("its lines", [
-        f"{first} method=HEAD target=/stock status=200 key= again=no",
-        f"{first} method=POST target=/journeys status=200 key={digits} again=no",
-        f"{first} method=POST target=/journeys status=200 key={digits} again=yes",
+        f"{first} method=HEAD target=/stock status=200 key= again=no refused=",
+        f"{first} method=POST target=/journeys status=200 key={digits} again=no refused=",
+        f"{first} method=POST target=/journeys status=200 key={digits} again=yes refused=",
     ], served.log()[1:4])
     hello = Client(served.port)
     same("a TLS hello gets no page", b"", hello.ask(bytes.fromhex("16030102000100fc0303") + b"\x5a" * 60))
     hello.close()
-    served.has("a TLS hello", "request connection=2 door=port agent= method= target= status=? key= again=no")
+    served.has("a TLS hello", "request connection=2 door=port agent= method= target= status=? key= again=no refused=")
     served.has("its end", "ended connection=2 door=port requests=1 why=closed")
     served.kill()
 
@@ -93,10 +93,11 @@ def odd_bytes():
     ]
     for number, (target, shown) in enumerate(targets, 1):
         stream = Client(served.port)
-        status = stream.ask(b"BREW " + target + b" HTTP/1.1\r\nHost: d\r\n\r\n")[9:12].decode()
+        page = stream.ask(b"BREW " + target + b" HTTP/1.1\r\nHost: d\r\n\r\n").decode()
+        status, refused = page[9:12], page.partition('"refused":')[2].rstrip("}")
         stream.close()
         served.has(f"the target {target!r}",
-            f"request connection={number} door=port agent= method=BREW target={shown} status={status} key= again=no")
+            f"request connection={number} door=port agent= method=BREW target={shown} status={status} key= again=no refused={refused}")
     for odd in [b"/a\nrequest connection=9\n", b"/\x1b[2J", b"/\x00", b"/\x7f", b"/\xff\xfe", b"\r", b"\t"]:
         stream = Client(served.port)
         stream.ask(b"GET " + odd + b" HTTP/1.1\r\nHost: d\r\nDesk-Agent: a\nb\r\nDesk-Key: \x01\r\n\r\n")
