@@ -99,6 +99,7 @@ version_there() { administer -l desk 2>/dev/null | awk '$1 == "ii" { print $3 }'
 begins() {
   local command
   port=$(free_port)
+  : >told
   mkdir -p root/var/lib/desk root/run/desk
   command=$(sed -n 's/^ExecStart=//p' root/usr/lib/systemd/system/desk.service | sed "s,8080,$port,; s,%S,$at_root/var/lib,; s,%t,$at_root/run,; s,/usr/bin,$at_root&,")
   "${enter[@]}" sh -c "exec $command" >told 2>desk_err &
