@@ -10,9 +10,9 @@ ghost use Rattle.desk_jobs.specs.Notes.{MayNote, MayNoteAll};
 ghost use Rattle.cli.specs.Explaining.{TellsExplained};
 ghost use Rattle.cli.specs.Ends.{HasBadId, ReadsFor, TellsOf, TellsRecovered};
 
+use crate::indexes::index_file;
 use crate::listening::{Served, serve_file};
 use crate::loads::load_file;
-use crate::indexes::index_file;
 use crate::migrations::migrate_file;
 use crate::telling::{history_file, report_file};
 use command_line::{Job, version_line};
