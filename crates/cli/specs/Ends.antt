@@ -8,7 +8,6 @@ use Rattle.desk_lines.specs.Lines.{journey_in}
 use Rattle.desk_jobs.specs.Ends.{recovered_line, TellsAccepted}
 use Rattle.desk_jobs.specs.Migrating.{indexed_line, migrated_line}
 use Rattle.migrate.specs.declared.indexing.Indexed.{Indexed}
-use Rattle.migrate.specs.declared.migrating.Migrated.{Migrated}
 use Rattle.command_line.specs.declared.jobs.Job.{Job}
 use Rattle.command_line.specs.Version.{version_line}
 use Rattle.command_line.specs.declared.jobs.Job.TheVariants.{Run, Serve, Recover, Load, Stock, Calendar, Summary, Holders, Holdings, Unfinished, Journeys, History, Why, Migrate, Index, Version}
@@ -19,7 +18,7 @@ TellsRecovered held holds = (made : ℕ) × Appends held holds (recovered_line m
 
 -- the line with the number of migrated events was written, and nothing else
 abbrev pub TellsMigrated : Option (List ℕ) → Option (List ℕ) → Type 0
-TellsMigrated held holds = (m : Migrated) × Appends held holds (migrated_line m.events)
+TellsMigrated held holds = (events : ℕ) × Appends held holds (migrated_line events)
 
 -- the line with the number of indexed journeys was written, and nothing else
 abbrev pub TellsIndexed : Option (List ℕ) → Option (List ℕ) → Type 0

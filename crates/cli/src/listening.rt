@@ -16,6 +16,7 @@ use http_sockets::{Limits, PATIENCE, Sockets, log_opening, serve_sockets};
 use program_ends::{End, Ended, ProgramFault, end_of_listening};
 use protocols::ServeFault;
 use recovery::Ready;
+use report_kinds::Reporting;
 use saga_core::Book;
 use sqlite::{Alter, Connection};
 use std::alloc::Global;
@@ -204,7 +205,7 @@ fn with_log(sockets: Sockets<'_>, log: bool) -> Result<Sockets<'_>, ProgramFault
 }
 
 /// Serves the sockets over a recovered book, and reports first that connections to the port are accepted.
-fn listen<B: Book, O: Write>(
+fn listen<B: Reporting, O: Write>(
     alloc: Global,
     port: u16,
     sockets: &mut Sockets<'_>,
@@ -225,7 +226,7 @@ fn listen<B: Book, O: Write>(
 }
 
 /// Serves the sockets over a recovered book.
-fn serve_all<B: Book>(
+fn serve_all<B: Reporting>(
     alloc: Global,
     sockets: &mut Sockets<'_>,
     book: &mut Ready<B>,

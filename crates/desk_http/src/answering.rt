@@ -16,7 +16,9 @@ use crate::begun::see_begun;
 use crate::demands::{Demand, Unmet, asks_to_stop, demand_in};
 use crate::doors::{Door, refusal_at};
 use crate::mine::see_mine;
-use crate::showing::{see_agent, see_health, see_journey, see_plan, see_stock, see_unfinished};
+use crate::showing::{
+    see_agent, see_health, see_journey, see_plan, see_report, see_stock, see_unfinished,
+};
 use crate::whys::see_why;
 use commands::Refusal;
 use http_messages::{Message, Request};
@@ -24,7 +26,7 @@ use http_pages::{
     Body, Page, Paths, denied_page, page_bytes, refused_page, reply_page, shown_page, stopping_body,
 };
 use protocols::ServeFault;
-use saga_core::Book;
+use report_kinds::Reporting;
 use std::alloc::Global;
 
 /// The bytes of a page, and whether the connection ends after it.
@@ -66,7 +68,7 @@ impl Answer {
 /// Answers a message that came in at a door: carries out what it asks for, and lays out its page.
 ///
 /// Out of memory, it was carried out or not, and has no page.
-pub fn answer_to<B: Book>(
+pub fn answer_to<B: Reporting>(
     alloc: Global,
     paths: &Paths,
     door: Door,
@@ -140,7 +142,7 @@ fn is_stop(unnamed: bool, asked: bool, refused: bool) -> bool
 }
 
 /// The page of a request at a door, whose head is refused, or is not.
-fn page_of<B: Book>(
+fn page_of<B: Reporting>(
     alloc: Global,
     paths: &Paths,
     door: Door,
@@ -167,7 +169,7 @@ fn page_of<B: Book>(
 }
 
 /// The page that reports the outcome of a demand.
-fn meet<B: Book>(alloc: Global, demand: &Demand, book: &mut B) -> Result<Page, ServeFault>
+fn meet<B: Reporting>(alloc: Global, demand: &Demand, book: &mut B) -> Result<Page, ServeFault>
     ensures page { B.is_sound book.new → (s : State) → B.stands book.old s →
         Meets (B.stands book.new) (B.leaves book.new) s (demand_said demand.now) result }
 
@@ -189,6 +191,7 @@ fn meet<B: Book>(alloc: Global, demand: &Demand, book: &mut B) -> Result<Page, S
         Demand::SeeHealth => see_health(alloc, book),
         Demand::SeeAgent(asker) => Ok(see_agent(alloc, asker)?),
         Demand::SeePage(page) => Ok(shown_page(Body::Html(*page))),
+        Demand::SeeReport(report) => see_report(alloc, book, report),
         Demand::Stop => Ok(shown_page(Body::Json(stopping_body(alloc)?))),
     }
 }

@@ -18,7 +18,7 @@ use http_conversations::MOST_READ;
 use http_pages::Paths;
 use http_ways::{Arrived, Way};
 use recovery::Ready;
-use saga_core::Book;
+use report_kinds::Reporting;
 use std::alloc::Global;
 use std::io::{Read, Write};
 
@@ -26,7 +26,7 @@ use std::io::{Read, Write};
 /// fails. Where the house asks, no further message is answered; its page waits.
 ///
 /// Out of memory, no turn was taken.
-pub fn serve_many<T: Turns, B: Book>(
+pub fn serve_many<T: Turns, B: Reporting>(
     alloc: Global,
     seats: &mut [Seat<T::Reader, T::Writer>],
     turns: &mut T,
@@ -53,7 +53,7 @@ pub fn serve_many<T: Turns, B: Book>(
 }
 
 /// The same over any book, by way of a buffer.
-fn serve_turns<T: Turns, B: Book>(
+fn serve_turns<T: Turns, B: Reporting>(
     alloc: Global,
     paths: &Paths,
     seats: &mut [Seat<T::Reader, T::Writer>],
@@ -81,7 +81,7 @@ fn serve_turns<T: Turns, B: Book>(
 }
 
 /// Takes the next turn, and reports whether serving ends with it.
-fn take_turn<T: Turns, B: Book>(
+fn take_turn<T: Turns, B: Reporting>(
     alloc: Global,
     paths: &Paths,
     seats: &mut [Seat<T::Reader, T::Writer>],

@@ -92,7 +92,11 @@ fn take_items<S: Alter>(
 
 /// Returns the items of the journey of that number, in order, each by a query of its own. If the journey has finished, no
 /// row after that of its last item is looked at.
-fn read_each<S: Alter>(alloc: Global, conn: &mut Connection<S>, id: u64) -> Result<Vec<Item>, Fault>
+fn read_each<S: Alter>(
+    alloc: Global,
+    conn: &mut Connection<S>,
+    id: u64,
+) -> Result<Vec<Item>, Fault>
     ensures { Read S.Store conn.old conn.new result (λ s items. items.items ≡ history s.ledger id) }
 {
     let mut cursor = item_cursor(conn, Version::Two, id)?;

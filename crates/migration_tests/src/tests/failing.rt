@@ -371,5 +371,5 @@ fn a_commit_that_fails_leaves_the_old_file(rt: HostRuntime) -> Result<(), Fail> 
         "a fault",
         left.answer == Some(Err(MigrateFault::Store)),
     );
-    left.files.open_for(&rt, alloc, &mut Shown)
+    left.open_for(&rt, alloc, &mut Shown)
 }

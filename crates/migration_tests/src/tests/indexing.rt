@@ -84,11 +84,7 @@ fn had_index(
     match answer {
         None => holds(rt, "what was not opened stays", left.met && !had),
         Some(Err(fault)) => holds(rt, "a fault", left.met && fault == MigrateFault::Store),
-        Some(Ok(done)) => holds(
-            rt,
-            "indexed",
-            had && done.is_new && done.journeys == IN_A_ROUND,
-        ),
+        Some(Ok(done)) => holds(rt, "indexed", had && done.is_new && done.journeys == IN_A_ROUND),
     }
     Ok(had)
 }
@@ -129,7 +125,8 @@ fn an_index_may_fail_at_any_call(rt: HostRuntime) -> Result<(), Fail> {
     let held = held_in(&rt, alloc, &file)?;
     let db = migrated(&rt, alloc, &file)?;
     for (in_log, crashes) in [(false, false), (false, true), (true, false), (true, true)] {
-        let (without, with) = stop_at_each_call_of(&rt, alloc, db.bytes(), &held, in_log, crashes)?;
+        let (without, with) =
+            stop_at_each_call_of(&rt, alloc, db.bytes(), &held, in_log, crashes)?;
         assert!(rt; without > 0, "{without} without, {with} with");
     }
     Ok(())
