@@ -24,7 +24,7 @@ def tables_of(path):
 
 
 def statements_of(path):
-    """The statements that made the tables and the index of a file."""
+    """The statements that made the tables of a file."""
     connection = sqlite3.connect(f"file:{path}?immutable=1", uri=True)
     try:
         return [row[0] for row in connection.execute("SELECT sql FROM sqlite_schema WHERE sql IS NOT NULL")]

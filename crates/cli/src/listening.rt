@@ -16,7 +16,6 @@ use http_sockets::{Limits, PATIENCE, Sockets, log_opening, serve_sockets};
 use program_ends::{End, Ended, ProgramFault, end_of_listening};
 use protocols::ServeFault;
 use recovery::Ready;
-use report_kinds::Reporting;
 use saga_core::Book;
 use sqlite::{Alter, Connection};
 use std::alloc::Global;
@@ -205,7 +204,7 @@ fn with_log(sockets: Sockets<'_>, log: bool) -> Result<Sockets<'_>, ProgramFault
 }
 
 /// Serves the sockets over a recovered book, and reports first that connections to the port are accepted.
-fn listen<B: Reporting, O: Write>(
+fn listen<B: Book, O: Write>(
     alloc: Global,
     port: u16,
     sockets: &mut Sockets<'_>,
@@ -226,7 +225,7 @@ fn listen<B: Reporting, O: Write>(
 }
 
 /// Serves the sockets over a recovered book.
-fn serve_all<B: Reporting>(
+fn serve_all<B: Book>(
     alloc: Global,
     sockets: &mut Sockets<'_>,
     book: &mut Ready<B>,

@@ -10,17 +10,19 @@ ghost use Rattle.desk_jobs.specs.Notes.{MayNote, MayNoteAll};
 ghost use Rattle.cli.specs.Explaining.{TellsExplained};
 ghost use Rattle.cli.specs.Ends.{HasBadId, ReadsFor, TellsOf, TellsRecovered};
 
+use crate::asking::asked_report;
 use crate::listening::{Served, serve_file};
 use crate::loads::load_file;
-use crate::indexes::index_file;
 use crate::migrations::migrate_file;
-use crate::telling::report_file;
+use crate::telling::{history_file, report_file};
 use command_line::{Job, version_line};
 use commands::Refusal;
 use desk_files::{close_after, connect};
 use desk_jobs::{recover_over, run_over};
+use month_reports::MonthReport;
 use program_ends::{End, Ended, ProgramFault};
-use report_words::report_of;
+use report_jobs::Report;
+use reports::JourneyReport;
 use std::alloc::Global;
 use std::io::{Read, Write, sink};
 use streams::send;
@@ -96,7 +98,7 @@ fn carry_out<R: Read, O: Write, N: Write>(
     ensures bad_id { HasBadId job → result.end ≡ End.Refused Refusal.BadBody }
     ensures untold { HasBadId job → Keeps (O.contents out.old) (O.contents out.new) }
 {
-    match &job {
+    match job {
         Job::Run { file } => run_file(rt, alloc, file.as_str(), reader, out, notes),
         Job::Serve {
             file,
@@ -108,12 +110,12 @@ fn carry_out<R: Read, O: Write, N: Write>(
             wide,
         } => {
             let served = Served {
-                port: *port,
-                connections: *connections,
+                port,
+                connections,
                 house: house.as_ref().map(|path| path.as_str()),
-                page: *page,
-                log: *log,
-                wide: *wide,
+                page,
+                log,
+                wide,
             };
             serve_file(rt, alloc, file.as_str(), served, out, notes)
         }
@@ -122,17 +124,77 @@ fn carry_out<R: Read, O: Write, N: Write>(
             let (file, csv, batch) = (file.as_str(), csv.as_str(), batch.as_str());
             load_file(rt, alloc, file, csv, batch, reader, out, notes)
         }
-        Job::Stock { file, .. }
-        | Job::Calendar { file, .. }
-        | Job::Summary { file, .. }
-        | Job::Holders { file, .. }
-        | Job::Holdings { file, .. }
-        | Job::Unfinished { file, .. }
-        | Job::Journeys { file, .. }
-        | Job::History { file, .. }
-        | Job::Why { file, .. } => report_file(rt, alloc, file.as_str(), report_of(&job), out),
+        Job::Stock {
+            file,
+            filter,
+            format,
+        } => {
+            let report = Report::Stock { filter, format };
+            report_file(rt, alloc, file.as_str(), &report, out)
+        }
+        Job::Summary {
+            file,
+            filter,
+            format,
+        } => {
+            let months = MonthReport::Summary(format);
+            let report = Report::Months { months, filter };
+            report_file(rt, alloc, file.as_str(), &report, out)
+        }
+        Job::Calendar { file, filter } => {
+            let months = MonthReport::Calendar;
+            let report = Report::Months { months, filter };
+            report_file(rt, alloc, file.as_str(), &report, out)
+        }
+        Job::Holders { file, cell, format } => {
+            let report = Report::Holders { cell, format };
+            report_file(rt, alloc, file.as_str(), &report, out)
+        }
+        Job::Holdings {
+            file,
+            filter,
+            format,
+        } => {
+            let report = Report::Holdings { filter, format };
+            report_file(rt, alloc, file.as_str(), &report, out)
+        }
+        Job::Unfinished {
+            file,
+            filter,
+            format,
+        } => {
+            let name = JourneyReport::Unfinished;
+            let report = Report::Journeys {
+                name,
+                filter,
+                format,
+            };
+            report_file(rt, alloc, file.as_str(), &report, out)
+        }
+        Job::Journeys {
+            file,
+            filter,
+            format,
+        } => {
+            let name = JourneyReport::Journeys;
+            let report = Report::Journeys {
+                name,
+                filter,
+                format,
+            };
+            report_file(rt, alloc, file.as_str(), &report, out)
+        }
+        Job::History { file, id, format } => {
+            history_file(rt, alloc, file.as_str(), id.as_str(), format, out)
+        }
+        Job::Why { file, id, format } => {
+            let report = Report::Why { id, format };
+            report_file(rt, alloc, file.as_str(), &report, out)
+        }
+        Job::Asked { path, target, id } => {
+            asked_report(rt, alloc, path.as_str(), target.as_str(), id, out)
+        }
         Job::Migrate { file } => migrate_file(rt, alloc, file.as_str(), out),
-        Job::Index { file } => index_file(rt, alloc, file.as_str(), out),
         Job::Version => Ended::from(tell_version(out)),
     }
 }

@@ -2,37 +2,54 @@
 ghost use Rattle.std.specs.Prelude.{◌≡◌, None};
 ghost use Rattle.std.specs.Io.KnownBytes.{Keeps};
 ghost use Rattle.desk_sql.specs.Calls.{Idle};
+ghost use Rattle.desk_lines.specs.Lines.{journey_in as journey_of};
 ghost use Rattle.program_ends.specs.Ends.{EndsJob};
 
 use commands::Refusal;
 use desk_files::{FileConnection, NewLog, close_after, connect_there};
+use desk_lines::journey_in;
 use program_ends::{End, Ended, ProgramFault};
-use report_jobs::report_over;
-use report_kinds::Report;
+use report_jobs::{Report, report_over};
+use reports::Format;
 use sqlite::{Alter, Connection};
 use std::alloc::Global;
 use std::io::{BufWriter, Write};
 
-/// Prints a report of the desk over a file. Words that ask for none are refused before the file is opened.
+/// Prints the history of the journey that a word names. A word that names none is refused before the file is opened.
+pub(crate) fn history_file<O: Write>(
+    rt: &HostRuntime,
+    alloc: Global,
+    file: &str,
+    id: &str,
+    format: Format,
+    out: &mut O,
+) -> Ended
+    ensures job { EndsJob result.end }
+    ensures bad_id { journey_of id.now ≡ None → result.end ≡ End.Refused Refusal.BadBody }
+    ensures untold { journey_of id.now ≡ None →
+        Keeps (O.contents out.old) (O.contents out.new) }
+{
+    let Some(id) = journey_in(id) else {
+        return Ended::from(End::Refused(Refusal::BadBody));
+    };
+    report_file(rt, alloc, file, &Report::History { id, format }, out)
+}
+
+/// Prints a report of the desk over a file.
 pub(crate) fn report_file<O: Write>(
     rt: &HostRuntime,
     alloc: Global,
     file: &str,
-    report: Option<Report>,
+    report: &Report,
     out: &mut O,
 ) -> Ended
     ensures job { EndsJob result.end }
-    ensures none { report ≡ None → result.end ≡ End.Refused Refusal.BadBody }
-    ensures untold { report ≡ None → Keeps (O.contents out.old) (O.contents out.new) }
 {
-    let Some(report) = report else {
-        return Ended::from(End::Refused(Refusal::BadBody));
-    };
     let (conn, log) = match connect_there(rt, file) {
         Ok(opened) => opened,
         Err(ended) => return ended,
     };
-    let (conn, end) = print_report(alloc, &report, conn, out);
+    let (conn, end) = print_report(alloc, report, conn, out);
     close_shown(rt, conn, log, end)
 }
 

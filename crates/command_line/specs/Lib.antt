@@ -3,4 +3,5 @@ pub mod Subcommands
 pub mod Filters
 pub mod Values
 pub mod Jobs
+pub mod Asking
 pub mod Version

@@ -11,7 +11,7 @@ use Rattle.clap.specs.declared.parser.ArgMatches.{ArgMatches}
 use Rattle.command_line.specs.declared.subcommand_words.Word.{Word}
 use Rattle.command_line.specs.declared.subcommand_words.Word.TheVariants.{Needed, Extra, NeededAfter, After, Flag}
 use Rattle.command_line.specs.declared.subcommands.Subcommand.{Subcommand}
-use Rattle.command_line.specs.declared.subcommands.Subcommand.TheVariants.{Run, Serve, Recover, Load, Stock, Summary, Holders, Unfinished, Journeys, History, Why, Migrate, Index}
+use Rattle.command_line.specs.declared.subcommands.Subcommand.TheVariants.{Run, Serve, Recover, Load, Stock, Summary, Holders, Unfinished, Journeys, History, Why, Migrate}
 
 -- the word that names a subcommand
 abbrev pub name_of : Subcommand → Text
@@ -27,7 +27,15 @@ name_of Journeys = codes "journeys"
 name_of History = codes "history"
 name_of Why = codes "why"
 name_of Migrate = codes "migrate"
-name_of Index = codes "index"
+
+-- the subcommand prints a report
+abbrev pub is_report : Subcommand → Bool
+is_report Run = false
+is_report Serve = false
+is_report Recover = false
+is_report Load = false
+is_report Migrate = false
+is_report _ = true
 
 -- the subcommand that a word names
 abbrev pub subcommand_in : Text → Option Subcommand
@@ -44,7 +52,6 @@ subcommand_in word =
     else if bytes_eq word (codes "history") then Some History
     else if bytes_eq word (codes "why") then Some Why
     else if bytes_eq word (codes "migrate") then Some Migrate
-    else if bytes_eq word (codes "index") then Some Index
     else None
 
 -- a required value
@@ -89,6 +96,10 @@ wide_flag = record (flagged (codes "WIDE")) { long = Some (codes "wide") }
 abbrev pub calendar_flag : Rule
 calendar_flag = record (flagged (codes "CALENDAR")) { long = Some (codes "calendar") }
 
+-- the path of the socket of a desk that serves follows `--at`
+abbrev pub at_path : Rule
+at_path = record (optional (codes "PATH")) { long = Some (codes "at") }
+
 -- the format of a report follows `--format`
 abbrev pub report_format : Rule
 report_format = record (optional (codes "FORMAT")) { long = Some (codes "format") }
@@ -110,17 +121,17 @@ abbrev pub cell_rules : List Rule
 cell_rules =
     named_by (codes "kind") (optional (codes "KIND")) ∷ named_by (codes "supplier") (optional (codes "SUPPLIER"))
     ∷ named_by (codes "product") (optional (codes "PRODUCT")) ∷ named_by (codes "from") (optional (codes "FROM"))
-    ∷ named_by (codes "to") (optional (codes "TO")) ∷ report_format ∷ []
+    ∷ named_by (codes "to") (optional (codes "TO")) ∷ report_format ∷ at_path ∷ []
 
 -- the journeys that are asked for: their agent and state
 abbrev pub journey_rules : List Rule
 journey_rules =
     named_by (codes "agent") (optional (codes "AGENT")) ∷ named_by (codes "state") (optional (codes "STATE"))
-    ∷ report_format ∷ []
+    ∷ report_format ∷ at_path ∷ []
 
--- one required value, and a format
+-- one required value, a format and a socket
 abbrev pub one_rules : Text → List Rule
-one_rules id = needed id ∷ report_format ∷ []
+one_rules id = needed id ∷ report_format ∷ at_path ∷ []
 
 -- the values that a subcommand reads, in their order
 abbrev pub rules_for : Subcommand → List Rule
@@ -137,7 +148,6 @@ rules_for Journeys = needed (codes "FILE") ∷ journey_rules
 rules_for History = needed (codes "FILE") ∷ one_rules (codes "ID")
 rules_for Why = needed (codes "FILE") ∷ one_rules (codes "ID")
 rules_for Migrate = needed (codes "FILE") ∷ []
-rules_for Index = needed (codes "FILE") ∷ []
 
 -- the names of these values
 abbrev pub ids_in : List Rule → List Text

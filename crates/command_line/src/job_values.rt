@@ -53,7 +53,6 @@ pub(crate) fn job_in(
         Subcommand::History => history_in(alloc, file, matches),
         Subcommand::Why => why_in(alloc, file, matches),
         Subcommand::Migrate => Ok(Job::Migrate { file }),
-        Subcommand::Index => Ok(Job::Index { file }),
     }
 }
 

@@ -94,12 +94,16 @@ pub enum Job {
         id: u64,
         format: Format,
     },
+    /// Print a report of the desk that serves at this Unix socket.
+    Asked {
+        path: String,
+        /// What it is asked for: the target of a request.
+        target: String,
+        /// The word for the journey, if the report is the history of one.
+        id: Option<String>,
+    },
     /// Migrate the database in this file from schema 1 to schema 2.
     Migrate {
-        file: String,
-    },
-    /// Add the index on the agents of journeys to the database in this file.
-    Index {
         file: String,
     },
     /// Print the version of the program.

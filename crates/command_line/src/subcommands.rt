@@ -1,7 +1,7 @@
 //! The subcommands of the program: their words, and the values that each of them reads.
 ghost use Rattle.std.specs.Prelude.{◌≡◌, [], ◌∷◌, false, map, codes, All, IfOk, IfSome};
 ghost use Rattle.clap.specs.Words.{app_of, args_of, groups_of};
-ghost use Rattle.command_line.specs.Subcommands.{app_for, bare_app, has_globals, name_of, needed, needed_for, negates_needs, rule_said, rules_for, subcommand_in, Requires};
+ghost use Rattle.command_line.specs.Subcommands.{app_for, bare_app, has_globals, is_report, name_of, needed, needed_for, negates_needs, rule_said, rules_for, subcommand_in, Requires};
 
 use crate::subcommand_words::{
     HOLDERS, JOURNEY, JOURNEYS, LOAD, SERVE, STOCK, SUMMARY, UNFINISHED, Word, value, with_words,
@@ -24,12 +24,11 @@ pub(crate) enum Subcommand {
     History,
     Why,
     Migrate,
-    Index,
 }
 
 impl Subcommand {
     /// All subcommands, in the order of the usage.
-    pub(crate) const ALL: [Subcommand; 13] = [
+    pub(crate) const ALL: [Subcommand; 12] = [
         Subcommand::Run,
         Subcommand::Serve,
         Subcommand::Recover,
@@ -42,7 +41,6 @@ impl Subcommand {
         Subcommand::History,
         Subcommand::Why,
         Subcommand::Migrate,
-        Subcommand::Index,
     ];
 
     /// The subcommand that a word names. Returns `None` if the word names none.
@@ -63,7 +61,6 @@ impl Subcommand {
             "history" => Some(Subcommand::History),
             "why" => Some(Subcommand::Why),
             "migrate" => Some(Subcommand::Migrate),
-            "index" => Some(Subcommand::Index),
             _ => None,
         }
     }
@@ -85,7 +82,6 @@ impl Subcommand {
             Subcommand::History => "history",
             Subcommand::Why => "why",
             Subcommand::Migrate => "migrate",
-            Subcommand::Index => "index",
         }
     }
 
@@ -104,7 +100,6 @@ impl Subcommand {
             Subcommand::History => "desk history",
             Subcommand::Why => "desk why",
             Subcommand::Migrate => "desk migrate",
-            Subcommand::Index => "desk index",
         }
     }
 
@@ -123,7 +118,6 @@ impl Subcommand {
             Subcommand::History => "Print what happened to a journey, oldest first",
             Subcommand::Why => "Print why a journey stands where it does",
             Subcommand::Migrate => "Migrate a database from schema 1 to schema 2, in one commit",
-            Subcommand::Index => "Add the index by which an agent's journeys are found",
         }
     }
 
@@ -140,8 +134,27 @@ impl Subcommand {
             | Subcommand::Journeys
             | Subcommand::History
             | Subcommand::Why
-            | Subcommand::Migrate
-            | Subcommand::Index => "The database file, which must exist",
+            | Subcommand::Migrate => "The database file, which must exist",
+        }
+    }
+
+    /// Whether the subcommand prints a report.
+    pub(crate) fn is_report(self) -> bool
+        ensures report { result ≡ is_report self }
+    {
+        match self {
+            Subcommand::Stock
+            | Subcommand::Summary
+            | Subcommand::Holders
+            | Subcommand::Unfinished
+            | Subcommand::Journeys
+            | Subcommand::History
+            | Subcommand::Why => true,
+            Subcommand::Run
+            | Subcommand::Serve
+            | Subcommand::Recover
+            | Subcommand::Load
+            | Subcommand::Migrate => false,
         }
     }
 
@@ -174,7 +187,7 @@ impl Subcommand {
             Subcommand::Unfinished => &UNFINISHED,
             Subcommand::Journeys => &JOURNEYS,
             Subcommand::History | Subcommand::Why => &JOURNEY,
-            Subcommand::Run | Subcommand::Recover | Subcommand::Migrate | Subcommand::Index => &[],
+            Subcommand::Run | Subcommand::Recover | Subcommand::Migrate => &[],
         }
     }
 

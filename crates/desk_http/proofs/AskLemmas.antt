@@ -17,9 +17,7 @@ use Rattle.http_pages.specs.declared.routes.Verb.TheVariants.{Get}
 use Rattle.http_pages.specs.declared.routes.Route.{Route}
 use Rattle.http_pages.specs.declared.routes.Route.TheVariants.{LoadBatch, Begin, Step, Abort, Save, ShowJourney, ShowPlan, ShowWhy, ShowBegun, ShowUnfinished, ShowStock, ShowMine, ShowHealth, ShowAgent}
 use Rattle.allotment_csv.specs.Files.{batch_of}
-use Rattle.desk_http.specs.Demands.{Demand, Carry, SeePage, Sender, Stop, admitted_by, admitted_of_house, agents_demand, asked_by, asked_by_nobody, asked_if, asked_of_house, asks_for_page, asks_to_stop, bare, begin_by, carried, carried_by, demand_of, demanded, denied_by, house_demand, load_of, page_demand, report_demand, sender_of, text_of, value_in}
-use Rattle.report_words.specs.Targets.{asks_for_report, report_asked}
-use Rattle.desk_http.proofs.DemandLemmas.{report_commands_nothing}
+use Rattle.desk_http.specs.Demands.{Demand, Carry, SeePage, Sender, Stop, admitted_by, admitted_of_house, agents_demand, asked_by, asked_by_nobody, asked_if, asked_of_house, asks_for_page, asks_to_stop, bare, begin_by, carried, carried_by, demand_of, demanded, denied_by, house_demand, load_of, page_demand, sender_of, text_of, value_in}
 use Rattle.commands.specs.Request as asks
 use Rattle.desk_http.specs.Hosts.{refusal_at}
 use Rattle.desk_http.specs.Laws.{HasShortAsk}
@@ -116,17 +114,10 @@ house_text parts body = by_stop (asks_to_stop parts)
         (demanded_text route (sender_of who.House parts body))
     by_route (Err denied) = λ asked ask is. cc
 
-    by_report : (reports : Bool)
-        → IsOfText (text_in parts body) (if reports then report_demand parts else asked_of_house (admitted_of_house parts) parts body)
-    by_report true = λ asked ask is.
-        absurd (report_commands_nothing (is_method (codes "GET") parts) (report_asked parts.target) asked ask is)
-    by_report false = by_route (admitted_of_house parts)
-
     by_stop : (stops : Bool)
-        → IsOfText (text_in parts body) (if stops then Ok Stop
-        else if asks_for_report parts.target then report_demand parts else asked_of_house (admitted_of_house parts) parts body)
+        → IsOfText (text_in parts body) (if stops then Ok Stop else asked_of_house (admitted_of_house parts) parts body)
     by_stop true = λ asked ask is. cc
-    by_stop false = by_report (asks_for_report parts.target)
+    by_stop false = by_route (admitted_of_house parts)
 
 -- at each door
 demand_text : (door : Door) (parts : Parts) (body : List ℕ) → IsOfText (text_in parts body) (demand_of door parts body)

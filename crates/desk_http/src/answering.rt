@@ -16,9 +16,7 @@ use crate::begun::see_begun;
 use crate::demands::{Demand, Unmet, asks_to_stop, demand_in};
 use crate::doors::{Door, refusal_at};
 use crate::mine::see_mine;
-use crate::showing::{
-    see_agent, see_health, see_journey, see_plan, see_report, see_stock, see_unfinished,
-};
+use crate::showing::{see_agent, see_health, see_journey, see_plan, see_stock, see_unfinished};
 use crate::whys::see_why;
 use commands::Refusal;
 use http_messages::{Message, Request};
@@ -26,7 +24,7 @@ use http_pages::{
     Body, Page, Paths, denied_page, page_bytes, refused_page, reply_page, shown_page, stopping_body,
 };
 use protocols::ServeFault;
-use report_kinds::Reporting;
+use saga_core::Book;
 use std::alloc::Global;
 
 /// The bytes of a page, and whether the connection ends after it.
@@ -68,7 +66,7 @@ impl Answer {
 /// Answers a message that came in at a door: carries out what it asks for, and lays out its page.
 ///
 /// Out of memory, it was carried out or not, and has no page.
-pub fn answer_to<B: Reporting>(
+pub fn answer_to<B: Book>(
     alloc: Global,
     paths: &Paths,
     door: Door,
@@ -142,7 +140,7 @@ fn is_stop(unnamed: bool, asked: bool, refused: bool) -> bool
 }
 
 /// The page of a request at a door, whose head is refused, or is not.
-fn page_of<B: Reporting>(
+fn page_of<B: Book>(
     alloc: Global,
     paths: &Paths,
     door: Door,
@@ -169,7 +167,7 @@ fn page_of<B: Reporting>(
 }
 
 /// The page that reports the outcome of a demand.
-fn meet<B: Reporting>(alloc: Global, demand: &Demand, book: &mut B) -> Result<Page, ServeFault>
+fn meet<B: Book>(alloc: Global, demand: &Demand, book: &mut B) -> Result<Page, ServeFault>
     ensures page { B.is_sound book.new → (s : State) → B.stands book.old s →
         Meets (B.stands book.new) (B.leaves book.new) s (demand_said demand.now) result }
 
@@ -191,7 +189,6 @@ fn meet<B: Reporting>(alloc: Global, demand: &Demand, book: &mut B) -> Result<Pa
         Demand::SeeHealth => see_health(alloc, book),
         Demand::SeeAgent(asker) => Ok(see_agent(alloc, asker)?),
         Demand::SeePage(page) => Ok(shown_page(Body::Html(*page))),
-        Demand::SeeReport(report) => see_report(alloc, book, report),
         Demand::Stop => Ok(shown_page(Body::Json(stopping_body(alloc)?))),
     }
 }

@@ -4,7 +4,7 @@ ghost use Rattle.std.specs.Prelude.{◌≡◌, List, ℕ, IfOk, Ok};
 ghost use Rattle.http_messages.specs.Requests.{IsRequest};
 ghost use Rattle.http_messages.specs.Heads.{Parts};
 ghost use Rattle.http_pages.specs.Admitting.{plain};
-ghost use Rattle.desk_http.specs.Demands.{admitted_of_house, agents_demand, asked_by_nobody, asked_of_house, asks_for_page, asks_to_stop, demand_of, demanded, house_demand, page_demand, report_demand, carried, text_of};
+ghost use Rattle.desk_http.specs.Demands.{admitted_of_house, agents_demand, asked_by_nobody, asked_of_house, asks_for_page, asks_to_stop, demand_of, demanded, house_demand, page_demand, carried, text_of};
 ghost use Rattle.desk_http.specs.DemandValues.{Demands, denied_by, sender_said};
 ghost use Rattle.desk_http.specs.declared.demands.Unmet.TheVariants.{Memory, Refused};
 ghost use Rattle.commands.specs.Orders.{request_of};
@@ -14,8 +14,6 @@ use crate::showing::{bare, begin, load};
 use commands::{Ask, Command, Key, Refusal};
 use http_messages::Request;
 use http_pages::{Denied, HtmlPage, Paths, Route, Verb, admit};
-use report_kinds::Report;
-use report_words::{asks_for_report, report_asked};
 use std::alloc::{AllocError, Global};
 
 /// The demand of a request with which nothing is wrong.
@@ -43,8 +41,6 @@ pub(crate) enum Demand {
     SeeAgent(Asker),
     /// Show the page for browsers.
     SeePage(HtmlPage),
-    /// Show a report, to the house.
-    SeeReport(Report),
     /// Stop the desk.
     Stop,
 }
@@ -159,30 +155,10 @@ fn house_demand(alloc: Global, paths: &Paths, request: &Request) -> Result<Deman
     if asks_to_stop(request) {
         return Ok(Demand::Stop);
     }
-    if asks_for_report(&request.target) {
-        return report_demand(alloc, request);
-    }
     asked_of_house(alloc, paths, request)
 }
 
-/// The demand of a request of the house for a report: its words ask for none, or its method is another.
-fn report_demand(alloc: Global, request: &Request) -> Result<Demand, Unmet>
-    ensures demand { (parts : Parts) → (body : List ℕ) → IsRequest request.now parts body →
-        Demands (report_demand parts) result }
-{
-    if request.method.as_slice() != b"GET".as_slice() {
-        return Err(Unmet::from(Denied {
-            refusal: Refusal::WrongMethod,
-            allow: Some(Verb::Get),
-        }));
-    }
-    match report_asked(alloc, &request.target)? {
-        Some(report) => Ok(Demand::SeeReport(report)),
-        None => Err(Unmet::from(Refusal::BadBody)),
-    }
-}
-
-/// What the house asks for by a request that is neither for a stop nor for a report, or the first thing that is wrong with it, in this order:
+/// What the house asks for by a request that is not for a stop, or the first thing that is wrong with it, in this order:
 /// path, method, the parts of the path, the body.
 fn asked_of_house(alloc: Global, paths: &Paths, request: &Request) -> Result<Demand, Unmet>
     ensures demand { (parts : Parts) → (body : List ℕ) → IsRequest request.now parts body →

@@ -4,11 +4,10 @@ ghost use Rattle.commands.specs.Orders.{request_of};
 ghost use Rattle.desk_http.specs.Answering.{Shows};
 ghost use Rattle.desk_http.specs.DemandValues.{AsksFor, ReadsAs};
 ghost use Rattle.desk_http.specs.Demands.{bare, begin_by, load_of, value_in};
-ghost use Rattle.desk_http.specs.Pages.{journey_page, owner_of, plan_page, own_journey, own_unfinished, told_page, unfinished_shown, ShowsStock};
+ghost use Rattle.desk_http.specs.Pages.{journey_page, owner_of, plan_page, own_journey, own_unfinished, unfinished_shown, ShowsStock};
 ghost use Rattle.http_pages.specs.Bodies.{agent_data, health_data};
 ghost use Rattle.http_pages.specs.Pages.{page_said, value_page};
 ghost use Rattle.ledger.specs.Answer.{State};
-ghost use Rattle.report_kinds.specs.Texts.{OfReport};
 ghost use Rattle.saga_core.specs.Calls.{Serves};
 ghost use Rattle.saga_core.specs.Views.{counts_of};
 ghost use Rattle.serde_json.specs.Read.{read};
@@ -27,7 +26,6 @@ use http_pages::{
 };
 use plan::{Plan, PlanFault, json_is_read_back};
 use protocols::ServeFault;
-use report_kinds::{Report, Reporting};
 use reports::{Format, stock_text};
 use saga_core::{Book, Brief, Listed, Record};
 use serde_json::Value;
@@ -155,25 +153,6 @@ pub(crate) fn see_stock<B: Book>(alloc: Global, book: &mut B) -> Result<Page, Se
     match stock_text(alloc, Format::Text, &mut Listed::new(&rows), &mut text) {
         Ok(_) => Ok(shown_page(Body::Text(text))),
         Err(_) => Err(ServeFault::Memory),
-    }
-}
-
-/// The page of a report. That of a journey that does not exist is refused.
-pub(crate) fn see_report<B: Reporting>(
-    alloc: Global,
-    book: &mut B,
-    report: &Report,
-) -> Result<Page, ServeFault>
-    ensures page { B.is_sound book.new → (s : State) → B.stands book.old s →
-        Shows (B.stands book.new) (B.leaves book.new) s (λ page.
-        OfReport report.now s.ledger (λ text. page_said page ≡ told_page text)) result }
-
-    ensures serves { Serves B.is_sound B.leaves B.has_failed book.old book.new
-        ServeFault.Store result }
-{
-    match book.report(report)? {
-        Some(text) => Ok(shown_page(Body::Text(text))),
-        None => Ok(refused_page(alloc, &Refusal::NoJourney)?),
     }
 }
 

@@ -5,4 +5,3 @@ pub mod RecoveredLemmas
 pub mod ReasonLemmas
 pub mod EndLemmas
 pub mod FollowLemmas
-pub mod MigrateLemmas

@@ -15,4 +15,3 @@ pub mod Texts
 pub mod Versions
 pub mod Writable
 pub mod Statements
-pub mod Indexing

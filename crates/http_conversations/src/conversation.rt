@@ -15,7 +15,7 @@ use http_messages::LONGEST_HEAD;
 use http_pages::Paths;
 use http_ways::{Arrived, Way};
 use protocols::ServeFault;
-use report_kinds::Reporting;
+use saga_core::Book;
 use std::alloc::{AllocError, Global};
 use std::io::{self, Read, Write};
 
@@ -79,7 +79,7 @@ impl Conversation {
     ///
     /// Out of memory, the message was carried out or not, and its page is lost. Then, and where the store failed, the
     /// conversation has failed.
-    pub fn answer<B: Reporting>(
+    pub fn answer<B: Book>(
         &mut self,
         paths: &Paths,
         second: Option<u64>,

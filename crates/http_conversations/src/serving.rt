@@ -17,7 +17,7 @@ use http_pages::Paths;
 use http_ways::Way;
 use protocols::ServeFault;
 use recovery::Ready;
-use report_kinds::Reporting;
+use saga_core::Book;
 use std::alloc::Global;
 use std::io::{ErrorKind, Read, Write};
 
@@ -33,7 +33,7 @@ pub struct Served {
 ///
 /// Each page is written and flushed before the next message is read, and nothing is read while a whole message is
 /// buffered. A message that the end of the input cuts off gets no page.
-pub fn serve<R: Read, W: Write, B: Reporting>(
+pub fn serve<R: Read, W: Write, B: Book>(
     alloc: Global,
     reader: &mut R,
     writer: &mut W,
@@ -64,7 +64,7 @@ pub fn serve<R: Read, W: Write, B: Reporting>(
 }
 
 /// Does the same over any book.
-fn serve_book<R: Read, W: Write, B: Reporting>(
+fn serve_book<R: Read, W: Write, B: Book>(
     alloc: Global,
     reader: &mut R,
     writer: &mut W,
@@ -88,7 +88,7 @@ fn serve_book<R: Read, W: Write, B: Reporting>(
 }
 
 /// Does the same by way of a buffer.
-fn serve_messages<R: Read, W: Write, B: Reporting>(
+fn serve_messages<R: Read, W: Write, B: Book>(
     alloc: Global,
     paths: &Paths,
     buffer: &mut [u8],
@@ -133,7 +133,7 @@ fn is_open(conversation: &Conversation) -> bool
 }
 
 /// Answers the next message, for which it reads as often as is needed. Returns `false` if the input has ended.
-fn answer_next<R: Read, B: Reporting>(
+fn answer_next<R: Read, B: Book>(
     paths: &Paths,
     conversation: &mut Conversation,
     buffer: &mut [u8],

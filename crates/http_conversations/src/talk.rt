@@ -15,7 +15,7 @@ use http_pages::Paths;
 use http_server::Log;
 use http_ways::{Arrived, Way, answer_by, first_by, go_on_by, go_on_text};
 use protocols::ServeFault;
-use report_kinds::Reporting;
+use saga_core::Book;
 use std::alloc::{AllocError, Global};
 use std::io::{self, Read, Write};
 
@@ -101,7 +101,7 @@ impl Talk {
     }
 
     /// Answers the first message that waits, if it is its turn, where the clock shows this second, and shows it.
-    pub(crate) fn answer<B: Reporting>(
+    pub(crate) fn answer<B: Book>(
         &mut self,
         paths: &Paths,
         second: Option<u64>,
@@ -136,7 +136,7 @@ impl Talk {
     }
 
     /// Answers the message that has so many bytes.
-    fn answer_first<B: Reporting>(
+    fn answer_first<B: Book>(
         &mut self,
         paths: &Paths,
         second: Option<u64>,

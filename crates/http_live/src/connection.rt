@@ -14,7 +14,7 @@ use http_conversations::{Conversation, MOST_READ, Stage};
 use http_pages::Paths;
 use http_server::Log;
 use http_ways::{Arrived, Way};
-use report_kinds::Reporting;
+use saga_core::Book;
 use std::alloc::Global;
 use std::io::{self, ErrorKind, Read, Write};
 
@@ -85,7 +85,7 @@ impl<R: Read + Drop, W: Write + Drop> Connection<R, W> {
 
     /// A turn: what waits is handed out, or else one message is answered and shown, or else more is read. The clock shows this
     /// second, if it was read.
-    pub(crate) fn serve<B: Reporting>(
+    pub(crate) fn serve<B: Book>(
         &mut self,
         paths: &Paths,
         second: Option<u64>,
@@ -151,7 +151,7 @@ impl<R: Read + Drop, W: Write + Drop> Connection<R, W> {
     }
 
     /// Answers the first message that waits, if it is its turn.
-    fn answer<B: Reporting>(
+    fn answer<B: Book>(
         &mut self,
         paths: &Paths,
         second: Option<u64>,

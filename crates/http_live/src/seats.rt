@@ -14,7 +14,7 @@ use http_conversations::MOST_READ;
 use http_pages::Paths;
 use http_server::Log;
 use http_ways::{Arrived, Way};
-use report_kinds::Reporting;
+use saga_core::Book;
 use std::alloc::{AllocError, Global};
 use std::io::{Read, Write};
 
@@ -101,7 +101,7 @@ impl<R: Read + Drop, W: Write + Drop> Seat<R, W> {
 
     /// A turn of the connection, if there is one, where the clock shows this second. The message that was answered is shown.
     /// One that is over ends.
-    pub(crate) fn serve<B: Reporting>(
+    pub(crate) fn serve<B: Book>(
         &mut self,
         paths: &Paths,
         second: Option<u64>,

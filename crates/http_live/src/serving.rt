@@ -18,7 +18,7 @@ use http_conversations::MOST_READ;
 use http_pages::Paths;
 use http_ways::{Arrived, Way};
 use recovery::Ready;
-use report_kinds::Reporting;
+use saga_core::Book;
 use std::alloc::Global;
 use std::io::{Read, Write};
 
@@ -26,7 +26,7 @@ use std::io::{Read, Write};
 /// fails. Where the house asks, no further message is answered; its page waits.
 ///
 /// Out of memory, no turn was taken.
-pub fn serve_many<T: Turns, B: Reporting>(
+pub fn serve_many<T: Turns, B: Book>(
     alloc: Global,
     seats: &mut [Seat<T::Reader, T::Writer>],
     turns: &mut T,
@@ -53,7 +53,7 @@ pub fn serve_many<T: Turns, B: Reporting>(
 }
 
 /// The same over any book, by way of a buffer.
-fn serve_turns<T: Turns, B: Reporting>(
+fn serve_turns<T: Turns, B: Book>(
     alloc: Global,
     paths: &Paths,
     seats: &mut [Seat<T::Reader, T::Writer>],
@@ -81,7 +81,7 @@ fn serve_turns<T: Turns, B: Reporting>(
 }
 
 /// Takes the next turn, and reports whether serving ends with it.
-fn take_turn<T: Turns, B: Reporting>(
+fn take_turn<T: Turns, B: Book>(
     alloc: Global,
     paths: &Paths,
     seats: &mut [Seat<T::Reader, T::Writer>],

@@ -25,7 +25,7 @@ use http_messages::{
 };
 use http_pages::Paths;
 use protocols::ServeFault;
-use report_kinds::Reporting;
+use saga_core::Book;
 use std::alloc::{AllocError, Global};
 
 /// How messages are read, and how pages are laid out.
@@ -179,7 +179,7 @@ fn unread(bytes: &[u8], layout: Layout) -> (Arrived, usize)
 /// the date of this second since 1970, if the clock was read.
 ///
 /// Out of memory, it was carried out or not, and has no page.
-pub fn answer_by<B: Reporting>(
+pub fn answer_by<B: Book>(
     alloc: Global,
     paths: &Paths,
     door: Door,

@@ -10,4 +10,3 @@ pub mod Stopping
 pub mod NewItems
 pub mod CopyReasons
 pub mod FailLemmas
-pub mod IndexLemmas

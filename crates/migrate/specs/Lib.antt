@@ -1,4 +1,3 @@
-pub mod Indexing
 pub mod Statements
 pub mod Copying
 pub mod Migrating

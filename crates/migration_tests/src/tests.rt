@@ -1,7 +1,6 @@
 mod bringing;
 mod failing;
 mod helping;
-mod indexing;
 mod old_desks;
 mod old_files;
 mod refusing;

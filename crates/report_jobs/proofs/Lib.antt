@@ -1,3 +1,5 @@
-pub mod ReportLemmas
 pub mod EndLemmas
+pub mod ReportLemmas
+pub mod StockLemmas
+pub mod WhyLemmas
 pub mod ShowLemmas

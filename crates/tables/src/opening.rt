@@ -48,7 +48,7 @@ impl<S: Alter> Opened<S> {
     }
 
     /// The version of its tables.
-    pub fn version(&self) -> Version
+    pub(crate) fn version(&self) -> Version
         ensures same { result ≡ self.now.version }
     {
         self.version

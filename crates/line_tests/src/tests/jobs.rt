@@ -1,6 +1,6 @@
 //! The jobs of the words of the command line.
 use crate::tests::desks::{holds, reads};
-use command_line::{Job, JobFault, job};
+use command_line::{Job, JobFault, called_job};
 use filters::{CellFilter, JourneyFilter, JourneyState, Phases};
 use reports::Format;
 use std::alloc::{AllocError, Global};
@@ -97,7 +97,7 @@ fn journeys_asked(
 
 /// The job of words as a text in the table: the job with its values, or only the usage.
 fn asked(alloc: Global, words: Vec<String>) -> Result<String, AllocError> {
-    match job(alloc, words) {
+    match called_job(alloc, words) {
         Ok(Job::Run { file }) => format!(in alloc; "run|{file}"),
         Ok(
             Job::Serve {
@@ -168,8 +168,11 @@ fn asked(alloc: Global, words: Vec<String>) -> Result<String, AllocError> {
             shown(format)
         ),
         Ok(Job::Why { file, id, format }) => format!(in alloc; "why|{file}|{id}{}", shown(format)),
+        Ok(Job::Asked { path, target, id }) => {
+            let id = id.as_ref().map_or("-", |word| word.as_str());
+            format!(in alloc; "at|{path}|{target}|{id}")
+        }
         Ok(Job::Migrate { file }) => format!(in alloc; "migrate|{file}"),
-        Ok(Job::Index { file }) => format!(in alloc; "index|{file}"),
         Ok(Job::Version) => String::from_str(alloc, "version"),
         Err(JobFault::Usage(usage)) => Ok(usage),
         Err(JobFault::Memory) => Err(AllocError),
@@ -178,7 +181,7 @@ fn asked(alloc: Global, words: Vec<String>) -> Result<String, AllocError> {
 
 // the words, separated by bars, and the job with its values; a bad number of a journey is no usage
 #[rattlefmt::skip]
-const JOBS: [(&str, &str); 77] = [
+const JOBS: [(&str, &str); 89] = [
     ("run|x.db",                    "run|x.db"),
     ("run|a b/x.db",                "run|a b/x.db"),
     ("run|--|-x.db",                "run|-x.db"),
@@ -226,7 +229,6 @@ const JOBS: [(&str, &str); 77] = [
     ("history|x.db|12|--format|csv", "history|x.db|12|csv"),
     ("history|--format=json|x.db|one", "history|x.db|one|json"),
     ("migrate|x.db",                "migrate|x.db"),
-    ("index|x.db",                  "index|x.db"),
     ("stock|x.db|--kind|room",      "stock|x.db|kind room"),
     ("stock|--supplier|AL|x.db",    "stock|x.db|supplier AL"),
     ("stock|x.db|--product=12345678", "stock|x.db|product 12345678"),
@@ -255,6 +257,19 @@ const JOBS: [(&str, &str); 77] = [
     ("journeys|x.db|--state|undone|--format|json", "journeys|x.db|json|- undone"),
     ("journeys|--agent|a234567890123456|x.db|--state|ended", "journeys|x.db|a234567890123456 ended"),
     ("journeys|--|-x.db",           "journeys|-x.db|- all"),
+    ("stock|--at|d.sock",           "at|d.sock|/reports/stock|-"),
+    ("stock|--calendar|--at=a b/d|--kind|room", "at|a b/d|/reports/stock?--calendar&--kind&room|-"),
+    ("summary|--at=-d|--to|2030-06-30", "at|-d|/reports/summary?--to&2030-06-30|-"),
+    ("holders|--at|d|R/INN/DBL/2030-06-01|--format|json", "at|d|/reports/holders?R/INN/DBL/2030-06-01&--format&json|-"),
+    ("holders|--supplier|INN|--at|d", "at|d|/reports/holders?--supplier&INN|-"),
+    ("holders|--at|d|--|C/Z/Z/2000-01-01", "at|d|/reports/holders?--&C/Z/Z/2000-01-01|-"),
+    ("unfinished|--at|d|--state|run", "at|d|/reports/unfinished?--state&run|-"),
+    ("journeys|--agent|ann|--at|d|--format=csv", "at|d|/reports/journeys?--agent&ann&--format=csv|-"),
+    ("history|12|--at|d",           "at|d|/reports/history?12|12"),
+    ("history|--at|d|one",          "at|d|/reports/history?one|one"),
+    ("why|--at|d|7",                "at|d|/reports/why?7|-"),
+    ("stock|--|--at",               "stock|--at"),
+    ("run|--|--at",                 "run|--at"),
     ("--version",                   "version"),
     ("-V",                          "version"),
     ("--version|run|x.db",          "version"),
@@ -385,6 +400,26 @@ const REFUSED_OF_ONE: [(&str, &str, &str); 25] = [
     ("help of why",              "why|--help", "Print why a journey stands where it does\n\nOpens the database FILE without recovering it"),
 ];
 
+// the same, of the words that name a socket
+#[rattlefmt::skip]
+const REFUSED_OF_SOCKETS: [(&str, &str, &str); 15] = [
+    ("a file and a socket",      "stock|x|--at|d", "error: unexpected argument 'x' found\n\nUsage: desk stock [OPTIONS] <FILE>\n\nFor more information, try '--help'.\nWith '--at <PATH>' the report reads no <FILE>.\n"),
+    ("a file, a cell and a socket", "holders|x|R/INN/DBL/2030-06-01|--at|d", "error: unexpected argument 'R/INN/DBL/2030-06-01' found\n"),
+    ("a file in place of a cell", "holders|--at|d|x", "error: invalid value 'x' for '<CELL>': not a cell, as R/INN/DBL/2030-06-01\n"),
+    ("a file and a journey",     "history|--at|d|x|1", "error: unexpected argument '1' found\n"),
+    ("no journey",               "why|--at|d", "error: the following required arguments were not provided:\n  <ID>\n\nUsage: desk why <FILE> <ID>\n\nFor more information, try '--help'.\nWith '--at <PATH>' the report reads no <FILE>.\n"),
+    ("no path",                  "stock|--at", "error: a value is required for '--at <PATH>' but none was supplied\n"),
+    ("an option as a path",      "stock|--at|--calendar", "error: a value is required for '--at <PATH>' but none was supplied\n"),
+    ("two sockets",              "stock|--at|a|--at|b", "error: the argument '--at <PATH>' cannot be used with '<FILE>'\n"),
+    ("a file, and a dash",       "stock|x|--at|-", "error: the argument '--at <PATH>' cannot be used with '<FILE>'\n\nFor more information, try '--help'.\n"),
+    ("an unknown kind",          "stock|--at|d|--kind|F", "error: invalid value 'F' for '--kind <KIND>': not flight, room, transfer or cover\n\nFor more information, try '--help'.\nWith '--at <PATH>' the report reads no <FILE>.\n"),
+    ("a part of the option",     "stock|x|--a|d", "error: unexpected argument '--a' found\n"),
+    ("a socket of run",          "run|--at|d", "error: unexpected argument '--at' found\n"),
+    ("a socket of a migration",  "migrate|x|--at|d", "error: unexpected argument '--at' found\n"),
+    ("--explain at a socket",    "stock|--at|d|--explain", "error: unexpected argument '--explain' found\n"),
+    ("help at a socket",         "why|--at|d|--help", "Print why a journey stands where it does\n\nOpens the database FILE without recovering it"),
+];
+
 // the same, of the words that ask for cells and journeys
 #[rattlefmt::skip]
 const REFUSED_OF_FILTERS: [(&str, &str, &str); 19] = [
@@ -421,6 +456,15 @@ fn other_words_get_the_usage(rt: HostRuntime) -> Result<(), Fail> {
 #[test]
 fn other_words_of_serve_get_the_usage(rt: HostRuntime) -> Result<(), Fail> {
     for &(case, words, expected) in &REFUSED_OF_SERVE {
+        let found = asked(rt.alloc(), words_of(rt.alloc(), words)?)?;
+        holds(&rt, case, found.as_str().starts_with(expected));
+    }
+    Ok(())
+}
+
+#[test]
+fn other_words_of_sockets_get_the_usage(rt: HostRuntime) -> Result<(), Fail> {
+    for &(case, words, expected) in &REFUSED_OF_SOCKETS {
         let found = asked(rt.alloc(), words_of(rt.alloc(), words)?)?;
         holds(&rt, case, found.as_str().starts_with(expected));
     }

@@ -5,7 +5,7 @@ use crate::tests::helping::{book_over, run};
 use allotment::{Cell, Held};
 use commands::{Fault, Item};
 use memory_files::{ClosedFile, Session};
-use report_rows::{FoundRows, Progress, start_items, start_stock, start_unfinished};
+use report_rows::{FoundRows, Progress, start_stock, start_unfinished};
 use saga_core::{Brief, RowSource};
 use sqlite::{Alter, Connection};
 use std::alloc::{AllocError, Global};
@@ -121,9 +121,7 @@ fn unfinished_told<S: Alter>(
 fn told<S: Alter>(alloc: Global, opened: &mut Opened<S>, calls: u8) -> Result<[String; 3], Fail> {
     let stock = stock_told(alloc, opened.connection(), calls)?;
     let unfinished = unfinished_told(alloc, opened.connection(), calls)?;
-    let version = opened.version();
-    let mut rows = start_items(opened.connection(), version, 2)?;
-    let items = handed(alloc, &mut rows, calls)?;
+    let items = handed(alloc, &mut opened.item_rows(2)?, calls)?;
     Ok([stock, unfinished, items])
 }
 

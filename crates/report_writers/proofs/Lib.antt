@@ -1,4 +1,0 @@
-pub mod WriteLemmas
-pub mod StockLemmas
-pub mod WhyLemmas
-pub mod ShowLemmas

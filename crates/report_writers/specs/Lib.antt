@@ -1,2 +1,0 @@
-pub mod Whys
-pub mod Writing
