@@ -37,8 +37,8 @@ values_told() {
     inside && /^  </ { word = substr($1, 2, length($1) - 2); getline; sub(/^ +/, ""); print word "\t" $0 }'
 }
 
-# names_file VALUE: the value of this name is a file, or the path of a socket
-names_file() { [ "$1" = FILE ] || [ "$1" = CSV ] || [ "$1" = PATH ]; }
+# names_file VALUE: the value of this name is a file
+names_file() { [ "$1" = FILE ] || [ "$1" = CSV ]; }
 
 # choices_of VALUE TEXT: the words that may stand for the value of this name, with this text; nothing if it may be any word
 choices_of() {
@@ -121,8 +121,8 @@ quoted() {
 # flags_of [COMMAND]: its options, as they are written
 flags_of() { options_told "$@" | awk -F '\t' '{ if ($1 != "-") print "-" $1; if ($2 != "-") print "--" $2 }'; }
 
-# valued_of COMMAND: those of its options that a value follows which is no path
-valued_of() { options_told "$@" | awk -F '\t' '$3 != "-" && $3 != "PATH" { print "--" $2 }'; }
+# valued_of COMMAND: those of its options that a value follows
+valued_of() { options_told "$@" | awk -F '\t' '$3 != "-" { print "--" $2 }'; }
 
 # chosen_of COMMAND: those of its options that one of some words follows, and these words, with a tab between
 chosen_of() {
@@ -191,7 +191,7 @@ zsh_arguments() {
   while IFS=$'\t' read -r short long value about; do
     words=$(choices_of "$value" "$about")
     [ "$value" = - ] && value="" || value=":$value:${words:+($words)}"
-    if names_file "${value//:/}"; then value+=_files; else [ -n "$words" ] || value=${value:+$value }; fi
+    [ -n "$words" ] || value=${value:+$value }
     quoted "--${long}[$(in_zsh "$about")]$value" && printf ' \\\n'
     if [ "$short" != - ]; then quoted "-${short}[$(in_zsh "$about")]$value" && printf ' \\\n'; fi
   done < <(options_told "$@")
@@ -225,9 +225,7 @@ fish_options() {
   while IFS=$'\t' read -r short long value about; do
     words=$(choices_of "$value" "$about")
     [ "$short" = - ] && short="" || short=" -s $short"
-    if names_file "$value"; then value=" -rF"; else
-      [ "$value" = - ] && value="" || value=" -x${words:+ -a '$words'}"
-    fi
+    [ "$value" = - ] && value="" || value=" -x${words:+ -a '$words'}"
     printf "complete -c desk -n '%s'%s -l %s%s -d %s\n" "$when" "$short" "$long" "$value" "$(quoted "$about")"
   done < <(options_told "$@")
 }

@@ -1,2 +1,1 @@
-pub mod AskingLemmas
 pub mod NoteLemmas

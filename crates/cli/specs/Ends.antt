@@ -1,5 +1,5 @@
 -- How a job over a file ends, what it prints, and what it reads.
-use Rattle.std.specs.Prelude.{◌≡◌, ◌≢◌, ⊤, ℕ, List, [], ◌∷◌, codes, decimal, Option, None, option_map}
+use Rattle.std.specs.Prelude.{◌≡◌, ◌≢◌, ⊤, ℕ, List, [], ◌∷◌, codes, decimal, Option, None}
 use Rattle.std.specs.String.{string_bytes}
 use Rattle.std.specs.Io.KnownBytes.{Appends, IsAtEnd}
 use Rattle.commands.specs.Texts.{sentence}
@@ -8,11 +8,10 @@ use Rattle.migrate.specs.declared.faults.MigrateFault.{MigrateFault}
 use Rattle.migrate.specs.declared.faults.MigrateFault.TheVariants as migration
 use Rattle.protocols.specs.Scenes.{ended}
 use Rattle.desk_lines.specs.Lines.{journey_in}
-use Rattle.cli.specs.Asking.{HasBadWord}
 use Rattle.desk_jobs.specs.Ends.{recovered_line, TellsAccepted}
 use Rattle.command_line.specs.declared.jobs.Job.{Job}
 use Rattle.command_line.specs.Version.{version_line}
-use Rattle.command_line.specs.declared.jobs.Job.TheVariants.{Run, Serve, Recover, Load, Stock, Calendar, Summary, Holders, Holdings, Unfinished, Journeys, History, Why, Asked, Migrate, Version}
+use Rattle.command_line.specs.declared.jobs.Job.TheVariants.{Run, Serve, Recover, Load, Stock, Calendar, Summary, Holders, Holdings, Unfinished, Journeys, History, Why, Migrate, Version}
 use Rattle.program_ends.specs.declared.ends.End.{End}
 use Rattle.program_ends.specs.declared.ends.End.TheVariants as finish
 use Rattle.program_ends.specs.declared.faults.ProgramFault.TheVariants as fault
@@ -59,14 +58,12 @@ TellsOf (Unfinished file filter format) held holds = ⊤
 TellsOf (Journeys file filter format) held holds = ⊤
 TellsOf (History file id format) held holds = ⊤
 TellsOf (Why file id format) held holds = ⊤
-TellsOf (Asked path target id) held holds = ⊤
 TellsOf (Migrate file) held holds = TellsMigrated held holds
 TellsOf Version held holds = Appends held holds version_line
 
 -- the job is a history, and its word is no number of a journey
 abbrev pub HasBadId : Job → Type 0
 HasBadId (History file id format) = journey_in (string_bytes id) ≡ None
-HasBadId (Asked path target id) = HasBadWord (option_map string_bytes id)
 HasBadId _ = ⊥
 
 -- an allotment file is read from the input only if its name is `-`

@@ -6,7 +6,6 @@
 //! Few functions here own a store in a file; the others are generic in the store, or in the book over it.
 #![tactic(auto)]
 
-mod asking;
 mod listening;
 mod loads;
 mod migrations;

@@ -10,7 +10,6 @@ ghost use Rattle.desk_jobs.specs.Notes.{MayNote, MayNoteAll};
 ghost use Rattle.cli.specs.Explaining.{TellsExplained};
 ghost use Rattle.cli.specs.Ends.{HasBadId, ReadsFor, TellsOf, TellsRecovered};
 
-use crate::asking::asked_report;
 use crate::listening::{Served, serve_file};
 use crate::loads::load_file;
 use crate::migrations::migrate_file;
@@ -190,9 +189,6 @@ fn carry_out<R: Read, O: Write, N: Write>(
         Job::Why { file, id, format } => {
             let report = Report::Why { id, format };
             report_file(rt, alloc, file.as_str(), &report, out)
-        }
-        Job::Asked { path, target, id } => {
-            asked_report(rt, alloc, path.as_str(), target.as_str(), id, out)
         }
         Job::Migrate { file } => migrate_file(rt, alloc, file.as_str(), out),
         Job::Version => Ended::from(tell_version(out)),

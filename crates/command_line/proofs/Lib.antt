@@ -1,3 +1,2 @@
-pub mod AskingLemmas
 pub mod SubcommandLemmas
 pub mod ValueLemmas

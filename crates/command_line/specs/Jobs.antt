@@ -1,14 +1,14 @@
 -- The jobs of the words of the command line. The first word names the subcommand, and the other words are read by
 -- clap's rules for that subcommand.
-use Rattle.std.specs.Prelude.{◌≡◌, ◌||◌, ◌&&◌, ◌⊎◌, ⊤, Bool, true, false, is_none, is_some, bytes_eq, if◌then◌else◌, List, [], ◌∷◌, codes, Option, None, Some, option_map, Result, Ok, Err}
+use Rattle.std.specs.Prelude.{◌≡◌, ◌||◌, ◌⊎◌, ⊤, Bool, true, false, is_none, is_some, bytes_eq, if◌then◌else◌, List, [], ◌∷◌, codes, Option, None, Some, option_map, Result, Ok, Err}
 use Rattle.std.specs.Option.{option_map_or}
 use Rattle.std.specs.String.{string_bytes}
 use Rattle.clap.specs.Words.{App, Text, first_of, matches_of}
 use Rattle.command_line.specs.Filters.{HasCells, HasJourneys, asks_for_cells, cell_asked, has_bad_cells, has_bad_holders, has_bad_journeys, journey_asked, phases_in, unfinished_in}
-use Rattle.command_line.specs.Subcommands.{app_for, is_refused_by, is_report, name_of, subcommand_in}
+use Rattle.command_line.specs.Subcommands.{app_for, is_refused_by, name_of, subcommand_in}
 use Rattle.command_line.specs.Values.{NamesFile, calendar_in, connections_in, format_in, house_in, is_malformed, log_in, most_connections, page_in, port_in, stock_format_in, wide_in}
 use Rattle.command_line.specs.declared.jobs.Job.{Job}
-use Rattle.command_line.specs.declared.jobs.Job.TheVariants.{Run, Serve, Recover, Load, Stock, Calendar, Summary, Holders, Holdings, Unfinished, Journeys, History, Why, Asked, Migrate, Version}
+use Rattle.command_line.specs.declared.jobs.Job.TheVariants.{Run, Serve, Recover, Load, Stock, Calendar, Summary, Holders, Holdings, Unfinished, Journeys, History, Why, Migrate, Version}
 use Rattle.command_line.specs.declared.jobs.JobFault.{JobFault}
 use Rattle.command_line.specs.declared.jobs.JobFault.TheVariants.{Usage, Memory}
 use Rattle.command_line.specs.declared.subcommands.Subcommand.{Subcommand}
@@ -16,7 +16,7 @@ use Rattle.command_line.specs.declared.subcommands.Subcommand.TheVariants as sub
 use Rattle.reports.specs.declared.formats.Format.TheVariants as format
 
 -- the subcommand of a job; the calendar is one of the stock, the holders of cells are those of `holders` where no one cell is
--- given, and the jobs that ask a desk and that print the version have none
+-- given, and the job that prints the version has none
 abbrev pub subcommand_of : Job → Option Subcommand
 subcommand_of (Run file) = Some sub.Run
 subcommand_of (Serve file port connections house page log wide) = Some sub.Serve
@@ -31,7 +31,6 @@ subcommand_of (Unfinished file filter format) = Some sub.Unfinished
 subcommand_of (Journeys file filter format) = Some sub.Journeys
 subcommand_of (History file id format) = Some sub.History
 subcommand_of (Why file id format) = Some sub.Why
-subcommand_of (Asked path target id) = None
 subcommand_of (Migrate file) = Some sub.Migrate
 subcommand_of Version = None
 
@@ -80,7 +79,6 @@ HasValues value (History file id format) = NamesFile value (string_bytes file)
 HasValues value (Why file id format) = NamesFile value (string_bytes file)
     × (journey_asked value ≡ Some id)
     × (format_in value ≡ Some format)
-HasValues value (Asked path target id) = ⊥
 HasValues value (Migrate file) = NamesFile value (string_bytes file)
 HasValues value Version = ⊤
 
@@ -130,15 +128,9 @@ has_bad_value sub.History value = is_none (format_in value)
 has_bad_value sub.Why value = is_none (journey_asked value) || is_none (format_in value)
 has_bad_value _ value = false
 
--- the words of a report name a socket beside its file
-abbrev pub has_socket : Subcommand → (Text → Option Text) → Bool
-has_socket s value = is_report s && is_some (value (codes "PATH"))
-
--- the words after a subcommand are refused: by clap, for a socket beside a file, or for a value that spells nothing
+-- the words after a subcommand are refused: by clap, or for a value that spells nothing
 abbrev pub refuses : Subcommand → List Text → Bool
-refuses s words =
-    let value = value_in (app_for s) words in
-    is_refused_by (app_for s) words || (has_socket s value || has_bad_value s value)
+refuses s words = is_refused_by (app_for s) words || has_bad_value s (value_in (app_for s) words)
 
 -- the words are refused: there is none, or the first word neither asks for the version nor names a subcommand that
 -- takes the others

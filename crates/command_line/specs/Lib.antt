@@ -1,7 +1,7 @@
 pub mod Explaining
 pub mod Subcommands
+pub mod Timing
 pub mod Filters
 pub mod Values
 pub mod Jobs
-pub mod Asking
 pub mod Version

@@ -4,6 +4,7 @@ ghost use Rattle.command_line.specs.declared.jobs.JobFault.TheVariants.{Memory};
 
 use allotment::Cell;
 use filters::{CellFilter, JourneyFilter};
+use http_log::LogForm;
 use reports::Format;
 use std::alloc::AllocError;
 
@@ -25,8 +26,8 @@ pub enum Job {
         house: Option<String>,
         /// Whether it serves the page for browsers too.
         page: bool,
-        /// Whether it writes its log on standard error.
-        log: bool,
+        /// How it writes its log on standard error, if it does.
+        log: Option<LogForm>,
         /// Whether it reads HTTP as libraries, proxies and pools speak it.
         wide: bool,
     },
@@ -93,14 +94,6 @@ pub enum Job {
         /// 1 to `MOST_EVENTS`.
         id: u64,
         format: Format,
-    },
-    /// Print a report of the desk that serves at this Unix socket.
-    Asked {
-        path: String,
-        /// What it is asked for: the target of a request.
-        target: String,
-        /// The word for the journey, if the report is the history of one.
-        id: Option<String>,
     },
     /// Migrate the database in this file from schema 1 to schema 2.
     Migrate {

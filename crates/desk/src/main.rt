@@ -5,7 +5,7 @@
 #![tactic(auto)]
 
 use cli::{perform, perform_explained};
-use command_line::{Job, call_of, called_job};
+use command_line::{Job, call_of, job};
 use program_ends::{End, ProgramFault, end_of_arguments};
 use progress::Watched;
 use std::alloc::Global;
@@ -57,8 +57,8 @@ fn main(rt: HostRuntime) -> ExitCode {
         Ok(words) => {
             let call = call_of(words);
             let explains = call.explains || rt.stderr().is_terminal();
-            match called_job(alloc, call.words) {
-                Ok(job) => carry_out(&rt, alloc, job, explains),
+            match job(alloc, call.words) {
+                Ok(job) => carry_out(&rt, alloc, job.timed(call.times), explains),
                 Err(fault) => End::from(fault).tell(alloc, &mut rt.stdout(), &mut rt.stderr()),
             }
         }

@@ -1,3 +1,4 @@
 pub mod Shown
 pub mod Lines
 pub mod Recent
+pub mod Times

@@ -1,5 +1,4 @@
 //! Which messages are read from streams, however they arrive.
-mod asks;
 mod hosts;
 mod interruptions;
 mod texts;

@@ -1,7 +1,8 @@
 //! The jobs of the words of the command line.
 use crate::tests::desks::{holds, reads};
-use command_line::{Job, JobFault, called_job};
+use command_line::{Job, JobFault, call_of, job};
 use filters::{CellFilter, JourneyFilter, JourneyState, Phases};
+use http_log::LogForm;
 use reports::Format;
 use std::alloc::{AllocError, Global};
 use std::test::Fail;
@@ -24,7 +25,7 @@ fn served_text(
     connections: Option<u16>,
     house: Option<String>,
     page: bool,
-    log: bool,
+    log: Option<LogForm>,
     wide: bool,
 ) -> Result<String, AllocError> {
     let count = match connections {
@@ -33,7 +34,11 @@ fn served_text(
     };
     let house = house.as_ref().map_or("-", |path| path.as_str());
     let page = if page { "|page" } else { "" };
-    let log = if log { "|log" } else { "" };
+    let log = match log {
+        None => "",
+        Some(LogForm::Plain) => "|log",
+        Some(LogForm::Timed) => "|log with times",
+    };
     let wide = if wide { "|wide" } else { "" };
     format!(in alloc; "serve|{file}|{port}|{count}|{house}{page}{log}{wide}")
 }
@@ -97,7 +102,8 @@ fn journeys_asked(
 
 /// The job of words as a text in the table: the job with its values, or only the usage.
 fn asked(alloc: Global, words: Vec<String>) -> Result<String, AllocError> {
-    match called_job(alloc, words) {
+    let call = call_of(words);
+    match job(alloc, call.words).map(|job| job.timed(call.times)) {
         Ok(Job::Run { file }) => format!(in alloc; "run|{file}"),
         Ok(
             Job::Serve {
@@ -168,10 +174,6 @@ fn asked(alloc: Global, words: Vec<String>) -> Result<String, AllocError> {
             shown(format)
         ),
         Ok(Job::Why { file, id, format }) => format!(in alloc; "why|{file}|{id}{}", shown(format)),
-        Ok(Job::Asked { path, target, id }) => {
-            let id = id.as_ref().map_or("-", |word| word.as_str());
-            format!(in alloc; "at|{path}|{target}|{id}")
-        }
         Ok(Job::Migrate { file }) => format!(in alloc; "migrate|{file}"),
         Ok(Job::Version) => String::from_str(alloc, "version"),
         Err(JobFault::Usage(usage)) => Ok(usage),
@@ -181,7 +183,7 @@ fn asked(alloc: Global, words: Vec<String>) -> Result<String, AllocError> {
 
 // the words, separated by bars, and the job with its values; a bad number of a journey is no usage
 #[rattlefmt::skip]
-const JOBS: [(&str, &str); 89] = [
+const JOBS: [(&str, &str); 76] = [
     ("run|x.db",                    "run|x.db"),
     ("run|a b/x.db",                "run|a b/x.db"),
     ("run|--|-x.db",                "run|-x.db"),
@@ -200,6 +202,9 @@ const JOBS: [(&str, &str); 89] = [
     ("serve|--page|--house|d.sock|--port|8099|x.db",  "serve|x.db|8099|-|d.sock|page"),
     ("serve|x.db|--port|8099|--log",                  "serve|x.db|8099|-|-|log"),
     ("serve|--log|x.db|--house|d|--port|1",           "serve|x.db|1|-|d|log"),
+    ("serve|x.db|--log=time|--port|8099",             "serve|x.db|8099|-|-|log with times"),
+    ("serve|--log=time|x.db|--house|d|--port|1",      "serve|x.db|1|-|d|log with times"),
+    ("serve|--log|--port|1|./--log=time",             "serve|./--log=time|1|-|-|log"),
     ("serve|x.db|--port|8099|--wide",                 "serve|x.db|8099|-|-|wide"),
     ("serve|--wide|--log|x.db|--port|1|--page",       "serve|x.db|1|-|-|page|log|wide"),
     ("recover|x.db",                "recover|x.db"),
@@ -257,19 +262,6 @@ const JOBS: [(&str, &str); 89] = [
     ("journeys|x.db|--state|undone|--format|json", "journeys|x.db|json|- undone"),
     ("journeys|--agent|a234567890123456|x.db|--state|ended", "journeys|x.db|a234567890123456 ended"),
     ("journeys|--|-x.db",           "journeys|-x.db|- all"),
-    ("stock|--at|d.sock",           "at|d.sock|/reports/stock|-"),
-    ("stock|--calendar|--at=a b/d|--kind|room", "at|a b/d|/reports/stock?--calendar&--kind&room|-"),
-    ("summary|--at=-d|--to|2030-06-30", "at|-d|/reports/summary?--to&2030-06-30|-"),
-    ("holders|--at|d|R/INN/DBL/2030-06-01|--format|json", "at|d|/reports/holders?R/INN/DBL/2030-06-01&--format&json|-"),
-    ("holders|--supplier|INN|--at|d", "at|d|/reports/holders?--supplier&INN|-"),
-    ("holders|--at|d|--|C/Z/Z/2000-01-01", "at|d|/reports/holders?--&C/Z/Z/2000-01-01|-"),
-    ("unfinished|--at|d|--state|run", "at|d|/reports/unfinished?--state&run|-"),
-    ("journeys|--agent|ann|--at|d|--format=csv", "at|d|/reports/journeys?--agent&ann&--format=csv|-"),
-    ("history|12|--at|d",           "at|d|/reports/history?12|12"),
-    ("history|--at|d|one",          "at|d|/reports/history?one|one"),
-    ("why|--at|d|7",                "at|d|/reports/why?7|-"),
-    ("stock|--|--at",               "stock|--at"),
-    ("run|--|--at",                 "run|--at"),
     ("--version",                   "version"),
     ("-V",                          "version"),
     ("--version|run|x.db",          "version"),
@@ -357,6 +349,10 @@ const REFUSED_OF_SERVE: [(&str, &str, &str); 30] = [
     ("a page with a value",      "serve|x|--port|80|--page=yes", "error: unexpected value 'yes' for '--page' found"),
     ("two houses",               "serve|x|--port|80|--house|a|--house|b", "error: the argument '--house <PATH>' cannot be used multiple times\n"),
     ("a log with a value",       "serve|x|--port|80|--log=yes", "error: unexpected value 'yes' for '--log' found; no more were expected\n"),
+    ("a log with time apart",    "serve|x|--port|80|--log|time", "error: unexpected argument 'time' found\n"),
+    ("a log with two times",     "serve|x|--port|80|--log=time=time", "error: unexpected value 'time=time' for '--log' found; no more were expected\n"),
+    ("two logs, one with times", "serve|x|--port|80|--log=time|--log", "error: the argument '--log' cannot be used multiple times\n"),
+    ("a log of the stock",       "stock|x|--log=time",       "error: unexpected argument '--log' found\n"),
     ("two logs",                 "serve|x|--port|80|--log|--log", "error: the argument '--log' cannot be used multiple times\n"),
     ("wide with a value",        "serve|x|--port|80|--wide=yes", "error: unexpected value 'yes' for '--wide' found; no more were expected\n"),
     ("twice wide",               "serve|x|--port|80|--wide|--wide", "error: the argument '--wide' cannot be used multiple times\n"),
@@ -400,26 +396,6 @@ const REFUSED_OF_ONE: [(&str, &str, &str); 25] = [
     ("help of why",              "why|--help", "Print why a journey stands where it does\n\nOpens the database FILE without recovering it"),
 ];
 
-// the same, of the words that name a socket
-#[rattlefmt::skip]
-const REFUSED_OF_SOCKETS: [(&str, &str, &str); 15] = [
-    ("a file and a socket",      "stock|x|--at|d", "error: unexpected argument 'x' found\n\nUsage: desk stock [OPTIONS] <FILE>\n\nFor more information, try '--help'.\nWith '--at <PATH>' the report reads no <FILE>.\n"),
-    ("a file, a cell and a socket", "holders|x|R/INN/DBL/2030-06-01|--at|d", "error: unexpected argument 'R/INN/DBL/2030-06-01' found\n"),
-    ("a file in place of a cell", "holders|--at|d|x", "error: invalid value 'x' for '<CELL>': not a cell, as R/INN/DBL/2030-06-01\n"),
-    ("a file and a journey",     "history|--at|d|x|1", "error: unexpected argument '1' found\n"),
-    ("no journey",               "why|--at|d", "error: the following required arguments were not provided:\n  <ID>\n\nUsage: desk why <FILE> <ID>\n\nFor more information, try '--help'.\nWith '--at <PATH>' the report reads no <FILE>.\n"),
-    ("no path",                  "stock|--at", "error: a value is required for '--at <PATH>' but none was supplied\n"),
-    ("an option as a path",      "stock|--at|--calendar", "error: a value is required for '--at <PATH>' but none was supplied\n"),
-    ("two sockets",              "stock|--at|a|--at|b", "error: the argument '--at <PATH>' cannot be used with '<FILE>'\n"),
-    ("a file, and a dash",       "stock|x|--at|-", "error: the argument '--at <PATH>' cannot be used with '<FILE>'\n\nFor more information, try '--help'.\n"),
-    ("an unknown kind",          "stock|--at|d|--kind|F", "error: invalid value 'F' for '--kind <KIND>': not flight, room, transfer or cover\n\nFor more information, try '--help'.\nWith '--at <PATH>' the report reads no <FILE>.\n"),
-    ("a part of the option",     "stock|x|--a|d", "error: unexpected argument '--a' found\n"),
-    ("a socket of run",          "run|--at|d", "error: unexpected argument '--at' found\n"),
-    ("a socket of a migration",  "migrate|x|--at|d", "error: unexpected argument '--at' found\n"),
-    ("--explain at a socket",    "stock|--at|d|--explain", "error: unexpected argument '--explain' found\n"),
-    ("help at a socket",         "why|--at|d|--help", "Print why a journey stands where it does\n\nOpens the database FILE without recovering it"),
-];
-
 // the same, of the words that ask for cells and journeys
 #[rattlefmt::skip]
 const REFUSED_OF_FILTERS: [(&str, &str, &str); 19] = [
@@ -456,15 +432,6 @@ fn other_words_get_the_usage(rt: HostRuntime) -> Result<(), Fail> {
 #[test]
 fn other_words_of_serve_get_the_usage(rt: HostRuntime) -> Result<(), Fail> {
     for &(case, words, expected) in &REFUSED_OF_SERVE {
-        let found = asked(rt.alloc(), words_of(rt.alloc(), words)?)?;
-        holds(&rt, case, found.as_str().starts_with(expected));
-    }
-    Ok(())
-}
-
-#[test]
-fn other_words_of_sockets_get_the_usage(rt: HostRuntime) -> Result<(), Fail> {
-    for &(case, words, expected) in &REFUSED_OF_SOCKETS {
         let found = asked(rt.alloc(), words_of(rt.alloc(), words)?)?;
         holds(&rt, case, found.as_str().starts_with(expected));
     }
