@@ -1,5 +1,4 @@
 """The log of a desk that serves, over real sockets. Prints what went wrong, and nothing else."""
-import calendar
 import itertools
 import os
 import re
@@ -13,8 +12,7 @@ FLIGHT = b'{"count":1,"first":"2030-06-01","kind":"flight","nights":1,"product":
 PLAN = b'{"steps":[{"options":[' + FLIGHT + b'],"save":false}],"tries":0}'
 STOCK = request("GET", "/stock")
 HEAD = "[INFO  desk] "
-LINE = re.compile(r"\[INFO  desk\] (request( [a-z]+=[!-~]*){9}(?P<millis> ms=[0-9]+)|(ended|opened)( [a-z]+=[!-~]*)+)")
-TIME = re.compile(r"[0-9]{4}-[0-9]{2}-[0-9]{2}T[0-9]{2}:[0-9]{2}:[0-9]{2}\.[0-9]{3}Z ")
+LINE = re.compile(r"\[INFO  desk\] (request|ended|opened)( [a-z]+=[!-~]*)+")
 
 
 class Logged(Desk):
@@ -29,17 +27,13 @@ class Logged(Desk):
             super().__init__(file, *words, errors=kept if errors == -1 else errors, before=closed)
 
     def log(self):
-        """The lines so far, each without its head, and those of requests without their milliseconds."""
+        """The lines so far, each without its head."""
         with open(self.name, encoding="utf-8") as lines:
             found = lines.read().split("\n")
         same("the log ends with a whole line", "", found[-1])
-        return [self.told(line) for line in found[:-1]]
-
-    def told(self, line):
-        """What a line says."""
-        read = LINE.fullmatch(line)
-        same("a line of the log", True, read is not None or line)
-        return line.removeprefix(HEAD).removesuffix((read and read["millis"]) or "")
+        for line in found[:-1]:
+            same("a line of the log", True, LINE.fullmatch(line) is not None or line)
+        return [line.removeprefix(HEAD) for line in found[:-1]]
 
     def has(self, what, line, within=30):
         """A line is in the log, or soon comes."""
@@ -66,27 +60,27 @@ def kinds():
     first = "request connection=1 door=port agent="
     served.has("the first connection ends", "ended connection=1 door=port requests=6 why=left")
     same("its lines", [
-        f"{first}ann method=POST target=/journeys status=200 key=k1 again=no refused=",
-        f"{first}ann method=POST target=/journeys status=200 key=k1 again=yes refused=",
-        f"{first}ann method=POST target=/journeys/2/abort/0 status=409 key=k1 again=no refused=14",
-        f"{first}ann method=GET target=/stock status=200 key= again=no refused=",
-        f"{first} method=GET target=/stock status=400 key= again=no refused=2",
+        f"{first}ann method=POST target=/journeys status=200 key=k1 again=no",
+        f"{first}ann method=POST target=/journeys status=200 key=k1 again=yes",
+        f"{first}ann method=POST target=/journeys/2/abort/0 status=409 key=k1 again=no",
+        f"{first}ann method=GET target=/stock status=200 key= again=no",
+        f"{first} method=GET target=/stock status=400 key= again=no",
     ], served.log()[1:6])
     two = Client(served.port)
     two.ask(request("POST", "/journeys", "k1", PLAN).replace(b"ann", b"bob"))
     two.ask(b"\x00\x1b[31m\r\n\r\n")
     two.close()
-    served.has("another agent's key", "request connection=2 door=port agent=bob method=POST target=/journeys status=200 key=k1 again=no refused=")
-    served.has("what is no head", "request connection=2 door=port agent= method= target= status=400 key= again=no refused=1")
+    served.has("another agent's key", "request connection=2 door=port agent=bob method=POST target=/journeys status=200 key=k1 again=no")
+    served.has("what is no head", "request connection=2 door=port agent= method= target= status=400 key= again=no")
     served.has("a closing page", "ended connection=2 door=port requests=2 why=closed")
     asked("kinds.sock", b"GET /unfinished HTTP/1.1\r\nHost: d\r\n\r\n")
-    served.has("the house", "request connection=3 door=house agent= method=GET target=/unfinished status=200 key= again=no refused=")
+    served.has("the house", "request connection=3 door=house agent= method=GET target=/unfinished status=200 key= again=no")
     served.has("the house leaves", "ended connection=3 door=house requests=1 why=left")
     silent = Client(served.port)
     silent.ask(STOCK)
     asked("kinds.sock", b"POST /stop HTTP/1.1\r\nHost: d\r\nContent-Length: 0\r\n\r\n")
     served.ends("a stop")
-    served.has("the stop", "request connection=5 door=house agent= method=POST target=/stop status=200 key= again=no refused=")
+    served.has("the stop", "request connection=5 door=house agent= method=POST target=/stop status=200 key= again=no")
     served.has("a silent connection at a stop", "ended connection=4 door=port requests=1 why=stopped")
     silent.close()
 
@@ -111,43 +105,16 @@ def widely():
     first = "request connection=1 door=port agent=ann"
     served.has("the first connection ends", "ended connection=1 door=port requests=3 why=left")
     same("its lines", [
-        f"{first} method=HEAD target=/stock status=200 key= again=no refused=",
-        f"{first} method=POST target=/journeys status=200 key={digits} again=no refused=",
-        f"{first} method=POST target=/journeys status=200 key={digits} again=yes refused=",
+        f"{first} method=HEAD target=/stock status=200 key= again=no",
+        f"{first} method=POST target=/journeys status=200 key={digits} again=no",
+        f"{first} method=POST target=/journeys status=200 key={digits} again=yes",
     ], served.log()[1:4])
     hello = Client(served.port)
     same("a TLS hello gets no page", b"", hello.ask(bytes.fromhex("16030102000100fc0303") + b"\x5a" * 60))
     hello.close()
-    served.has("a TLS hello", "request connection=2 door=port agent= method= target= status=? key= again=no refused=")
+    served.has("a TLS hello", "request connection=2 door=port agent= method= target= status=? key= again=no")
     served.has("its end", "ended connection=2 door=port requests=1 why=closed")
     served.kill()
-
-
-def timed():
-    """With --log=time: each line begins with its time in UTC, and goes on as without. The milliseconds of a request count from its
-    last byte on, so they are no more than its client waited after that."""
-    begun = time.time()
-    served = Logged("timed.db", "--log=time", "--house", "timed.sock")
-    one = Client(served.port)
-    begin = request("POST", "/journeys", "k1", PLAN)
-    one.stream.sendall(begin[:-1])
-    time.sleep(1)
-    sent = time.monotonic()
-    one.ask(begin[-1:])
-    waited = (time.monotonic() - sent) * 1000
-    asked("timed.sock", b"POST /stop HTTP/1.1\r\nHost: d\r\nContent-Length: 0\r\n\r\n")
-    served.ends("a stop with times")
-    one.close()
-    with open(served.name, encoding="utf-8") as kept:
-        lines = kept.read().splitlines()
-    times = [TIME.match(line) for line in lines]
-    same("each line has its time", [True] * 5, [it is not None for it in times])
-    told = [served.told(TIME.sub("", line, count=1)).split() for line in lines]
-    same("what the lines say", ["opened", "request", "request", "ended", "ended"], [words[0] for words in told])
-    read = [calendar.timegm(time.strptime(it[0][:19], "%Y-%m-%dT%H:%M:%S")) + int(it[0][20:23]) / 1000 for it in times]
-    same("times in order, of now", True, begun - 0.001 <= read[0] and read == sorted(read) and read[-1] <= time.time())
-    millis = int(lines[1].rpartition("ms=")[2])
-    same("no more than its client waited", True, millis <= waited + 1 or (millis, waited))
 
 
 def odd_bytes():
@@ -158,11 +125,10 @@ def odd_bytes():
     ]
     for number, (target, shown) in enumerate(targets, 1):
         stream = Client(served.port)
-        page = stream.ask(b"BREW " + target + b" HTTP/1.1\r\nHost: d\r\n\r\n").decode()
-        status, refused = page[9:12], page.partition('"refused":')[2].rstrip("}")
+        status = stream.ask(b"BREW " + target + b" HTTP/1.1\r\nHost: d\r\n\r\n")[9:12].decode()
         stream.close()
         served.has(f"the target {target!r}",
-            f"request connection={number} door=port agent= method=BREW target={shown} status={status} key= again=no refused={refused}")
+            f"request connection={number} door=port agent= method=BREW target={shown} status={status} key= again=no")
     for odd in [b"/a\nrequest connection=9\n", b"/\x1b[2J", b"/\x00", b"/\x7f", b"/\xff\xfe", b"\r", b"\t"]:
         stream = Client(served.port)
         stream.ask(b"GET " + odd + b" HTTP/1.1\r\nHost: d\r\nDesk-Agent: a\nb\r\nDesk-Key: \x01\r\n\r\n")
@@ -298,8 +264,7 @@ def guarded(call):
 
 
 def main():
-    threads = [threading.Thread(target=guarded, args=(call,))
-        for call in (kinds, widely, timed, odd_bytes, cut, late, displaced, broken, silent)]
+    threads = [threading.Thread(target=guarded, args=(call,)) for call in (kinds, widely, odd_bytes, cut, late, displaced, broken, silent)]
     for thread in threads:
         thread.start()
     for thread in threads:

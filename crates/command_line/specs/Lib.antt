@@ -1,6 +1,5 @@
 pub mod Explaining
 pub mod Subcommands
-pub mod Timing
 pub mod Filters
 pub mod Values
 pub mod Jobs

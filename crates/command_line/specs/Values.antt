@@ -4,8 +4,6 @@ use Rattle.std.specs.Option.{option_and_then, option_map_or}
 use Rattle.allotment.specs.Texts.{number_from}
 use Rattle.clap.specs.Words.{Text, first_value, found_of}
 use Rattle.clap.specs.declared.parser.ArgMatches.{ArgMatches}
-use Rattle.http_log.specs.declared.forms.LogForm.{LogForm}
-use Rattle.http_log.specs.declared.forms.LogForm.TheVariants.{Plain}
 use Rattle.reports.specs.declared.formats.Format.{Format}
 use Rattle.reports.specs.declared.formats.Format.TheVariants as format
 
@@ -52,9 +50,9 @@ is_set value = option_map_or (λ word. bytes_eq word (codes "true")) value false
 abbrev pub page_in : (Text → Option Text) → Bool
 page_in value = is_set (value (codes "PAGE"))
 
--- how the log is written, if it is asked for, by its name
-abbrev pub log_in : (Text → Option Text) → Option LogForm
-log_in value = if is_set (value (codes "LOG")) then Some Plain else None
+-- whether the log is asked for, by its name
+abbrev pub log_in : (Text → Option Text) → Bool
+log_in value = is_set (value (codes "LOG"))
 
 -- whether HTTP is read as libraries and proxies speak it, by its name
 abbrev pub wide_in : (Text → Option Text) → Bool

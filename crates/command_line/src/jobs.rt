@@ -4,7 +4,6 @@ ghost use Rattle.command_line.specs.declared.jobs.JobFault.TheVariants.{Memory};
 
 use allotment::Cell;
 use filters::{CellFilter, JourneyFilter};
-use http_log::LogForm;
 use reports::Format;
 use std::alloc::AllocError;
 
@@ -26,8 +25,8 @@ pub enum Job {
         house: Option<String>,
         /// Whether it serves the page for browsers too.
         page: bool,
-        /// How it writes its log on standard error, if it does.
-        log: Option<LogForm>,
+        /// Whether it writes its log on standard error.
+        log: bool,
         /// Whether it reads HTTP as libraries, proxies and pools speak it.
         wide: bool,
     },

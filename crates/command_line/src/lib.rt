@@ -11,7 +11,6 @@ mod job_values;
 mod jobs;
 mod subcommand_words;
 mod subcommands;
-mod timing;
 mod values;
 mod version;
 mod words;

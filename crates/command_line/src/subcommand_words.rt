@@ -31,11 +31,7 @@ pub(crate) static SERVE: [Word<'static>; 6] = [
     ),
     Word::After("PATH", "house", "Also listen on this Unix socket"),
     Word::Flag("PAGE", "page", "Also serve the page for browsers, at /"),
-    Word::Flag(
-        "LOG",
-        "log",
-        "Log each request on standard error; --log=time: with times",
-    ),
+    Word::Flag("LOG", "log", "Log each request on standard error"),
     Word::Flag(
         "WIDE",
         "wide",

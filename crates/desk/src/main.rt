@@ -58,7 +58,7 @@ fn main(rt: HostRuntime) -> ExitCode {
             let call = call_of(words);
             let explains = call.explains || rt.stderr().is_terminal();
             match job(alloc, call.words) {
-                Ok(job) => carry_out(&rt, alloc, job.timed(call.times), explains),
+                Ok(job) => carry_out(&rt, alloc, job, explains),
                 Err(fault) => End::from(fault).tell(alloc, &mut rt.stdout(), &mut rt.stderr()),
             }
         }

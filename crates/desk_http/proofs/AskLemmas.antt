@@ -17,7 +17,7 @@ use Rattle.http_pages.specs.declared.routes.Verb.TheVariants.{Get}
 use Rattle.http_pages.specs.declared.routes.Route.{Route}
 use Rattle.http_pages.specs.declared.routes.Route.TheVariants.{LoadBatch, Begin, Step, Abort, Save, ShowJourney, ShowPlan, ShowWhy, ShowBegun, ShowUnfinished, ShowStock, ShowMine, ShowHealth, ShowAgent}
 use Rattle.allotment_csv.specs.Files.{batch_of}
-use Rattle.desk_http.specs.Demands.{Demand, Carry, SeeMetrics, SeePage, Sender, Stop, admitted_by, admitted_of_house, agents_demand, asked_by, asked_by_nobody, asked_if, asked_of_house, asks_for_metrics, asks_for_page, asks_to_stop, bare, begin_by, carried, carried_by, demand_of, demanded, denied_by, house_demand, load_of, page_demand, sender_of, text_of, value_in}
+use Rattle.desk_http.specs.Demands.{Demand, Carry, SeePage, Sender, Stop, admitted_by, admitted_of_house, agents_demand, asked_by, asked_by_nobody, asked_if, asked_of_house, asks_for_page, asks_to_stop, bare, begin_by, carried, carried_by, demand_of, demanded, denied_by, house_demand, load_of, page_demand, sender_of, text_of, value_in}
 use Rattle.commands.specs.Request as asks
 use Rattle.desk_http.specs.Hosts.{refusal_at}
 use Rattle.desk_http.specs.Laws.{HasShortAsk}
@@ -108,16 +108,11 @@ agents_text parts body = by_route (admitted_by parts)
 house_text : (parts : Parts) (body : List ℕ) → IsOfText (text_in parts body) (house_demand parts body)
 house_text parts body = by_stop (asks_to_stop parts)
   where
-    by_metrics : (metrics : Bool) (denied : Denied)
-        → IsOfText (text_in parts body) (if metrics then Ok SeeMetrics else Err denied)
-    by_metrics true denied = λ asked ask is. cc
-    by_metrics false denied = λ asked ask is. cc
-
     by_route : (r : Result Route Denied) → IsOfText (text_in parts body) (asked_of_house r parts body)
     by_route (Ok route) =
         denied_text (text_in parts body) (demanded route (sender_of who.House parts body))
         (demanded_text route (sender_of who.House parts body))
-    by_route (Err denied) = by_metrics (asks_for_metrics parts) denied
+    by_route (Err denied) = λ asked ask is. cc
 
     by_stop : (stops : Bool)
         → IsOfText (text_in parts body) (if stops then Ok Stop else asked_of_house (admitted_of_house parts) parts body)

@@ -28,7 +28,7 @@ use Rattle.saga_core.specs.Runs as runs
 use Rattle.saga_core.specs.Runs.{Asks}
 use Rattle.saga_core.specs.Worlds.{KeepLimits, StandsAtEnd, EndsAmong}
 use Rattle.saga_core.proofs.WorldLemmas.{KeepLimits-append, ends-with, ends-after, ends-cut}
-use Rattle.desk_http.specs.Demands.{Carry, SeeMetrics, SeePage, Sender, Stop, admitted_by, admitted_of_house, agents_demand, asked_by, asked_by_nobody, asked_if, asks_for_metrics, asks_for_page, asked_of_house, asks_to_stop, bare, begin_by, begin_of, carried, carried_by, demand_of, demanded, denied_by, load_of, sender_of, value_in}
+use Rattle.desk_http.specs.Demands.{Carry, SeePage, Sender, Stop, admitted_by, admitted_of_house, agents_demand, asked_by, asked_by_nobody, asked_if, asks_for_page, asked_of_house, asks_to_stop, bare, begin_by, begin_of, carried, carried_by, demand_of, demanded, denied_by, load_of, sender_of, value_in}
 use Rattle.desk_http.specs.Hosts.{refusal_at}
 use Rattle.desk_http.specs.declared.doors.Asker.{Asker}
 use Rattle.desk_http.specs.declared.doors.Asker.TheVariants as who
@@ -129,11 +129,7 @@ asked_within (Ok route) parts body c = go (agent_of parts)
 -- those of the house
 house_within : (found : Result Route Denied) (parts : Parts) (body : List ℕ) (c : Command)
     → asked_of_house found parts body ≡ Ok (Carry c.0 c.1) → IsTrue (is_request c.0)
-house_within (Err denied) parts body c = by_metrics (asks_for_metrics parts)
-  where
-    by_metrics : (metrics : Bool) → (if metrics then Ok SeeMetrics else Err denied) ≡ Ok (Carry c.0 c.1) → IsTrue (is_request c.0)
-    by_metrics true = λ same. cc
-    by_metrics false = λ same. cc
+house_within (Err denied) parts body c = λ same. cc
 house_within (Ok route) parts body c = demanded_within route (sender_of who.House parts body) c
 
 -- those at the house's door

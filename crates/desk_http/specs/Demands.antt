@@ -70,7 +70,6 @@ pub data Demand : Type 0 where
   SeeMine : (asker : Asker) (after : ℕ) → Demand
   SeeStock : Demand
   SeeHealth : Demand
-  SeeMetrics : Demand
   SeeAgent : (asker : Asker) → Demand
   SeePage : (page : HtmlPage) → Demand
   Stop : Demand
@@ -159,14 +158,10 @@ agents_demand parts body = asked_if (admitted_by parts) parts body
 abbrev pub asks_to_stop : Parts → Bool
 asks_to_stop parts = is_method (codes "POST") parts && bytes_eq parts.target (codes "/stop")
 
--- it asks for what a monitor reads
-abbrev pub asks_for_metrics : Parts → Bool
-asks_for_metrics parts = is_method (codes "GET") parts && bytes_eq parts.target (codes "/metrics")
-
--- the demand of the house on a route that was admitted, or that no agent has
+-- the demand of the house on a route that was admitted
 abbrev pub asked_of_house : Result Route Denied → Parts → List ℕ → Result Demand Denied
 asked_of_house (Ok route) parts body = denied_by (demanded route (sender_of who.House parts body))
-asked_of_house (Err denied) parts body = if asks_for_metrics parts then Ok SeeMetrics else Err denied
+asked_of_house (Err denied) parts body = Err denied
 
 -- the route of a request of the house, or the first thing that is wrong with it: path, method, parts of the path
 abbrev pub admitted_of_house : Parts → Result Route Denied

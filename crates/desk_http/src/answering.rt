@@ -16,13 +16,10 @@ use crate::begun::see_begun;
 use crate::demands::{Demand, Unmet, asks_to_stop, demand_in};
 use crate::doors::{Door, refusal_at};
 use crate::mine::see_mine;
-use crate::showing::{
-    see_agent, see_health, see_journey, see_metrics, see_plan, see_stock, see_unfinished,
-};
+use crate::showing::{see_agent, see_health, see_journey, see_plan, see_stock, see_unfinished};
 use crate::whys::see_why;
 use commands::Refusal;
 use http_messages::{Message, Request};
-use http_metrics::Metrics;
 use http_pages::{
     Body, Page, Paths, denied_page, page_bytes, refused_page, reply_page, shown_page, stopping_body,
 };
@@ -66,8 +63,7 @@ impl Answer {
     }
 }
 
-/// Answers a message that came in at a door: carries out what it asks for, and lays out its page. What was counted is shown
-/// where it asks for that.
+/// Answers a message that came in at a door: carries out what it asks for, and lays out its page.
 ///
 /// Out of memory, it was carried out or not, and has no page.
 pub fn answer_to<B: Book>(
@@ -75,7 +71,6 @@ pub fn answer_to<B: Book>(
     paths: &Paths,
     door: Door,
     message: &Message,
-    metrics: &Metrics,
     book: &mut B,
 ) -> Result<Answer, ServeFault>
     ensures answer { B.is_sound book.new → (s : State) → B.stands book.old s →
@@ -96,7 +91,7 @@ pub fn answer_to<B: Book>(
         }
         Message::Asks(request) => {
             let refusal = refusal_at(alloc, door, request)?;
-            let page = page_of(alloc, paths, door, refusal, request, metrics, book)?;
+            let page = page_of(alloc, paths, door, refusal, request, book)?;
             Answer::new(
                 alloc,
                 &page,
@@ -151,7 +146,6 @@ fn page_of<B: Book>(
     door: Door,
     refusal: Option<Refusal>,
     request: &Request,
-    metrics: &Metrics,
     book: &mut B,
 ) -> Result<Page, ServeFault>
     ensures page { B.is_sound book.new → (s : State) → B.stands book.old s →
@@ -166,19 +160,14 @@ fn page_of<B: Book>(
         return Ok(refused_page(alloc, why)?);
     }
     match demand_in(alloc, paths, door, request) {
-        Ok(demand) => meet(alloc, &demand, metrics, book),
+        Ok(demand) => meet(alloc, &demand, book),
         Err(Unmet::Refused(denied)) => Ok(denied_page(alloc, &denied)?),
         Err(Unmet::Memory) => Err(ServeFault::Memory),
     }
 }
 
 /// The page that reports the outcome of a demand.
-fn meet<B: Book>(
-    alloc: Global,
-    demand: &Demand,
-    metrics: &Metrics,
-    book: &mut B,
-) -> Result<Page, ServeFault>
+fn meet<B: Book>(alloc: Global, demand: &Demand, book: &mut B) -> Result<Page, ServeFault>
     ensures page { B.is_sound book.new → (s : State) → B.stands book.old s →
         Meets (B.stands book.new) (B.leaves book.new) s (demand_said demand.now) result }
 
@@ -198,7 +187,6 @@ fn meet<B: Book>(
         Demand::SeeMine(asker, after) => see_mine(alloc, book, asker, *after),
         Demand::SeeStock => see_stock(alloc, book),
         Demand::SeeHealth => see_health(alloc, book),
-        Demand::SeeMetrics => see_metrics(alloc, metrics, book),
         Demand::SeeAgent(asker) => Ok(see_agent(alloc, asker)?),
         Demand::SeePage(page) => Ok(shown_page(Body::Html(*page))),
         Demand::Stop => Ok(shown_page(Body::Json(stopping_body(alloc)?))),

@@ -1,10 +1,10 @@
 //! Who sends a request, with its target and body, and the demand of the request on the desk.
 
-ghost use Rattle.std.specs.Prelude.{◌≡◌, List, ℕ, Err, IfOk, Ok};
+ghost use Rattle.std.specs.Prelude.{◌≡◌, List, ℕ, IfOk, Ok};
 ghost use Rattle.http_messages.specs.Requests.{IsRequest};
 ghost use Rattle.http_messages.specs.Heads.{Parts};
 ghost use Rattle.http_pages.specs.Admitting.{plain};
-ghost use Rattle.desk_http.specs.Demands.{admitted_of_house, agents_demand, asked_by_nobody, asked_of_house, asks_for_metrics, asks_for_page, asks_to_stop, demand_of, demanded, house_demand, page_demand, carried, text_of};
+ghost use Rattle.desk_http.specs.Demands.{admitted_of_house, agents_demand, asked_by_nobody, asked_of_house, asks_for_page, asks_to_stop, demand_of, demanded, house_demand, page_demand, carried, text_of};
 ghost use Rattle.desk_http.specs.DemandValues.{Demands, denied_by, sender_said};
 ghost use Rattle.desk_http.specs.declared.demands.Unmet.TheVariants.{Memory, Refused};
 ghost use Rattle.commands.specs.Orders.{request_of};
@@ -37,8 +37,6 @@ pub(crate) enum Demand {
     SeeStock,
     /// Show how many events and journeys there are.
     SeeHealth,
-    /// Show what a monitor reads.
-    SeeMetrics,
     /// Show who asks.
     SeeAgent(Asker),
     /// Show the page for browsers.
@@ -168,10 +166,7 @@ fn asked_of_house(alloc: Global, paths: &Paths, request: &Request) -> Result<Dem
 {
     let found = paths.route(&request.method, &request.target);
     let is_post = request.method.as_slice() == b"POST".as_slice();
-    let route = match admit(found, true, true, is_post) {
-        Ok(route) => route,
-        Err(denied) => return unrouted_demand(request, denied),
-    };
+    let route = admit(found, true, true, is_post)?;
     let sender = Sender {
         asker: Asker::House,
         key: request.key,
@@ -179,26 +174,6 @@ fn asked_of_house(alloc: Global, paths: &Paths, request: &Request) -> Result<Dem
         body: &request.body,
     };
     demand_by(alloc, route, &sender)
-}
-
-/// The demand of a request of the house that has no route of an agent, or its denial.
-fn unrouted_demand(request: &Request, denied: Denied) -> Result<Demand, Unmet>
-    ensures demand { (parts : Parts) → (body : List ℕ) → IsRequest request.now parts body →
-        Demands (asked_of_house (Err denied) parts body) result }
-{
-    if asks_for_metrics(request) {
-        return Ok(Demand::SeeMetrics);
-    }
-    Err(Unmet::from(denied))
-}
-
-/// Whether a request asks for what a monitor reads.
-fn asks_for_metrics(request: &Request) -> bool
-    ensures metrics { (parts : Parts) → (body : List ℕ) → IsRequest request.now parts body →
-        result ≡ asks_for_metrics parts }
-{
-    request.method.as_slice() == b"GET".as_slice()
-        && request.target.as_slice() == b"/metrics".as_slice()
 }
 
 /// Whether a request asks the desk to stop.

@@ -4,14 +4,12 @@ ghost use Rattle.commands.specs.Orders.{request_of};
 ghost use Rattle.desk_http.specs.Answering.{Shows};
 ghost use Rattle.desk_http.specs.DemandValues.{AsksFor, ReadsAs};
 ghost use Rattle.desk_http.specs.Demands.{bare, begin_by, load_of, value_in};
-ghost use Rattle.desk_http.specs.Pages.{journey_page, owner_of, plan_page, own_journey, own_unfinished, unfinished_shown, ShowsMetrics, ShowsStock};
+ghost use Rattle.desk_http.specs.Pages.{journey_page, owner_of, plan_page, own_journey, own_unfinished, unfinished_shown, ShowsStock};
 ghost use Rattle.http_pages.specs.Bodies.{agent_data, health_data};
-ghost use Rattle.http_metrics.specs.Texts.{metrics_text};
-ghost use Rattle.http_pages.specs.Pages.{monitored_page, page_said, value_page};
+ghost use Rattle.http_pages.specs.Pages.{page_said, value_page};
 ghost use Rattle.ledger.specs.Answer.{State};
 ghost use Rattle.saga_core.specs.Calls.{Serves};
 ghost use Rattle.saga_core.specs.Views.{counts_of};
-ghost use Rattle.saga_core.specs.declared.records.Counts.{Counts};
 ghost use Rattle.serde_json.specs.Read.{read};
 ghost use Rattle.serde_json.specs.Written.{compact_text};
 ghost use Rattle.std.specs.Prelude.{◌≡◌, IfOk};
@@ -22,7 +20,6 @@ use crate::doors::Asker;
 use crate::plan_texts::plan_in;
 use allotment_csv::{CsvFault, read_batch};
 use commands::{Command, Name, Refusal};
-use http_metrics::{Metrics, metrics_text};
 use http_pages::{
     Body, Owners, Page, agent_body, health_body, journey_body, plan_body, refused_page, shown_page,
     unfinished_body,
@@ -171,26 +168,6 @@ pub(crate) fn see_health<B: Book>(alloc: Global, book: &mut B) -> Result<Page, S
     let counts = book.counts()?;
     let body = health_body(alloc, counts)?;
     Ok(shown_page(Body::Json(body)))
-}
-
-/// The page of how many events, journeys and unfinished journeys there are, and of what was counted.
-pub(crate) fn see_metrics<B: Book>(
-    alloc: Global,
-    metrics: &Metrics,
-    book: &mut B,
-) -> Result<Page, ServeFault>
-    ensures page { B.is_sound book.new → (s : State) → B.stands book.old s →
-        Shows (B.stands book.new) (B.leaves book.new) s
-        (λ page. ShowsMetrics s.ledger (page_said page)) result }
-    ensures counted { IfOk result (λ page. (counts : Counts) ×
-        (page_said page ≡ monitored_page (metrics_text counts metrics.now))) }
-
-    ensures serves { Serves B.is_sound B.leaves B.has_failed book.old book.new
-        ServeFault.Store result }
-{
-    let counts = book.counts()?;
-    let body = metrics_text(alloc, counts, metrics)?;
-    Ok(shown_page(Body::Metrics(body)))
 }
 
 /// The page of who asks: an agent, or the house as the agent whose journeys are its own. The only fault is out of memory.

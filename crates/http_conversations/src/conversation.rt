@@ -12,7 +12,6 @@ use crate::talk::Talk;
 use commands::{Fault, MOST_BYTES};
 use desk_http::Door;
 use http_messages::LONGEST_HEAD;
-use http_metrics::Metrics;
 use http_pages::Paths;
 use http_ways::{Arrived, Way};
 use protocols::ServeFault;
@@ -75,8 +74,8 @@ impl Conversation {
     }
 
     /// Answers the first message that waits, unless a page waits or the conversation is over, and reports whether it did. By
-    /// the wide way the page has the date of this second since 1970, if the clock was read. What was counted is shown where the
-    /// message asks for that. The message is shown, as it was read, also where its page is lost.
+    /// the wide way the page has the date of this second since 1970, if the clock was read. The message is shown, as it was
+    /// read, also where its page is lost.
     ///
     /// Out of memory, the message was carried out or not, and its page is lost. Then, and where the store failed, the
     /// conversation has failed.
@@ -84,7 +83,6 @@ impl Conversation {
         &mut self,
         paths: &Paths,
         second: Option<u64>,
-        metrics: &Metrics,
         seen: &mut Option<Arrived>,
         book: &mut B,
     ) -> Result<bool, Fault>
@@ -101,7 +99,7 @@ impl Conversation {
         ensures serves { Serves B.is_sound B.leaves B.has_failed book.old book.new
             Fault.Store result }
     {
-        self.talk.answer(paths, second, metrics, seen, book)
+        self.talk.answer(paths, second, seen, book)
     }
 
     /// Gives `100 Continue` where it is due, and reports whether it was: no page waits, the head of the next message asks for

@@ -13,7 +13,6 @@ ghost use Rattle.http_conversations.specs.Serving.{AwaitsNext, FindsNext, HandsO
 
 use crate::conversation::{Conversation, MOST_READ, Stage};
 use desk_http::Door;
-use http_metrics::Metrics;
 use http_pages::Paths;
 use http_ways::Way;
 use protocols::ServeFault;
@@ -152,9 +151,9 @@ fn answer_next<R: Read, B: Book>(
     ensures serves { Serves B.is_sound B.leaves B.has_failed book.old book.new
         ServeFault.Store result }
 {
-    let (metrics, mut seen) = (Metrics::new(), None);
+    let mut seen = None;
     for _ in 0..u64::MAX {
-        match conversation.answer(paths, None, &metrics, &mut seen, book) {
+        match conversation.answer(paths, None, &mut seen, book) {
             Ok(true) => return Ok(true),
             Ok(false) => {
                 let count = read_more(conversation, buffer, reader)?;

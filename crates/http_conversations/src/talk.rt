@@ -11,7 +11,6 @@ ghost use Rattle.http_conversations.specs.Talks.{history_of};
 use crate::conversation::Stage;
 use commands::Fault;
 use desk_http::{Answer, Door};
-use http_metrics::Metrics;
 use http_pages::Paths;
 use http_server::Log;
 use http_ways::{Arrived, Way, answer_by, first_by, go_on_by, go_on_text};
@@ -106,7 +105,6 @@ impl Talk {
         &mut self,
         paths: &Paths,
         second: Option<u64>,
-        metrics: &Metrics,
         seen: &mut Option<Arrived>,
         book: &mut B,
     ) -> Result<bool, Fault>
@@ -125,7 +123,7 @@ impl Talk {
         }
         match first_by(self.alloc, self.way, &self.waiting) {
             Ok(Some((arrived, count))) => {
-                let answered = self.answer_first(paths, second, metrics, &arrived, count, book);
+                let answered = self.answer_first(paths, second, &arrived, count, book);
                 *seen = Some(arrived);
                 answered
             }
@@ -142,7 +140,6 @@ impl Talk {
         &mut self,
         paths: &Paths,
         second: Option<u64>,
-        metrics: &Metrics,
         arrived: &Arrived,
         count: usize,
         book: &mut B,
@@ -158,7 +155,7 @@ impl Talk {
         ensures serves { Serves B.is_sound B.leaves B.has_failed book.old book.new
             Fault.Store result }
     {
-        match answer_by(self.alloc, paths, self.door, second, arrived, metrics, book) {
+        match answer_by(self.alloc, paths, self.door, second, arrived, book) {
             Ok(answer) => {
                 self.keep(count, answer);
                 Ok(true)

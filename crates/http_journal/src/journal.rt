@@ -1,62 +1,38 @@
-//! What is counted of connections and requests, and which lines of the log are written, and when.
+//! Which lines of the log are written, and when.
 ghost use Rattle.std.specs.Prelude.{IfSome, IsTrue};
 ghost use Rattle.std.specs.List.{list_all};
 ghost use Rattle.std.specs.String.{string_bytes};
 ghost use Rattle.http_log.specs.Shown.{is_printable};
 
-use crate::clocks::{micros_between, time_now};
 use crate::known::Known;
-use crate::texts::{ask_of, asked_by, is_post, refusal_in, status_in};
+use crate::texts::{ask_of, asked_by};
 use http_live::Standing;
-use http_log::{Asked, LogForm, Peer, Recent, Why, opened_line, request_line};
+use http_log::{Peer, Recent, Why, opened_line, request_line};
 use http_messages::Message;
-use http_metrics::Metrics;
 use http_ways::Arrived;
 use log::info;
 use std::alloc::{AllocError, Global};
-use std::time::Instant;
 
 /// Writes how many events an opening recovered, on standard error.
-pub fn log_opening(rt: &HostRuntime, alloc: Global, form: LogForm, recovered: u64) {
+pub fn log_opening(rt: &HostRuntime, alloc: Global, recovered: u64) {
     if let Ok(line) = opened_line(alloc, recovered) {
-        write_line(rt, alloc, form, line);
+        info!(rt; target: "desk", "{line}");
     }
 }
 
-/// Writes a line. It has printable bytes of ASCII alone, so that one line is one record.
-fn write_line(rt: &HostRuntime, alloc: Global, form: LogForm, line: String)
-    requires printable { IsTrue (list_all is_printable (string_bytes line)) }
-{
-    let time = match form {
-        LogForm::Plain => None,
-        LogForm::Timed => time_now(rt, alloc),
-    };
-    match time {
-        None => info!(rt; target: "desk", "{line}"),
-        Some(time) => {
-            let _ = eprintln!(rt; "{time} [INFO  desk] {line}");
-        }
-    }
-}
-
-/// The counts, and the log, if one is written. What the log cannot write is left out.
+/// The log. What it cannot write is left out.
 #[derive(Drop)]
 pub struct Journal<'a> {
     rt: &'a HostRuntime,
     alloc: Global,
-    /// How the lines of the log begin, if it is written.
-    form: Option<LogForm>,
-    metrics: Metrics,
     /// How many connections came.
     came: u64,
     recent: Recent,
     pub(crate) seats: Vec<Known>,
-    /// When this turn began, if the clock was read.
-    began: Option<Instant>,
 }
 
 impl<'a> Journal<'a> {
-    /// So many seats, at which nobody is. No log is written.
+    /// The log of so many seats, at which nobody is.
     pub fn new(
         rt: &'a HostRuntime,
         alloc: Global,
@@ -69,23 +45,10 @@ impl<'a> Journal<'a> {
         Ok(Journal {
             rt,
             alloc,
-            form: None,
-            metrics: Metrics::new(),
             came: 0,
             recent: Recent::new(alloc),
             seats,
-            began: None,
         })
-    }
-
-    /// The log is written from now on, and its lines begin so.
-    pub fn log(&mut self, form: LogForm) {
-        self.form = Some(form);
-    }
-
-    /// What was counted.
-    pub fn metrics(&self) -> Metrics {
-        self.metrics
     }
 
     /// A connection takes a seat by a door. Which was there before is displaced. Out of memory, the line of that is left out.
@@ -98,14 +61,12 @@ impl<'a> Journal<'a> {
         };
         if at < self.seats.len() {
             self.seats[at] = Known::of(peer);
-            self.metrics.comes();
         }
         displaced
     }
 
-    /// A turn of a seat begins, at which a message, or part of one, waits to be answered, or does not. Nothing is written.
+    /// A message, or part of one, waits at a seat to be answered, or does not. Nothing is written.
     pub fn sees_received(&mut self, at: usize, has_part: bool) {
-        self.began = Instant::now(self.rt).ok();
         if let Some(known) = self.seats.get_mut(at) {
             known.has_part = has_part;
         }
@@ -121,29 +82,23 @@ impl<'a> Journal<'a> {
         page: &[u8],
         closes: bool,
     ) -> Result<(), AllocError> {
-        let now = Instant::now(self.rt).ok();
         match standing {
-            Standing::Over => self.sees_end(at, seen, now),
+            Standing::Over => self.sees_end(at, seen),
             Standing::Answered | Standing::Stopped => {
                 self.keep_page(at, page, closes);
-                let _ = self.answers(at, seen, status_in(page), page, now)?;
+                let _ = self.answers(at, seen, page.get(9..12).unwrap_or(b"?"))?;
                 Ok(())
             }
             _ => {
-                self.keep_rest(at, standing, page, now);
+                self.keep_rest(at, page);
                 Ok(())
             }
         }
     }
 
     /// The connection of a seat ended in its turn: its peer ended it, or memory ran out for a page.
-    fn sees_end(
-        &mut self,
-        at: usize,
-        seen: Option<&Arrived>,
-        now: Option<Instant>,
-    ) -> Result<(), AllocError> {
-        let is_lost = self.answers(at, seen, b"lost", b"", now);
+    fn sees_end(&mut self, at: usize, seen: Option<&Arrived>) -> Result<(), AllocError> {
+        let is_lost = self.answers(at, seen, b"lost");
         let why = match self.seats.get(at) {
             None => return Ok(()),
             Some(known) => known.why(is_lost.unwrap_or(true)),
@@ -151,29 +106,27 @@ impl<'a> Journal<'a> {
         self.ends(at, why)
     }
 
-    /// This is left of the page of a seat after a turn in which no message was answered.
-    fn keep_rest(&mut self, at: usize, standing: Standing, page: &[u8], now: Option<Instant>) {
+    /// This is left of the page of a seat.
+    fn keep_rest(&mut self, at: usize, page: &[u8]) {
         if let Some(known) = self.seats.get_mut(at) {
-            known.goes_on(standing == Standing::Busy, page.len(), now);
+            known.is_unsent = !page.is_empty();
         }
     }
 
     /// This is the page of a seat, after which the connection ends, or does not.
     fn keep_page(&mut self, at: usize, page: &[u8], closes: bool) {
         if let Some(known) = self.seats.get_mut(at) {
-            known.unsent = page.len();
+            known.is_unsent = !page.is_empty();
             known.closes = closes;
         }
     }
 
-    /// A message was answered with this status and this page at this time, or lost its page. Returns whether there was one.
+    /// A message was answered with this status, or lost its page. Returns whether there was one.
     fn answers(
         &mut self,
         at: usize,
         seen: Option<&Arrived>,
         status: &[u8],
-        page: &[u8],
-        now: Option<Instant>,
     ) -> Result<bool, AllocError> {
         let Some(known) = self.seats.get_mut(at) else {
             return Ok(false);
@@ -182,39 +135,28 @@ impl<'a> Journal<'a> {
             return Ok(false);
         };
         known.requests = known.requests.saturating_add(1);
-        let (peer, millis) = (known.peer, known.millis_since_read(now));
-        let is_accepted = status == b"200".as_slice();
-        self.metrics.answers(status);
-        if is_accepted && is_post(&arrived.message) {
-            self.metrics.carries(micros_between(self.began, now));
-        }
-        let again = is_accepted && self.is_again(&arrived.message);
-        let refused = if is_accepted {
-            b"".as_slice()
-        } else {
-            refusal_in(page)
-        };
-        self.write_request(peer, &asked_by(arrived, status, refused, again, millis))?;
+        let peer = known.peer;
+        let again = self.is_again(&arrived.message, status);
+        let asked = asked_by(arrived, status, again);
+        let line = request_line(self.alloc, peer, &asked)?;
+        self.write(Some(line));
         Ok(true)
     }
 
-    /// Whether the page of a message that was accepted was a kept one: that of a request under a key, which was accepted before.
-    /// Where no log is written, nothing is remembered.
-    fn is_again(&mut self, message: &Message) -> bool {
-        match ask_of(message) {
-            Some((agent, key)) if self.form.is_some() => {
-                self.recent.put(agent, key).unwrap_or(false)
-            }
-            _ => false,
-        }
+    /// Whether the page of a message with this status was a kept one: an accepted request under a key, which was answered
+    /// so before.
+    fn is_again(&mut self, message: &Message, status: &[u8]) -> bool {
+        let Some((agent, key)) = ask_of(message) else {
+            return false;
+        };
+        status == b"200".as_slice() && self.recent.put(agent, key).unwrap_or(false)
     }
 
     /// The connection of a seat ended, if one was here. Out of memory, its line is left out.
     pub fn ends(&mut self, at: usize, why: Why) -> Result<(), AllocError> {
-        if at >= self.seats.len() || !self.seats[at].is_here {
+        if at >= self.seats.len() {
             return Ok(());
         }
-        self.metrics.ends(why);
         let line = self.seats[at].end(self.alloc, why)?;
         self.write(line);
         Ok(())
@@ -227,22 +169,13 @@ impl<'a> Journal<'a> {
         }
     }
 
-    /// Writes the line of a message of a peer, if a log is written.
-    fn write_request(&self, peer: Peer, asked: &Asked<'_>) -> Result<(), AllocError> {
-        if self.form.is_some() {
-            let line = request_line(self.alloc, peer, asked)?;
-            self.write(Some(line));
-        }
-        Ok(())
-    }
-
-    /// Writes a line, if there is one, and a log is written.
+    /// Writes a line, if there is one. It has printable bytes of ASCII alone, so that one line is one record.
     fn write(&self, line: Option<String>)
         requires printable { IfSome line
             (λ text. IsTrue (list_all is_printable (string_bytes text))) }
     {
-        if let (Some(form), Some(line)) = (self.form, line) {
-            write_line(self.rt, self.alloc, form, line);
+        if let Some(line) = line {
+            info!(self.rt; target: "desk", "{line}");
         }
     }
 }

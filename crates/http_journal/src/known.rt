@@ -4,10 +4,8 @@ ghost use Rattle.std.specs.List.{list_all};
 ghost use Rattle.std.specs.String.{string_bytes};
 ghost use Rattle.http_log.specs.Shown.{is_printable};
 
-use crate::clocks::micros_between;
 use http_log::{Peer, Why, ended_line};
 use std::alloc::{AllocError, Global};
-use std::time::Instant;
 
 /// What the log knows of a seat.
 #[derive(Drop)]
@@ -19,12 +17,10 @@ pub struct Known {
     pub(crate) requests: u64,
     /// Whether a message, or part of one, was received before its turn.
     pub(crate) has_part: bool,
-    /// How many bytes were left of its page after its last turn.
-    pub(crate) unsent: usize,
+    /// Whether something was left of its page after its last turn.
+    pub(crate) is_unsent: bool,
     /// Whether its last page closes.
     pub(crate) closes: bool,
-    /// When it was read last, if the clock was.
-    pub(crate) read_at: Option<Instant>,
 }
 
 impl Known {
@@ -54,24 +50,9 @@ impl Known {
             peer,
             requests: 0,
             has_part: false,
-            unsent: 0,
+            is_unsent: false,
             closes: false,
-            read_at: None,
         }
-    }
-
-    /// A turn ended at this time, after which so many bytes are left of its page. In one that was busy, and sent nothing, it was
-    /// read.
-    pub(crate) fn goes_on(&mut self, is_busy: bool, unsent: usize, now: Option<Instant>) {
-        if is_busy && unsent == self.unsent {
-            self.read_at = now;
-        }
-        self.unsent = unsent;
-    }
-
-    /// How many milliseconds it is since it was read; 0 where the clock was not.
-    pub(crate) fn millis_since_read(&self, now: Option<Instant>) -> u64 {
-        micros_between(self.read_at, now) / 1000
     }
 
     /// The connection ended so. Returns its line, if one was here. The only fault is out of memory.
@@ -95,7 +76,7 @@ impl Known {
     {
         if is_lost {
             Why::Memory
-        } else if self.unsent > 0 {
+        } else if self.is_unsent {
             Why::NotTaken
         } else if self.closes {
             Why::Closed

@@ -11,7 +11,6 @@ use crate::seats::Standing;
 use commands::Fault;
 use desk_http::Door;
 use http_conversations::{Conversation, MOST_READ, Stage};
-use http_metrics::Metrics;
 use http_pages::Paths;
 use http_server::Log;
 use http_ways::{Arrived, Way};
@@ -90,7 +89,6 @@ impl<R: Read + Drop, W: Write + Drop> Connection<R, W> {
         &mut self,
         paths: &Paths,
         second: Option<u64>,
-        metrics: &Metrics,
         buffer: &mut [u8],
         seen: &mut Option<Arrived>,
         book: &mut B,
@@ -107,7 +105,7 @@ impl<R: Read + Drop, W: Write + Drop> Connection<R, W> {
         if self.conversation.wants_write() {
             return Ok(self.push(buffer));
         }
-        match self.answer(paths, second, metrics, seen, book) {
+        match self.answer(paths, second, seen, book) {
             Ok(true) => Ok(self.answered()),
             Ok(false) => Ok(self.go_on(buffer)),
             Err(Fault::Memory) => Ok(Standing::Over),
@@ -157,7 +155,6 @@ impl<R: Read + Drop, W: Write + Drop> Connection<R, W> {
         &mut self,
         paths: &Paths,
         second: Option<u64>,
-        metrics: &Metrics,
         seen: &mut Option<Arrived>,
         book: &mut B,
     ) -> Result<bool, Fault>
@@ -170,7 +167,7 @@ impl<R: Read + Drop, W: Write + Drop> Connection<R, W> {
         ensures serves { Serves B.is_sound B.leaves B.has_failed book.old book.new
             Fault.Store result }
     {
-        self.conversation.answer(paths, second, metrics, seen, book)
+        self.conversation.answer(paths, second, seen, book)
     }
 
     /// Reads once.

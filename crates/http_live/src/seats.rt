@@ -11,7 +11,6 @@ use crate::connection::Connection;
 use commands::Fault;
 use desk_http::Door;
 use http_conversations::MOST_READ;
-use http_metrics::Metrics;
 use http_pages::Paths;
 use http_server::Log;
 use http_ways::{Arrived, Way};
@@ -106,7 +105,6 @@ impl<R: Read + Drop, W: Write + Drop> Seat<R, W> {
         &mut self,
         paths: &Paths,
         second: Option<u64>,
-        metrics: &Metrics,
         buffer: &mut [u8],
         seen: &mut Option<Arrived>,
         book: &mut B,
@@ -123,7 +121,7 @@ impl<R: Read + Drop, W: Write + Drop> Seat<R, W> {
         let Some(connection) = &mut self.connection else {
             return Ok(Standing::Over);
         };
-        let standing = connection.serve(paths, second, metrics, buffer, seen, book)?;
+        let standing = connection.serve(paths, second, buffer, seen, book)?;
         if standing == Standing::Over {
             self.clear();
         }

@@ -15,7 +15,6 @@ use crate::seats::{Seat, Standing};
 use commands::Fault;
 use desk_http::Door;
 use http_conversations::MOST_READ;
-use http_metrics::Metrics;
 use http_pages::Paths;
 use http_ways::{Arrived, Way};
 use recovery::Ready;
@@ -109,8 +108,7 @@ fn take_turn<T: Turns, B: Book>(
                 show_received(seats, turns, at);
                 let mut seen = None;
                 let second = turns.second();
-                let metrics = turns.metrics();
-                let standing = seats[at].serve(paths, second, &metrics, buffer, &mut seen, book)?;
+                let standing = seats[at].serve(paths, second, buffer, &mut seen, book)?;
                 show_page(seats, turns, at, standing, seen.as_ref());
                 turns.hear(at, standing);
                 return Ok(ending_after(standing));
@@ -254,11 +252,6 @@ pub trait Turns {
     /// What the clock shows, in seconds since 1970, if it can be read. Pages by the wide way have its date.
     fn second(&mut self) -> Option<u64> {
         None
-    }
-
-    /// What was counted, for who asks for it.
-    fn metrics(&self) -> Metrics {
-        Metrics::new()
     }
 
     /// Sees whether a message, or part of one, waits at a seat to be answered in its turn, which comes next. Nothing depends on

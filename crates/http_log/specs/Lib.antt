@@ -1,4 +1,3 @@
 pub mod Shown
 pub mod Lines
 pub mod Recent
-pub mod Times

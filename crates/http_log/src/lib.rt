@@ -10,14 +10,10 @@
 
 mod endings;
 mod escaping;
-mod forms;
 mod lines;
 mod recent;
-mod times;
 
 pub use endings::Why;
 pub use escaping::shown;
-pub use forms::LogForm;
 pub use lines::{Asked, Peer, ended_line, opened_line, request_line};
 pub use recent::{MOST_RECENT, Recent};
-pub use times::time_text;

@@ -14,6 +14,5 @@ mod serving;
 mod sockets;
 
 pub use http_journal::log_opening;
-pub use http_log::LogForm;
 pub use serving::{Limits, PATIENCE, serve_sockets};
 pub use sockets::Sockets;

@@ -9,8 +9,7 @@ use crate::serving::Limits;
 use desk_http::{Door, Site};
 use http_journal::Journal;
 use http_live::{SEATS, Standing, Turn, Turns};
-use http_log::{LogForm, Why};
-use http_metrics::Metrics;
+use http_log::Why;
 use http_pages::HtmlPage;
 use http_ways::{Arrived, Way};
 use mio::{Events, Poll, Token};
@@ -66,8 +65,8 @@ pub struct Sockets<'a> {
     leaving: VecDeque<usize>,
     /// Whether the system has failed to report what happens.
     has_failed: bool,
-    /// What is counted, and the log, if one is written.
-    journal: Journal<'a>,
+    /// The log, if one is written.
+    journal: Option<Journal<'a>>,
 }
 
 impl<'a> Sockets<'a> {
@@ -95,7 +94,6 @@ impl<'a> Sockets<'a> {
         let round = VecDeque::with_capacity(alloc, SEATS)?;
         let next = VecDeque::with_capacity(alloc, SEATS)?;
         let leaving = VecDeque::with_capacity(alloc, SEATS)?;
-        let journal = Journal::new(rt, alloc, SEATS)?;
         let clock = Instant::now(rt)?;
         let listeners = Listeners::bind(rt, alloc, poll.registry(), port, path)?;
         Ok(Sockets {
@@ -117,23 +115,25 @@ impl<'a> Sockets<'a> {
             next,
             leaving,
             has_failed: false,
-            journal,
+            journal: None,
         })
     }
 
-    /// Writes a line on standard error for each request and for each connection that ended, from now on, in this form. Nothing
-    /// else changes.
-    pub fn log(&mut self, form: LogForm)
+    /// Writes a line on standard error for each request and for each connection that ended, from now on. Nothing else changes.
+    pub fn log(&mut self) -> Result<(), AllocError>
         ensures page { page_at_port self.new ≡ page_at_port self.old }
         ensures way { way_to_come self.new ≡ way_to_come self.old }
         ensures limits { KeepsLimits self.old self.new }
     {
-        self.journal.log(form);
+        self.journal = Some(Journal::new(self.rt, self.alloc, SEATS)?);
+        Ok(())
     }
 
-    /// Notes why the connection of a seat ended.
+    /// Notes in the log, if one is written, why the connection of a seat ended.
     fn note_end(&mut self, at: usize, why: Why) {
-        let _ = self.journal.ends(at, why);
+        if let Some(journal) = &mut self.journal {
+            let _ = journal.ends(at, why);
+        }
     }
 
     /// The port that is listened on: where 0 was asked for, the system chose it.
@@ -184,9 +184,16 @@ impl<'a> Sockets<'a> {
     /// Ends all connections, listens no more, and removes the file of the Unix socket.
     pub fn end(self) {
         let mut sockets = self;
-        sockets.journal.ends_all();
+        sockets.note_ends();
         let rt = sockets.rt;
         sockets.listeners.end(rt);
+    }
+
+    /// Notes in the log, if one is written, that all connections end.
+    fn note_ends(&mut self) {
+        if let Some(journal) = &mut self.journal {
+            journal.ends_all();
+        }
     }
 
     /// The next turn of this round.
@@ -258,7 +265,9 @@ impl<'a> Sockets<'a> {
         let door = socket.door(self.page);
         let (reader, writer) = ends_of(&socket, self.way)?;
         self.places.take(at, socket, self.tick);
-        let _ = self.journal.comes(at, matches!(door, Door::House));
+        if let Some(journal) = &mut self.journal {
+            let _ = journal.comes(at, matches!(door, Door::House));
+        }
         Ok(Turn::Comes(at, door, self.way, reader, writer))
     }
 
@@ -348,12 +357,10 @@ impl Turns for Sockets<'_> {
         }
     }
 
-    fn metrics(&self) -> Metrics {
-        self.journal.metrics()
-    }
-
     fn see_received(&mut self, at: usize, has_part: bool) {
-        self.journal.sees_received(at, has_part);
+        if let Some(journal) = &mut self.journal {
+            journal.sees_received(at, has_part);
+        }
     }
 
     fn see_page(
@@ -364,7 +371,9 @@ impl Turns for Sockets<'_> {
         page: &[u8],
         closes: bool,
     ) {
-        let _ = self.journal.sees_page(at, standing, seen, page, closes);
+        if let Some(journal) = &mut self.journal {
+            let _ = journal.sees_page(at, standing, seen, page, closes);
+        }
     }
 
     fn hear(&mut self, at: usize, standing: Standing) {

@@ -23,7 +23,6 @@ use http_messages::{
     AskedKind, Denial, LONGEST_HEAD, Message, WideMessage, WideRequest, first_message,
     first_wide_message, go_on_is_due,
 };
-use http_metrics::Metrics;
 use http_pages::Paths;
 use protocols::ServeFault;
 use saga_core::Book;
@@ -186,7 +185,6 @@ pub fn answer_by<B: Book>(
     door: Door,
     second: Option<u64>,
     arrived: &Arrived,
-    metrics: &Metrics,
     book: &mut B,
 ) -> Result<Answer, ServeFault>
     ensures answer { B.is_sound book.new → (s : State) → B.stands book.old s →
@@ -200,7 +198,7 @@ pub fn answer_by<B: Book>(
     ensures serves { Serves B.is_sound B.leaves B.has_failed book.old book.new
         ServeFault.Store result }
 {
-    match answer_to(alloc, paths, door, &arrived.message, metrics, book) {
+    match answer_to(alloc, paths, door, &arrived.message, book) {
         Ok(answer) => lay_out(alloc, paths, door, second, arrived, answer),
         Err(fault) => Err(fault),
     }

@@ -1,3 +1,2 @@
 mod log_lines;
-mod metrics;
 mod terminals;

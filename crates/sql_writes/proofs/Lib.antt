@@ -12,4 +12,3 @@ pub mod RunPuts
 pub mod RunWrites
 pub mod RunLemmas
 pub mod RunWeeks
-pub mod Batches

@@ -7,7 +7,6 @@ use crate::tests::orders::{
 use crate::tests::talks::{Asked, Page, Talk, put};
 use desk_http::{Door, answer_to};
 use http_messages::first_message;
-use http_metrics::Metrics;
 use http_pages::Paths;
 use std::alloc::Global;
 use std::process::Abort;
@@ -49,7 +48,7 @@ pub fn is_answered_at(rt: &impl Abort, alloc: Global, door: Door, talk: &Talk, s
             break;
         };
         left = left.get(count..).unwrap_or(b"");
-        let answer = answer_to(alloc, &paths, door, &message, &Metrics::new(), &mut desk);
+        let answer = answer_to(alloc, &paths, door, &message, &mut desk);
         let answer = answer.expect(rt, "memory");
         told.extend_from_slice(&answer.bytes).expect(rt, "memory");
         if answer.stops {
@@ -82,7 +81,7 @@ const PLAN: Page = (
 
 // what the house asks at its own door, after ann began journey 1 and the house journey 2
 #[rattlefmt::skip]
-static OF_THE_HOUSE: [(&str, Page); 12] = [
+static OF_THE_HOUSE: [(&str, Page); 10] = [
     ("GET /unfinished",         ("200 OK", "", 117, r#"{"unfinished":[{"agent":"ann","journey":1,"pos":0,"state":"run"},{"agent":"desk","journey":2,"pos":0,"state":"run"}]}"#)),
     ("POST /journeys/1/step",   ("200 OK", "", 49,  r#"{"item":"T1.1","journey":1,"pos":1,"state":"run"}"#)),
     ("POST /journeys/1/save",   ("200 OK", "", 47,  r#"{"item":"S1","journey":1,"pos":1,"state":"run"}"#)),
@@ -93,13 +92,11 @@ static OF_THE_HOUSE: [(&str, Page); 12] = [
     ("POST /unfinished",        ONLY_GET),
     ("GET /nowhere",            UNKNOWN_PATH),
     ("GET /stop",               UNKNOWN_PATH),
-    ("POST /metrics",           UNKNOWN_PATH),
-    ("GET /metrics/",           UNKNOWN_PATH),
 ];
 
 // what agents ask there: as at the port
 #[rattlefmt::skip]
-static OF_AGENTS: [Asked; 11] = [
+static OF_AGENTS: [Asked; 10] = [
     ("GET /unfinished",         "ann", "",   "", ("200 OK", "", 52, r#"{"unfinished":[{"journey":1,"pos":1,"state":"run"}]}"#)),
     ("GET /unfinished",         "bob", "",   "", ("200 OK", "", 17, r#"{"unfinished":[]}"#)),
     ("GET /journeys/1",         "bob", "",   "", NO_JOURNEY),
@@ -110,7 +107,6 @@ static OF_AGENTS: [Asked; 11] = [
     ("POST /journeys/1/step",   "",    "k4", "", NO_AGENT),
     ("POST /journeys/1/save",   "ann", "k1", "", KEY_REUSED),
     ("POST /stop",              "ann", "k5", "", UNKNOWN_PATH),
-    ("GET /metrics",            "ann", "",   "", UNKNOWN_PATH),
 ];
 
 #[test]
@@ -145,7 +141,7 @@ fn at_its_own_door_the_house_sees_and_moves_every_journey(rt: HostRuntime) {
 
 // the same without an agent is refused at the port, where nobody stops the desk
 #[rattlefmt::skip]
-static AT_THE_PORT: [(&str, Page); 8] = [
+static AT_THE_PORT: [(&str, Page); 7] = [
     ("GET /unfinished",         NO_AGENT),
     ("GET /stock",              NO_AGENT),
     ("GET /journeys/1",         NO_AGENT),
@@ -153,7 +149,6 @@ static AT_THE_PORT: [(&str, Page); 8] = [
     ("POST /unfinished",        ONLY_GET),
     ("POST /stop",              UNKNOWN_PATH),
     ("GET /stop",               UNKNOWN_PATH),
-    ("GET /metrics",            UNKNOWN_PATH),
 ];
 
 #[test]
@@ -163,27 +158,6 @@ fn at_the_port_nobody_is_the_house(rt: HostRuntime) {
     begin(&rt, alloc, &mut talk, "ann", "k1", &[BUS], JOURNEY_1);
     go_on_unnamed(&rt, alloc, &mut talk, &AT_THE_PORT);
     is_answered_at(&rt, alloc, Door::Port, &talk, 0);
-}
-
-#[test]
-fn at_its_own_door_a_monitor_reads_what_was_counted(rt: HostRuntime) {
-    let alloc = rt.alloc();
-    let mut desk = new_desk(&rt, alloc);
-    let paths = Paths::new(alloc).expect(&rt, "memory");
-    let asked = b"GET /metrics HTTP/1.1\r\nHost: d\r\n\r\n";
-    let found = first_message(alloc, asked).expect(&rt, "memory");
-    let (message, _) = found.expect(&rt, "a message");
-    let mut metrics = Metrics::new();
-    metrics.comes();
-    let answer = answer_to(alloc, &paths, Door::House, &message, &metrics, &mut desk);
-    let page = answer.expect(&rt, "memory").bytes;
-    let text = str::from_utf8(&page).expect(&rt, "text");
-    assert!(rt; text.starts_with("HTTP/1.1 200 OK\r\nContent-Length: "), "{text}");
-    let (head, body) = text.split_once("\r\n\r\n").expect(&rt, "a body");
-    assert!(rt; head.ends_with("\r\nContent-Type: text/plain; version=0.0.4"), "{head}");
-    for line in ["desk_events_total 0", "desk_journeys_total 0", "desk_connections_open 1"] {
-        assert!(rt; body.lines().any(|it| it == line), "{line}");
-    }
 }
 
 // nothing is kept for the house: what it sends again is carried out again

@@ -1,8 +1,7 @@
 //! The jobs of the words of the command line.
 use crate::tests::desks::{holds, reads};
-use command_line::{Job, JobFault, call_of, job};
+use command_line::{Job, JobFault, job};
 use filters::{CellFilter, JourneyFilter, JourneyState, Phases};
-use http_log::LogForm;
 use reports::Format;
 use std::alloc::{AllocError, Global};
 use std::test::Fail;
@@ -25,7 +24,7 @@ fn served_text(
     connections: Option<u16>,
     house: Option<String>,
     page: bool,
-    log: Option<LogForm>,
+    log: bool,
     wide: bool,
 ) -> Result<String, AllocError> {
     let count = match connections {
@@ -34,11 +33,7 @@ fn served_text(
     };
     let house = house.as_ref().map_or("-", |path| path.as_str());
     let page = if page { "|page" } else { "" };
-    let log = match log {
-        None => "",
-        Some(LogForm::Plain) => "|log",
-        Some(LogForm::Timed) => "|log with times",
-    };
+    let log = if log { "|log" } else { "" };
     let wide = if wide { "|wide" } else { "" };
     format!(in alloc; "serve|{file}|{port}|{count}|{house}{page}{log}{wide}")
 }
@@ -102,8 +97,7 @@ fn journeys_asked(
 
 /// The job of words as a text in the table: the job with its values, or only the usage.
 fn asked(alloc: Global, words: Vec<String>) -> Result<String, AllocError> {
-    let call = call_of(words);
-    match job(alloc, call.words).map(|job| job.timed(call.times)) {
+    match job(alloc, words) {
         Ok(Job::Run { file }) => format!(in alloc; "run|{file}"),
         Ok(
             Job::Serve {
@@ -202,9 +196,6 @@ const JOBS: [(&str, &str); 76] = [
     ("serve|--page|--house|d.sock|--port|8099|x.db",  "serve|x.db|8099|-|d.sock|page"),
     ("serve|x.db|--port|8099|--log",                  "serve|x.db|8099|-|-|log"),
     ("serve|--log|x.db|--house|d|--port|1",           "serve|x.db|1|-|d|log"),
-    ("serve|x.db|--log=time|--port|8099",             "serve|x.db|8099|-|-|log with times"),
-    ("serve|--log=time|x.db|--house|d|--port|1",      "serve|x.db|1|-|d|log with times"),
-    ("serve|--log|--port|1|./--log=time",             "serve|./--log=time|1|-|-|log"),
     ("serve|x.db|--port|8099|--wide",                 "serve|x.db|8099|-|-|wide"),
     ("serve|--wide|--log|x.db|--port|1|--page",       "serve|x.db|1|-|-|page|log|wide"),
     ("recover|x.db",                "recover|x.db"),
@@ -349,10 +340,6 @@ const REFUSED_OF_SERVE: [(&str, &str, &str); 30] = [
     ("a page with a value",      "serve|x|--port|80|--page=yes", "error: unexpected value 'yes' for '--page' found"),
     ("two houses",               "serve|x|--port|80|--house|a|--house|b", "error: the argument '--house <PATH>' cannot be used multiple times\n"),
     ("a log with a value",       "serve|x|--port|80|--log=yes", "error: unexpected value 'yes' for '--log' found; no more were expected\n"),
-    ("a log with time apart",    "serve|x|--port|80|--log|time", "error: unexpected argument 'time' found\n"),
-    ("a log with two times",     "serve|x|--port|80|--log=time=time", "error: unexpected value 'time=time' for '--log' found; no more were expected\n"),
-    ("two logs, one with times", "serve|x|--port|80|--log=time|--log", "error: the argument '--log' cannot be used multiple times\n"),
-    ("a log of the stock",       "stock|x|--log=time",       "error: unexpected argument '--log' found\n"),
     ("two logs",                 "serve|x|--port|80|--log|--log", "error: the argument '--log' cannot be used multiple times\n"),
     ("wide with a value",        "serve|x|--port|80|--wide=yes", "error: unexpected value 'yes' for '--wide' found; no more were expected\n"),
     ("twice wide",               "serve|x|--port|80|--wide|--wide", "error: the argument '--wide' cannot be used multiple times\n"),

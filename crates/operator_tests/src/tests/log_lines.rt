@@ -1,7 +1,7 @@
 //! The lines of the log, and how the bytes of a peer are shown.
 use commands::{Agent, Key};
 use http_log::{
-    Asked, MOST_RECENT, Peer, Recent, Why, ended_line, opened_line, request_line, shown, time_text,
+    Asked, MOST_RECENT, Peer, Recent, Why, ended_line, opened_line, request_line, shown,
 };
 use std::test::Fail;
 
@@ -42,8 +42,6 @@ fn a_request_has_one_line(rt: HostRuntime) -> Result<(), Fail> {
         status: b"200",
         key: b"k-1",
         again: true,
-        refused: b"",
-        millis: 0,
     };
     let mut peer = Peer {
         number: 4,
@@ -52,42 +50,19 @@ fn a_request_has_one_line(rt: HostRuntime) -> Result<(), Fail> {
     let line = request_line(rt.alloc(), peer, &asked)?;
     assert_eq!(rt;
         line.as_str(),
-        "request connection=4 door=port agent=ann method=POST target=/journeys/1/step status=200 key=k-1 again=yes refused= ms=0"
+        "request connection=4 door=port agent=ann method=POST target=/journeys/1/step status=200 key=k-1 again=yes"
     );
     asked.agent = b"";
     asked.key = b"";
     asked.target = b"/stop\n";
     asked.status = b"lost";
     asked.again = false;
-    asked.refused = b"28";
-    asked.millis = 18_446_744_073_709_551_615;
     peer.is_house = true;
     let line = request_line(rt.alloc(), peer, &asked)?;
     assert_eq!(rt;
         line.as_str(),
-        "request connection=4 door=house agent= method=POST target=/stop\\x0a status=lost key= again=no refused=28 ms=18446744073709551615"
+        "request connection=4 door=house agent= method=POST target=/stop\\x0a status=lost key= again=no"
     );
-    Ok(())
-}
-
-// what the row shows, milliseconds since 1970, and the time, or nothing
-#[rattlefmt::skip]
-static TIMES: [(&str, u64, &str); 7] = [
-    ("the first",               0,                   "1970-01-01T00:00:00.000Z"),
-    ("a millisecond",           1,                   "1970-01-01T00:00:00.001Z"),
-    ("whole tenths",            1_000_000_000_500,   "2001-09-09T01:46:40.500Z"),
-    ("a leap day",              1_709_164_800_000,   "2024-02-29T00:00:00.000Z"),
-    ("the end of a day",        1_893_455_999_999,   "2029-12-31T23:59:59.999Z"),
-    ("the last that has one",   253_402_207_200_999, "9999-12-30T22:00:00.999Z"),
-    ("one after it",            253_402_207_201_000, ""),
-];
-
-#[test]
-fn a_time_is_that_of_rfc_3339(rt: HostRuntime) -> Result<(), Fail> {
-    for (case, millis, expected) in &TIMES {
-        let text = time_text(rt.alloc(), *millis)?;
-        assert_eq!(rt; text.as_ref().map_or("", |text| text.as_str()), *expected, "{case}");
-    }
     Ok(())
 }
 
