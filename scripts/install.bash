@@ -1,19 +1,27 @@
 # Installs the program below a folder, with the script for backups, its man page, completions and unit file, and removes just
-# these. For scripts that have set top and say, and have read program.bash and manual.bash.
+# these. For scripts that have set top and say, and have read program.bash and needs.bash.
 : "${top:?the top of the repository}"
 
-# where each stands below the folder that is given
-readonly program_at=bin/desk
-readonly backup_at=bin/desk-backup
-readonly page_at=share/man/man1/desk.1
-readonly bash_at=share/bash-completion/completions/desk
-readonly zsh_at=share/zsh/site-functions/_desk
-readonly fish_at=share/fish/vendor_completions.d/desk.fish
-readonly unit_at=lib/systemd/system/desk.service
+# what is installed: where it stands below the folder, its mode, and what writes it to standard output
+readonly installed=(
+  "bin/desk 755 desk_program"
+  "bin/desk-backup 755 backup_tool"
+  "share/man/man1/desk.1 644 manual man"
+  "share/bash-completion/completions/desk 644 manual bash"
+  "share/zsh/site-functions/_desk 644 manual zsh"
+  "share/fish/vendor_completions.d/desk.fish 644 manual fish"
+  "lib/systemd/system/desk.service 644 unit_file"
+)
 # the folders that were made for them, one a line
 readonly made_at=share/desk/folders
 
-readonly installed_files=("$program_at" "$backup_at" "$page_at" "$bash_at" "$zsh_at" "$fish_at" "$unit_at")
+readonly installed_files=("${installed[@]%% *}")
+
+desk_program() { cat "$program"; }
+backup_tool() { cat "$top/tools/backup"; }
+manual() { python3 -B "$top/scripts/manual.py" "$program" "$1"; }
+# about: what the program is, in the first line of its help
+about() { "$program" --help 2>&1 | sed -n 1p; }
 
 # read_prefix WORD ..: sets prefix to the one folder that is named, as an absolute path
 read_prefix() {
@@ -38,9 +46,9 @@ make_folder() {
   make_folder "$(dirname "$1")" && mkdir "$prefix/$1" && printf '%s\n' "$1" >>"$prefix/$made_at"
 }
 
-# place FILE MODE: writes standard input to a file below prefix, in place of what stands there
+# place FILE MODE COMMAND: has the command write a file below prefix, in place of what stands there
 place() {
-  make_folder "$(dirname "$1")" && cat >"$prefix/$1.new" && chmod "$2" "$prefix/$1.new" && mv -f "$prefix/$1.new" "$prefix/$1"
+  make_folder "$(dirname "$1")" && $3 </dev/null >"$prefix/$1.new" && chmod "$2" "$prefix/$1.new" && mv -f "$prefix/$1.new" "$prefix/$1"
 }
 
 # unit_file: the unit of systemd that serves the database trips.db in its state folder. The stop is asked for at the house's
@@ -48,12 +56,12 @@ place() {
 unit_file() {
   cat <<EOF
 [Unit]
-Description=$(help_of | sed -n 1p)
+Description=$(about)
 Documentation=man:desk(1)
 StartLimitIntervalSec=0
 
 [Service]
-ExecStart="$prefix/$program_at" serve %S/desk/trips.db --port 8080 --house %t/desk/house.sock
+ExecStart="$prefix/bin/desk" serve %S/desk/trips.db --port 8080 --house %t/desk/house.sock
 ExecStop=-sh -c "curl --silent --output /dev/null --unix-socket %t/desk/house.sock --data '' http://desk/stop && exec tail --pid=\${MAINPID} -f /dev/null"
 Restart=always
 RestartSec=1
@@ -105,23 +113,26 @@ begin_list() {
 
 # place_all: writes each file below prefix
 place_all() {
-  begin_list &&
-    place "$program_at" 755 <"$program" &&
-    place "$backup_at" 755 <"$top/tools/backup" &&
-    man_page | place "$page_at" 644 &&
-    bash_completion | place "$bash_at" 644 &&
-    zsh_completion | place "$zsh_at" 644 &&
-    fish_completion | place "$fish_at" 644 &&
-    unit_file | place "$unit_at" 644
+  local at mode command
+  begin_list || return
+  while read -r at mode command; do
+    place "$at" "$mode" "$command" || return
+  done < <(printf '%s\n' "${installed[@]}")
+}
+
+# is_made WHAT: the program is there, and no source is newer; else says what to do then
+is_made() {
+  need python3 python3
+  stop_on_absent
+  program_is_current && return
+  say "the program is absent, or older than a source. Make it with ./build, and then $1"
+  return 1
 }
 
 # install_desk install PREFIX
 install_desk() {
   read_prefix "$@" || return
-  if ! program_is_current; then
-    say "the program is absent, or older than a source. Make it with ./build, and then install it"
-    return 1
-  fi
+  is_made "install it" || return
   if ! place_all; then
     say "not all could be written below $prefix. What was written is removed with: ./desk uninstall $prefix"
     return 1

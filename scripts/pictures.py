@@ -40,7 +40,7 @@ PICTURES = {
     "journey": lambda: journey.picture(printed("README.md", "./desk history first.db 1"), "Journey 1 of the README"),
     "phases": lambda: phases.picture(source(f"{FOLDER}/phases.txt"), "The phases of a journey"),
     "two_stops": lambda: journey.picture(source(f"{FOLDER}/two_stops.txt"), "Six steps, stopped twice"),
-    "way": lambda: way.picture(source("docs/DESIGN.md"), HEADINGS, Tables(TOP).uses),
+    "way": lambda: way.picture(source("docs/ARCHITECTURE.md"), HEADINGS, Tables(TOP).uses),
 }
 
 

@@ -1,6 +1,6 @@
 #!/usr/bin/env bash
-# Each command in README.md and docs/*.md prints what the page prints. docs.py says how blocks of commands are written, and
-# which commands are not run here.
+# Each command in the pages, *.md and docs/*.md, prints what the page prints. docs.py says how blocks of commands are written, and
+# which commands are not run here. The README lists each page and each crate.
 . "$(dirname "${BASH_SOURCE[0]}")/helping.bash"
 
 for tool in python3 curl; do
@@ -53,10 +53,14 @@ refuses_page "a file that is named" "line 1: crates/nowhere/src is absent" 'see 
 refuses_page "a link to nowhere" "line 1: a link to nowhere.md, which is absent" 'see [this](nowhere.md)\n'
 
 cd "$top" || exit 2
-python3 "$tests/docs.py" "$DESK" "$work/rooms" README.md docs/*.md >"$work/out"
+python3 "$tests/docs.py" "$DESK" "$work/rooms" ./*.md docs/*.md >"$work/out"
 same "the pages: the status" 0 $?
 sed 's/^/docs.sh: /' "$work/out" >&2
 for page in docs/*; do
   same "$page in the list of pages" yes "$(sed -n '/^## Where to go on$/,/^## /p' README.md | grep -qF "]($page)" && echo yes)"
 done
+while IFS=: read -r crate _; do
+  same "$crate in the README" yes "$(grep -qF "\`$crate\`" README.md && echo yes)"
+  [[ $crate == *_tests ]] || same "$crate in the map" yes "$(grep -qF "\`$crate\`" docs/ARCHITECTURE.md && echo yes)"
+done < <(grep -v '^#' crates.txt)
 finish

@@ -1,9 +1,12 @@
 """Runs the desk with its words, its lines or its requests, for the scripts that try it beside hostile files."""
+import itertools
 import os
+import re
 import resource
 import signal
 import socket
 import subprocess
+import time
 
 from ports import free_port
 
@@ -118,6 +121,47 @@ class Desk(Server):
         """It ends by itself, and has told nothing but that it is ready."""
         ended = self.end()
         same(f"{what}: how it ends", (status, f"ready {self.port}\n", ""), (ended.status, ended.out, ended.err))
+
+
+LOG_HEAD = "[INFO  desk] "
+LOG_LINE = re.compile(r"\[INFO  desk\] (request( [a-z]+=[!-~]*){9}(?P<millis> ms=[0-9]+)|(ended|opened)( [a-z]+=[!-~]*)+)")
+
+
+class Logged(Desk):
+    """A desk whose standard error is a file of its own, or goes to `errors`; None: nowhere, it is closed."""
+
+    count = itertools.count(1)
+
+    def __init__(self, file, *words, errors=-1):
+        self.name = f"errors.{next(Logged.count)}"
+        closed = ["sh", "-c", 'exec "$@" 2>&-', "sh"] if errors is None else []
+        with open(self.name, "wb") as kept:
+            super().__init__(file, *words, errors=kept if errors == -1 else errors, before=closed)
+
+    def log(self):
+        """The lines so far, each without its head, and those of requests without their milliseconds."""
+        with open(self.name, encoding="utf-8") as lines:
+            found = lines.read().split("\n")
+        same("the log ends with a whole line", "", found[-1])
+        return [self.told(line) for line in found[:-1]]
+
+    def told(self, line):
+        """What a line says."""
+        read = LOG_LINE.fullmatch(line)
+        same("a line of the log", True, read is not None or line)
+        return line.removeprefix(LOG_HEAD).removesuffix((read and read["millis"]) or "")
+
+    def has(self, what, line, within=30):
+        """A line is in the log, or soon comes."""
+        begun = time.monotonic()
+        while line not in self.log() and time.monotonic() - begun < within:
+            time.sleep(0.05)
+        same(what, True, line in self.log() or self.log())
+
+    def tells_why(self, why, count=1, number="[0-9]+"):
+        """At least so many connections have ended for this reason: those of this number, if one is given."""
+        found = [line for line in self.log() if re.fullmatch(f"ended connection={number} .* why={why}", line)]
+        holds(f"{self.name}: {count} with why={why}: {found}", len(found) >= count)
 
 
 # The two files of a database.

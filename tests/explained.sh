@@ -37,7 +37,7 @@ head -c 8192 other.db | tr 'S' 'T' >spoiled.db
 printf 'SQLite format 3\0' | cat - <(head -c 9000 /dev/zero | tr '\0' x) >damaged.db
 sums >../before 2>../err
 for file in june.csv other.db walled.db spoiled.db damaged.db; do
-  for words in "run $file" "recover $file" "stock $file" "history $file 1" "migrate $file" "load $file june.csv --batch b"; do
+  for words in "run $file" "recover $file" "stock $file" "history $file 1" "migrate $file" "index $file" "load $file june.csv --batch b"; do
     same "$words" "fault 21 Store" "$("$DESK" $words 2>&1 </dev/null)"
     same "$words: the folder and its files" "$(cat ../before)" "$(sums)"
   done
@@ -51,6 +51,16 @@ explains "a damaged database" "fault 21 Store" "$why_damaged" recover damaged.db
 same "the folder and its files" "$(cat ../before)" "$(sums)"
 same "another program still reads its file" 7 "$(sqlite3 other.db 'SELECT a FROM other')"
 cd .. || exit 2
+
+# a file of one byte becomes a desk, as an empty one does; one of two does not
+printf x >one.db
+: >none.db
+for name in one.db none.db; do
+  same "$name: the answer" "journey 1 begun" "$("$DESK" run "$name" <<<"$line" 2>&1)"
+  same "$name: the journey, and a sound file" "1|ok" "$(sqlite3 "$name" 'SELECT count(*), (SELECT * FROM pragma_integrity_check) FROM journey')"
+done
+printf xy >two.db
+explains "a file of two bytes" "fault 21 Store" "$why_no_database" run two.db
 
 mkdir folder
 explains "a folder" "fault 21 Store" "This is a folder, or another thing that is no file. Name a file." run folder
@@ -183,7 +193,7 @@ else
 fi
 
 # the word stands before the command only; after it, a line below the usage says so, and the usage is as for any other word
-for command in run serve recover load stock summary holders unfinished journeys history why migrate; do
+for command in run serve recover load stock summary holders unfinished journeys history why migrate index; do
   "$DESK" "$command" --explain x.db >out 2>err </dev/null
   same "$command --explain: the status" "2:" "$?:$(cat out)"
   same "$command --explain: where it belongs" "The word '--explain' stands before the command: 'desk --explain $command'." \

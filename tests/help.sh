@@ -6,9 +6,20 @@
 top=$(dirname "$tests")
 program=$DESK
 say() { printf 'help.sh: %s\n' "$*" >&2; }
-. "$top/scripts/manual.bash"
 
-commands="run serve recover load stock summary holders unfinished journeys history why migrate"
+# help_of [COMMAND]: the whole help of the program, or of a command
+help_of() { "$DESK" "$@" --help 2>&1; }
+
+# listed: each command and what it does, one a line, with a tab between the two
+listed() { help_of | sed -n '/^Commands:$/,/^$/s/^  \([a-z]*\)  */\1\t/p' | grep -v '^help'; }
+
+# one_line: standard input as one line, with blanks between
+one_line() { paste -sd ' '; }
+
+# manual KIND: what the program's man page or completion is made of
+manual() { python3 -B "$top/scripts/manual.py" "$DESK" "$1"; }
+
+commands="run serve recover load stock summary holders unfinished journeys history why migrate index"
 
 # helps WHAT WORDS: the program prints a help on standard error, into the file err, and ends with 2
 helps() {
@@ -32,12 +43,12 @@ for words in --help help; do
   for section in Commands: Options: Faults: "Exit status:" Example:; do has "$words" "$section"; done
   for command in $commands; do same "$words: $command" 1 "$(grep -c "^  $command  " err)"; done
 done
-same "the commands" "$commands" "$(commands_told | cut -f1 | one_line)"
+same "the commands" "$commands" "$(listed | cut -f1 | one_line)"
 
 for command in $commands; do
   helps "$command --help" "$command" --help
   about=$(sed -n 1p err)
-  same "$command: what it does, as in the list" "$about" "$(commands_told | sed -n "s/^$command\t//p")"
+  same "$command: what it does, as in the list" "$about" "$(listed | sed -n "s/^$command\t//p")"
   for section in Arguments: Options: "Exit status:" Example:; do has "$command" "$section"; done
   for status in 0 1 2; do same "$command: status $status" 1 "$(grep -c "^  $status  [A-Z]" err)"; done
   has "$command" "  2  Wrong usage, or help, on standard error"
@@ -96,7 +107,7 @@ old_file() {
     echo 'set june F/AL/A1/2030-06-01 9'
     for id in 1 2 3; do printf 'begin F/AL/A1/2030-06-01/1/1!0\nstep %s\n' "$id"; done
   } | "$DESK" run old.db >/dev/null
-  sqlite3 old.db "INSERT INTO entry SELECT * FROM entry2; DROP TABLE entry2; DROP TABLE mark; UPDATE meta SET version = 1"
+  sqlite3 old.db "INSERT INTO entry SELECT * FROM entry2; DROP TABLE entry2; DROP TABLE mark; DROP INDEX journey_agent; UPDATE meta SET version = 1"
 }
 
 # shown_by EXAMPLE: what its commands print, on standard output; after one in the background it waits for a line
@@ -126,7 +137,7 @@ for command in "" $commands; do
   port=$(free_port)
   example=$(help_of $command | sed '1,/^Example:$/d; s/^  //' | sed "s/8080/$port/")
   mkdir "example-$command" && cd "example-$command" || exit 2
-  [ "$command" != migrate ] || old_file
+  case $command in migrate | index) old_file ;; esac
   : >printed
   same "the example of ${command:-desk}" "$(grep -v '^\$ ' <<<"$example")" "$(PATH=$work/path:$PATH shown_by "$example")"
   cd ..
@@ -135,7 +146,7 @@ done
 # words_of FILE: its words, with one blank between two
 words_of() { tr -s ' \n' '  ' <"$1"; }
 
-man_page >desk.1
+manual man >desk.1
 if command -v man >/dev/null; then
   LC_ALL=C.UTF-8 MANWIDTH=100 man --warnings --nh --nj -l desk.1 >page 2>said
 elif command -v groff >/dev/null; then
@@ -166,7 +177,7 @@ completes() {
   same "$what" "$expected" "$(bash --norc -c '. ../desk.bash; COMP_WORDS=("$@"); COMP_CWORD=$(($# - 1)); _desk; echo "${COMPREPLY[*]}"' - "$@" 2>&1)"
 }
 
-bash_completion >desk.bash
+manual bash >desk.bash
 mkdir files && cd files && touch trips.db june.csv || exit 2
 same "complete -p desk" "complete -F _desk desk" "$(bash --norc -c '. ../desk.bash; complete -p desk')"
 completes "desk s" "serve stock summary" desk s
@@ -194,11 +205,11 @@ completes "desk load trips.db j" "june.csv" desk load trips.db j
 completes "a port" "" desk serve trips.db --port ""
 cd ..
 
-zsh_completion >_desk
+manual zsh >_desk
 if command -v zsh >/dev/null; then
   # the tables that the completion offers, in place of a menu
   offers='compdef() { :; }; _describe() { print -rl -- ${(P)4}; }; _arguments() { print -rl -- "$@"; }; source ./_desk'
-  same "zsh: the commands" "$(commands_told | sed 's/\t/:/')" "$(zsh -f -c "$offers; words=(desk ''); CURRENT=2; _desk")"
+  same "zsh: the commands" "$(listed | sed 's/\t/:/')" "$(zsh -f -c "$offers; words=(desk ''); CURRENT=2; _desk")"
   same "zsh: a port" 1 "$(zsh -f -c "$offers; words=(desk serve ''); CURRENT=3; _desk" | grep -c '^--port\[The port to listen on')"
   same "zsh: a format" 1 "$(zsh -f -c "$offers; words=(desk stock ''); CURRENT=3; _desk" | grep -c '^--format\[.*\]:FORMAT:(text json csv)$')"
   same "zsh: a file" 1 "$(zsh -f -c "$offers; words=(desk run ''); CURRENT=3; _desk" | grep -c '^:FILE .*:_files$')"
@@ -206,7 +217,7 @@ else
   say "no zsh is here: its completion is not tried"
 fi
 
-fish_completion >desk.fish
+manual fish >desk.fish
 if command -v fish >/dev/null; then
   same "fish: desk s" "serve stock summary" "$(HOME=$work fish -c 'source desk.fish; complete -C "desk s"' | cut -f1 | sort | one_line)"
   same "fish: desk serve --p" "--page --port" "$(HOME=$work fish -c 'source desk.fish; complete -C "desk serve --p"' | cut -f1 | one_line)"

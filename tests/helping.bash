@@ -21,14 +21,10 @@ read_part() {
 }
 [ -z "${PART:-}" ] || read_part
 
-# has_case NUMBER: whether this part has the case of this number, from 1. The cases are dealt out in turn, so that each part
-# takes about as long.
-has_case() { [ $(($1 % parts)) -eq $((part % parts)) ]; }
-
-# is_mine: whether this part has the next case; each call counts one
+# is_mine: whether this part has the next case. The cases are dealt out in turn, so that each part takes about as long.
 is_mine() {
   cases=$((cases + 1))
-  has_case "$cases"
+  [ $((cases % parts)) -eq $((part % parts)) ]
 }
 
 tests=$(cd "$(dirname "${BASH_SOURCE[0]}")" && pwd)
@@ -97,12 +93,5 @@ closes_desk() {
 }
 
 rows() { sqlite3 trips.db "$1" | tr '\n' ' ' | sed 's/ $//'; }
-
-# repeated N TEXT SEPARATOR
-repeated() {
-  local text=$2 n
-  for ((n = 1; n < $1; n++)); do text=$text$3$2; done
-  printf '%s' "$text"
-}
 
 finish() { [ "$wrong" -eq 0 ]; }

@@ -1,6 +1,6 @@
 #!/usr/bin/env bash
 # The shell's scripts are laid out as shfmt does it, shellcheck finds nothing in them, and pyflakes nothing in those of Python. What is
-# absent of the three is left out.
+# absent of the three is left out. words.py counts no more phrases, long sentences and long pages than its limits allow.
 . "$(dirname "${BASH_SOURCE[0]}")/helping.bash"
 cd "$tests/.." || exit 2
 mapfile -t shell < <(grep -lE '^#!/usr/bin/env bash' build check desk soak bench .ci/run tools/* tests/*.sh scripts/* 2>/dev/null)
@@ -18,4 +18,19 @@ finds_nothing() {
 finds_nothing shfmt -i 2 -ci -l "${shell[@]}"
 finds_nothing shellcheck -f gcc "${shell[@]}"
 finds_nothing pyflakes3 "${python[@]}"
+
+# words.py finds what it counts
+copy=$work/copy
+mkdir -p "$copy/docs" "$copy/tests" "$copy/crates/help_texts/src"
+cp tests/words.py "$copy/tests"
+printf '1. **One.** *2026-01-01; stands.* A.\n2. **Two.** no date\n' >"$copy/docs/DECISIONS.md"
+{
+  printf "A wrong body of \`edit\`.\n\n| a | The house's door |\n\n%s.\n" "$(printf 'word %.0s' {1..36})"
+  printf '\n%.0s' {1..301}
+} >"$copy/docs/PAGE.md"
+same "words.py on a page" "docs/PAGE.md: 2 phrases, 1 sentences, 306 lines" "$(python3 "$copy/tests/words.py" --pages)"
+same "words.py on a decision" "docs/DECISIONS.md:2: not of the form: number, title, date, status" \
+  "$(python3 "$copy/tests/words.py" --list | tail -n 1)"
+same "words.py on the pages" "" "$(python3 tests/words.py >"$work/words" || python3 tests/words.py --list)"
+sed 's/^/layout.sh: /' "$work/words" >&2
 finish

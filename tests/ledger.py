@@ -24,7 +24,7 @@ def tables_of(path):
 
 
 def statements_of(path):
-    """The statements that made the tables of a file."""
+    """The statements that made the tables and the index of a file."""
     connection = sqlite3.connect(f"file:{path}?immutable=1", uri=True)
     try:
         return [row[0] for row in connection.execute("SELECT sql FROM sqlite_schema WHERE sql IS NOT NULL")]
@@ -64,21 +64,27 @@ def item_of(row):
     return kind, row[3], "sra"[row[4]] if kind == "B" else row[4]
 
 
+def events_of(tables):
+    """The events in these tables, in their order."""
+    events, plans = {}, plans_of(tables)
+    for name, number, content in tables["batch"]:
+        rows = (line.rpartition("/") for line in content.decode().splitlines())
+        events[number] = ("load", name, tuple((cell, int(places)) for cell, _, places in rows))
+    for row in tables["journey"]:
+        events[row[1]] = ("begin", row[2], plans[row[0]])
+    for row in tables["entry2"]:
+        events[row[0]] = ("did", row[1], item_of(row))
+    count = tables["meta"][0][2]
+    assert sorted(events) == list(range(1, count + 1)), "each event has its number"
+    return [events[n + 1] for n in range(count)]
+
+
 class Ledger:
     """The events of a file's ledger, in order, with the replies that were kept for them."""
 
     def __init__(self, tables):
-        events, plans = {}, plans_of(tables)
-        for name, number, content in tables["batch"]:
-            rows = (line.rpartition("/") for line in content.decode().splitlines())
-            events[number] = ("load", name, tuple((cell, int(places)) for cell, _, places in rows))
-        for row in tables["journey"]:
-            events[row[1]] = ("begin", row[2], plans[row[0]])
-        for row in tables["entry2"]:
-            events[row[0]] = ("did", row[1], item_of(row))
-        self.count = tables["meta"][0][2]
-        assert sorted(events) == list(range(1, self.count + 1)), "each event has its number"
-        self.events, self.answers, self.desk = [events[n + 1] for n in range(self.count)], tables["answer"], Desk()
+        self.events, self.answers, self.desk = events_of(tables), tables["answer"], Desk()
+        self.count = len(self.events)
         self.kept = self.events_of_answers()
 
     def events_of_answers(self):

@@ -7,7 +7,7 @@ import struct
 import threading
 import time
 
-from driving import Client, Desk, asked, desk, free_port, holds, is_whole, opened, request, same, sockets_of, wrong
+from driving import Client, Desk, Logged, asked, desk, free_port, holds, is_whole, opened, request, same, sockets_of, wrong
 
 FLIGHT = b'{"count":1,"first":"2030-06-01","kind":"flight","nights":1,"product":"A1","supplier":"AL"}'
 PLAN = b'{"steps":[{"options":[' + FLIGHT + b'],"save":false}],"tries":0}'
@@ -93,7 +93,7 @@ def byte_by_byte(port):
 
 def never_reads():
     """Requests without end, of which no page is read: the pages that wait are bounded, and so is what is taken in."""
-    greedy = Desk("greedy.db")
+    greedy = Logged("greedy.db", "--log")
     nights = [f"flight,AL,A{n},2030-06-{night:02},9\n" for n in range(20) for night in range(1, 31)]
     same("a file of 600 rows", b'{"batch":"b1","rows":600}',
          body_of(Client(greedy.port).ask(post("/batches/b1", "k0", FILE[:35] + "".join(nights).encode()))))
@@ -118,6 +118,7 @@ def never_reads():
     with open(f"/proc/{greedy.process.pid}/status", encoding="ascii") as lines:
         peak = next(int(line.split()[1]) for line in lines if line.startswith("VmHWM"))
     holds(f"never reads: the desk takes less than 64 MB, {peak} kB", peak < 65536)
+    greedy.tells_why("late-page")
     greedy.kill()
 
 
@@ -170,7 +171,7 @@ def ten_book(port):
 
 def places_taken():
     """256 at once are served, each again; the one that is silent for longest is ended for one more."""
-    full = Desk("full.db")
+    full = Logged("full.db", "--log")
     clients = []
     for number in range(256):
         clients.append(Client(full.port))
@@ -180,6 +181,7 @@ def places_taken():
         holds(f"connection {number} again", is_whole(clients[number].ask(UNFINISHED)))
     holds("one more", is_whole(Client(full.port).ask(UNFINISHED)))
     same("the one that was silent for longest", b"", clients[100].stream.recv(1))
+    full.has("why it was ended", "ended connection=101 door=port requests=1 why=displaced")
     for number in [*range(0, 100), *range(101, 256)]:
         holds(f"connection {number} once more", is_whole(clients[number].ask(UNFINISHED)))
     full.kill()
@@ -324,7 +326,7 @@ def resets_one(port, number):
 
 def resets():
     """400 clients that reset their connections, beside three that are served: each begin acts at most once."""
-    torn = Desk("torn.db")
+    torn = Logged("torn.db", "--log")
     loads(torn.port)
     done = threading.Event()
     served = []
@@ -355,6 +357,8 @@ def resets():
     same("after resets: no journey more", b'{"journey":201}', body_of(client.ask(post("/journeys", "last", PLAN, "rex"))))
     took = seconds_until(lambda: sockets_of(torn.process) == 2, 20, time.monotonic())
     holds(f"after resets: no connection is left, {took:.1f}", took < 20)
+    for why in ("cut-off", "not-taken"):
+        torn.tells_why(why)
     client.close()
     torn.kill()
 
@@ -419,7 +423,7 @@ def guarded(call, *words):
 
 
 def main():
-    whole = Desk("trips.db")
+    whole = Logged("trips.db", "--log")
     loads(whole.port)
     waiting = [half_a_head, byte_by_byte, silent]
     calls = [(case, whole.port) for case in waiting] + [(never_reads,), (stopped_for_long,)]
@@ -427,6 +431,7 @@ def main():
         (unix_socket,), (house,), (resets,)]
     side_by_side(*calls, *beside)
     is_served("at the end", whole.port)
+    whole.tells_why("late-request", 2)
     whole.kill()
     told = desk("unfinished", "trips.db")
     same("nothing is unfinished", "unfinished 0\n", told.out)

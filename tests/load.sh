@@ -1,49 +1,12 @@
 #!/usr/bin/env bash
-# An allotment file is loaded as one batch, a known batch once only, and a bad name or file is refused.
+# Allotment files as they come: of the most bytes and more, of another program, through standard input, and none. What is loaded, and
+# which rows and batches are refused, is looked at by rows.sh.
 . "$(dirname "${BASH_SOURCE[0]}")/helping.bash"
 
 header=kind,supplier,product,night,places
 
-# loads WHAT NAME LINES OUT STATUS: these lines, loaded into trips.db under this name, are answered so
-loads() {
-  local found status
-  printf '%b' "$3" >places.csv
-  found=$("$DESK" load trips.db places.csv --batch "$2" 2>err)
-  status=$?
-  same "$1: the answer" "$4" "$found"
-  same "$1: the status" "$5" "$status"
-  same "$1: standard error" "" "$(cat err)"
-}
-
 both="$header\nflight,AL,A1,2030-06-01,10\nroom,INN,DBL,2030-06-01,4\n"
-loads "a file" b1 "$both" "loaded b1 2" 0
-same "its rows" "0|AL|A1|10|10 1|INN|DBL|4|4" "$(rows 'SELECT kind, supplier, product, allot, free FROM stock ORDER BY kind')"
-loads "the file again" b1 "$both" "loaded b1 2" 0
-same "one event in all" "1" "$(rows 'SELECT events FROM meta')"
-loads "with 11 for 10" b1 "$header\nflight,AL,A1,2030-06-01,11\nroom,INN,DBL,2030-06-01,4\n" "refused 13 BatchDiffers" 1
-loads "in another order" b1 "$header\nroom,INN,DBL,2030-06-01,4\nflight,AL,A1,2030-06-01,10\n" "refused 13 BatchDiffers" 1
-loads "without its last row" b1 "$header\nflight,AL,A1,2030-06-01,10\n" "refused 13 BatchDiffers" 1
-
-answers "two rooms" "begin R/INN/DBL/2030-06-01/1/2!0\nstep 1\n" "journey 1 begun
-journey 1 T1.1 ended 1"
-loads "fewer rooms than are held" b2 "$header\nflight,AL,A1,2030-06-01,12\nroom,INN,DBL,2030-06-01,1\n" "refused 12 BelowHeld 2" 1
-loads "the same, the room first" b2 "$header\nroom,INN,DBL,2030-06-01,1\nflight,AL,A1,2030-06-01,12\n" "refused 12 BelowHeld 1" 1
-same "the places stay" "10|10 4|2" "$(rows 'SELECT allot, free FROM stock ORDER BY kind')"
-loads "as many rooms as are held" b0 "$header\nflight,AL,A1,2030-06-01,12\nroom,INN,DBL,2030-06-01,2\n" "loaded b0 2" 0
-same "no room is free" "12|12 2|0" "$(rows 'SELECT allot, free FROM stock ORDER BY kind')"
-same "the batches" "b1|1 b0|4" "$(rows 'SELECT name, num FROM batch ORDER BY num')"
-
 one=flight,AL,A1,2030-06-01,1
-before=$(rows 'SELECT events FROM meta')
-loads "an empty file" b3 "" "refused 6 BadCsv 0 header" 1
-loads "the heading alone" b3 "$header\n" "refused 6 BadCsv 0 empty" 1
-loads "four fields" b3 "$header\nflight,AL,A1,2030-06-01\n" "refused 6 BadCsv 1 shape" 1
-loads "a kind that is none" b3 "$header\nbus,AL,A1,2030-06-01,1\n" "refused 6 BadCsv 1 kind" 1
-loads "a cell twice" b3 "$header\n$one\n$one\n" "refused 6 BadCsv 2 twice" 1
-loads "too many places" b3 "$header\nflight,AL,A1,2030-06-01,100001\n" "refused 6 BadCsv 1 places" 1
-loads "a bad name" B1 "$both" "refused 4 BadBody" 1
-loads "a bad name and a bad file" B1 "" "refused 4 BadBody" 1
-same "nothing was committed" "$before" "$(rows 'SELECT events FROM meta')"
 
 # the most bytes, and one more: a row fits as its last field is read, and is too long as a whole
 fill() {
@@ -107,9 +70,10 @@ same "a standard input that is not read" "left" "$(echo left | {
 })"
 
 # recovery comes first, and its commits stand where the load is refused
-answers "a journey" "begin F/AL/A1/2030-06-01/1/1;T/BUS/X/2030-06-01/1/1!0\nstep 2\n" "journey 2 begun
-journey 2 T1.1 run 1"
-loads "a refused load" B1 "$both" "refused 4 BadBody" 1
-same "the journey is undone" "3" "$(rows 'SELECT phase FROM journey WHERE id = 2')"
+answers "a journey" "begin F/AL/A1/2030-06-01/1/1;T/BUS/X/2030-06-01/1/1!0\nstep 1\n" "journey 1 begun
+journey 1 T1.1 run 1"
+printf '%b' "$both" >places.csv
+same "a refused load" "refused 4 BadBody" "$("$DESK" load trips.db places.csv --batch B1)"
+same "the journey is undone" "3" "$(rows 'SELECT phase FROM journey WHERE id = 1')"
 same "the file is sound" "ok" "$(rows 'PRAGMA integrity_check')"
 finish

@@ -1,46 +1,14 @@
-"""The log of a desk that serves, over real sockets. Prints what went wrong, and nothing else."""
-import itertools
+"""The log of a desk that serves, over real sockets. Prints what went wrong, and nothing else. Why connections end that wait too long,
+are cut off or displaced is looked at in live.py, where they are."""
 import os
-import re
-import socket
 import threading
 import time
 
-from driving import Client, Desk, asked, desk, request, same, wrong
+from driving import LOG_HEAD, Client, Logged, asked, desk, request, same, wrong
 
 FLIGHT = b'{"count":1,"first":"2030-06-01","kind":"flight","nights":1,"product":"A1","supplier":"AL"}'
 PLAN = b'{"steps":[{"options":[' + FLIGHT + b'],"save":false}],"tries":0}'
 STOCK = request("GET", "/stock")
-HEAD = "[INFO  desk] "
-LINE = re.compile(r"\[INFO  desk\] (request|ended|opened)( [a-z]+=[!-~]*)+")
-
-
-class Logged(Desk):
-    """A desk whose standard error is a file of its own, or goes to `errors`; None: nowhere, it is closed."""
-
-    count = itertools.count(1)
-
-    def __init__(self, file, *words, errors=-1):
-        self.name = f"errors.{next(Logged.count)}"
-        closed = ["sh", "-c", 'exec "$@" 2>&-', "sh"] if errors is None else []
-        with open(self.name, "wb") as kept:
-            super().__init__(file, *words, errors=kept if errors == -1 else errors, before=closed)
-
-    def log(self):
-        """The lines so far, each without its head."""
-        with open(self.name, encoding="utf-8") as lines:
-            found = lines.read().split("\n")
-        same("the log ends with a whole line", "", found[-1])
-        for line in found[:-1]:
-            same("a line of the log", True, LINE.fullmatch(line) is not None or line)
-        return [line.removeprefix(HEAD) for line in found[:-1]]
-
-    def has(self, what, line, within=30):
-        """A line is in the log, or soon comes."""
-        begun = time.monotonic()
-        while line not in self.log() and time.monotonic() - begun < within:
-            time.sleep(0.05)
-        same(what, True, line in self.log() or self.log())
 
 
 def kinds():
@@ -60,27 +28,27 @@ def kinds():
     first = "request connection=1 door=port agent="
     served.has("the first connection ends", "ended connection=1 door=port requests=6 why=left")
     same("its lines", [
-        f"{first}ann method=POST target=/journeys status=200 key=k1 again=no",
-        f"{first}ann method=POST target=/journeys status=200 key=k1 again=yes",
-        f"{first}ann method=POST target=/journeys/2/abort/0 status=409 key=k1 again=no",
-        f"{first}ann method=GET target=/stock status=200 key= again=no",
-        f"{first} method=GET target=/stock status=400 key= again=no",
+        f"{first}ann method=POST target=/journeys status=200 key=k1 again=no refused=",
+        f"{first}ann method=POST target=/journeys status=200 key=k1 again=yes refused=",
+        f"{first}ann method=POST target=/journeys/2/abort/0 status=409 key=k1 again=no refused=14",
+        f"{first}ann method=GET target=/stock status=200 key= again=no refused=",
+        f"{first} method=GET target=/stock status=400 key= again=no refused=2",
     ], served.log()[1:6])
     two = Client(served.port)
     two.ask(request("POST", "/journeys", "k1", PLAN).replace(b"ann", b"bob"))
     two.ask(b"\x00\x1b[31m\r\n\r\n")
     two.close()
-    served.has("another agent's key", "request connection=2 door=port agent=bob method=POST target=/journeys status=200 key=k1 again=no")
-    served.has("what is no head", "request connection=2 door=port agent= method= target= status=400 key= again=no")
+    served.has("another agent's key", "request connection=2 door=port agent=bob method=POST target=/journeys status=200 key=k1 again=no refused=")
+    served.has("what is no head", "request connection=2 door=port agent= method= target= status=400 key= again=no refused=1")
     served.has("a closing page", "ended connection=2 door=port requests=2 why=closed")
     asked("kinds.sock", b"GET /unfinished HTTP/1.1\r\nHost: d\r\n\r\n")
-    served.has("the house", "request connection=3 door=house agent= method=GET target=/unfinished status=200 key= again=no")
+    served.has("the house", "request connection=3 door=house agent= method=GET target=/unfinished status=200 key= again=no refused=")
     served.has("the house leaves", "ended connection=3 door=house requests=1 why=left")
     silent = Client(served.port)
     silent.ask(STOCK)
     asked("kinds.sock", b"POST /stop HTTP/1.1\r\nHost: d\r\nContent-Length: 0\r\n\r\n")
     served.ends("a stop")
-    served.has("the stop", "request connection=5 door=house agent= method=POST target=/stop status=200 key= again=no")
+    served.has("the stop", "request connection=5 door=house agent= method=POST target=/stop status=200 key= again=no refused=")
     served.has("a silent connection at a stop", "ended connection=4 door=port requests=1 why=stopped")
     silent.close()
 
@@ -105,14 +73,14 @@ def widely():
     first = "request connection=1 door=port agent=ann"
     served.has("the first connection ends", "ended connection=1 door=port requests=3 why=left")
     same("its lines", [
-        f"{first} method=HEAD target=/stock status=200 key= again=no",
-        f"{first} method=POST target=/journeys status=200 key={digits} again=no",
-        f"{first} method=POST target=/journeys status=200 key={digits} again=yes",
+        f"{first} method=HEAD target=/stock status=200 key= again=no refused=",
+        f"{first} method=POST target=/journeys status=200 key={digits} again=no refused=",
+        f"{first} method=POST target=/journeys status=200 key={digits} again=yes refused=",
     ], served.log()[1:4])
     hello = Client(served.port)
     same("a TLS hello gets no page", b"", hello.ask(bytes.fromhex("16030102000100fc0303") + b"\x5a" * 60))
     hello.close()
-    served.has("a TLS hello", "request connection=2 door=port agent= method= target= status=? key= again=no")
+    served.has("a TLS hello", "request connection=2 door=port agent= method= target= status=? key= again=no refused=")
     served.has("its end", "ended connection=2 door=port requests=1 why=closed")
     served.kill()
 
@@ -125,10 +93,11 @@ def odd_bytes():
     ]
     for number, (target, shown) in enumerate(targets, 1):
         stream = Client(served.port)
-        status = stream.ask(b"BREW " + target + b" HTTP/1.1\r\nHost: d\r\n\r\n")[9:12].decode()
+        page = stream.ask(b"BREW " + target + b" HTTP/1.1\r\nHost: d\r\n\r\n").decode()
+        status, refused = page[9:12], page.partition('"refused":')[2].rstrip("}")
         stream.close()
         served.has(f"the target {target!r}",
-            f"request connection={number} door=port agent= method=BREW target={shown} status={status} key= again=no")
+            f"request connection={number} door=port agent= method=BREW target={shown} status={status} key= again=no refused={refused}")
     for odd in [b"/a\nrequest connection=9\n", b"/\x1b[2J", b"/\x00", b"/\x7f", b"/\xff\xfe", b"\r", b"\t"]:
         stream = Client(served.port)
         stream.ask(b"GET " + odd + b" HTTP/1.1\r\nHost: d\r\nDesk-Agent: a\nb\r\nDesk-Key: \x01\r\n\r\n")
@@ -138,81 +107,6 @@ def odd_bytes():
     lines = served.log()
     same("a line for each request, and one for each end", (10, 10), tuple(
         sum(line.startswith(f"{kind} ") for line in lines) for kind in ("request", "ended")))
-    served.kill()
-
-
-def loads(port):
-    """Pages of the stock get long, over a connection of its own."""
-    nights = "".join(f"flight,AL,A{n},2030-06-{night:02},9\n" for n in range(66) for night in range(1, 31))
-    asked(port, request("POST", "/batches/b1", "k0", b"kind,supplier,product,night,places\n" + nights.encode()))
-
-
-def never_reads(port):
-    """A connection that asks until no more is taken in, and reads no page."""
-    stream = socket.socket()
-    stream.setsockopt(socket.SOL_SOCKET, socket.SO_RCVBUF, 4096)
-    stream.connect(("127.0.0.1", port))
-    stream.settimeout(2)
-    try:
-        while True:
-            stream.sendall(STOCK * 20)
-    except OSError:
-        pass
-    return stream
-
-
-def ended(served, number, within):
-    """Why a connection ended, once it has."""
-    begun = time.monotonic()
-    while time.monotonic() - begun < within:
-        for line in served.log():
-            if line.startswith(f"ended connection={number} "):
-                return line.rpartition("why=")[2]
-        time.sleep(0.2)
-    return "not ended"
-
-
-def cut():
-    """A connection that its peer ends within a request, or before its page was written whole."""
-    served = Logged("cut.db", "--log")
-    loads(served.port)
-    stream = Client(served.port)
-    stream.ask(request("GET", "/unfinished"))
-    stream.stream.sendall(STOCK[:20])
-    time.sleep(0.3)
-    stream.close()
-    served.has("a peer that leaves within a request", "ended connection=2 door=port requests=1 why=cut-off")
-    never_reads(served.port).close()
-    same("a peer that leaves before its page", "not-taken", ended(served, 3, 30))
-    served.kill()
-
-
-def late():
-    """A request that is not whole after 30 seconds, and a page that is not taken."""
-    served = Logged("late.db", "--log")
-    loads(served.port)
-    half = Client(served.port)
-    half.stream.sendall(STOCK[:20])
-    greedy = never_reads(served.port)
-    same("a late request", "late-request", ended(served, 2, 50))
-    same("a late page", "late-page", ended(served, 3, 120))
-    half.close()
-    greedy.close()
-    served.kill()
-
-
-def displaced():
-    """The connection that was silent for longest, where all places are taken."""
-    served = Logged("displaced.db", "--log")
-    clients = []
-    for _ in range(256):
-        clients.append(Client(served.port))
-        clients[-1].ask(STOCK)
-    time.sleep(0.3)
-    for client in clients[1:]:
-        client.ask(STOCK)
-    Client(served.port).ask(STOCK)
-    served.has("the one that was silent for longest", "ended connection=1 door=port requests=1 why=displaced")
     served.kill()
 
 
@@ -250,7 +144,7 @@ def silent():
     refused = desk("serve", "other.db", "--port", str(served.port), "--connections", "1")
     same("a fault without a log", (1, "fault 27 Net\n"), (refused.status, refused.err))
     refused = desk("serve", "other.db", "--port", str(served.port), "--connections", "1", "--log")
-    same("a fault with a log", (1, f"{HEAD}opened recovered=0\nfault 27 Net\n"), (refused.status, refused.err))
+    same("a fault with a log", (1, f"{LOG_HEAD}opened recovered=0\nfault 27 Net\n"), (refused.status, refused.err))
     one.close()
     served.ends("without a log")
     same("without a log: not a byte", 0, os.path.getsize(served.name))
@@ -264,7 +158,7 @@ def guarded(call):
 
 
 def main():
-    threads = [threading.Thread(target=guarded, args=(call,)) for call in (kinds, widely, odd_bytes, cut, late, displaced, broken, silent)]
+    threads = [threading.Thread(target=guarded, args=(call,)) for call in (kinds, widely, odd_bytes, broken, silent)]
     for thread in threads:
         thread.start()
     for thread in threads:

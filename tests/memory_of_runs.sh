@@ -4,7 +4,7 @@
 # a desk that serves loses the connection at hand alone. What is left is the ledger of what was answered, or that with one
 # whole event more, and the next opening goes on with it.
 #
-# EACH=1 DESK=.. tests/memory_of_runs.sh    each allocation, and not each fiftieth alone; SEED=N: other chances, in place of
+# EACH=1 DESK=.. tests/memory_of_runs.sh    each allocation, and not each 25th alone; SEED=N: other chances, in place of
 #                                           those of the day
 [ -w /dev/shm ] && in_memory=/dev/shm
 . "$(dirname "${BASH_SOURCE[0]}")/helping.bash"
@@ -14,7 +14,7 @@ needs_python
 for name in refuse calls; do
   cc -O1 -shared -fPIC -o "$name.so" "$tests/$name.c" -ldl || exit 1
 done
-python3 "$tests/memory_of_runs.py" refuse.so calls.so "${EACH:-50}" "${SEED:-$(($(date +%s) / 86400))}" || wrong=1
+python3 "$tests/memory_of_runs.py" refuse.so calls.so "${EACH:-25}" "${SEED:-$(($(date +%s) / 86400))}" || wrong=1
 
 # finds HOW: files or ends that are spoiled so are found wrong
 finds() {

@@ -1,11 +1,10 @@
 #!/usr/bin/env bash
-# Files of schema 1, which sqlite3 makes here, are shown as they are, refused where the desk would write, and migrated. The
-# program is killed on its way and is refused each allocation in turn: the file is then the old one or the new one, and the
-# next migration completes it.
+# Files of schema 1, which sqlite3 makes here, are shown as they are, refused where the desk would write, and migrated; then they are
+# used, also with the index for own journeys. What a migration leaves that is killed, or whose calls or allocations fail, is looked at by power_cuts.sh, failing_calls.sh
+# and memory_of_runs.sh.
 [ -w /dev/shm ] && in_memory=/dev/shm
 . "$(dirname "${BASH_SOURCE[0]}")/helping.bash"
 . "$tests/serving.bash"
-RANDOM=1987
 
 # tells WHAT STATUS OUT ERR WORDS: the program, called by these words, tells this and ends so
 tells() {
@@ -236,152 +235,35 @@ journey $new T3.1 ended 3"
 }
 is_used "a new file" 8
 
-# migrates_long: a file of 30,000 items, in $span milliseconds
-migrates_long() {
-  local started
-  makes_old old.db 5000
-  old=$(holds old.db)
-  new=$(new_of old.db)
-  cp old.db trips.db
-  started=$(date +%s%N)
-  tells "a long file" 0 "migrated 1 to 2 events 50001" "" migrate trips.db
-  span=$((($(date +%s%N) - started) / 1000000))
-  same "what the long file holds" "$new" "$(holds trips.db)"
+# The index for own journeys. A file without it, or with another one beside it, is used in the same way, and `index` adds it once.
+made="CREATE INDEX journey_agent ON journey(agent, id)"
+own_indexes() { rows "SELECT sql FROM sqlite_schema WHERE type = 'index' AND sql IS NOT NULL"; }
+
+# ends_next WHAT NUMBER: one more journey of this number is made
+ends_next() {
+  answers "$1: one more journey" "begin F/AL/A1/$day/1/1!0\nstep $2\n" "journey $2 begun
+journey $2 T1.1 ended 1"
 }
 
-# begins_migration: the program migrates a copy of the old file, as process $desk
-begins_migration() {
-  rm -f trips.db trips.db-*
-  cp old.db trips.db
-  # it may be killed before it has opened its files
-  : >out
-  : >err
-  "$DESK" migrate trips.db >out 2>err &
-  desk=$!
-}
+tells "the index of an absent file" 1 "" "fault 26 File" index absent.db
+rm -f trips.db trips.db-*
+: >trips.db
+tells "the index of a file without tables" 1 "refused 20 UnknownSchema 0" "" index trips.db
+rm -f trips.db trips.db-*
+answers "a new desk" "set a F/AL/A1/$day 5\n" "loaded a 1"
+same "the index of a new desk" "$made" "$(own_indexes)"
+ends_next "with it" 1
+tells "the index is there" 0 "already indexed journeys 1" "" index trips.db
+rows "DROP INDEX journey_agent"
+ends_next "without it" 2
+tells "the index is added" 0 "indexed journeys 2" "" index trips.db
+same "the index that was added" "$made" "$(own_indexes)"
+ends_next "with the index that was added" 3
+rows "CREATE INDEX item_journey ON entry2(journey, num)"
+ends_next "with an index on the items too" 4
+same "the items" "3|1 5|2 7|3 9|4" "$(rows 'SELECT num, journey FROM entry2 ORDER BY num')"
+same "the file with indexes is sound" "ok" "$(rows 'PRAGMA integrity_check')"
+rows "UPDATE meta SET version = 3"
+tells "the index of an unknown version" 1 "refused 20 UnknownSchema 3" "" index trips.db
 
-# kills_it: unless it has come to its end
-kills_it() {
-  kill -9 "$desk" 2>/dev/null
-  wait "$desk" 2>/dev/null
-}
-
-# kills_after MILLISECONDS
-kills_after() {
-  begins_migration
-  sleep "$(printf '%d.%03d' $(($1 / 1000)) $(($1 % 1000)))"
-  kills_it
-}
-
-# kills_behind BYTES: once the log has grown past so many
-kills_behind() {
-  begins_migration
-  while kill -0 "$desk" 2>/dev/null && [ "$(stat -c %s trips.db-wal 2>/dev/null || echo 0)" -le "$1" ]; do :; done
-  kills_it
-}
-
-# looks WHAT: the killed program left the old file or the new one, and the next migration completes it; sqlite3 looks at
-# copies, so that the program finds what it left itself
-looks() {
-  local left
-  rm -f left.db left.db-*
-  cp trips.db left.db
-  [ ! -e trips.db-wal ] || cp trips.db-wal left.db-wal
-  left=$(holds left.db)
-  same "$1: standard error" "" "$(cat err)"
-  if [ "$left" = "$old" ]; then
-    same "$1: the answer of an old file" "" "$(cat out)"
-    tells "$1: completed" 0 "migrated 1 to 2 events 50001" "" migrate trips.db
-    olds=$((olds + 1))
-  else
-    same "$1: what the file holds, which is not the old one" "$new" "$left"
-    tells "$1: complete" 1 "refused 23 AlreadyNew" "" migrate trips.db
-    news=$((news + 1))
-  fi
-  same "$1: what it holds in the end" "$new" "$(holds trips.db)"
-}
-
-# kills_many: the program is killed while it migrates the long file. All kills come in one part: of a few of them, each may
-# come after the commit
-kills_many() {
-  local round bytes
-  for round in {1..10}; do
-    kills_after $((RANDOM % span))
-    looks "kill $round"
-  done
-  # later ones: the commit comes in the end
-  for round in {11..14}; do
-    kills_after $((span * 3 / 4 + RANDOM % (span / 4 + 1)))
-    looks "kill $round"
-  done
-  for bytes in 100 5000 100000 300000 500000; do
-    kills_behind "$bytes"
-    looks "kill behind $bytes bytes of the log"
-  done
-  same "$olds old files and $news new ones were left" yes "$([ "$olds" -gt 0 ] && echo yes)"
-  is_used "after the kills" 20000
-}
-olds=0 news=0
-if is_mine; then
-  migrates_long
-  kills_many
-fi
-
-# each allocation is refused in turn, of a file of schema 1 and of one of schema 2
-cc -O1 -shared -fPIC -o refuse.so "$tests/refuse.c" || exit 1
-makes_old old.db 1
-old=$(holds old.db)
-new=$(new_of old.db)
-cp old.db new.db
-tells "a short file" 0 "migrated 1 to 2 events 11" "" migrate new.db
-
-# is_as_it_was FILE: trips.db has the bytes of this file, and nothing stands in its log
-is_as_it_was() {
-  cmp -s "$1" trips.db && [ "$(stat -c %s trips.db-wal 2>/dev/null || echo 0)" -le 41 ]
-}
-
-# has_turn FILE N: whether this part refuses the N-th allocation. The kills take about as long as 2,000 refusals, so as many of
-# old.db are dealt out to each other part before the first part, which has the kills, gets one
-has_turn() {
-  local others=$((parts - 1))
-  if [ "$1" = old.db ] && [ "$2" -le $((2000 * others)) ]; then
-    [ "$part" -gt 1 ] && [ $(($2 % others)) -eq $((part - 2)) ]
-  else
-    has_case "$2"
-  fi
-}
-
-# refuses_each FILE ANSWER: the allocations of a migration of this file, one after another, until it makes no such one; with
-# all of them it gives this answer. A file whose bytes have changed is looked at, and migrated once more
-refuses_each() {
-  local n told before left
-  before=$(holds "$1")
-  for ((n = 1; ; n++)); do
-    has_turn "$1" "$n" || continue
-    rm -f trips.db trips.db-* refused
-    cp "$1" trips.db
-    told=$(REFUSE=$n LD_PRELOAD=./refuse.so "$DESK" migrate trips.db 2>&1)
-    [ -e refused ] && [ "$wrong" -eq 0 ] || break
-    refusals=$((refusals + 1))
-    left=$before
-    if ! is_as_it_was "$1"; then
-      left=$(holds trips.db)
-      "$DESK" migrate trips.db >out 2>err
-      same "$1, allocation $n: in the end" "$new" "$(holds trips.db)"
-    fi
-    case $told in
-      "fault 22 Memory") same "$1, allocation $n: the file" "$before" "$left" ;;
-      "fault 17 Memory" | "fault 18 Store" | "fault 21 Store") ;;
-      "$2") same "$1, allocation $n: the file" "$new" "$left" ;;
-      *) same "$1, allocation $n" "a fault, or: $2" "$told" ;;
-    esac
-    [ "$left" = "$new" ] || same "$1, allocation $n: old, if it is not new" "$old" "$left"
-  done
-  same "$1: no allocation refused" "$2" "$told"
-}
-refusals=0
-refuses_each old.db "migrated 1 to 2 events 11"
-refuses_each new.db "refused 23 AlreadyNew"
-same "$refusals allocations were refused" yes "$([ $((refusals * parts)) -gt 100 ] && echo yes)"
-echo "kills left $olds old files and $news new ones; $refusals allocations refused to migrations$in_part"
 finish

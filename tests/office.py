@@ -1,6 +1,7 @@
-"""An office behind each of the proxies named, by the recipe of OPERATING.md: FOLDER PROXY ..
+"""An office behind each of the proxies named, by the recipe of OPERATING.md, and a day of so many seconds behind two of them:
+FOLDER SECONDS PROXY ..
 
-The folder has desk.pem, the certificate and the key of the proxies. Prints what went wrong."""
+The folder has desk.pem, the certificate and the key of the proxies. Prints what went wrong. With PART=K/N it does the K-th of N parts."""
 import os
 import shutil
 import subprocess
@@ -9,13 +10,17 @@ import time
 
 from selenium.webdriver.common.keys import Keys
 
+from office_day import day
 from office_firefox import FIREFOX, Firefox
+from office_kept import not_found, wrong_in
 from office_proxies import ARE, Proxy, in_folder, with_certificates, with_names
 from page_driving import DESK, Browser, Desk
 from page_scenes import JUNE, comes, same
+from parts import Deal
 
 HERE = os.path.dirname(os.path.abspath(__file__))
 LINE = "F/AL/A1/2030-06-01/1/1*;T/BUS/X/2030-06-01/1/1!0"
+DAYS = ("nginx", "haproxy")
 NO_AGENT = '{"name":"NoAgent","refused":2}'
 
 
@@ -176,8 +181,8 @@ def in_firefox(proxy, desk):
         browser.end()
 
 
-def run(folder, name):
-    """What went wrong behind this proxy, or nothing."""
+def by_recipe(folder, name):
+    """What the recipe of this proxy promises."""
     file = f"{folder}/{name}.db"
     desk = Desk(file, ["--wide"])
     desk.load("june", [f"flight,AL,A1,{JUNE[0]},9", f"transfer,BUS,X,{JUNE[0]},9"])
@@ -191,9 +196,6 @@ def run(folder, name):
         maps_names(proxy)
         serves_in_folder(proxy)
         asks_for_certificates(proxy)
-        return ""
-    except AssertionError as wrong:
-        return f"{name}: {wrong}"
     finally:
         for browser in browsers:
             browser.end()
@@ -201,13 +203,25 @@ def run(folder, name):
         desk.kill()
 
 
-def main(folder, *proxies):
-    for name in proxies:
+def by_day(folder, name, seconds):
+    """A day of ten tabs behind this proxy; what is wrong on purpose is found in what it came to."""
+    came = day(folder, name, seconds)
+    same("what a day came to", [], wrong_in(came))
+    same("what is wrong on purpose and not found", [], not_found(came))
+
+
+def main(folder, seconds, *proxies):
+    cases = [(name, by_recipe, ()) for name in proxies]
+    for name in DAYS:
+        if name in proxies:
+            cases.insert(2 * DAYS.index(name), (name, by_day, (int(seconds),)))
+    for name, act, words in Deal().mine(cases):
         begun = time.monotonic()
-        wrong = run(folder, name)
-        print(f"{name} {time.monotonic() - begun:.0f}", file=sys.stderr)
-        if wrong:
-            print(wrong)
+        try:
+            act(folder, name, *words)
+        except AssertionError as wrong:
+            print(f"{name}, {act.__name__}: {wrong}")
+        print(f"{name}, {act.__name__}: {time.monotonic() - begun:.0f} seconds", file=sys.stderr)
 
 
 if __name__ == "__main__":

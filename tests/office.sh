@@ -3,6 +3,9 @@
 # and passwords before a desk with its page, and headless Chromium before them. Two agents book at once in three windows, a backup is
 # made, the desk is killed and started again, a password is changed. Firefox does a journey, where it is there. Then names are mapped to
 # agents, the page is served in a folder, and certificates say who asks. A proxy that is absent is left out.
+#
+# A day of an office behind nginx and one behind HAProxy: ten tabs of ten agents, with a backup, a kill and a restart in between. Nothing
+# is lost, doubled or stuck, and the ledger is what the tabs were shown. A day takes SECONDS_A_DAY: 300, in the gate 45.
 . "$(dirname "${BASH_SOURCE[0]}")/helping.bash"
 . "$(dirname "$tests")/scripts/needs.bash"
 
@@ -24,8 +27,10 @@ openssl req -x509 -newkey rsa:2048 -nodes -days 2 -subj /CN=office.example -keyo
 cat certificate key >desk.pem
 # where root starts nginx, another user reads the passwords
 chmod 755 "$work"
-HOME=$work PYTHONDONTWRITEBYTECODE=1 "$python" "$tests/office.py" "$work" "${proxies[@]}" >out 2>err
+: "${SECONDS_A_DAY:=$([ -n "${PART:-}" ] && echo 45 || echo 300)}"
+HOME=$work PYTHONDONTWRITEBYTECODE=1 "$python" "$tests/office.py" "$work" "$SECONDS_A_DAY" "${proxies[@]}" >out 2>err
 same "the status" 0 "$?"
 same "what went wrong" "" "$(cat out)"
 [ "$wrong" -eq 0 ] || cat err >&2
+[ -z "$in_part" ] || echo "a day of $SECONDS_A_DAY seconds$in_part"
 finish

@@ -85,5 +85,5 @@ def by_booking_number(scene):
     desk.start()
     scene.begins(plan(TRANSFER), "another")
     browser.driver.refresh()
-    browser.shows("transfer X", "#list")
+    browser.shows("transfer BUS X", "#list")
     same("a number of another file", False, "booking" in browser.text("#list tbody"))

@@ -8,7 +8,7 @@ import time
 from selenium.webdriver.common.keys import Keys
 
 from page_driving import wait_until
-from page_network import html_page
+from page_network import html_page, page_of
 from page_scenes import FLIGHT, JUNE, LINE, SEA, TRANSFER, TWO, comes, option, plan, same
 
 
@@ -180,7 +180,7 @@ def nothing_is_fetched(scene):
         time.sleep(seconds)
         return collections.Counter(path for _, path, _ in network.paths[before:])
     scene.shows_journey(1)
-    browser.shows("holds 1 Jun 2030 · flight A1", "#list")
+    browser.shows("holds 1 Jun 2030 · flight AL A1", "#list")
     wait_until(lambda: [path for _, path, _ in network.paths[-2:]] == ["/health"] * 2, "a look that finds nothing new")
     asked = asked_for(5)
     same("while nothing happens", {"/health"}, set(asked))
@@ -188,7 +188,7 @@ def nothing_is_fetched(scene):
     scene.begins(plan(TRANSFER), "silent-3", agent="bob")
     asked = asked_for(6)
     del asked["/health"]
-    same("after an event of another agent", {"/stock": 1, "/unfinished": 1, "/mine/2": 1, "/journeys/1": 1, "/journeys/1/why": 1}, dict(asked))
+    same("after an event of another agent", {"/unfinished": 1, "/mine/2": 1, "/journeys/1": 1, "/journeys/1/why": 1}, dict(asked))
     before = len(network.paths)
     browser.press("Journey 2", "#list")
     browser.named("Do step 1", ".acts")
@@ -198,10 +198,50 @@ def nothing_is_fetched(scene):
     scene.desk.post("/journeys/2/step", "silent-4")
     browser.shows("T1.1", "ol.items")
     browser.shows("ended", "#list")
+    browser.press("Stock")
     network.front = lambda request: html_page(403) if request.where.path == "/health" else None
     asked = asked_for(4.5)
     same("where a server hides how much it has, all is asked for", True, asked["/health"] >= 1 <= asked["/stock"])
     browser.shows("Up to date", "#state")
+
+
+def large_stock(scene):
+    """A stock of 40,000 cells is read every twenty seconds at most where it is shown, and not beside a journey, but for the question before
+    all steps."""
+    browser, desk, network, count, times = scene.browser, scene.desk, scene.network, 40_000, []
+    last = option("flight", "AL", "LAST")
+    many = "".join(f"{'cover':8} {'MANY':8} {f'P{n // 28}':8} 2031-01-{n % 28 + 1:02} {1:6} {0:6} {1:6}\n" for n in range(count))
+
+    def in_front(request):
+        if request.where.path != "/stock":
+            return None
+        times.append(time.monotonic())
+        *lines, _ = desk.ask("GET", "/stock")[1].splitlines(keepends=True)
+        return page_of(200, "OK", [("Content-Type", "text/plain")], f"{''.join(lines)}{many}cells {len(lines) - 1 + count}\n".encode())
+
+    def moves(until):
+        """Bob begins a journey each second, until this holds."""
+        for n in range(60):
+            if until():
+                return
+            scene.begins(plan(TRANSFER), f"{len(times)}-{n}", agent="bob")
+            time.sleep(1)
+    network.front = in_front
+    scene.begins(plan(FLIGHT, last), "all")
+    moves(lambda: len(times) > 1)
+    same("the seconds between two reads", True, times[1] - times[0] > 19 or times)
+    scene.shows_journey(1)
+    browser.named("Do all 2 steps that are left", ".acts")
+    begun = time.monotonic()
+    moves(lambda: time.monotonic() - begun > 6)
+    same("reads beside a journey", 2, len(times))
+    scene.begins(plan(last), "last", 1, "bob")
+    browser.press("Do all 2 steps that are left", ".acts")
+    browser.shows("which is step 2 now", "dialog[open]")
+    browser.click_on("#sure-no")
+    scene.begins(plan(TRANSFER), "opened", agent="bob")
+    browser.press("Stock")
+    wait_until(lambda: len(times) > 3, "it is read once its view is opened")
 
 
 def by_what_is_held(scene):
@@ -224,8 +264,8 @@ def by_what_is_held(scene):
             for text in (f"R INN {word}", word)))
         browser.press("Do step 2", ".acts")
     browser.shows("T2.2", "ol.items")
-    for n, words in ((4, "holds 1 Jun 2030 · flight A1, room YARD; to come: 1 Jun 2030 · transfer X"), (2, "holds 1 Jun 2030 · room SEA"),
-                     (3, "holds nothing; to come: 1 Jun 2030 · room SEA")):
+    for n, words in ((4, "holds 1 Jun 2030 · flight AL A1, room INN YARD; to come: 1 Jun 2030 · transfer BUS X"), (2, "holds 1 Jun 2030 · room INN SEA"),
+                     (3, "holds nothing; to come: 1 Jun 2030 · room INN SEA")):
         comes(f"journey {n}", words, lambda n=n: browser.script(
             "return document.querySelector(arguments[0]).closest('tr').querySelector('.plan')?.innerText", f'[data-f="to.{n}"]'))
     found_by("sea", 2)
@@ -235,7 +275,7 @@ def by_what_is_held(scene):
     comes("found once it is held", ["Journey 1"], lambda: browser.names("#list tbody a"))
     desk.post("/journeys/4/abort/0", "back")
     desk.post("/journeys/4/step", "give")
-    found_by("room yard", 1)
+    found_by("room inn yard", 1)
     found_by("flight", 4, 1)
 
 
@@ -255,7 +295,7 @@ def printed(scene):
         ("stock", f"{agent}: June 2030", ("room INN YARD", "In each night", "of 4"), ("New journey", "My journeys")),
         ("plan", agent, ("Step 2", "INN YARD, Sat, 1 Jun 2030, 2 nights, leaving Mon 3 June, 1 place", "Save-point after step 1"),
          ("Save-point after step 2", "Tries", "Stock")),
-        ("journeys", agent, ("My journeys", "holds 1 Jun 2030 · flight A1", "to come"), ("Number", "One journey")),
+        ("journeys", agent, ("My journeys", "holds 1 Jun 2030 · flight AL A1", "to come"), ("Number", "One journey")),
         ("journeys/1", agent, ("Journey 1", "under way, at 1 of 3", "T1.1", "no place was found for step 2"),
          ("Turn back to", "Do step", "My journeys")),
     )
@@ -335,6 +375,12 @@ def as_table(scene):
     browser.shows("room INN YARD, Sun, 9 Jun 2030, 1 night", "#bar")
     browser.keys(Keys.ESCAPE)
     browser.types('[data-f="filter.places"]', Keys.CONTROL + "a" + Keys.NULL, "2", Keys.TAB)
+    browser.size(*SIZES[1])
+    browser.script("document.querySelector('#cals').scrollTo(0, 0)")
+    browser.gives('[data-f="filter.from"]', JUNE[9])
+    for css in (".key", f'.night[data-night="{JUNE[9]}"]', "th.sought"):
+        same(f"{css} of a trip is in view at {SIZES[1]}", True, browser.script(IN_VIEW, browser.one(css)))
+    browser.size(*SIZES[0])
     for first, last in ((JUNE[9], JUNE[12]), (JUNE[19], JUNE[20]), (JUNE[0], JUNE[3])):
         scene.browser.gives('[data-f="filter.from"]', first)
         scene.browser.gives('[data-f="filter.to"]', last)

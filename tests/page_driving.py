@@ -44,17 +44,18 @@ def wait_until(holds, what):
 
 
 class Desk:
-    """The program over a file, with its page, at a port that it keeps when it is started again."""
+    """The program over a file, with its page, at a port that it keeps when it is started again. A log is kept in a file, if one is named."""
 
-    def __init__(self, file, words=()):
-        self.file, self.words, self.port, self.process = file, words, free_port(), None
+    def __init__(self, file, words=(), log=None):
+        self.file, self.words, self.port, self.process, self.log = file, words, free_port(), None, log
         self.start()
 
     def start(self):
-        self.process = subprocess.Popen(
-            [DESK, "serve", self.file, "--port", str(self.port), "--page", *self.words], stdin=subprocess.DEVNULL,
-            stdout=subprocess.PIPE, stderr=subprocess.PIPE,
-        )
+        words = [DESK, "serve", self.file, "--port", str(self.port), "--page", *self.words, *(["--log"] if self.log else [])]
+        with open(self.log or os.devnull, "ab") as log:
+            self.process = subprocess.Popen(
+                words, stdin=subprocess.DEVNULL, stdout=subprocess.PIPE, stderr=log if self.log else subprocess.PIPE,
+            )
         said = self.process.stdout.readline()
         if said != f"ready {self.port}\n".encode():
             raise RuntimeError(f"no desk at {self.port}: {said!r} {self.process.communicate()}")

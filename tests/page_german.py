@@ -127,8 +127,8 @@ def in_german(scene):
     scene.note("Reise 1: Schritt 3 ist ausgeführt (Transfer BUS X, 1. Juni 2030, 1 Platz). Alle Schritte sind ausgeführt: Die Reise ist "
                "abgeschlossen.")
     browser.press("Meine Reisen")
-    browser.shows("belegt: 1. Juni 2030 · Flug A1, Zimmer YARD, Transfer X", "#list")
-    for text, count in (("zimmer yard", 1), ("1. juni", 1), ("room", 0)):
+    browser.shows("belegt: 1. Juni 2030 · Flug AL A1, Zimmer INN YARD, Transfer BUS X", "#list")
+    for text, count in (("zimmer inn yard", 1), ("1. juni", 1), ("room", 0)):
         browser.types('[data-f="list.text"]', Keys.CONTROL + "a" + Keys.NULL, text)
         comes(f"found by {text}", count, lambda: len(browser.all("#list tbody tr")))
     browser.shows("Keine Reise passt dazu.", "#list")

@@ -93,7 +93,7 @@ def another_file(scene):
     scene.begins(key="b2")
     browser.shows("Fits now", ".acts")
     browser.press("My journeys (2)")
-    browser.shows("flight A1, transfer X", "#list")
+    browser.shows("flight AL A1, transfer BUS X", "#list")
     desk.kill()
     browser.shows("The desk cannot be reached", "#away")
     desk.file = f"{scene.folder}/other.db"
@@ -101,8 +101,8 @@ def another_file(scene):
     browser.shows("You have no journey yet", "#list")
     scene.begins(plan(TRANSFER), "other")
     browser.named("My journeys (1)")
-    browser.shows("transfer X", "#list")
-    same("the first file's plan", False, "flight A1" in browser.text("#list"))
+    browser.shows("transfer BUS X", "#list")
+    same("the first file's plan", False, "flight AL A1" in browser.text("#list"))
     same("refusals", [], browser.names(".note.isbad p"))
 
 

@@ -6,14 +6,13 @@ export PYTHONDONTWRITEBYTECODE=1 PYTHONPATH=$tests
 unset PART TESTED
 bad=(0/3 4/3 x 1 1/ /3 0/0 01/3 1/03 -1/3 +1/3 1/3/5 ' 1/3' '1/3 ' 1.0/3 1/x 1/1000 $'1/3\n' '1,3' '1/3;')
 
-# prints a line "NAME CASE" for each case that helping.bash gives a part: of two lists of 25 cases, which it counts, and of cases
-# by their numbers; and what the last line of a script ends with
+# prints a line "NAME CASE" for each case that helping.bash gives a part, of two lists of 25; and what the last line of a script
+# ends with
 cat >deals.sh <<'SH'
 . "$TESTS/helping.bash"
 for name in one two; do
   for n in {1..25}; do if is_mine; then echo "$name $n"; fi; done
 done
-for n in {1..25}; do if has_case "$n"; then echo "by_number $n"; fi; done
 echo "last$in_part"
 SH
 
@@ -56,7 +55,7 @@ PY
 
 # all_of NAME FIRST LAST: each case of this name
 all_of() { seq -f "$1 %.0f" "$2" "$3"; }
-by_bash=$({ all_of one 1 25 && all_of two 1 25 && all_of by_number 1 25; } | sort)
+by_bash=$({ all_of one 1 25 && all_of two 1 25; } | sort)
 by_python=$({ all_of one 1 25 && all_of two 1 25 && all_of from 3 100 | grep '[034589]$'; } | sort)
 
 # is_dealt_out N ALL: so many parts do each of these cases once, and each of them has its share; their lines are in dealt

@@ -9,7 +9,6 @@ import re
 import sqlite3
 import sys
 
-import rows_by_hand
 from driving import Client, Server, desk
 from rows_pages import SHORT, Wrong, expect, message, page, page_of, plan_value, request_of
 
@@ -225,14 +224,6 @@ def main():
             except Wrong as fault:
                 wrong += 1
                 print(f"rows.py: {name}{kind}: {fault}", file=sys.stderr)
-    for row in rows_by_hand.ROWS if not word else ():
-        rows, count = rows + 1, count + 1
-        clear()
-        try:
-            row()
-        except Wrong as fault:
-            wrong += 1
-            print(f"rows.py: {row.__name__}: {fault}", file=sys.stderr)
     print(f"{rows} rows, {count} runs, {wrong} wrong")
     sys.exit(1 if wrong or not rows else 0)
 

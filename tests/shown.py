@@ -5,7 +5,7 @@ from driving import Client, Server, desk, lay, read_files
 from ledger import Ledger, history_report, is_settled, make_file, statements_of, stock_report, tables_of, unfinished_report
 from scenes import OLD_EVENTS, ON
 
-NEW_TABLES = ("CREATE TABLE entry2", "CREATE TABLE mark")
+NEW_TEXTS = ("CREATE TABLE entry2", "CREATE TABLE mark", "CREATE INDEX journey_agent")
 
 
 def look(files):
@@ -123,7 +123,7 @@ class Migration:
 def old_file(files):
     """A disk of schema 1 with the first events of a desk's disk, of which none is a save-point taken on the way."""
     tables = Ledger(look(files)).after(OLD_EVENTS)
-    statements = [text for text in statements_of("cut/trips.db") if not text.startswith(NEW_TABLES)]
+    statements = [text for text in statements_of("cut/trips.db") if not text.startswith(NEW_TEXTS)]
     assert not tables.pop("mark") and all(row[2] < 3 for row in tables["entry2"])
     tables["entry"] = tables.pop("entry2")
     tables["meta"] = [(1, 1, *tables["meta"][0][2:])]

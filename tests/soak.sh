@@ -3,7 +3,7 @@
 # purpose between two lives, which it has to find: kept replies that are gone, an event that is lost after a kill, a place
 # that is sold twice; these also where it looks at the answers alone. And files of which nothing is synced.
 #
-# COUNT=N SEED=N DESK=.. tests/soak.sh    so many commands of this seed, where the gate takes 1,000
+# COUNT=N SEED=N DESK=.. tests/soak.sh    so many commands of this seed, where the gate takes 2,000
 . "$(dirname "${BASH_SOURCE[0]}")/helping.bash"
 . "$tests/hostile.bash"
 if [[ $DESK == */out/trial/* ]]; then
@@ -22,7 +22,7 @@ soaks() { python3 "$tests/soak.py" . "$@"; }
 # count_of WORD: the number before this word of the summary, or after it
 count_of() { grep -o "$1 [0-9]*" said | head -n 1 | grep -o '[0-9]*$'; }
 
-soaks 1990 "${COUNT:-1000}" >said || wrong=$((wrong + 1))
+soaks 1990 "${COUNT:-2000}" >said || wrong=$((wrong + 1))
 cat said
 for what in kills faults "given again" refused "power cuts"; do
   same "it met $what" yes "$([ "$(count_of "$what")" -ge 5 ] && echo yes)"

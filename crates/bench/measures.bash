@@ -364,7 +364,7 @@ has_migrate() {
 # makes_old FILE COUNT: a file of schema 1 with so many journeys of three steps, all of which have ended
 makes_old() {
   makes_ended "$1" "$2" || return 1
-  sqlite3 "$1" "INSERT INTO entry SELECT * FROM entry2; DROP TABLE entry2; DROP TABLE mark; UPDATE meta SET version = 1; VACUUM"
+  sqlite3 "$1" "INSERT INTO entry SELECT * FROM entry2; DROP TABLE entry2; DROP TABLE mark; DROP INDEX journey_agent; UPDATE meta SET version = 1; VACUUM"
 }
 
 # plain_migration FILE: the statements of a migration by sqlite3, with the journal, the syncs and the tests of references that

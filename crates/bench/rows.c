@@ -79,6 +79,7 @@ static const char tables[] =
   "item INTEGER NOT NULL CHECK(item BETWEEN 0 AND 3), a INTEGER NOT NULL, b INTEGER NOT NULL) STRICT;"
   "CREATE TABLE mark(journey INTEGER NOT NULL REFERENCES journey(id), pos INTEGER NOT NULL, "
   "PRIMARY KEY(journey, pos)) STRICT;"
+  "CREATE INDEX journey_agent ON journey(agent, id);"
   "INSERT INTO meta VALUES (1, 2, 0, 0); COMMIT";
 
 /* a product over some nights, which the first step of a journey wants; each has so many free places */

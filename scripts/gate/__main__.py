@@ -6,14 +6,13 @@ LANES is the number of checks side by side, 0 for as many as fit. docs/GATE.md s
 2 wrong words, or another gate runs here.
 """
 
-import fcntl
 import os
 import shutil
-import signal
 import sys
 import time
 from pathlib import Path
 
+from alone import Busy, alone
 from changes import Unknown, revision_of
 from choice import everything, first_look, of_landing
 from landings import add_landing, this_landing
@@ -127,11 +126,6 @@ def choose(tables, lanes, words):
     return choice
 
 
-def stop(number, _frame):
-    """Ends the run at a signal, with the status of a shell."""
-    sys.exit(128 + number)
-
-
 def main(words):
     lanes, words = int(words[0]) or lanes_now(), words[1:]
     tables = Tables(TOP)
@@ -142,23 +136,18 @@ def main(words):
     if words[:1] not in ([], ["--all"], ["--quick"], ["--since"]) or len(words) != (2 if words[:1] == ["--since"] else len(words[:1])):
         print(USAGE, file=sys.stderr)
         return 2
-    (TOP / "out").mkdir(exist_ok=True)
-    with open(TOP / "out/gate.lock", "w", encoding="ascii") as lock:
-        try:
-            fcntl.flock(lock, fcntl.LOCK_EX | fcntl.LOCK_NB)
-        except BlockingIOError:
-            say("another ./check runs here")
-            return 2
-        for number in (signal.SIGHUP, signal.SIGINT, signal.SIGTERM):
-            signal.signal(number, stop)
-        gate = Gate(tables, lanes)
-        try:
-            return 0 if gate.run(choose(tables, lanes, words)) else 1
-        except Unknown as error:
-            say(f"git cannot tell: {error}")
-            return 2
-        finally:
-            gate.end()
+    gate = Gate(tables, lanes)
+    try:
+        with alone(TOP / "out/gate.lock"):
+            try:
+                return 0 if gate.run(choose(tables, lanes, words)) else 1
+            finally:
+                gate.end()
+    except Busy:
+        say("another ./check runs here")
+    except Unknown as error:
+        say(f"git cannot tell: {error}")
+    return 2
 
 
 if __name__ == "__main__":

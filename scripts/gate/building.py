@@ -1,15 +1,15 @@
 """What ./build does: proves the crates of the program, and builds it. Exit status: 0 the program is built, 1 it is not, 2 wrong words.
 """
 
-import fcntl
+import contextlib
 import os
 import shutil
-import signal
 import subprocess
 import sys
 import time
 from pathlib import Path
 
+from alone import Busy, alone, locked
 from lanes import Task, chains, lanes_now, reckoned
 from rooms import KEPT, Rooms
 from tables import Tables
@@ -158,19 +158,8 @@ def remove_trials():
     """Removes the trial programs, which no call needs now; not while a call makes one."""
     lock = TOP / "crates/desk/out/trial/lock"
     if lock.exists():
-        with open(lock, encoding="ascii") as file:
-            try:
-                fcntl.flock(file, fcntl.LOCK_EX | fcntl.LOCK_NB)
-                shutil.rmtree(lock.parent)
-            except BlockingIOError:
-                pass
-
-
-def stop(number, _frame):
-    """Ends the build at a signal, with the status of a shell."""
-    if number == signal.SIGINT:
-        say("stopped; the next ./build goes on from here")
-    sys.exit(128 + number)
+        with contextlib.suppress(Busy), locked(lock):
+            shutil.rmtree(lock.parent)
 
 
 def main(words):
@@ -181,27 +170,23 @@ def main(words):
     if not build.newer_source():
         say(f"the program is {PROGRAM.relative_to(TOP)}, {size(PROGRAM)}, and no source is newer")
         return 0
-    (TOP / "out").mkdir(exist_ok=True)
-    with open(TOP / "out/build.lock", "w", encoding="ascii") as lock:
-        try:
-            fcntl.flock(lock, fcntl.LOCK_EX | fcntl.LOCK_NB)
-        except BlockingIOError:
-            say("another ./build runs here", sys.stderr)
-            return 1
-        for number in (signal.SIGHUP, signal.SIGINT, signal.SIGTERM):
-            signal.signal(number, stop)
-        try:
-            build.rooms.close_all()
-            if not build.kept_folders():
-                OWN.touch()
-            say(f"proving {len(build.crates)} crates, {build.lanes} side by side, and building the program: about {build.whole:.0f} minutes")
-            build.run()
-            build.tell_end(words)
-        except Failed as why:
-            say(why, sys.stderr)
-            return 1
-        finally:
-            build.end()
+    try:
+        with alone(TOP / "out/build.lock", lambda: say("stopped; the next ./build goes on from here")):
+            try:
+                build.rooms.close_all()
+                if not build.kept_folders():
+                    OWN.touch()
+                say(f"proving {len(build.crates)} crates, {build.lanes} side by side, and building the program: about {build.whole:.0f} minutes")
+                build.run()
+                build.tell_end(words)
+            finally:
+                build.end()
+    except Busy:
+        say("another ./build runs here", sys.stderr)
+        return 1
+    except Failed as why:
+        say(why, sys.stderr)
+        return 1
     return 0
 
 

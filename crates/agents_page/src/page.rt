@@ -2,7 +2,7 @@
 
 /// What the page may load and do: its own style and script, and requests to the desk that served it.
 pub const POLICY: &str =
-    r#"default-src 'none'; script-src 'sha256-ROhBpVQ1m1CCSo8FuX9qDqnaJI6bGAvxnVopxYUZQro='; style-src 'sha256-VaT9aXyUTPNlmCHucGRWh1t6nHAGW5iN/NXZESOo7OE='; connect-src 'self'; frame-ancestors 'none'; base-uri 'none'; form-action 'none'"#;
+    r#"default-src 'none'; script-src 'sha256-ekGEp+K0vqHR1WB4Ve5S5I+POE+Ox6Uwe6V1tC99Z+A='; style-src 'sha256-v/aN891YSYsU5LbsCJGC/2lHDiq8mbGuZChwuWO8NmE='; connect-src 'self'; frame-ancestors 'none'; base-uri 'none'; form-action 'none'"#;
 
 /// The page, in HTML.
 pub const PAGE: &str = r##"<!doctype html>
@@ -127,7 +127,8 @@ main .side { align-self: start; max-height: 100%; padding-bottom: 0; }
 }
 .key i.half { background: linear-gradient(to top, var(--taken) 50%, transparent 50%); }
 .key i.isfull { background: var(--full); }
-.cals { display: grid; gap: 12px; align-content: start; overflow: auto; flex: 1; min-height: 0; scroll-padding: 40px 0 0 110px; grid-template-columns: repeat(auto-fill, minmax(min(100%, 300px), 1fr)); }
+.cals { display: grid; gap: 12px; align-content: start; overflow: auto; flex: 1; min-height: 0; scroll-padding: 40px 0 0 160px; grid-template-columns: repeat(auto-fill, minmax(min(100%, 300px), 1fr)); container-type: inline-size; }
+.cals:has(.grid) { grid-template-columns: minmax(100%, max-content); }
 .cal { padding: 10px 10px 8px; content-visibility: auto; contain-intrinsic-size: auto 390px; }
 .cal .top { display: flex; justify-content: space-between; align-items: baseline; gap: 8px; margin-bottom: 4px; }
 .cal table { width: 100%; border-collapse: separate; border-spacing: 2px; table-layout: fixed; }
@@ -154,11 +155,13 @@ main .side { align-self: start; max-height: 100%; padding-bottom: 0; }
 }
 .night:focus-visible { outline-offset: 1px; z-index: 1; }
 .cals > :not(.cal) { grid-column: 1 / -1; margin: 0; }
+.cals > p { position: sticky; left: 0; max-width: 100cqw; }
 .grid { width: max-content; min-width: 100%; padding: 0; }
 .grid table { width: 100%; border-spacing: 0; font-size: 12px; }
 .grid th { position: sticky; left: 0; z-index: 2; padding: 0 4px 0 0; background: var(--card); font-weight: 500; text-align: left; }
 .grid thead th { top: 0; z-index: 3; padding: 0; text-align: center; line-height: 1.2; color: var(--soft); }
 .grid th:not(:first-child) { left: auto; z-index: 2; }
+.grid th.sought { background: var(--chosen); color: var(--ink); }
 .grid td { min-width: 24px; height: 24px; padding: 0; }
 .grid .night { height: 24px; padding: 0; border-radius: 0; }
 .grid .day, .grid .of { display: none; }
@@ -841,7 +844,7 @@ let agent = kept(session, 'agent', kept(local, 'agent', ''));
 // the agent whom a server in front of the desk names, if one does, and whether this is known
 let given = '', isKnown = false;
 let view = 'stock', number = 0, turn = 0;
-let stockText = null, stock = new Map(), months = [];
+let stockText = null, stockAt = 0, isOpened = false, stock = new Map(), months = [];
 let own = new Map(), histories = new Map(), plans = new Map(), whys = new Map(), complete = false;
 // the agency's numbers of journeys, each with the plan that was begun under it; whether the desk says why a step would not fit
 let bookings = {}, knowsWhy = true;
@@ -938,7 +941,7 @@ async function look() {
       // where a server in front hides it, all is asked for each time
       try { now = JSON.stringify(await ask('/health', page => page.events >= 0)); } catch (why) { if (why.why !== 'barred') throw why; }
     },
-    stock: (view !== 'list' || stockText === null) && lookAtStock, own: lookAtOwn,
+    stock: isStockDue() && lookAtStock, own: lookAtOwn,
     [`one ${id}`]: view === 'journey' && (() => lookAtOne(id, mine)),
   })) {
     if (!part || mine !== turn || (now && read.get(name) === now && !settling.has(id))) continue;
@@ -963,9 +966,15 @@ async function look() {
   timer = setTimeout(look, reached === 'away' ? AGAIN : NEWS);
 }
 
+// isStockDue(): where it is shown, a tab reads 131 kB of it a second at most, so 8,000 cells at each look; where its view is opened, five times as much
+const needsStock = () => view === 'stock' || view === 'plan' || !knowsWhy;
+const isStockDue = () => stockText === null || (needsStock() && performance.now() - stockAt > stockText.length / (isOpened ? 655 : 131));
 async function lookAtStock(mine) {
   const text = await get('/stock', isStock);
-  if (mine !== turn || text === stockText) return;
+  if (mine !== turn) return;
+  stockAt = performance.now();
+  isOpened = false;
+  if (text === stockText) return;
   stockText = text;
   stock = new Map();
   let least = '', most = '';
@@ -1081,12 +1090,15 @@ async function lookAtOne(id, mine) {
   if (mine !== turn) return;
   if (one) take(id, one); else plans.set(id, null);
   if (settling.get(id) === was) settling.delete(id);
-  if (!one || !isOpen(one) || !knowsWhy) return;
-  try { whys.set(id, await get(`/journeys/${id}/why`, page => page.step)); } catch (why) {
+  if (one && isOpen(one) && knowsWhy) await lookAtWhy(id);
+}
+// lookAtWhy(id): what its next step would make; by the stock, where an older desk does not say it
+async function lookAtWhy(id) {
+  if (knowsWhy) try { whys.set(id, await get(`/journeys/${id}/why`, page => page.step)); } catch (why) {
     if (!(why instanceof Refused)) throw why;
-    // an older desk does not say it
     knowsWhy = why.page.name !== 'UnknownPath';
   }
+  if (!knowsWhy) await lookAtStock(turn);
 }
 
 // ---- sending: each request is kept with its key until its page came, and retried as it was
@@ -1236,14 +1248,14 @@ function hear(request, page, isTold) {
 
 // goOn(request, page, text): does the next of all steps that are left, if this one was done and that one fits
 async function goOn({ about, seen, agent: whose, tab: of }, { item, pos }, text) {
-  try { await lookAtStock(turn); } catch { /* by the stock that is known */ }
   const plan = whose === agent && of === tab && item[0] === 'T' && plans.get(about), history = seen ? [seen, item] : [item];
-  const { is, why } = plan ? fits(optionAt(plan, pos + 1, walk(history.join().split(','), plan).used)) : {};
+  try { await lookAtWhy(about); } catch { /* by what is known */ }
+  const { is, why } = plan ? nextOf(plan, walk(history.join().split(','), plan), about) : {};
   if (is) send(`/journeys/${about}/step`, '', t('doStepWhat', pos + 1, about), about, history.join(), true);
   else say('warn', why ? t('stoppedAt', about, text, pos + 1, why) : t('stopped', about, text), about);
 }
 
-function itemSaid({ item, state, target }, plan, seen) {
+function itemSaid({ item, state, target, journey }, plan, seen) {
   const [, letter, a, b] = /^([TCBS])(\d+)\.?(\w*)$/.exec(item);
   const want = plan && plan.steps[a - 1] && plan.steps[a - 1].options[b - 1];
   const of = want ? ` (${wantText(want)})` : '', isOver = state === 'ended' || state === 'undone';
@@ -1254,7 +1266,7 @@ function itemSaid({ item, state, target }, plan, seen) {
   const to = +a ? t('toSave', a) : t('toStart');
   let since = t('turned.' + b);
   if (b === 'r' && plan && stockText !== null) {
-    const { pos, used } = walk(seen ? seen.split(',') : [], plan), want = optionAt(plan, pos + 1, used), { is, why } = fits(want);
+    const { want, ...said } = nextOf(plan, walk(seen ? seen.split(',') : [], plan), journey), { is, why } = said.is ? fits(want) : said;
     if (!is) since += ` (${wantText(want)}: ${why})`;
   }
   return { word: b === 'a' ? 'good' : 'warn', text: t('turnsSince', since, to, end(target === undefined ? 'there' : 'back')) };
@@ -1404,8 +1416,8 @@ function fits(want, cellOf = when => stock.get(productOf(want))?.nights.get(when
 const fitText = (want, { is, why } = fits(want)) => h('span', { class: is ? 'good' : 'bad' }, t(is ? 'fitsNow' : 'notNow', why));
 // nextOf(plan, way): what the next step takes, whether that fits and why, and to where it would else turn the journey: as the desk says, and
 // by the stock where it does not
-function nextOf(plan, way) {
-  const want = optionAt(plan, way.pos + 1, way.used), said = whys.get(number);
+function nextOf(plan, way, of = number) {
+  const want = optionAt(plan, way.pos + 1, way.used), said = whys.get(of);
   if (said?.state !== 'run' || said.pos !== way.pos || said.want !== optionText(want)) {
     return { want, isKnown: stockText !== null, to: way.used < plan.tries ? Math.max(0, ...way.saves) : 0, ...fits(want) };
   }
@@ -1489,7 +1501,7 @@ function drawStock() {
   const cards = [h('p', { class: 'key', 'data-key': said }, said, h('span', {}, h('i', { class: 'half' }), t('inPart')),
     h('span', {}, h('i', { class: 'isfull' }), t('full')))];
   const add = (key, make) => cards.push(old.get(key) || make(key));
-  if (filter.table && inMonth.length) add('table' + filter.month + JSON.stringify(inMonth), key => denseTable(inMonth, key));
+  if (filter.table && inMonth.length) add(`table ${filter.month} ${from} ${to} ${JSON.stringify(inMonth)}`, key => denseTable(inMonth, key));
   else inMonth.forEach(({ one, nights }) => add(productOf(one) + filter.month + JSON.stringify(nights), key => calendar(one, nights, key)));
   const others = shown.length - inMonth.length;
   if (others) cards.push(h('p', { class: 'soft', 'data-key': 'others' + others },
@@ -1510,7 +1522,7 @@ const daysIn = month => [...Array(new Date(Date.UTC(month.slice(0, 4), month.sli
 // denseTable(all, key): products by nights of the month
 const denseTable = (all, key) => h('div', { class: 'card grid', 'data-key': key },
   h('table', { role: 'grid', 'aria-label': t('freePlaces'), 'aria-multiselectable': 'true' },
-    h('thead', {}, h('tr', {}, h('th', {}), daysIn(filter.month).map(when => h('th', { scope: 'col' }, inWeek(when), h('br'), +when.slice(8))))),
+    h('thead', {}, h('tr', {}, h('th', {}), daysIn(filter.month).map(when => h('th', { scope: 'col', class: filter.from <= when && when <= filter.to && filter.from && 'sought' }, inWeek(when), h('br'), +when.slice(8))))),
     h('tbody', {}, all.map(({ one, nights }, row) => h('tr', {}, h('th', { scope: 'row' }, h('span', { class: 'kind ' + one.kind }, LETTER[one.kind]), ` ${one.supplier} ${one.product}`), daysIn(filter.month).map(when => {
       const cell = one.nights.get(when);
       return h('td', { 'aria-selected': cell && 'false' }, cell && nightButton(one, when, cell, !row && when === nights[0][0]));
@@ -1831,7 +1843,7 @@ function saidOf(one) {
   const plan = plans.get(one.journey), history = one.pos ? histories.get(one.journey)?.history : [];
   if (!plan || !history) return null;
   const { stands, pos, used } = walk(history, plan), named = wants => wants.length
-    ? `${short(wants[0].first)} · ${wants.map(want => `${kindText(want.kind)} ${want.product}`).join(', ')}` : t('nothing');
+    ? `${short(wants[0].first)} · ${wants.map(want => `${kindText(want.kind)} ${want.supplier} ${want.product}`).join(', ')}` : t('nothing');
   return { held: named(stands.map(step => step.want)), rest: ['run', 'undone'].includes(one.state)
     && t('rest.' + one.state, named(plan.steps.slice(pos).map((step, n) => optionAt(plan, pos + n + 1, used)))) };
 }
@@ -2037,6 +2049,7 @@ function actions(one, plan, way, sending, seen) {
   const isQuick = event => event && event.detail > 1 && performance.now() - drawnAt < 400;
   const act = (path, what, all) => event => wait || isQuick(event) || send(`/journeys/${id}/${path}`, '', what, id, seen, all);
   const left = plan.steps.length - way.pos, doAll = async () => {
+    try { await lookAtStock(turn); } catch { /* by the stock that is known */ }
     const bad = plan.steps.findIndex((step, at) => at >= way.pos && !fits(optionAt(plan, at + 1, way.used)).is) + 1;
     if (!wait && await sure(t('doAllSure', left), t('doAllSay', bad ? t('doAllBad', bad) : ''), t('doAllYes'))) act('step', t('doStepWhat', next, id), true)();
   };
@@ -2084,7 +2097,7 @@ const signs = () => h('ul', { class: 'signs drawn', 'aria-hidden': 'true' }, SIG
 
 // pathPicture: the journey over its steps, up and down between save-points
 function pathPicture(one, plan, way) {
-  const n = plan.steps.length, room = $('one').clientWidth, left = room < 500 ? 104 : 148, high = n > 12 ? 30 : 46, top = 26;
+  const n = plan.steps.length, room = $('one').clientWidth, left = room < 500 ? 116 : 160, high = n > 12 ? 30 : 46, top = 26;
   const steps = way.steps, at = steps.length;
   const goal = one.state === 'run' ? n : one.state === 'back' ? one.target : way.pos, rest = Math.abs(goal - way.pos);
   const wide = Math.max(58, Math.min(84, (room - left - 70) / (at + rest / 2)));
@@ -2094,14 +2107,15 @@ function pathPicture(one, plan, way) {
   const kids = [];
   const line = (name, d) => kids.push(s('path', { class: name, d }));
   const text = (px, py, words, props) => kids.push(s('text', { x: px, y: py, ...props }, words));
+  const narrow = (isLong, most) => isLong && { textLength: most, lengthAdjust: 'spacingAndGlyphs' };
   for (let p = 0; p <= n; p++) {
     const isSafe = way.saves.includes(p) || (p && plan.steps[p - 1].save);
     line(isSafe ? 'safe' : 'level', `M${left} ${y(p)}H${end}`);
     const taken = p && way.stands[p - 1], want = p && (taken ? taken.want : optionAt(plan, p, way.used));
     text(left - 10, y(p) + 4, p, { 'text-anchor': 'end', class: 'code' });
     if (isScrolled) text(width - 8, y(p) + 4, p, { 'text-anchor': 'end', class: 'code' });
-    const name = p && `${LETTER[want.kind]} ${left < 148 ? '' : want.supplier + ' '}${want.product}`.slice(0, 17);
-    text(8, y(p) + 4, name || t('start'), { class: taken ? '' : 'dim' });
+    const name = p && `${LETTER[want.kind]} ${room < 500 ? '' : want.supplier + ' '}${want.product}`, most = left - 34;
+    text(8, y(p) + 4, name || t('start'), { class: taken ? '' : 'dim', ...narrow(name.length * 7.6 > most, most) });
     if (isSafe) kids.push(s('path', { class: 'flag', d: `M${left - 4} ${y(p) + 5}v-13l9 3.5l-9 3.5` }));
   }
   steps.forEach((step, k) => {
@@ -2121,13 +2135,11 @@ function pathPicture(one, plan, way) {
     const words = step.letter === 'T' ? step.want?.product || '' : t('path.' + (step.letter === 'B' ? step.b : step.letter));
     // longer words are set as narrow as the column is
     const isLong = words.length * (step.letter === 'T' ? 8.4 : 6.4) > wide - 4;
-    text(mid, y(0) + 51, words, {
-      'text-anchor': 'middle', class: 'dim', textLength: isLong && wide - 4, lengthAdjust: isLong && 'spacingAndGlyphs',
-    });
+    text(mid, y(0) + 51, words, { 'text-anchor': 'middle', class: 'dim', ...narrow(isLong, wide - 4) });
   });
   const next = one.state === 'run' && optionAt(plan, way.pos + 1, way.used);
   if (next) [[t('next'), 34, 'code'], [next.product, 51, 'dim']].forEach(([words, low, name]) => text(
-    x(at) + wide / 2, y(0) + low, words, { 'text-anchor': 'middle', class: name }
+    x(at) + wide / 2, y(0) + low, words, { 'text-anchor': 'middle', class: name, ...narrow(words.length * 8.4 > wide - 4, wide - 4) }
   ));
   if (rest) line('ahead', `M${x(at)} ${y(way.pos)}L${x(at) + rest * wide / 2} ${y(goal)}`);
   steps.forEach((step, k) => kids.push(s('circle', { class: 'dot', cx: x(k), cy: y(step.from), r: 3 })));
@@ -2161,7 +2173,7 @@ function route(isMoved) {
   for (const link of $('nav').children) link.ariaCurrent = link.dataset.for.split(' ').includes(view) ? 'page' : null;
   draw();
   if (view === 'who') drawWho();
-  if (isMoved && before !== view + number) { $(STARTS[view]).focus({ preventScroll: true }); $(STARTS[view]).closest('section').scrollTop = 0; look(); }
+  if (isMoved && before !== view + number) { $(STARTS[view]).focus({ preventScroll: true }); $(STARTS[view]).closest('section').scrollTop = 0; isOpened = true; look(); }
 }
 function draw() {
   drawState();

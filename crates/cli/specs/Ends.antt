@@ -3,37 +3,27 @@ use Rattle.std.specs.Prelude.{◌≡◌, ◌≢◌, ⊤, ℕ, List, [], ◌∷�
 use Rattle.std.specs.String.{string_bytes}
 use Rattle.std.specs.Io.KnownBytes.{Appends, IsAtEnd}
 use Rattle.commands.specs.Texts.{sentence}
-use Rattle.commands.specs.declared.replies.Refusal.TheVariants as refusal
-use Rattle.migrate.specs.declared.faults.MigrateFault.{MigrateFault}
-use Rattle.migrate.specs.declared.faults.MigrateFault.TheVariants as migration
 use Rattle.protocols.specs.Scenes.{ended}
 use Rattle.desk_lines.specs.Lines.{journey_in}
 use Rattle.desk_jobs.specs.Ends.{recovered_line, TellsAccepted}
+use Rattle.desk_jobs.specs.Migrating.{indexed_line, migrated_line}
+use Rattle.migrate.specs.declared.indexing.Indexed.{Indexed}
+use Rattle.migrate.specs.declared.migrating.Migrated.{Migrated}
 use Rattle.command_line.specs.declared.jobs.Job.{Job}
 use Rattle.command_line.specs.Version.{version_line}
-use Rattle.command_line.specs.declared.jobs.Job.TheVariants.{Run, Serve, Recover, Load, Stock, Calendar, Summary, Holders, Holdings, Unfinished, Journeys, History, Why, Migrate, Version}
-use Rattle.program_ends.specs.declared.ends.End.{End}
-use Rattle.program_ends.specs.declared.ends.End.TheVariants as finish
-use Rattle.program_ends.specs.declared.faults.ProgramFault.TheVariants as fault
-
--- the end if a file cannot be migrated: one of schema 2, or of another schema, is refused
-abbrev pub end_of_migration : MigrateFault → End
-end_of_migration migration.AlreadyNew = finish.Refused refusal.AlreadyNew
-end_of_migration (migration.UnknownSchema version) = finish.Refused (refusal.UnknownSchema version)
-end_of_migration migration.Store = finish.Fault fault.OpeningStore
-end_of_migration migration.Memory = finish.Fault fault.OpeningMemory
+use Rattle.command_line.specs.declared.jobs.Job.TheVariants.{Run, Serve, Recover, Load, Stock, Calendar, Summary, Holders, Holdings, Unfinished, Journeys, History, Why, Migrate, Index, Version}
 
 -- the line with the number of recovery's events was written, and nothing else
 abbrev pub TellsRecovered : Option (List ℕ) → Option (List ℕ) → Type 0
 TellsRecovered held holds = (made : ℕ) × Appends held holds (recovered_line made)
 
--- the line with the number of migrated events: `migrated 1 to 2 events 7`
-abbrev pub migrated_line : ℕ → List ℕ
-migrated_line events = ended (sentence (codes "migrated 1 to 2 events" ∷ decimal events ∷ []))
-
 -- the line with the number of migrated events was written, and nothing else
 abbrev pub TellsMigrated : Option (List ℕ) → Option (List ℕ) → Type 0
-TellsMigrated held holds = (events : ℕ) × Appends held holds (migrated_line events)
+TellsMigrated held holds = (m : Migrated) × Appends held holds (migrated_line m.events)
+
+-- the line with the number of indexed journeys was written, and nothing else
+abbrev pub TellsIndexed : Option (List ℕ) → Option (List ℕ) → Type 0
+TellsIndexed held holds = (i : Indexed) × Appends held holds (indexed_line i)
 
 -- the line that reports that connections to this port are accepted: `ready 8080`
 abbrev pub ready_line : ℕ → List ℕ
@@ -59,6 +49,7 @@ TellsOf (Journeys file filter format) held holds = ⊤
 TellsOf (History file id format) held holds = ⊤
 TellsOf (Why file id format) held holds = ⊤
 TellsOf (Migrate file) held holds = TellsMigrated held holds
+TellsOf (Index file) held holds = TellsIndexed held holds
 TellsOf Version held holds = Appends held holds version_line
 
 -- the job is a history, and its word is no number of a journey

@@ -10,6 +10,7 @@ ghost use Rattle.desk_jobs.specs.Notes.{MayNote, MayNoteAll};
 ghost use Rattle.cli.specs.Explaining.{TellsExplained};
 ghost use Rattle.cli.specs.Ends.{HasBadId, ReadsFor, TellsOf, TellsRecovered};
 
+use crate::indexes::index_file;
 use crate::listening::{Served, serve_file};
 use crate::loads::load_file;
 use crate::migrations::migrate_file;
@@ -191,6 +192,7 @@ fn carry_out<R: Read, O: Write, N: Write>(
             report_file(rt, alloc, file.as_str(), &report, out)
         }
         Job::Migrate { file } => migrate_file(rt, alloc, file.as_str(), out),
+        Job::Index { file } => index_file(rt, alloc, file.as_str(), out),
         Job::Version => Ended::from(tell_version(out)),
     }
 }

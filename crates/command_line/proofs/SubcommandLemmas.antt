@@ -13,7 +13,7 @@ use Rattle.clap.specs.declared.parser.ArgMatches.{ArgMatches}
 use Rattle.command_line.specs.Jobs.{value_in}
 use Rattle.command_line.specs.Subcommands.{bare_app, has_any, ids_in, needed_in, rules_for, with_rules, AddsRules, IsFlag, IsValue, IsWord, Requires}
 use Rattle.command_line.specs.declared.subcommands.Subcommand.{Subcommand}
-use Rattle.command_line.specs.declared.subcommands.Subcommand.TheVariants.{Run, Serve, Recover, Load, Stock, Summary, Holders, Unfinished, Journeys, History, Why, Migrate}
+use Rattle.command_line.specs.declared.subcommands.Subcommand.TheVariants.{Run, Serve, Recover, Load, Stock, Summary, Holders, Unfinished, Journeys, History, Why, Migrate, Index}
 
 -- the arguments after the first one are such too
 rest_values : (x : Arg) (xs : List Arg) → All IsWord (x ∷ xs) → All IsWord xs
@@ -172,6 +172,7 @@ ids_fit Journeys = refl
 ids_fit History = refl
 ids_fit Why = refl
 ids_fit Migrate = refl
+ids_fit Index = refl
 
 -- one more argument, before the others
 and_word : (x : Arg) (xs : List Arg) → IsWord x → All IsWord xs → All IsWord (x ∷ xs)

@@ -8,7 +8,7 @@ use Rattle.command_line.specs.Filters.{HasCells, HasJourneys, asks_for_cells, ce
 use Rattle.command_line.specs.Subcommands.{app_for, is_refused_by, name_of, subcommand_in}
 use Rattle.command_line.specs.Values.{NamesFile, calendar_in, connections_in, format_in, house_in, is_malformed, log_in, most_connections, page_in, port_in, stock_format_in, wide_in}
 use Rattle.command_line.specs.declared.jobs.Job.{Job}
-use Rattle.command_line.specs.declared.jobs.Job.TheVariants.{Run, Serve, Recover, Load, Stock, Calendar, Summary, Holders, Holdings, Unfinished, Journeys, History, Why, Migrate, Version}
+use Rattle.command_line.specs.declared.jobs.Job.TheVariants.{Run, Serve, Recover, Load, Stock, Calendar, Summary, Holders, Holdings, Unfinished, Journeys, History, Why, Migrate, Index, Version}
 use Rattle.command_line.specs.declared.jobs.JobFault.{JobFault}
 use Rattle.command_line.specs.declared.jobs.JobFault.TheVariants.{Usage, Memory}
 use Rattle.command_line.specs.declared.subcommands.Subcommand.{Subcommand}
@@ -32,6 +32,7 @@ subcommand_of (Journeys file filter format) = Some sub.Journeys
 subcommand_of (History file id format) = Some sub.History
 subcommand_of (Why file id format) = Some sub.Why
 subcommand_of (Migrate file) = Some sub.Migrate
+subcommand_of (Index file) = Some sub.Index
 subcommand_of Version = None
 
 -- the values of a job are those under their names
@@ -80,6 +81,7 @@ HasValues value (Why file id format) = NamesFile value (string_bytes file)
     × (journey_asked value ≡ Some id)
     × (format_in value ≡ Some format)
 HasValues value (Migrate file) = NamesFile value (string_bytes file)
+HasValues value (Index file) = NamesFile value (string_bytes file)
 HasValues value Version = ⊤
 
 -- the value of this name that clap reads from the words

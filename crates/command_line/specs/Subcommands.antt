@@ -11,7 +11,7 @@ use Rattle.clap.specs.declared.parser.ArgMatches.{ArgMatches}
 use Rattle.command_line.specs.declared.subcommand_words.Word.{Word}
 use Rattle.command_line.specs.declared.subcommand_words.Word.TheVariants.{Needed, Extra, NeededAfter, After, Flag}
 use Rattle.command_line.specs.declared.subcommands.Subcommand.{Subcommand}
-use Rattle.command_line.specs.declared.subcommands.Subcommand.TheVariants.{Run, Serve, Recover, Load, Stock, Summary, Holders, Unfinished, Journeys, History, Why, Migrate}
+use Rattle.command_line.specs.declared.subcommands.Subcommand.TheVariants.{Run, Serve, Recover, Load, Stock, Summary, Holders, Unfinished, Journeys, History, Why, Migrate, Index}
 
 -- the word that names a subcommand
 abbrev pub name_of : Subcommand → Text
@@ -27,6 +27,7 @@ name_of Journeys = codes "journeys"
 name_of History = codes "history"
 name_of Why = codes "why"
 name_of Migrate = codes "migrate"
+name_of Index = codes "index"
 
 -- the subcommand that a word names
 abbrev pub subcommand_in : Text → Option Subcommand
@@ -43,6 +44,7 @@ subcommand_in word =
     else if bytes_eq word (codes "history") then Some History
     else if bytes_eq word (codes "why") then Some Why
     else if bytes_eq word (codes "migrate") then Some Migrate
+    else if bytes_eq word (codes "index") then Some Index
     else None
 
 -- a required value
@@ -135,6 +137,7 @@ rules_for Journeys = needed (codes "FILE") ∷ journey_rules
 rules_for History = needed (codes "FILE") ∷ one_rules (codes "ID")
 rules_for Why = needed (codes "FILE") ∷ one_rules (codes "ID")
 rules_for Migrate = needed (codes "FILE") ∷ []
+rules_for Index = needed (codes "FILE") ∷ []
 
 -- the names of these values
 abbrev pub ids_in : List Rule → List Text

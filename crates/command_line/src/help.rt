@@ -1,9 +1,10 @@
 //! The help of each subcommand, from its texts.
 use crate::subcommands::Subcommand;
 use help_texts::{
-    HISTORY, HISTORY_NOTES, HOLDERS, HOLDERS_NOTES, JOURNEYS, JOURNEYS_NOTES, LOAD, LOAD_NOTES,
-    MIGRATE, MIGRATE_NOTES, RECOVER, RECOVER_NOTES, RUN, RUN_NOTES, SERVE, SERVE_NOTES, STOCK,
-    STOCK_NOTES, SUMMARY, SUMMARY_NOTES, UNFINISHED, UNFINISHED_NOTES, WHY, WHY_NOTES,
+    HISTORY, HISTORY_NOTES, HOLDERS, HOLDERS_NOTES, INDEX, INDEX_NOTES, JOURNEYS, JOURNEYS_NOTES,
+    LOAD, LOAD_NOTES, MIGRATE, MIGRATE_NOTES, RECOVER, RECOVER_NOTES, RUN, RUN_NOTES, SERVE,
+    SERVE_NOTES, STOCK, STOCK_NOTES, SUMMARY, SUMMARY_NOTES, UNFINISHED, UNFINISHED_NOTES, WHY,
+    WHY_NOTES,
 };
 
 impl Subcommand {
@@ -22,6 +23,7 @@ impl Subcommand {
             Subcommand::History => HISTORY,
             Subcommand::Why => WHY,
             Subcommand::Migrate => MIGRATE,
+            Subcommand::Index => INDEX,
         }
     }
 
@@ -40,6 +42,7 @@ impl Subcommand {
             Subcommand::History => HISTORY_NOTES,
             Subcommand::Why => WHY_NOTES,
             Subcommand::Migrate => MIGRATE_NOTES,
+            Subcommand::Index => INDEX_NOTES,
         }
     }
 }

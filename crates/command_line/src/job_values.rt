@@ -53,6 +53,7 @@ pub(crate) fn job_in(
         Subcommand::History => history_in(alloc, file, matches),
         Subcommand::Why => why_in(alloc, file, matches),
         Subcommand::Migrate => Ok(Job::Migrate { file }),
+        Subcommand::Index => Ok(Job::Index { file }),
     }
 }
 

@@ -98,6 +98,10 @@ pub enum Job {
     Migrate {
         file: String,
     },
+    /// Add the index on the agents of journeys to the database in this file.
+    Index {
+        file: String,
+    },
     /// Print the version of the program.
     Version,
 }

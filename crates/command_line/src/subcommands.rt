@@ -24,11 +24,12 @@ pub(crate) enum Subcommand {
     History,
     Why,
     Migrate,
+    Index,
 }
 
 impl Subcommand {
     /// All subcommands, in the order of the usage.
-    pub(crate) const ALL: [Subcommand; 12] = [
+    pub(crate) const ALL: [Subcommand; 13] = [
         Subcommand::Run,
         Subcommand::Serve,
         Subcommand::Recover,
@@ -41,6 +42,7 @@ impl Subcommand {
         Subcommand::History,
         Subcommand::Why,
         Subcommand::Migrate,
+        Subcommand::Index,
     ];
 
     /// The subcommand that a word names. Returns `None` if the word names none.
@@ -61,6 +63,7 @@ impl Subcommand {
             "history" => Some(Subcommand::History),
             "why" => Some(Subcommand::Why),
             "migrate" => Some(Subcommand::Migrate),
+            "index" => Some(Subcommand::Index),
             _ => None,
         }
     }
@@ -82,6 +85,7 @@ impl Subcommand {
             Subcommand::History => "history",
             Subcommand::Why => "why",
             Subcommand::Migrate => "migrate",
+            Subcommand::Index => "index",
         }
     }
 
@@ -100,6 +104,7 @@ impl Subcommand {
             Subcommand::History => "desk history",
             Subcommand::Why => "desk why",
             Subcommand::Migrate => "desk migrate",
+            Subcommand::Index => "desk index",
         }
     }
 
@@ -118,6 +123,7 @@ impl Subcommand {
             Subcommand::History => "Print what happened to a journey, oldest first",
             Subcommand::Why => "Print why a journey stands where it does",
             Subcommand::Migrate => "Migrate a database from schema 1 to schema 2, in one commit",
+            Subcommand::Index => "Add the index by which an agent's journeys are found",
         }
     }
 
@@ -134,7 +140,8 @@ impl Subcommand {
             | Subcommand::Journeys
             | Subcommand::History
             | Subcommand::Why
-            | Subcommand::Migrate => "The database file, which must exist",
+            | Subcommand::Migrate
+            | Subcommand::Index => "The database file, which must exist",
         }
     }
 
@@ -167,7 +174,7 @@ impl Subcommand {
             Subcommand::Unfinished => &UNFINISHED,
             Subcommand::Journeys => &JOURNEYS,
             Subcommand::History | Subcommand::Why => &JOURNEY,
-            Subcommand::Run | Subcommand::Recover | Subcommand::Migrate => &[],
+            Subcommand::Run | Subcommand::Recover | Subcommand::Migrate | Subcommand::Index => &[],
         }
     }
 

@@ -5,3 +5,4 @@ pub mod RecoveredLemmas
 pub mod ReasonLemmas
 pub mod EndLemmas
 pub mod FollowLemmas
+pub mod MigrateLemmas

@@ -111,7 +111,7 @@ may_act_opened g old b was clean stays sees law later s may stands =
     elim (stays.up clean may.up) [
       | inr faulted ↦ inr faulted
       | inl up ↦ inl (elim ((may.represents.stood was).sees may.up.is_open) [
-        | inl desk ↦ (let filled : old.schema ≢ no_schema = λ bare. not_bare Two (sym desk.schema ∙ bare) in
+        | inl desk ↦ (let filled : old.schema ≢ no_schema = λ bare. not_bare Two old.schema desk.schema bare in
             record {
               stands = stands;
               spelled = may.spelled;

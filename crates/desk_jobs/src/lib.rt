@@ -9,14 +9,18 @@
 #![tactic(auto)]
 
 mod field_notes;
+mod indexing;
 mod loading;
+mod migrating;
 mod notes;
 mod opening;
 mod recovering;
 mod running;
 
 pub use field_notes::note_wrong_field;
+pub use indexing::{index_over, tell_indexed};
 pub use loading::load_over;
+pub use migrating::{migrate_over, tell_migrated};
 pub use notes::note_recovered;
 pub use opening::ready_over;
 pub use recovering::{Recovered, recover_over};

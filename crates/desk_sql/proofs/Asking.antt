@@ -23,7 +23,7 @@ use Rattle.desk_sql.specs.Statements.{QueriesIn}
 use Rattle.desk_sql.specs.Meanings.{sorted_rows}
 use Rattle.desk_sql.proofs.Answering.{Answers, numbered_answers, table_answers, all_shown, first_of, none_of, listed}
 use Rattle.desk_sql.proofs.Ascending.{IsUpTo, output_total}
-use Rattle.desk_sql.proofs.Causing.{Takes, query_reason}
+use Rattle.desk_sql.proofs.Causing.{Takes, one_table, query_reason}
 use Rattle.desk_sql.proofs.Finding.{first_row, no_row, whole_answer}
 use Rattle.desk_sql.proofs.Meaning.{MeansIn}
 use Rattle.desk_sql.proofs.Reading.{passes, env_of}
@@ -51,7 +51,7 @@ pub asks : {X : Type 0} {v : Version} {text : List ℕ} {names : List (List ℕ)
 asks {text = text} {names = names} {params = params} tree tests project order says out passing are =
     let q = sorted_rows tree tests project order in
     record {
-      selects = says.means.selects;
+      selects = (says.means []).selects;
       first = λ old new t sees row given. (
           let got = first_row text q names says.means params old new (λ h. (sees h).schema) row given.1 in
           (got.1.0, are old.now.trees t (sees given.0.0.was_open).rows (row ∷ got.1.0) got.1.1));
@@ -60,7 +60,9 @@ asks {text = text} {names = names} {params = params} tree tests project order sa
           none_of q out (passing t) (are old.now.trees t (sees given.0.0.was_open).rows [] got.1));
       all = λ old new t sees rows given. are old.now.trees t (sees given.0.0.was_open).rows rows
           (whole_answer text q names says.means params old new (λ h. (sees h).schema) rows given.1).1;
-      reason = λ old new t sees up e why. query_reason says.means says.takes old new up (sees up.is_open).schema e why;
+      reason = λ old new t sees up e why. (
+          let of = (sees up.is_open).schema in
+          query_reason (one_table tree tests project order) says.means old new up of (says.takes of.extra) e why);
     }
 
 -- a table whose rowids are free, for a query that shows none of them

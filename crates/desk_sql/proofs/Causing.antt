@@ -26,13 +26,14 @@ use Rattle.sqlite.specs.State.{State, FailsToQuery, FailsToShow, IsNotRun, store
 use Rattle.sqlite.specs.Clock.{timed}
 use Rattle.sqlite_schema.specs.declared.program.Program.{Program}
 use Rattle.sqlite_schema.specs.declared.schema.Schema.{Schema}
+use Rattle.sqlite_schema.specs.declared.schema.Index.{Index}
 use Rattle.sqlite_typing.specs.Types.{accepts_program}
 use Rattle.sqlite.proofs.Callers.{command_of, IsPlain}
 use Rattle.desk_sql.specs.declared.versions.Version.{Version}
-use Rattle.desk_sql.specs.Schema.{schema_of}
+use Rattle.desk_sql.specs.Schema.{schema_with, IsSchemaOf}
 use Rattle.desk_sql.specs.Meanings.{sorted_rows}
 use Rattle.desk_sql.specs.Causes.{IsUp, IsMemory, HasReason}
-use Rattle.desk_sql.proofs.Meaning.{MeansIn}
+use Rattle.desk_sql.proofs.Meaning.{SelectsUnder, MeansIn}
 
 -- Reading columns.
 
@@ -60,14 +61,21 @@ abbrev pub takes : ℕ → ℕ → Result Compiled CompileError → Bool
 takes size given (Ok c) = nat_le size c.tail && (given == length c.names)
 takes size given (Err e) = false
 
--- under the desk's schema of this version the text takes these parameters
-pub record Takes (v : Version) (text : List ℕ) (query : Query) (params : Row) : Type 0 where
-  pub whole : takes (length text) (length params) (understood (schema_of v) text) ≡ true
-  pub typed : accepts_program (schema_of v) [] query params ≡ true
+-- under this schema the text takes these parameters
+pub record TakesUnder (schema : Schema) (text : List ℕ) (query : Query) (params : Row) : Type 0 where
+  pub whole : takes (length text) (length params) (understood schema text) ≡ true
+  pub typed : accepts_program schema [] query params ≡ true
+
+-- the same under the desk's schema of this version, whatever indexes it has beside those of its keys
+abbrev pub Takes : Version → List ℕ → Query → Row → Type 0
+Takes v text query params = (extra : List Index) → TakesUnder (schema_with v extra) text query params
+
+-- no sum of the query overflows
+abbrev pub IsSure : Query → Type 0
+IsSure q = (db : Trees) (params : Row) → ¬ QueryOverflows q db params
 
 -- a query of one table without sums has none that overflows
-pub one_table : (tree : ℕ) (filter project : List Term) (order : List (Term × Key)) (db : Trees) (params : Row)
-    → ¬ QueryOverflows (sorted_rows tree filter project order) db params
+pub one_table : (tree : ℕ) (filter project : List Term) (order : List (Term × Key)) → IsSure (sorted_rows tree filter project order)
 one_table tree filter project order db params (inl none) = none
 one_table tree filter project order db params (inr any) = any.4
 
@@ -107,12 +115,12 @@ module _ {schema : Schema} (text : List ℕ) (params : Row) (plain : IsPlain (un
   not_run e (inl (inr (c, known, inr (inr h)), same)) = absurd (h.0 (plain_at c known).1)
   not_run e (inr h) = of_store old new up h.0 e h.1 h.2
 
-module _ {v : Version} {text : List ℕ} {tree : ℕ} {filter project : List Term} {order : List (Term × Key)} {names : List (List ℕ)}
-    (m : MeansIn v text (sorted_rows tree filter project order) names) {params : Row}
-    (fits : Takes v text (sorted_rows tree filter project order) params)
-    (old new : State) (up : IsUp old) (has : old.now.schema ≡ schema_of v) where
-  abbrev q : Query
-  q = sorted_rows tree filter project order
+-- A query whose sums do not overflow, whichever tables it reads.
+module _ {q : Query} (sure : IsSure q) {v : Version} {text : List ℕ} {names : List (List ℕ)} (m : MeansIn v text q names)
+    {params : Row} (old new : State) (up : IsUp old) (has : IsSchemaOf v old.now.schema)
+    (fits : TakesUnder (schema_with v has.extra) text q params) where
+  means : SelectsUnder (schema_with v has.extra) text q names
+  means = m has.extra
 
   abbrev program : Program
   program = record { lets = []; body = q }
@@ -120,23 +128,23 @@ module _ {v : Version} {text : List ℕ} {tree : ℕ} {filter project : List Ter
   refused : (db : Database) (e : Error) → db ≡ old.now → ¬ RefusesToRead old.step_limit (Select program names) db params e
   refused db e same (inl (is, wrong)) =
       let typed : accepts_program db.schema [] q params ≡ true
-      = subst (λ s. accepts_program s [] q params ≡ true) (sym (ap (λ (d : Database). d.schema) same ∙ has)) fits.typed in
+      = subst (λ s. accepts_program s [] q params ≡ true) (sym (ap (λ (d : Database). d.schema) same ∙ has.is)) fits.typed in
       let bad : true ≡ false = sym typed ∙ wrong in cc
-  refused db e same (inr (inl (is, over))) = one_table tree filter project order (overlay db.trees []) params over
+  refused db e same (inr (inl (is, over))) = sure (overlay db.trees []) params over
   refused db e same (inr (inr (is, limit))) = let none : false ≡ true = subst (λ l. IsSome l) up.unlimited limit in cc
 
-  -- a query on the desk's tables fails out of memory, or where the disk failed or refused
+  -- such a query on the desk's tables fails out of memory, or where the disk failed or refused
   pub query_reason : (e : Error) → FailsToQuery text params old new e → HasReason old new e
   unfolding FailsToQuery
-  query_reason e (inl h) = not_run text params m.plain fits.whole old new up has e h
+  query_reason e (inl h) = not_run text params means.plain fits.whole old new up has.is e h
   query_reason e (inr h) =
-      let bare = plain_at text params m.plain fits.whole old new up has h.0 h.1.is in
+      let bare = plain_at text params means.plain fits.whole old new up has.is h.0 h.1.is in
       let full = timed params h.0.formats h.1.now in
       let why = subst (λ r. FailsToShow old new text h.0 full e r) bare.0 h.2 in
       let known : h.0.command ≡ Select program names
-      = ap command_of (sym h.1.is ∙ ap (λ s. understood s text) has) ∙ m.is in
+      = ap command_of (sym h.1.is ∙ ap (λ s. understood s text) has.is) ∙ means.is in
       let given : full ≡ params = ap (λ f. timed params f h.1.now) bare.1 ∙ append-nil params in
       let db : why.0 ≡ old.now
-      = subst (λ b. IsSourceOf b old.now why.0) (ap (λ s. reads_listing s text) has ∙ m.unlisted) why.1 in
+      = subst (λ b. IsSourceOf b old.now why.0) (ap (λ s. reads_listing s text) has.is ∙ means.unlisted) why.1 in
       absurd (refused why.0 e db (subst (λ p. RefusesToRead old.step_limit (Select program names) why.0 p e) given
       (subst (λ k. RefusesToRead old.step_limit k why.0 full e) known why.2)))

@@ -286,6 +286,6 @@ module _ {X : Type 0} (f : X → Row) (id : X → ℤ) (keyed : (x : X) → rowi
   pub update_safe : IsSafe db edit
   update_safe = record {
     permitted = permitted;
-    storable = λ r there large. (fit_news r there).storable large;
+    storable = λ r there. (fit_news r there).storable;
     refers = λ next made. refers_next next made.rows (λ t known. all_has (λ (u : Table). u.tree ≢ table.tree → next u.tree ≡ db u.tree) desk_schema.tables t made.tables known);
   }

@@ -53,7 +53,7 @@ meta_passes params m = refl
 
 meta_says : (m : MetaRow) → SaysUpdate update_meta_text 0 0 update_meta_query.filter update_meta_query.project (meta_params m)
 unfolding understood everything
-meta_says m = record { means = record { is = refl; plain = (refl, refl) }; whole = refl; types = refl }
+meta_says m = record { means = λ _. record { is = refl; plain = (refl, refl) }; whole = λ _. refl; types = λ _. refl }
 
 -- no unique index is on meta
 meta_twin : (old new : MetaRow) → Twins desk_schema (meta_at 0) (meta_row old) (meta_row new)
@@ -80,7 +80,7 @@ counts_meta m =
       id = pos 1;
       keyed = refl;
       fits = fits_whole 1 (omega arith);
-      storable = held_from (meta_at 0) (meta_row m) (storable _ (meta_row m) refl refl (omega arith), omega arith) tt;
+      storable = held_from (meta_at 0) (meta_row m) (storable _ (meta_row m) refl refl (omega arith), omega arith) tt tt;
     }) (λ x. meta_twin x m)
 
 -- A journey's cursor.
@@ -90,7 +90,7 @@ cursor_params id c = whole id ∷ whole c.pos ∷ whole c.phase ∷ whole c.targ
 
 move_says : (id : ℕ) (c : Cursor) → SaysUpdate move_journey_text 3 6 move_journey_query.filter move_journey_query.project (cursor_params id c)
 unfolding understood everything
-move_says id c = record { means = record { is = refl; plain = (refl, refl) }; whole = refl; types = refl }
+move_says id c = record { means = λ _. record { is = refl; plain = (refl, refl) }; whole = λ _. refl; types = λ _. refl }
 
 pub moves_cursor : (id : ℕ) (c : Cursor) → id < 2 ^ 63
     → Effect move_journey_text (cursor_params id c) (λ _. ⊤) (moves_journey id c) (λ _. ⊤) (MayMove id c) (λ _. ⊤) (λ n. n)
@@ -109,7 +109,8 @@ moves_cursor id c small =
       keyed = refl;
       fits = fits_whole j.id (omega (arith, same, small));
       storable = held_from (journey_at 6) (journey_row (with_cursor c j))
-          (storable _ (journey_row (with_cursor c j)) refl refl (omega (arith, short)), omega arith) (storable _ _ refl refl (omega arith), tt);
+          (storable _ (journey_row (with_cursor c j)) refl refl (omega (arith, short)), omega arith) (storable _ _ refl refl (omega arith), tt)
+          (storable _ _ refl refl (omega (arith, short)), tt);
     })
     (λ j. twin_four (journey_at 6) (journey_row j) (journey_row (with_cursor c j)) refl refl refl refl refl tt)
 
@@ -125,7 +126,7 @@ option_test journey place opt taken p = simp eq_whole (simp and_true)
 option_says : (journey place opt taken : ℕ)
     → SaysUpdate mark_step_text 4 8 mark_step_query.filter mark_step_query.project (option_params journey place opt taken)
 unfolding understood everything
-option_says journey place opt taken = record { means = record { is = refl; plain = (refl, refl) }; whole = refl; types = refl }
+option_says journey place opt taken = record { means = λ _. record { is = refl; plain = (refl, refl) }; whole = λ _. refl; types = λ _. refl }
 
 -- an option keeps whether a save-point follows it
 option_fit : (db : Trees) (id : ℤ) (s : StepRow) (taken : ℕ) → Obeys desk_schema db → Has (db 8) (numbered_row step_columns (id, s)) → fits_i64 id ≡ true
@@ -142,7 +143,7 @@ option_fit db id s taken obeys there fits low short =
       keyed = refl;
       fits = fits;
       storable = held_from (step_at 8) (numbered_row step_columns (id, with_taken taken s))
-          (storable _ (numbered_row step_columns (id, with_taken taken s)) refl refl (omega (arith, short)), omega arith) (storable _ _ refl refl (omega arith), tt);
+          (storable _ (numbered_row step_columns (id, with_taken taken s)) refl refl (omega (arith, short)), omega arith) (storable _ _ refl refl (omega arith), tt) tt;
     }
 
 pub marks_option : (journey place opt taken : ℕ)
@@ -168,7 +169,7 @@ range_test r by p = simp (eq_whole, eq_text, ge_whole, le_whole) (simp and_true)
 
 shift_says : (r : NightRange) (by : ℤ) → SaysUpdate shift_nights_text 1 1 shift_nights_query.filter shift_nights_query.project (shift_params r by)
 unfolding understood everything
-shift_says r by = record { means = record { is = refl; plain = (refl, refl) }; whole = refl; types = refl }
+shift_says r by = record { means = λ _. record { is = refl; plain = (refl, refl) }; whole = λ _. refl; types = λ _. refl }
 
 abbrev with_free : (StockRow → ℕ) → StockRow → StockRow
 with_free to s = record s { free = to s }

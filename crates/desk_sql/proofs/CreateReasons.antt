@@ -80,7 +80,7 @@ ascii (b ∷ bytes) all zero = under b 128 (and_parts (nat_lt b 128) (is_ascii b
 ascii (b ∷ bytes) all (suc i) = ascii bytes (and_parts (nat_lt b 128) (is_ascii bytes) all).1 i
 
 -- bytes of ASCII are a text
-as_text : (bytes : List ℕ) → is_ascii bytes ≡ true → IsUtf8 bytes
+pub as_text : (bytes : List ℕ) → is_ascii bytes ≡ true → IsUtf8 bytes
 as_text bytes all = IsUtf8-from_ascii bytes (ascii bytes all)
 
 module _ (schema : Schema) (sql : List ℕ) (table : Table) (it : IsNewTable schema sql table) where

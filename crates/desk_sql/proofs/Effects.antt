@@ -10,7 +10,8 @@ use Rattle.sqlite.specs.Store.{Ghosts}
 use Rattle.sqlite.specs.Held.{Held, state}
 use Rattle.sqlite.specs.Listing.{understood}
 use Rattle.sqlite.specs.State.{State, HasCleanDisk, ExecutesInside}
-use Rattle.desk_sql.specs.Schema.{desk_schema}
+use Rattle.sqlite_schema.specs.declared.schema.Index.{Index}
+use Rattle.desk_sql.specs.Schema.{desk_with}
 use Rattle.desk_sql.specs.Rows.{Tables}
 use Rattle.desk_sql.specs.Calls.{GoesOn, MayRun, Makes}
 use Rattle.desk_sql.specs.Statements.{WritesKeyed, WritesNumbered}
@@ -20,11 +21,11 @@ use Rattle.desk_sql.proofs.Causing.{takes}
 use Rattle.desk_sql.proofs.Meaning.{Means}
 use Rattle.desk_sql.proofs.Refusing.{if_failed}
 
--- the text means this command, and takes values as many and of such types
-pub record Says (text : List ℕ) (command : Command) (params : Row) (typed : Bool) : Type 0 where
+-- the text means this command, and takes values as many and of such types, whatever indexes there are beside those of the keys
+pub record Says (text : List ℕ) (command : Command) (params : Row) (typed : List Index → Bool) : Type 0 where
   pub means : Means text command
-  pub whole : takes (length text) (length params) (understood desk_schema text) ≡ true
-  pub types : typed ≡ true
+  pub whole : (extra : List Index) → takes (length text) (length params) (understood (desk_with extra) text) ≡ true
+  pub types : (extra : List Index) → typed extra ≡ true
 
 -- The statement with these values, run in a transaction. Where the rows are such as are seen, a success changes them; where there is
 -- room and the rows fit, it fails for a reason; and where such rows are left, a success takes so many rowids.

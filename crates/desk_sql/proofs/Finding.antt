@@ -14,7 +14,7 @@ use Rattle.sqlite.specs.State.{State, QueriesRow, FailsToQuery, FailsToShow, IsN
 use Rattle.sqlite.specs.Clock.{timed}
 use Rattle.sqlite.proofs.Callers.{command_of, first_as, reads_as}
 use Rattle.desk_sql.specs.declared.versions.Version.{Version}
-use Rattle.desk_sql.specs.Schema.{schema_of}
+use Rattle.desk_sql.specs.Schema.{schema_with, IsSchemaOf}
 use Rattle.desk_sql.proofs.Meaning.{MeansIn}
 use Rattle.desk_sql.proofs.Selecting.{not_store, understood_bare, shown_same, row_same}
 
@@ -35,7 +35,7 @@ not_refused q names limit db params e is (inr (inl h)) = let other = sym is ∙ 
 not_refused q names limit db params e is (inr (inr h)) = let other = sym is ∙ h.0 in absurd cc
 
 module _ {v : Version} (text : List ℕ) (q : Query) (names : List (List ℕ)) (m : MeansIn v text q names) (params : Row) (old new : State)
-    (has : IsTrue old.is_open → old.now.schema ≡ schema_of v) where
+    (has : IsTrue old.is_open → IsSchemaOf v old.now.schema) where
   abbrev program : Program
   program = record { lets = []; body = q }
 
@@ -43,26 +43,30 @@ module _ {v : Version} (text : List ℕ) (q : Query) (names : List (List ℕ)) (
   pub first_row : (row : Row) → QueriesRow text params old new (Ok row)
       → IsUnchanged old new × ((tail : List Row) × IsAnswer q (overlay old.now.trees []) params (row ∷ tail))
   first_row row h =
-      let same = row_same text m.selects params old new row h in
-      let got = (first_as text params old new (schema_of v) (has same.0.was_open) (Select program names) m.is m.plain m.unlisted row h).1 in
+      let same = row_same text (m []).selects params old new row h in
+      let of = has same.0.was_open in
+      let means = m of.extra in
+      let got = (first_as text params old new (schema_with v of.extra) of.is (Select program names) means.is means.plain means.unlisted row h).1 in
       (same, (got.0, got.1 Null))
 
   -- the rows that were returned are an answer, and nothing has changed
   pub whole_answer : (rows : List Row) → Shown text params old new rows
       → IsUnchanged old new × IsAnswer q (overlay old.now.trees []) params rows
   whole_answer rows h =
-      let same = shown_same text m.selects params old new rows h in
-      (same, (reads_as text params old new (schema_of v) (has same.0.was_open) (Select program names) m.is m.plain m.unlisted rows h).answer Null)
+      let same = shown_same text (m []).selects params old new rows h in
+      let of = has same.0.was_open in
+      let means = m of.extra in
+      (same, (reads_as text params old new (schema_with v of.extra) of.is (Select program names) means.is means.plain means.unlisted rows h).answer Null)
 
   no_fault : (e : Error) → e ≡ QueryReturnedNoRows → ¬ FailsToQuery text params old new e
   unfolding FailsToQuery
   no_fault e none (inl h) = not_run old new text params e none h
   no_fault e none (inr h) =
-      let bare = understood_bare text m.selects old.now.schema h.0 h.1.is in
+      let bare = understood_bare text (m []).selects old.now.schema h.0 h.1.is in
       let full = timed params h.0.formats h.1.now in
       let why = subst (λ r. FailsToShow old new text h.0 full e r) bare h.2 in
       let known : h.0.command ≡ Select program names
-      = ap command_of (sym h.1.is ∙ ap (λ s. understood s text) (has why.3.0.was_open)) ∙ m.is in
+      = ap command_of (sym h.1.is ∙ ap (λ s. understood s text) (has why.3.0.was_open).is) ∙ (m (has why.3.0.was_open).extra).is in
       not_refused program names old.step_limit why.0 full e none
       (subst (λ k. RefusesToRead old.step_limit k why.0 full e) known why.2)
 

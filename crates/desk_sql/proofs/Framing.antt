@@ -22,7 +22,7 @@ pub shows : (f : Trees) (t : Tables) → IsNumbered (λ _. 1) meta_row (f 0) t.m
 shows f t m s b j p a e k = record { meta = m; stock = s; batch = b; journey = j; step = p; answer = a; entries = e; mark = k }
 
 -- trees that are the same show the same rows
-shows_same : (f g : Trees) (t : Tables) → f 0 ≡ g 0 → f 1 ≡ g 1 → f 3 ≡ g 3 → f 6 ≡ g 6 → f 8 ≡ g 8 → f 11 ≡ g 11 → f 13 ≡ g 13
+pub shows_same : (f g : Trees) (t : Tables) → f 0 ≡ g 0 → f 1 ≡ g 1 → f 3 ≡ g 3 → f 6 ≡ g 6 → f 8 ≡ g 8 → f 11 ≡ g 11 → f 13 ≡ g 13
     → f 14 ≡ g 14 → Shows g t → Shows f t
 shows_same f g t m s b j p a e k it =
     shows f t (rw m it.meta) (rw s it.stock) (rw b it.batch) (rw j it.journey) (rw p it.step) (rw a it.answer) (rw e it.entries) (rw k it.mark)

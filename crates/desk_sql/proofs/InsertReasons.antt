@@ -16,7 +16,7 @@ use Rattle.sqlite_schema.specs.declared.schema.Constraint.TheVariants.{Datatype,
 use Rattle.sqlite_schema.specs.declared.schema.Reference.{Reference}
 use Rattle.sqlite_schema.specs.declared.schema.Index.{Index}
 use Rattle.sqlite_schema.specs.Rules.{passes, guards, agree, has_parent, is_key_of, Obeys}
-use Rattle.sqlite_rules.specs.Edit.{is_taken, IsOversized}
+use Rattle.sqlite_rules.specs.Edit.{is_taken}
 use Rattle.sqlite_rules.proofs.ListLemmas.{has_got}
 use Rattle.sqlite_typing.specs.Types.{accepts_terms}
 use Rattle.desk_sql.specs.Schema.{desk_schema}
@@ -27,27 +27,29 @@ use Rattle.desk_sql.specs.Writable.{AreLow, HasRowids}
 use Rattle.desk_sql.proofs.Meaning.{insert}
 use Rattle.desk_sql.proofs.Refusing.{write_reason, insert_goes, IsSafe}
 use Rattle.desk_sql.proofs.NewRow.{put_edit, put_safe}
-use Rattle.desk_sql.proofs.Writing.{inserts, source_edit, idle, Edits}
+use Rattle.desk_sql.proofs.Writing.{inserts, source_edit, Edits}
 use Rattle.desk_sql.proofs.Framing.{ready_of, makes_at}
 use Rattle.desk_sql.proofs.Tables.{appended, numbered_last}
-use Rattle.desk_sql.proofs.Storing.{next_fits, fits_whole, chosen_free, number_free, table_of, table_numbered}
+use Rattle.desk_sql.proofs.Indexes.{obeys_bare}
+use Rattle.desk_sql.proofs.Storing.{NeverOversized, next_fits, fits_whole, chosen_free, number_free, table_of, table_numbered}
 use Rattle.desk_sql.proofs.Rowids.{rowids_fewer, low_put, rowids_same, rowids_kept}
 use Rattle.desk_sql.proofs.Places.{Place, IsOwn}
 use Rattle.desk_sql.proofs.Effects.{Says, Effect}
 
 -- the trees obey the desk's schema
 pub obeys_desk : (s : State) (t : Tables) → Sees s t → Obeys desk_schema s.now.trees
-obeys_desk s t sees = subst (λ d. Obeys d s.now.trees) sees.schema sees.sound.obeys
+obeys_desk s t sees =
+    obeys_bare sees.schema.extra sees.schema.are s.now.trees (subst (λ d. Obeys d s.now.trees) sees.schema.is sees.sound.obeys)
 
 -- the text inserts one row of these terms
 abbrev pub SaysInsert : List ℕ → ℕ → List Term → ℕ → Row → Type 0
-SaysInsert text at terms width params = Says text (insert at terms width) params (accepts_terms terms params)
+SaysInsert text at terms width params = Says text (insert at terms width) params (λ _. accepts_terms terms params)
 
 -- the row obeys each rule on a row alone and can be stored, its keys are new, and its parents are there
 pub record Admits (table : Table) (db : Trees) (new : Row) : Type 0 where
   pub alone : (passes Datatype desk_schema db table new ≡ true) × (passes NotNull desk_schema db table new ≡ true)
       × (passes Check desk_schema db table new ≡ true)
-  pub storable : ¬ IsOversized desk_schema table new
+  pub storable : NeverOversized table new
   pub single : AllByRecursion (λ (i : Index). AllByRecursion (λ r. agree i.order i.columns r i.columns new ≡ false) (db table.tree))
       (filter (λ i. guards i table) desk_schema.indexes)
   pub parents : AllByRecursion (λ (ref : Reference). has_parent desk_schema.tables db new ref ≡ true) table.references
@@ -70,8 +72,8 @@ module _ {X : Type 0} {at : ℕ} {table : Table} {IsRows : List Row → List X �
       → Edits old new (put_edit table (row (old.now.trees table.tree)))
   edits old new t count may ran =
       subst (Edits old new) (edit_is old.now.trees)
-      (inserts text params old new at table terms width count says.means.is says.means.plain place.there place.uncounted (place.unstamped params)
-      (idle 0 table.tree [] (source_edit table terms width params old.now.trees).news) (ready_of old t may ran.1.was_open) ran.0)
+      (inserts text params old new at table terms width count says.means place.there place.uncounted (place.unstamped params)
+      (ready_of old t may ran.1.was_open) ran.0)
 
   safe : (s : State) (t : Tables) → Room s.now.trees → Fits t → Sees s t → IsSafe s.now.trees (put_edit table (row (s.now.trees table.tree)))
   safe s t room fits sees =
@@ -101,7 +103,8 @@ module _ {X : Type 0} {at : ℕ} {table : Table} {IsRows : List Row → List X �
     reason = λ old new t e room may fits up ran. (
         let sees = may.sees up.is_open in
         write_reason text (insert at terms width) params says.means says.whole refl refl old new up sees.schema
-        (insert_goes old params at table terms width place.there place.uncounted (place.unstamped params) says.types up.unlimited
+        (insert_goes sees.schema.extra sees.schema.are old params at table terms width place.there place.uncounted (place.unstamped params)
+        (says.types sees.schema.extra) up.unlimited
         (subst (IsSafe old.now.trees) (sym (edit_is old.now.trees)) (safe old t room fits sees))) e ran);
     rowids = λ old new t count may any ran. left old new (edits old new t count may ran);
   }

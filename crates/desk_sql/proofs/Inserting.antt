@@ -43,7 +43,7 @@ answer_params a = Text a.agent ∷ Text a.mark ∷ Blob a.ask ∷ Text a.reply �
 
 answer_says : (a : AnswerRow) → SaysInsert Texts.insert_answer_text 6 Meanings.insert_answer_terms 5 (answer_params a)
 unfolding understood everything
-answer_says a = record { means = record { is = refl; plain = (refl, refl) }; whole = refl; types = refl }
+answer_says a = record { means = λ _. record { is = refl; plain = (refl, refl) }; whole = λ _. refl; types = λ _. refl }
 
 pub keeps_answer : (a : AnswerRow)
     → Effect Texts.insert_answer_text (answer_params a) (λ _. ⊤) (adds_answer a) (HasRowids 1) (MayKeep a) (λ _. ⊤) suc
@@ -51,7 +51,7 @@ keeps_answer a =
     adds_next Places.answers (λ n db has. has.answer) (answer_says a) a (λ db. simp cast_null) (MayKeep a) (λ db t fits shown. record {
       alone = (refl, refl, refl);
       storable = held_from (answer_at 11) _ (storable _ _ refl refl (omega (arith, fits.short)), omega arith)
-          (storable _ _ refl refl (omega (arith, fits.short)), tt);
+          (storable _ _ refl refl (omega (arith, fits.short)), tt) tt;
       single = (
         rows_all answer_columns (db 11) t.answer _ (λ k. is_for a.agent a.mark k ≡ false) shown.answer
             (λ p apart. simp key_text (simp and_true apart)) fits.unkept,
@@ -67,7 +67,7 @@ batch_params b = Text b.name ∷ whole b.num ∷ Blob b.content ∷ []
 
 batch_says : (b : BatchRow) → SaysInsert Texts.insert_batch_text 2 Meanings.insert_batch_terms 4 (batch_params b)
 unfolding understood everything
-batch_says b = record { means = record { is = refl; plain = (refl, refl) }; whole = refl; types = refl }
+batch_says b = record { means = λ _. record { is = refl; plain = (refl, refl) }; whole = λ _. refl; types = λ _. refl }
 
 pub loads_batch : (b : BatchRow)
     → Effect Texts.insert_batch_text (batch_params b) (λ _. ⊤) (adds_batch b) (HasRowids 1) (MayAddBatch b) (λ _. ⊤) suc
@@ -75,7 +75,7 @@ loads_batch b =
     adds_next Places.batches (λ n db has. has.batch) (batch_says b) b (λ db. simp (cast_int, cast_null)) (MayAddBatch b) (λ db t fits shown. record {
       alone = (refl, refl, refl);
       storable = held_from (batch_at 3) _ (storable _ _ refl refl (omega (arith, fits.short)), omega arith)
-          (storable _ _ refl refl (omega (arith, fits.short)), (storable _ _ refl refl (omega arith), tt));
+          (storable _ _ refl refl (omega (arith, fits.short)), (storable _ _ refl refl (omega arith), tt)) tt;
       single = (
         rows_all batch_columns (db 3) t.batch _ (λ k. is_named b.name k ≡ false) shown.batch
             (λ p apart. simp key_text (simp and_true apart)) fits.unnamed,
@@ -97,7 +97,7 @@ journey_params j =
 
 journey_says : (j : JourneyRow) → SaysInsert Texts.insert_journey_text 3 Meanings.insert_journey_terms 10 (journey_params j)
 unfolding understood everything
-journey_says j = record { means = record { is = refl; plain = (refl, refl) }; whole = refl; types = refl }
+journey_says j = record { means = λ _. record { is = refl; plain = (refl, refl) }; whole = λ _. refl; types = λ _. refl }
 
 pub begins_journey : (j : JourneyRow) → j.id < 2 ^ 63 → j.cursor.phase ≤ 3
     → Effect Texts.insert_journey_text (journey_params j) (AreJourneysBelow j.id) (adds_journey j) (λ _. ⊤) (MayAddJourney j) (λ _. ⊤) (λ n. n)
@@ -105,7 +105,8 @@ begins_journey j small phase =
     adds_last Places.journeys (λ _. refl) (refl, (refl, (refl, (refl, (refl, tt))))) (journey_says j) j small (λ db. simp (cast_int, cast_null))
     (AreJourneysBelow j.id) (MayAddJourney j) (λ t fits. fits.below) (λ t below. below) (λ db t fits shown. record {
       alone = (refl, refl, rw (range_holds j.cursor.phase 0 3 (omega arith) phase) refl);
-      storable = held_from (journey_at 6) _ (storable _ _ refl refl (omega (arith, fits.short)), omega arith) (storable _ _ refl refl (omega arith), tt);
+      storable = held_from (journey_at 6) _ (storable _ _ refl refl (omega (arith, fits.short)), omega arith) (storable _ _ refl refl (omega arith), tt)
+          (storable _ _ refl refl (omega (arith, fits.short)), tt);
       single = (
         numbered_all journey_row (db 6) t.journey _ (λ (k : JourneyRow). (k.num == j.num) ≡ false) shown.journey.rows_are
             (λ k apart. simp key_whole (simp and_true apart)) fits.unnumbered,
@@ -123,7 +124,7 @@ step_params s =
 
 step_says : (s : StepRow) → SaysInsert Texts.insert_step_text 4 Meanings.insert_step_terms 12 (step_params s)
 unfolding understood everything
-step_says s = record { means = record { is = refl; plain = (refl, refl) }; whole = refl; types = refl }
+step_says s = record { means = λ _. record { is = refl; plain = (refl, refl) }; whole = λ _. refl; types = λ _. refl }
 
 pub offers_step : (s : StepRow)
     → Effect Texts.insert_step_text (step_params s) (λ _. ⊤) (adds_step (record s { taken = 0 })) (HasRowids 1) (MayAddStep s) (λ _. ⊤) suc
@@ -131,7 +132,7 @@ offers_step s =
     adds_next Places.steps (λ n db has. has.step) (step_says s) (record s { taken = 0 }) (λ db. simp (cast_int, cast_null)) (MayAddStep s)
     (λ db t fits shown. record {
       alone = (refl, refl, rw (bit_holds s.save fits.save, bit_holds 0 (omega arith)) refl);
-      storable = held_from (step_at 8) _ (storable _ _ refl refl (omega (arith, fits.short)), omega arith) (storable _ _ refl refl (omega arith), tt);
+      storable = held_from (step_at 8) _ (storable _ _ refl refl (omega (arith, fits.short)), omega arith) (storable _ _ refl refl (omega arith), tt) tt;
       single = (
         rows_all step_columns (db 8) t.step _ (λ k. is_option s.journey s.place s.opt k ≡ false) shown.step
             (λ p apart. simp key_whole (simp and_true apart)) fits.unplaced,
@@ -147,7 +148,7 @@ item_params journey i = whole i.num ∷ whole journey ∷ whole i.item ∷ whole
 
 item_says : (journey : ℕ) (i : ItemFound) → SaysInsert Texts.insert_item_text 7 Meanings.insert_item_terms 6 (item_params journey i)
 unfolding understood everything
-item_says journey i = record { means = record { is = refl; plain = (refl, refl) }; whole = refl; types = refl }
+item_says journey i = record { means = λ _. record { is = refl; plain = (refl, refl) }; whole = λ _. refl; types = λ _. refl }
 
 pub notes_item : (journey : ℕ) (i : ItemFound) → i.num < 2 ^ 63
     → Effect Texts.insert_item_text (item_params journey i) (AreItemsBelow i.num) (adds_item journey i) (λ _. ⊤) (MayAddItem journey i) (λ _. ⊤) (λ n. n)
@@ -156,7 +157,7 @@ notes_item journey i small =
     (λ db. simp (cast_int, cast_null)) (AreItemsBelow i.num) (MayAddItem journey i) (λ t fits. fits.below) (λ t below. below)
     (λ db t fits shown. record {
       alone = (refl, refl, rw (range_holds i.item 0 3 (omega arith) fits.kind) refl);
-      storable = held_from (entry2_at 13) _ (storable _ _ refl refl (omega arith), omega arith) tt;
+      storable = held_from (entry2_at 13) _ (storable _ _ refl refl (omega arith), omega arith) tt (storable _ _ refl refl (omega arith), tt);
       single = tt;
       parents = (parent_second db t journey (whole i.num) Null _ shown fits.journey_is, tt);
     })
@@ -168,7 +169,7 @@ mark_params journey at = whole journey ∷ whole at ∷ []
 
 mark_says : (journey at : ℕ) → SaysInsert Texts.insert_mark_text 8 Meanings.insert_mark_terms 3 (mark_params journey at)
 unfolding understood everything
-mark_says journey at = record { means = record { is = refl; plain = (refl, refl) }; whole = refl; types = refl }
+mark_says journey at = record { means = λ _. record { is = refl; plain = (refl, refl) }; whole = λ _. refl; types = λ _. refl }
 
 pub saves_mark : (journey at : ℕ)
     → Effect Texts.insert_mark_text (mark_params journey at) (λ _. ⊤) (adds_mark journey at) (HasRowids 1) (MayAddMark journey at) (λ _. ⊤) suc
@@ -176,7 +177,7 @@ saves_mark journey at =
     adds_next Places.marks (λ n db has. has.mark) (mark_says journey at) (mark_at_pos journey at) (λ db. simp (cast_int, cast_null))
     (MayAddMark journey at) (λ db t fits shown. record {
       alone = (refl, refl, refl);
-      storable = held_from (mark_at 14) _ (storable _ _ refl refl (omega arith), omega arith) (storable _ _ refl refl (omega arith), tt);
+      storable = held_from (mark_at 14) _ (storable _ _ refl refl (omega arith), omega arith) (storable _ _ refl refl (omega arith), tt) tt;
       single = (
         rows_all mark_columns (db 14) t.mark _ (λ k. is_mark_at journey at k ≡ false) shown.mark
             (λ p apart. simp key_whole (simp and_true apart)) fits.unmarked,
@@ -192,7 +193,7 @@ first_params version = whole version ∷ []
 
 first_says : (version : ℕ) → SaysInsert Texts.insert_meta_text 0 Meanings.insert_meta_terms 5 (first_params version)
 unfolding understood everything
-first_says version = record { means = record { is = refl; plain = (refl, refl) }; whole = refl; types = refl }
+first_says version = record { means = λ _. record { is = refl; plain = (refl, refl) }; whole = λ _. refl; types = λ _. refl }
 
 -- each row of meta has 1 in its first column
 pub meta_one : passes Check desk_schema (λ _. []) (meta_at 0) (meta_row (record { version = 0; events = 0; journeys = 0 })) ≡ true
@@ -206,7 +207,7 @@ founds_meta version =
     (λ db. simp (cast_int, cast_null)) LacksMeta LacksMeta (λ t none. none)
     (λ t none. subst (AllByRecursion (λ (m : MetaRow). 1 < 1)) (sym none) tt) (λ db t fits shown. record {
       alone = (refl, refl, meta_one);
-      storable = held_from (meta_at 0) _ (storable _ _ refl refl (omega arith), omega arith) tt;
+      storable = held_from (meta_at 0) _ (storable _ _ refl refl (omega arith), omega arith) tt tt;
       single = tt;
       parents = tt;
     })

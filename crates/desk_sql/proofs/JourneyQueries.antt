@@ -48,8 +48,8 @@ owned_test agent after j = simp (gt_whole, eq_text) (simp and_true)
 
 journey_says : (v : Version) (id : ℕ) → SaysQuery v find_journey_text find_journey_query journey_names (whole id ∷ [])
 unfolding understood everything
-journey_says One id = record { means = record { is = refl; plain = (refl, refl); unlisted = refl; selects = refl }; takes = record { whole = refl; typed = refl } }
-journey_says Two id = record { means = record { is = refl; plain = (refl, refl); unlisted = refl; selects = refl }; takes = record { whole = refl; typed = refl } }
+journey_says One id = record { means = λ _. record { is = refl; plain = (refl, refl); unlisted = refl; selects = refl }; takes = λ _. record { whole = refl; typed = refl } }
+journey_says Two id = record { means = λ _. record { is = refl; plain = (refl, refl); unlisted = refl; selects = refl }; takes = λ _. record { whole = refl; typed = refl } }
 
 pub finds_journey : (v : Version) (id : ℕ)
     → FindsOne v find_journey_text (whole id ∷ []) shows_journey nine_of (FindsJourney id) (HasAgentText id) (ShowsOne journey_shown IsAgentText)
@@ -74,7 +74,7 @@ finds_least text tests params says test test_is =
 
 unfinished_says : (after : ℕ) → SaysQuery Two first_unfinished_text first_unfinished_query journey_names (whole after ∷ [])
 unfolding understood everything
-unfinished_says after = record { means = record { is = refl; plain = (refl, refl); unlisted = refl; selects = refl }; takes = record { whole = refl; typed = refl } }
+unfinished_says after = record { means = λ _. record { is = refl; plain = (refl, refl); unlisted = refl; selects = refl }; takes = λ _. record { whole = refl; typed = refl } }
 
 pub finds_unfinished : (after : ℕ)
     → FindsOne Two first_unfinished_text (whole after ∷ []) shows_journey nine_of (FindsUnfinished after) (HaveAgentTexts after) (ShowsOne journey_shown IsAgentText)
@@ -83,7 +83,7 @@ finds_unfinished after =
 
 owned_says : (agent : List ℕ) (after : ℕ) → SaysQuery Two first_owned_text first_owned_query journey_names (whole after ∷ Text agent ∷ [])
 unfolding understood everything
-owned_says agent after = record { means = record { is = refl; plain = (refl, refl); unlisted = refl; selects = refl }; takes = record { whole = refl; typed = refl } }
+owned_says agent after = record { means = λ _. record { is = refl; plain = (refl, refl); unlisted = refl; selects = refl }; takes = λ _. record { whole = refl; typed = refl } }
 
 pub finds_owned : (agent : List ℕ) (after : ℕ)
     → FindsOne Two first_owned_text (whole after ∷ Text agent ∷ []) shows_journey nine_of (FindsOwned agent after) (HaveOwnedTexts agent after)

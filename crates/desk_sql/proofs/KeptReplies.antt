@@ -28,7 +28,7 @@ out a = ([], Blob a.ask ∷ Text a.reply ∷ [])
 
 says : (agent mark : List ℕ) → SaysQuery Two find_answer_text find_answer_query find_answer_names (answer_key agent mark)
 unfolding understood everything
-says agent mark = record { means = record { is = refl; plain = (refl, refl); unlisted = refl; selects = refl }; takes = record { whole = refl; typed = refl } }
+says agent mark = record { means = λ _. record { is = refl; plain = (refl, refl); unlisted = refl; selects = refl }; takes = λ _. record { whole = refl; typed = refl } }
 
 answer_test : (agent mark : List ℕ) (p : ℤ × AnswerRow)
     → passes find_answer_query.filter (answer_key agent mark) (numbered_row answer_columns p) ≡ is_for agent mark p.1

@@ -10,6 +10,8 @@ pub mod Effects
 pub mod CreateReasons
 pub mod Finding
 pub mod Framing
+pub mod Indexes
+pub mod AgentIndex
 pub mod InsertReasons
 pub mod Inserting
 pub mod Keyed

@@ -67,8 +67,8 @@ by_place a b c d e = elim (whole_then a b (ordering_then (value_cmp (whole d) (w
 
 steps_say : (v : Version) (journey : ℕ) → SaysQuery v find_steps_text find_steps_query find_steps_names (whole journey ∷ [])
 unfolding understood everything
-steps_say One journey = record { means = record { is = refl; plain = (refl, refl); unlisted = refl; selects = refl }; takes = record { whole = refl; typed = refl } }
-steps_say Two journey = record { means = record { is = refl; plain = (refl, refl); unlisted = refl; selects = refl }; takes = record { whole = refl; typed = refl } }
+steps_say One journey = record { means = λ _. record { is = refl; plain = (refl, refl); unlisted = refl; selects = refl }; takes = λ _. record { whole = refl; typed = refl } }
+steps_say Two journey = record { means = λ _. record { is = refl; plain = (refl, refl); unlisted = refl; selects = refl }; takes = λ _. record { whole = refl; typed = refl } }
 
 pub finds_steps : (v : Version) (journey : ℕ)
     → FindsList v find_steps_text (whole journey ∷ []) shows_step ten_of (FindsSteps journey) (HaveWantTexts journey) (ShowsOne step_shown AreWantTexts)
@@ -81,7 +81,7 @@ finds_steps v journey =
 
 options_say : (journey place : ℕ) → SaysQuery Two find_options_text find_options_query find_steps_names (whole journey ∷ whole place ∷ [])
 unfolding understood everything
-options_say journey place = record { means = record { is = refl; plain = (refl, refl); unlisted = refl; selects = refl }; takes = record { whole = refl; typed = refl } }
+options_say journey place = record { means = λ _. record { is = refl; plain = (refl, refl); unlisted = refl; selects = refl }; takes = λ _. record { whole = refl; typed = refl } }
 
 pub finds_options : (journey place : ℕ)
     → FindsList Two find_options_text (whole journey ∷ whole place ∷ []) shows_step ten_of (FindsOptions journey place) (HaveOptionTexts journey place)
@@ -114,7 +114,7 @@ same_item journey f e of shown =
 
 items_say : (journey after : ℕ) → SaysQuery Two find_items_text find_items_query find_items_names (whole journey ∷ whole after ∷ [])
 unfolding understood everything
-items_say journey after = record { means = record { is = refl; plain = (refl, refl); unlisted = refl; selects = refl }; takes = record { whole = refl; typed = refl } }
+items_say journey after = record { means = λ _. record { is = refl; plain = (refl, refl); unlisted = refl; selects = refl }; takes = λ _. record { whole = refl; typed = refl } }
 
 -- the numbers of items differ, so they have just one order
 pub finds_items : (journey after : ℕ)
@@ -152,7 +152,7 @@ same_mark journey at m of shown = let same : at ≡ m.pos = cc in rw (← of, sa
 
 marks_say : (journey : ℕ) → SaysQuery Two find_marks_text find_marks_query find_marks_names (whole journey ∷ [])
 unfolding understood everything
-marks_say journey = record { means = record { is = refl; plain = (refl, refl); unlisted = refl; selects = refl }; takes = record { whole = refl; typed = refl } }
+marks_say journey = record { means = λ _. record { is = refl; plain = (refl, refl); unlisted = refl; selects = refl }; takes = λ _. record { whole = refl; typed = refl } }
 
 pub finds_marks : (journey : ℕ)
     → FindsList Two find_marks_text (whole journey ∷ []) whole (λ r. column r 0) (FindsMarks journey) Any (ShowsOne mark_shown (λ _. ⊤))

@@ -24,7 +24,7 @@ out b = ([], whole b.num ∷ Blob b.content ∷ [])
 
 says : (name : List ℕ) → SaysQuery Two find_batch_text find_batch_query find_batch_names (Text name ∷ [])
 unfolding understood everything
-says name = record { means = record { is = refl; plain = (refl, refl); unlisted = refl; selects = refl }; takes = record { whole = refl; typed = refl } }
+says name = record { means = λ _. record { is = refl; plain = (refl, refl); unlisted = refl; selects = refl }; takes = λ _. record { whole = refl; typed = refl } }
 
 name_test : (name : List ℕ) (p : ℤ × BatchRow) → passes find_batch_query.filter (Text name ∷ []) (numbered_row batch_columns p) ≡ is_named name p.1
 name_test name p = and_true _ ∙ eq_text p.1.name name

@@ -68,7 +68,7 @@ pub sees_none : (s : State) → IsEmptyWith desk_schema s → IsDatabase s.now �
 sees_none s it sound =
     let e = it.empty in
     record {
-      schema = it.is;
+      schema = record { extra = []; are = tt; is = it.is };
       rows = shows s.now.trees no_rows (no_values_of (λ _. 1) meta_row (s.now.trees 0) e.0) (no_rows_of stock_columns (s.now.trees 1) e.1.0)
           (no_rows_of batch_columns (s.now.trees 3) e.1.1.0) (no_values_of (λ (j : JourneyRow). j.id) journey_row (s.now.trees 6) e.1.1.1.0)
           (no_rows_of step_columns (s.now.trees 8) e.1.1.1.1.0) (no_rows_of answer_columns (s.now.trees 11) e.1.1.1.1.1.1.0)

@@ -50,8 +50,8 @@ same_meta r m shown =
 
 says : (v : Version) → SaysQuery v read_meta_text read_meta_query read_meta_names []
 unfolding understood everything
-says One = record { means = record { is = refl; plain = (refl, refl); unlisted = refl; selects = refl }; takes = record { whole = refl; typed = refl } }
-says Two = record { means = record { is = refl; plain = (refl, refl); unlisted = refl; selects = refl }; takes = record { whole = refl; typed = refl } }
+says One = record { means = λ _. record { is = refl; plain = (refl, refl); unlisted = refl; selects = refl }; takes = λ _. record { whole = refl; typed = refl } }
+says Two = record { means = λ _. record { is = refl; plain = (refl, refl); unlisted = refl; selects = refl }; takes = λ _. record { whole = refl; typed = refl } }
 
 pub meta_asked : (v : Version) → Asks v read_meta_text [] read_meta_query out (λ t. filter (λ _. true) t.meta)
 meta_asked v =

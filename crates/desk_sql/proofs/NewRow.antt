@@ -17,7 +17,7 @@ use Rattle.sqlite_rules.specs.declared.error.Refusal.{Refusal}
 use Rattle.sqlite_rules.specs.declared.error.Refusal.TheVariants.{Violates, Mismatch, NoRowid, BadReference, TooDeep}
 use Rattle.sqlite_rules.specs.Lists.{Has}
 use Rattle.sqlite_rules.specs.Keys.{are_unique}
-use Rattle.sqlite_rules.specs.Edit.{IsRefused, IsOversized, is_taken, is_referred, left_by, taken_by}
+use Rattle.sqlite_rules.specs.Edit.{IsRefused, is_taken, is_referred, left_by, taken_by}
 use Rattle.sqlite_rules.proofs.ListLemmas.{all_has, all_from, test_from, some_has, some_from, has_kept}
 use Rattle.sqlite_rules.proofs.TableLemmas.{put_has}
 use Rattle.sqlite_rules.proofs.RuleLemmas.{Turns, unique_kept, origin, refers_at, refers_from}
@@ -26,9 +26,11 @@ use Rattle.sqlite_rules.proofs.PlaceLemmas.{named_parent}
 use Rattle.sqlite.specs.Order.{Row}
 use Rattle.sqlite.specs.Ops.{binary, fits_i64}
 use Rattle.sqlite.specs.Table.{Table}
-use Rattle.sqlite.specs.Edit.{Edit, edited, Applies}
+use Rattle.sqlite.specs.Edit.{Edit, edited}
 use Rattle.desk_sql.specs.Schema.{desk_schema}
 use Rattle.desk_sql.proofs.Refusing.{IsSafe}
+use Rattle.desk_sql.proofs.Storing.{NeverOversized}
+use Rattle.desk_sql.proofs.Writing.{Lands}
 
 alike : (n : ℕ) → (n == n) ≡ true
 alike n = grind (arith, nat_tests)
@@ -70,7 +72,7 @@ pub record IsFit (table : Table) (db : Trees) (new : Row) : Type 0 where
   pub id : ℤ
   pub keyed : rowid new ≡ Int id
   pub fits : fits_i64 id ≡ true
-  pub storable : ¬ IsOversized desk_schema table new
+  pub storable : NeverOversized table new
 
 module _ (db : Trees) (table : Table) (new : Row) (listed : Has desk_schema.tables table) (ordered : IsTable (db table.tree))
     (obeys : Obeys desk_schema db) (fit : IsFit table db new)
@@ -165,7 +167,7 @@ module _ (db : Trees) (table : Table) (new : Row) (listed : Has desk_schema.tabl
             | inr other ↦ subst (λ rs. Has rs r) (sym (turn.others t known other)) there
           ]
 
-  refers : (next : Trees) → Applies desk_schema Enforced db it next → Refers All desk_schema next
+  refers : (next : Trees) → Lands db it next → Refers All desk_schema next
   refers next made =
       let turn = turned next made.rows made.tables in
       refers_from All desk_schema next (λ t ref row known of is there. elim (origin desk_schema db next table _ _ it.news turn t row known there) [
@@ -183,6 +185,6 @@ module _ (db : Trees) (table : Table) (new : Row) (listed : Has desk_schema.tabl
     refers = refers;
   }
     where
-      stored : (row : Row) → Has (new ∷ []) row → ¬ IsOversized desk_schema table row
-      stored row (inl same) large = fit.storable (subst (IsOversized desk_schema table) same large)
-      stored row (inr none) large = none
+      stored : (row : Row) → Has (new ∷ []) row → NeverOversized table row
+      stored row (inl same) = subst (NeverOversized table) (sym same) fit.storable
+      stored row (inr none) = absurd none

@@ -30,8 +30,11 @@ use Rattle.sqlite_rules.proofs.ListLemmas.{all_has, all_from}
 use Rattle.sqlite_rules.proofs.ProbeLemmas.{has_mapped}
 use Rattle.sqlite_typing.specs.Types.{accepts_terms, accepts_program}
 use Rattle.sqlite_tied.specs.Compute.{everything}
-use Rattle.desk_sql.specs.Schema.{desk_schema, stock_at}
+use Rattle.std.specs.List.{AllByRecursion}
+use Rattle.desk_sql.specs.Schema.{desk_schema, desk_with, IsExtra, stock_at}
 use Rattle.desk_sql.specs.Lists.{numbered_row, IsTableOf}
+use Rattle.sqlite_schema.specs.declared.schema.Index.{Index}
+use Rattle.desk_sql.proofs.Indexes.{are_conflicts}
 use Rattle.desk_sql.specs.Rows.{Tables, StockRow, stock_columns}
 use Rattle.desk_sql.specs.Calls.{MayRun}
 use Rattle.desk_sql.specs.Stock.{is_cell, with_places, put, puts_cell, AreApart}
@@ -55,21 +58,21 @@ use Rattle.desk_sql.proofs.NewRow.{IsFit, put_edit, put_safe}
 use Rattle.desk_sql.proofs.ChangedRows.{update_safe}
 use Rattle.desk_sql.proofs.Storing.{range_holds, next_fits, chosen_free, table_of}
 
-put_says : (s : StockRow) → Says put_cell_text put_cell (put_params s) (accepts_terms put_cell_terms (put_params s))
+put_says : (s : StockRow) → Says put_cell_text put_cell (put_params s) (λ _. accepts_terms put_cell_terms (put_params s))
 unfolding understood everything
-put_says s = record { means = record { is = refl; plain = (refl, refl) }; whole = refl; types = refl }
+put_says s = record { means = λ _. record { is = refl; plain = (refl, refl) }; whole = λ _. refl; types = λ _. refl }
 
-change_typed : (s : StockRow) (id there : ℤ)
-    → accepts_program desk_schema [] put_cell_query (put_params s ++ Int there ∷ shown (stock_at 1) (numbered_row stock_columns (id, s))) ≡ true
+change_typed : (extra : List Index) (s : StockRow) (id there : ℤ)
+    → accepts_program (desk_with extra) [] put_cell_query (put_params s ++ Int there ∷ shown (stock_at 1) (numbered_row stock_columns (id, s))) ≡ true
 unfolding everything
-change_typed s id there = refl
+change_typed extra s id there = refl
 
 -- rows agree on the columns of the key where they are of one cell
 agree_cell : (id : ℤ) (s : StockRow) (p : ℤ × StockRow)
     → agree (record { digits = 0 }) target (numbered_row stock_columns p) target (numbered_row stock_columns (id, s)) ≡ is_cell s p.1
 agree_cell id s p = rw first_key-plain (simp (eq_whole, eq_text) (simp and_true))
 
-module _ (old : State) (t : Tables) (s : StockRow) (rowids : HasRowids 1 old.now.trees) (it : IsTableOf stock_columns (old.now.trees 1) t.stock)
+module _ (extra : List Index) (are : AllByRecursion IsExtra extra) (old : State) (t : Tables) (s : StockRow) (rowids : HasRowids 1 old.now.trees) (it : IsTableOf stock_columns (old.now.trees 1) t.stock)
     (obeys : Obeys desk_schema old.now.trees) (fits : MayPut s t) (unlimited : old.step_limit ≡ None) where
   abbrev db : Trees
   db = old.now.trees
@@ -130,29 +133,29 @@ module _ (old : State) (t : Tables) (s : StockRow) (rowids : HasRowids 1 old.now
       changed_safe q.0 rows (subst (λ v. IsAnswer put_cell_query (overlay db []) (put_params s ++ v ∷ shown (stock_at 1) new) rows) q.1 asked)
 
   puts_on : (conflict : AreConflicts (Some target) desk_schema.indexes (stock_at 1) (db 1) new []) (stop : Option Error)
-      → ¬ Puts (task_for old (stock_at 1) (put_params s)) new db (Err stop)
-  puts_on none stop (inl k) = edit_goes db (edit_of db (stock_at 1) [] Given 0 (new ∷ [])) (new_safe none) k.0 k.1
+      → ¬ Puts (task_for extra old (stock_at 1) (put_params s)) new db (Err stop)
+  puts_on none stop (inl k) = edit_goes extra are db (edit_of db (stock_at 1) [] Given 0 (new ∷ [])) (new_safe none) k.0 k.1
   puts_on none stop (inr k) = gives_on stop k.2
 
   changes_on : (found : List Row) (there : Row) → AreConflicts (Some target) desk_schema.indexes (stock_at 1) (db 1) new found → Has found there
-      → (stop : Option Error) → ¬ Updates (task_for old (stock_at 1) (put_params s)) program (put_params s ++ rowid there ∷ shown (stock_at 1) new) db (Err stop)
+      → (stop : Option Error) → ¬ Updates (task_for extra old (stock_at 1) (put_params s)) program (put_params s ++ rowid there ∷ shown (stock_at 1) new) db (Err stop)
   changes_on found there conflict has stop (inl k) =
       let q = place_of found there conflict has in
-      answered old (put_params s ++ rowid there ∷ shown (stock_at 1) new) (stock_at 1) 1 put_cell_query.filter put_cell_query.project unlimited
-      (subst (λ v. accepts_program desk_schema [] put_cell_query (put_params s ++ v ∷ shown (stock_at 1) new) ≡ true) (sym q.1)
-      (change_typed s (next_rowid (db 1)) q.0.0)) k.0 k.1
+      answered extra are old (put_params s ++ rowid there ∷ shown (stock_at 1) new) (stock_at 1) 1 put_cell_query.filter put_cell_query.project unlimited
+      (subst (λ v. accepts_program (desk_with extra) [] put_cell_query (put_params s ++ v ∷ shown (stock_at 1) new) ≡ true) (sym q.1)
+      (change_typed extra s (next_rowid (db 1)) q.0.0)) k.0 k.1
   changes_on found there conflict has stop (inr (rows, given, inl k)) =
-      edit_goes db (edit_of db (stock_at 1) (ids_of rows) Given 1 rows) (update_at found there conflict has rows (given.answer Null)) k.0 k.1
+      edit_goes extra are db (edit_of db (stock_at 1) (ids_of rows) Given 1 rows) (update_at found there conflict has rows (given.answer Null)) k.0 k.1
   changes_on found there conflict has stop (inr (rows, given, inr k)) = gives_on stop k.2
 
   upserts_on : (stop : Option Error)
-      → ¬ Upserts (task_for old (stock_at 1) (put_params s)) Abort new db (clause old (put_params s) program ∷ []) (Err stop)
-  upserts_on stop ([], conflict, ([], conflict_too, h)) = puts_on conflict stop h
-  upserts_on stop ([], conflict, (x ∷ more, conflict_too, h)) = puts_on conflict stop h
-  upserts_on stop (there ∷ more, conflict, h) = changes_on (there ∷ more) there conflict (inl refl) stop h
+      → ¬ Upserts (task_for extra old (stock_at 1) (put_params s)) Abort new db (clause program ∷ []) (Err stop)
+  upserts_on stop ([], conflict, ([], conflict_too, h)) = puts_on (are_conflicts extra are conflict) stop h
+  upserts_on stop ([], conflict, (x ∷ more, conflict_too, h)) = puts_on (are_conflicts extra are conflict) stop h
+  upserts_on stop (there ∷ more, conflict, h) = changes_on (there ∷ more) there (are_conflicts extra are conflict) (inl refl) stop h
 
   judged_on : (verdict : Option Refusal) (stop : Option Error) → IsJudged (stock_at 1) new verdict
-      → ¬ Judged (task_for old (stock_at 1) (put_params s)) Abort (clause old (put_params s) program ∷ []) new db verdict (Err stop)
+      → ¬ Judged (task_for extra old (stock_at 1) (put_params s)) Abort (clause program ∷ []) new db verdict (Err stop)
   judged_on None stop judged h = upserts_on stop h
   judged_on (Some Mismatch) stop judged h = let bad : true ≡ false = judged in cc
   judged_on (Some NoRowid) stop judged h = judged
@@ -165,46 +168,46 @@ module _ (old : State) (t : Tables) (s : StockRow) (rowids : HasRowids 1 old.now
   judged_on (Some (Violates Unique)) stop judged h = judged
   judged_on (Some (Violates ForeignKey)) stop judged h = judged
 
-  tries_on : (stop : Option Error) → ¬ Tries (task_for old (stock_at 1) (put_params s)) Abort (clause old (put_params s) program ∷ []) new db (Err stop)
+  tries_on : (stop : Option Error) → ¬ Tries (task_for extra old (stock_at 1) (put_params s)) Abort (clause program ∷ []) new db (Err stop)
   tries_on stop (inl h) = let bad = sym (next_fits (db 1) rowids.stock) ∙ h.0 in cc
   tries_on stop (inr h) = judged_on h.0 stop h.1 h.2
 
-  sourced_on : (stop : Option Error) → ¬ Sourced old.step_limit (desk_at old) (put_params s) (Values put_cell_terms 7) (Err stop)
+  sourced_on : (stop : Option Error) → ¬ Sourced old.step_limit (desk_at extra old) (put_params s) (Values put_cell_terms 7) (Err stop)
   sourced_on None none = none
-  sourced_on (Some e) (inl (is, wrong)) = let bad : true ≡ false = sym (put_says s).types ∙ wrong in cc
+  sourced_on (Some e) (inl (is, wrong)) = let bad : true ≡ false = sym ((put_says s).types extra) ∙ wrong in cc
   sourced_on (Some e) (inr (is, limit)) = let none : false ≡ true = subst (λ l. IsSome l) unlimited limit in cc
 
-  each_on : (stop : Option Error) → ¬ TriesEach (task_for old (stock_at 1) (put_params s)) Abort (clause old (put_params s) program ∷ []) ((Null ∷ put_params s) ∷ []) (count_of None) (nothing db) (Err stop)
+  each_on : (stop : Option Error) → ¬ TriesEach (task_for extra old (stock_at 1) (put_params s)) Abort (clause program ∷ []) ((Null ∷ put_params s) ∷ []) (count_of None) (nothing db) (Err stop)
   each_on stop (inl k) =
-      tries_on k.0 (subst (λ n. Tries (task_for old (stock_at 1) (put_params s)) Abort (clause old (put_params s) program ∷ []) n db (Err k.0)) (source_is (db 1) s) k.1)
+      tries_on k.0 (subst (λ n. Tries (task_for extra old (stock_at 1) (put_params s)) Abort (clause program ∷ []) n db (Err k.0)) (source_is (db 1) s) k.1)
   each_on stop (inr k) = gives_on stop k.2
 
-  goes : (stop : Option Error) → ¬ InsertsOr (task_for old (stock_at 1) (put_params s)) Abort (clause old (put_params s) program ∷ []) (Values put_cell_terms 7) db (Err stop)
+  goes : (stop : Option Error) → ¬ InsertsOr (task_for extra old (stock_at 1) (put_params s)) Abort (clause program ∷ []) (Values put_cell_terms 7) db (Err stop)
   goes stop (inl k) = sourced_on k.0 k.1
   goes stop (inr (rows, given, inl k)) = gives_on k.0 k.1
   goes stop (inr (rows, given, inr (counted, known, inl k))) =
       let none : counted ≡ None = same_value known in
-      each_on k.0 (subst (λ c. TriesEach (task_for old (stock_at 1) (put_params s)) Abort (clause old (put_params s) program ∷ []) ((Null ∷ put_params s) ∷ []) (count_of c) (nothing db) (Err k.0)) none
-      (subst (λ rs. TriesEach (task_for old (stock_at 1) (put_params s)) Abort (clause old (put_params s) program ∷ []) rs (count_of counted) (nothing db) (Err k.0)) given.1 k.1))
+      each_on k.0 (subst (λ c. TriesEach (task_for extra old (stock_at 1) (put_params s)) Abort (clause program ∷ []) ((Null ∷ put_params s) ∷ []) (count_of c) (nothing db) (Err k.0)) none
+      (subst (λ rs. TriesEach (task_for extra old (stock_at 1) (put_params s)) Abort (clause program ∷ []) rs (count_of counted) (nothing db) (Err k.0)) given.1 k.1))
   goes stop (inr (rows, given, inr (counted, known, inr (done, tried, inl k)))) = gives_on k.0 k.1
   goes stop (inr (rows, given, inr (counted, known, inr (done, tried, inr k)))) = gives_on stop k.2
 
-  refers : (w : Written) → InsertsOr (task_for old (stock_at 1) (put_params s)) Abort (clause old (put_params s) program ∷ []) (Values put_cell_terms 7) db (Ok w) → Refers All desk_schema w.trees
+  refers : (w : Written) → InsertsOr (task_for extra old (stock_at 1) (put_params s)) Abort (clause program ∷ []) (Values put_cell_terms 7) db (Ok w) → Refers All desk_schema w.trees
   refers w done =
-      let one = tries_one old (put_params s) program put_cell_terms 7 db (Null ∷ put_params s) w refl refl done in
+      let one = tries_one extra are old (put_params s) program put_cell_terms 7 db (Null ∷ put_params s) w refl refl done in
       subst (Refers All desk_schema) (sym one.2)
-      (ended one.0 (subst (λ n. Ends old (put_params s) program n db (Ok one.0)) (source_is (db 1) s) one.1))
+      (ended one.0 (subst (λ n. Ends extra are old (put_params s) program n db (Ok one.0)) (source_is (db 1) s) one.1))
     where
-      ended : (x : Written) → Ends old (put_params s) program new db (Ok x) → Refers All desk_schema x.trees
+      ended : (x : Written) → Ends extra are old (put_params s) program new db (Ok x) → Refers All desk_schema x.trees
       ended x ([], conflict, h) =
           let put = went h in
           subst (Refers All desk_schema) (sym (ap (λ (it : Written). it.trees) (same_value put.2)))
-          (made_refers db put.0 (edit_of db (stock_at 1) [] Given 0 (new ∷ [])) (new_safe conflict) put.1)
+          (made_refers extra are db put.0 (edit_of db (stock_at 1) [] Given 0 (new ∷ [])) (new_safe conflict) put.1)
       ended x (there ∷ more, conflict, h) =
           let found = went h in
           let written = went found.2 in
           subst (Refers All desk_schema) (sym (ap (λ (it : Written). it.trees) (same_value written.2)))
-          (made_refers db written.0 (edit_of db (stock_at 1) (ids_of found.0) Given 1 found.0)
+          (made_refers extra are db written.0 (edit_of db (stock_at 1) (ids_of found.0) Given 1 found.0)
           (update_at (there ∷ more) there conflict (inl refl) found.0 (found.1.answer Null)) written.1)
 
 -- the row is put by one edit
@@ -212,7 +215,7 @@ put_by : (old new : State) (t : Tables) (s : StockRow) (count : ℕ) → MayRun 
     → (edit : Edit) × IsPut old.now.trees (put_params s) put_cell_query (numbered_row stock_columns (next_rowid (old.now.trees 1), s)) edit × Edits old new edit
 put_by old new t s count may ran =
     let says = put_says s in
-    let it = upserts put_cell_text (put_params s) old new put_cell_terms 7 put_cell_query (Null ∷ put_params s) count says.means.is says.means.plain
+    let it = upserts put_cell_text (put_params s) old new put_cell_terms 7 put_cell_query (Null ∷ put_params s) count says.means
     refl refl (ready_of old t may ran.1.was_open) ran.0 in
     (it.0, subst (λ n. IsPut old.now.trees (put_params s) put_cell_query n it.0) (source_is (old.now.trees 1) s) it.1, it.2)
 
@@ -228,8 +231,9 @@ sets_cell s = record {
       let sees = may.sees up.is_open in
       let obeys = obeys_desk old t sees in
       write_reason put_cell_text put_cell (put_params s) (put_says s).means (put_says s).whole refl refl old new up sees.schema
-      (λ text stop h. rows_go old (put_params s) (stock_at 1) put_cell stop (goes old t s rowids sees.rows.stock obeys fits up.unlimited)
-      (refers old t s rowids sees.rows.stock obeys fits up.unlimited) h) e ran);
+      (λ text stop h. rows_go sees.schema.extra sees.schema.are old (put_params s) (stock_at 1) put_cell stop
+      (goes sees.schema.extra sees.schema.are old t s rowids sees.rows.stock obeys fits up.unlimited)
+      (refers sees.schema.extra sees.schema.are old t s rowids sees.rows.stock obeys fits up.unlimited) h) e ran);
   rowids = λ old new t count may any ran n has. (
       let it = put_by old new t s count may ran in
       rowids_kept old new it.0 it.2 n (rowids_fewer n (suc n) old.now.trees (omega arith) has)

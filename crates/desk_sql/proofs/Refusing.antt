@@ -12,7 +12,7 @@ use Rattle.sqlite_schema.specs.Rules.{Refers}
 use Rattle.sqlite_rules.specs.declared.error.Refusal.{Refusal}
 use Rattle.sqlite_rules.specs.Lists.{Has}
 use Rattle.sqlite_rules.specs.Calls.{ids_of}
-use Rattle.sqlite_rules.specs.Edit.{IsRefused, IsOversized}
+use Rattle.sqlite_rules.specs.Edit.{IsRefused}
 use Rattle.sqlite_rules.specs.Action.{Leads}
 use Rattle.sqlite_typing.specs.Types.{accepts_terms, accepts_program}
 use Rattle.sqlite.specs.Order.{Row}
@@ -23,8 +23,8 @@ use Rattle.sqlite.specs.Query.{IsAnswer}
 use Rattle.sqlite.specs.Program.{overlay}
 use Rattle.sqlite.specs.Source.TheVariants.{Values}
 use Rattle.sqlite.specs.Command.{Command}
-use Rattle.sqlite.specs.Command.TheVariants.{Insert, InsertOr, Update, Delete, CreateTable}
-use Rattle.sqlite.specs.Edit.{Edit, edit_of, taken_by, Applies}
+use Rattle.sqlite.specs.Command.TheVariants.{Insert, InsertOr, Update, Delete, CreateTable, CreateIndex}
+use Rattle.sqlite.specs.Edit.{Edit, edit_of, taken_by}
 use Rattle.sqlite.specs.Rowids.TheVariants.{Chosen, Above, Given}
 use Rattle.sqlite.specs.Rows.{Outcome, Written, Inserts, Updates, Deletes, Edited, Sourced, Queried, Counter, Counts, stamped, count_of, rowids_for}
 use Rattle.sqlite.specs.Does.{Does, OnRows, WritesRows, Concludes}
@@ -36,20 +36,26 @@ use Rattle.sqlite.specs.State.{State, mode_of, IsMisplaced, Escapes, EndsScope, 
 use Rattle.sqlite.proofs.Callers.{IsPlain, command_of, statement_of, one_step}
 use Rattle.sqlite_schema.specs.declared.program.Program.{Program}
 use Rattle.sqlite_schema.specs.declared.schema.Schema.{Schema}
-use Rattle.desk_sql.specs.Schema.{desk_schema}
+use Rattle.sqlite_schema.specs.declared.schema.Index.{Index}
+use Rattle.std.specs.List.{AllByRecursion}
+use Rattle.desk_sql.specs.declared.versions.Version.TheVariants.{Two}
+use Rattle.desk_sql.specs.Schema.{desk_schema, desk_with, IsExtra, IsSchemaOf}
 use Rattle.desk_sql.specs.Causes.{IsUp, HasReason}
 use Rattle.desk_sql.proofs.Meaning.{Means}
 use Rattle.desk_sql.specs.Meanings.{sorted_rows}
 use Rattle.desk_sql.proofs.Causing.{takes, plain_at, not_run, of_store, one_table}
-use Rattle.desk_sql.proofs.Writing.{went, same_value, idle, source_edit, task_for, insert_edits}
+use Rattle.desk_sql.proofs.Indexes.{refused_bare}
+use Rattle.desk_sql.proofs.Storing.{NeverOversized}
+use Rattle.desk_sql.proofs.Writing.{Lands, lands, went, same_value, idle, source_edit, task_for, insert_edits}
 
--- the command changes rows, or creates a table
+-- the command changes rows, or creates a table or an index
 abbrev pub is_change : Command → Bool
 is_change (Insert at from) = true
 is_change (InsertOr at way from clauses) = true
 is_change (Update at q) = true
 is_change (Delete at q) = true
 is_change CreateTable = true
+is_change (CreateIndex at) = true
 is_change _ = false
 
 -- a change is in its place in each transaction, and does not end it
@@ -70,11 +76,11 @@ stays_in held s k change (inr (name, inr h, at)) = let bad = rw h at change in c
 abbrev pub seen_with : Schema → State → Database
 seen_with schema s = record { schema = schema; trees = s.now.trees }
 
--- the same, with the desk's schema
-abbrev pub desk_at : State → Database
-desk_at s = seen_with desk_schema s
+-- the same, with the desk's schema and these indexes beside those of its keys
+abbrev pub desk_at : List Index → State → Database
+desk_at extra s = seen_with (desk_with extra) s
 
--- A statement that changes rows or creates a table, under any schema.
+-- A statement that changes rows, or creates a table or an index, under any schema.
 module _ {schema : Schema} (text : List ℕ) (command : Command) (params : Row) (meant : command_of (understood schema text) ≡ command)
     (plain : IsPlain (understood schema text)) (whole : takes (length text) (length params) (understood schema text) ≡ true)
     (change : is_change command ≡ true) (silent : (is_query command || (is_pragma command || false)) ≡ false)
@@ -130,14 +136,14 @@ module _ {schema : Schema} (text : List ℕ) (command : Command) (params : Row) 
 
 -- a write of the desk's tables that the rules of SQL allow fails out of memory, or where the disk failed or refused
 pub write_reason : (text : List ℕ) (command : Command) (params : Row) → Means text command
-    → takes (length text) (length params) (understood desk_schema text) ≡ true
+    → ((extra : List Index) → takes (length text) (length params) (understood (desk_with extra) text) ≡ true)
     → is_change command ≡ true → (is_query command || (is_pragma command || false)) ≡ false
-    → (old new : State) → IsUp old → old.now.schema ≡ desk_schema
-    → ((t : List ℕ) (stop : Option Error) → ¬ Does old.step_limit (mode_of old) params (desk_at old) t None command (Err stop))
+    → (old new : State) → IsUp old → (has : IsSchemaOf Two old.now.schema)
+    → ((t : List ℕ) (stop : Option Error) → ¬ Does old.step_limit (mode_of old) params (desk_at has.extra old) t None command (Err stop))
     → (e : Error) → ExecutesInside 0 text params old new (Err e) → HasReason old new e
 write_reason text command params m whole change silent old new up has allowed e ran =
-    statement_reason text command params m.is m.plain whole change silent old new up has
-    (allowed (statement_of text (understood desk_schema text))) e ran
+    statement_reason text command params (m has.extra).is (m has.extra).plain (whole has.extra) change silent old new up has.is
+    (allowed (statement_of text (understood (desk_with has.extra) text))) e ran
 
 -- what holds of each error holds of a result
 pub if_failed : (P : Error → Type 0) (Ran : Result ℕ Error → Type 0) (r : Result ℕ Error) → Ran r → ((e : Error) → Ran (Err e) → P e) → IfErr r P
@@ -148,130 +154,135 @@ if_failed P Ran (Err e) ran so = so e ran
 -- parent.
 pub record IsSafe (db : Trees) (edit : Edit) : Type 0 where
   pub permitted : (why : Refusal) → ¬ IsRefused desk_schema Enforced db edit why
-  pub storable : (row : Row) → Has edit.news row → ¬ IsOversized desk_schema edit.table row
-  pub refers : (next : Trees) → Applies desk_schema Enforced db edit next → Refers All desk_schema next
+  pub storable : (row : Row) → Has edit.news row → NeverOversized edit.table row
+  pub refers : (next : Trees) → Lands db edit next → Refers All desk_schema next
 
--- a safe edit is made
-pub edit_goes : (db : Trees) (edit : Edit) → IsSafe db edit → (stop : Option Error) → ¬ Edited desk_schema Enforced db edit (Err stop)
-edit_goes db edit safe stop (why, inl (reason, refused, is), same) = safe.permitted reason refused
-edit_goes db edit safe stop (why, inr (inl (row, new, large, is)), same) = safe.storable row new large
-edit_goes db edit safe stop (why, inr (inr (next, made, settles)), same) =
-    stuck settles.0 (rw (idle 0 edit.table.tree (taken_by db edit) edit.news) at settles.1)
-  where
-    stuck : (n : ℕ) → ¬ Leads desk_schema Enforced n next [] (Err why)
-    stuck zero h = let e = h.1 in cc
-    stuck (suc n) h = absurd (omega (arith, ap length h.2, length-append h.0 (h.1 ∷ [])))
+-- Statements that write, whatever indexes there are beside those of the keys.
+module _ (extra : List Index) (are : AllByRecursion IsExtra extra) where
+  -- a safe edit is made
+  pub edit_goes : (db : Trees) (edit : Edit) → IsSafe db edit → (stop : Option Error) → ¬ Edited (desk_with extra) Enforced db edit (Err stop)
+  edit_goes db edit safe stop (why, inl (reason, refused, is), same) = safe.permitted reason (refused_bare extra are db edit reason refused)
+  edit_goes db edit safe stop (why, inr (inl (row, new, large, is)), same) = safe.storable row new extra are large
+  edit_goes db edit safe stop (why, inr (inr (next, made, settles)), same) =
+      stuck settles.0 (rw (idle extra 0 edit.table.tree (taken_by db edit) edit.news) at settles.1)
+    where
+      stuck : (n : ℕ) → ¬ Leads (desk_with extra) Enforced n next [] (Err why)
+      stuck zero h = let e = h.1 in cc
+      stuck (suc n) h = absurd (omega (arith, ap length h.2, length-append h.0 (h.1 ∷ [])))
 
--- an edit that was made, and its references
-pub made_refers : (db next : Trees) (edit : Edit) → IsSafe db edit → Edited desk_schema Enforced db edit (Ok next) → Refers All desk_schema next
-made_refers db next edit safe h =
-    safe.refers next (one_step desk_schema Enforced db next edit (idle 0 edit.table.tree (taken_by db edit) edit.news) h)
+  -- an edit that was made, and its references
+  pub made_refers : (db next : Trees) (edit : Edit) → IsSafe db edit → Edited (desk_with extra) Enforced db edit (Ok next) → Refers All desk_schema next
+  made_refers db next edit safe h =
+      safe.refers next (lands extra db next edit
+      (one_step (desk_with extra) Enforced db next edit (idle extra 0 edit.table.tree (taken_by db edit) edit.news) h))
 
 -- a value that is given is no stop
 pub gives_on : {A : Type 0} {a : A} (stop : Option Error) → ¬ ◌≡◌ {A = Outcome A} (Err stop) (Ok a)
 gives_on stop h = let e = h in cc
 
--- a statement on rows that are written, with the references of each row
-pub rows_go : (old : State) (params : Row) (table : Table) (command : Command) (stop : Option Error)
-    → ((s : Option Error) → ¬ WritesRows (task_for old table params) old.now.trees command (Err s))
-    → ((w : Written) → WritesRows (task_for old table params) old.now.trees command (Ok w) → Refers All desk_schema w.trees)
-    → ¬ OnRows (task_for old table params) (mode_of old) None command old.now.trees (Err stop)
-rows_go old params table command stop goes refers (inl h) = goes h.0 h.1
-rows_go old params table command stop goes refers (inr h) = concluded h.0 (refers h.0 h.1) h.2
-  where
-    concluded : (w : Written) → Refers All desk_schema w.trees → ¬ Concludes (task_for old table params) (mode_of old) None w (Err stop)
-    concluded w held (inl k) = k.1.0 held
-    concluded w held (inr (doubt, tested, inl k)) = gives_on k.0 k.1
-    concluded w held (inr (doubt, tested, inr k)) = gives_on stop k.2
-
--- VALUES of these terms are rows, whose insertion is one edit
-pub insert_goes : (old : State) (params : Row) (at : ℕ) (table : Table) (terms : List Term) (width : ℕ)
-    → slice_get desk_schema.tables at ≡ Some table → table.is_counted ≡ false → stamped table params ≡ params
-    → accepts_terms terms params ≡ true → old.step_limit ≡ None
-    → IsSafe old.now.trees (source_edit table terms width params old.now.trees)
-    → (t : List ℕ) (stop : Option Error) → ¬ Does old.step_limit (mode_of old) params (desk_at old) t None (Insert at (Values terms width)) (Err stop)
-insert_goes old params at table terms width there uncounted unstamped typed unlimited safe t stop h =
-    rows_go old params table (Insert at (Values terms width)) stop goes
-    (λ w done. made_refers old.now.trees w.trees (source_edit table terms width params old.now.trees) safe
-    (insert_edits (task_for old table params) terms width old.now.trees w uncounted unstamped done)) (rw there at h)
-  where
-    sourced : (stopped : Option Error) → ¬ Sourced old.step_limit (desk_at old) (stamped table params) (Values terms width) (Err stopped)
-    sourced None none = none
-    sourced (Some e) (inl (is, wrong)) =
-        let right : accepts_terms terms (stamped table params) ≡ true = rw unstamped typed in
-        let bad : true ≡ false = sym right ∙ wrong in cc
-    sourced (Some e) (inr (is, limit)) = let none : false ≡ true = subst (λ l. IsSome l) unlimited limit in cc
-
-    counter : (stopped : Option Error) → ¬ Counter (task_for old table params) old.now.trees (Err stopped)
-    counter stopped k = let e = rw uncounted at k in cc
-
-    edit_is : (rows : List Row) (counted : Option Row) → rows ≡ value_rows (stamped table params) width (length terms / width) terms
-        → edit_of old.now.trees table [] (rowids_for table (count_of counted)) 0 rows ≡ source_edit table terms width params old.now.trees
-    edit_is rows counted is =
-        ap (λ b. edit_of old.now.trees table [] (if b then Above (count_of counted) else Chosen) 0 rows) uncounted
-        ∙ ap (λ rs. edit_of old.now.trees table [] Chosen 0 rs) (is ∙ ap (λ ps. value_rows ps width (length terms / width) terms) unstamped)
-
-    counts : (mid : Trees) (counted : Option Row) (top : ℤ) (stopped : Option Error)
-        → ¬ Counts (task_for old table params) mid counted top (Err stopped)
-    counts mid counted top stopped k = let e = rw uncounted at k in cc
-
-    goes : (s : Option Error) → ¬ Inserts (task_for old table params) (Values terms width) old.now.trees (Err s)
-    goes s (inl k) = sourced k.0 k.1
-    goes s (inr (rows, given, inl k)) = counter k.0 k.1
-    goes s (inr (rows, given, inr (counted, known, inl k))) =
-        edit_goes old.now.trees (source_edit table terms width params old.now.trees) safe k.0
-        (subst (λ e. Edited desk_schema Enforced old.now.trees e (Err k.0)) (edit_is rows counted given.1) k.1)
-    goes s (inr (rows, given, inr (counted, known, inr (mid, edited, inl k)))) = counts mid counted _ k.0 k.1
-    goes s (inr (rows, given, inr (counted, known, inr (mid, edited, inr k)))) = gives_on s k.2
-
--- A query of one table is answered, and the edit of its rows is safe.
-module _ (old : State) (params : Row) (table : Table) (tree : ℕ) (filter project : List Term) (unlimited : old.step_limit ≡ None)
-    (typed : accepts_program desk_schema [] (sorted_rows tree filter project []) params ≡ true) where
-  abbrev program : Program
-  program = record { lets = []; body = sorted_rows tree filter project [] }
-
-  pub answered : (s : Option Error) → ¬ Queried old.step_limit (desk_at old) program params (Err s)
-  answered None none = none
-  answered (Some e) (inl (is, wrong)) = let bad : true ≡ false = sym typed ∙ wrong in cc
-  answered (Some e) (inr (inl (is, over))) = one_table tree filter project [] (overlay old.now.trees []) params over
-  answered (Some e) (inr (inr (is, limit))) = let none : false ≡ true = subst (λ l. IsSome l) unlimited limit in cc
-
-  -- an UPDATE whose edit is safe
-  pub update_goes : (at : ℕ) → slice_get desk_schema.tables at ≡ Some table
-      → ((rows : List Row) → IsAnswer (sorted_rows tree filter project []) (overlay old.now.trees []) params rows
-      → IsSafe old.now.trees (edit_of old.now.trees table (ids_of rows) Given 1 rows))
-      → (t : List ℕ) (stop : Option Error) → ¬ Does old.step_limit (mode_of old) params (desk_at old) t None (Update at program) (Err stop)
-  update_goes at there safe t stop h = rows_go old params table (Update at program) stop goes refers (rw there at h)
+-- Whole statements.
+module _ (extra : List Index) (are : AllByRecursion IsExtra extra) where
+  -- a statement on rows that are written, with the references of each row
+  pub rows_go : (old : State) (params : Row) (table : Table) (command : Command) (stop : Option Error)
+      → ((s : Option Error) → ¬ WritesRows (task_for extra old table params) old.now.trees command (Err s))
+      → ((w : Written) → WritesRows (task_for extra old table params) old.now.trees command (Ok w) → Refers All desk_schema w.trees)
+      → ¬ OnRows (task_for extra old table params) (mode_of old) None command old.now.trees (Err stop)
+  rows_go old params table command stop goes refers (inl h) = goes h.0 h.1
+  rows_go old params table command stop goes refers (inr h) = concluded h.0 (refers h.0 h.1) h.2
     where
-      goes : (s : Option Error) → ¬ Updates (task_for old table params) program params old.now.trees (Err s)
-      goes s (inl k) = answered k.0 k.1
-      goes s (inr (rows, given, inl k)) =
-          edit_goes old.now.trees (edit_of old.now.trees table (ids_of rows) Given 1 rows) (safe rows (given.answer Null)) k.0 k.1
-      goes s (inr (rows, given, inr k)) = gives_on s k.2
+      concluded : (w : Written) → Refers All desk_schema w.trees → ¬ Concludes (task_for extra old table params) (mode_of old) None w (Err stop)
+      concluded w held (inl k) = k.1.0 held
+      concluded w held (inr (doubt, tested, inl k)) = gives_on k.0 k.1
+      concluded w held (inr (doubt, tested, inr k)) = gives_on stop k.2
 
-      refers : (w : Written) → Updates (task_for old table params) program params old.now.trees (Ok w) → Refers All desk_schema w.trees
-      refers w done =
-          let found = went done in
-          let written = went found.2 in
-          subst (Refers All desk_schema) (sym (ap (λ (it : Written). it.trees) (same_value written.2)))
-          (made_refers old.now.trees written.0 (edit_of old.now.trees table (ids_of found.0) Given 1 found.0) (safe found.0 (found.1.answer Null)) written.1)
-
-  -- a DELETE whose edit is safe
-  pub delete_goes : (at : ℕ) → slice_get desk_schema.tables at ≡ Some table
-      → ((rows : List Row) → IsAnswer (sorted_rows tree filter project []) (overlay old.now.trees []) params rows
-      → IsSafe old.now.trees (edit_of old.now.trees table (ids_of rows) Given 0 []))
-      → (t : List ℕ) (stop : Option Error) → ¬ Does old.step_limit (mode_of old) params (desk_at old) t None (Delete at program) (Err stop)
-  delete_goes at there safe t stop h = rows_go old params table (Delete at program) stop goes refers (rw there at h)
+  -- VALUES of these terms are rows, whose insertion is one edit
+  pub insert_goes : (old : State) (params : Row) (at : ℕ) (table : Table) (terms : List Term) (width : ℕ)
+      → slice_get desk_schema.tables at ≡ Some table → table.is_counted ≡ false → stamped table params ≡ params
+      → accepts_terms terms params ≡ true → old.step_limit ≡ None
+      → IsSafe old.now.trees (source_edit table terms width params old.now.trees)
+      → (t : List ℕ) (stop : Option Error) → ¬ Does old.step_limit (mode_of old) params (desk_at extra old) t None (Insert at (Values terms width)) (Err stop)
+  insert_goes old params at table terms width there uncounted unstamped typed unlimited safe t stop h =
+      rows_go old params table (Insert at (Values terms width)) stop goes
+      (λ w done. made_refers extra are old.now.trees w.trees (source_edit table terms width params old.now.trees) safe
+      (insert_edits (task_for extra old table params) terms width old.now.trees w uncounted unstamped done)) (rw there at h)
     where
-      goes : (s : Option Error) → ¬ Deletes (task_for old table params) program old.now.trees (Err s)
-      goes s (inl k) = answered k.0 k.1
-      goes s (inr (rows, given, inl k)) =
-          edit_goes old.now.trees (edit_of old.now.trees table (ids_of rows) Given 0 []) (safe rows (given.answer Null)) k.0 k.1
-      goes s (inr (rows, given, inr k)) = gives_on s k.2
+      sourced : (stopped : Option Error) → ¬ Sourced old.step_limit (desk_at extra old) (stamped table params) (Values terms width) (Err stopped)
+      sourced None none = none
+      sourced (Some e) (inl (is, wrong)) =
+          let right : accepts_terms terms (stamped table params) ≡ true = rw unstamped typed in
+          let bad : true ≡ false = sym right ∙ wrong in cc
+      sourced (Some e) (inr (is, limit)) = let none : false ≡ true = subst (λ l. IsSome l) unlimited limit in cc
 
-      refers : (w : Written) → Deletes (task_for old table params) program old.now.trees (Ok w) → Refers All desk_schema w.trees
-      refers w done =
-          let found = went done in
-          let written = went found.2 in
-          subst (Refers All desk_schema) (sym (ap (λ (it : Written). it.trees) (same_value written.2)))
-          (made_refers old.now.trees written.0 (edit_of old.now.trees table (ids_of found.0) Given 0 []) (safe found.0 (found.1.answer Null)) written.1)
+      counter : (stopped : Option Error) → ¬ Counter (task_for extra old table params) old.now.trees (Err stopped)
+      counter stopped k = let e = rw uncounted at k in cc
+
+      edit_is : (rows : List Row) (counted : Option Row) → rows ≡ value_rows (stamped table params) width (length terms / width) terms
+          → edit_of old.now.trees table [] (rowids_for table (count_of counted)) 0 rows ≡ source_edit table terms width params old.now.trees
+      edit_is rows counted is =
+          ap (λ b. edit_of old.now.trees table [] (if b then Above (count_of counted) else Chosen) 0 rows) uncounted
+          ∙ ap (λ rs. edit_of old.now.trees table [] Chosen 0 rs) (is ∙ ap (λ ps. value_rows ps width (length terms / width) terms) unstamped)
+
+      counts : (mid : Trees) (counted : Option Row) (top : ℤ) (stopped : Option Error)
+          → ¬ Counts (task_for extra old table params) mid counted top (Err stopped)
+      counts mid counted top stopped k = let e = rw uncounted at k in cc
+
+      goes : (s : Option Error) → ¬ Inserts (task_for extra old table params) (Values terms width) old.now.trees (Err s)
+      goes s (inl k) = sourced k.0 k.1
+      goes s (inr (rows, given, inl k)) = counter k.0 k.1
+      goes s (inr (rows, given, inr (counted, known, inl k))) =
+          edit_goes extra are old.now.trees (source_edit table terms width params old.now.trees) safe k.0
+          (subst (λ e. Edited (desk_with extra) Enforced old.now.trees e (Err k.0)) (edit_is rows counted given.1) k.1)
+      goes s (inr (rows, given, inr (counted, known, inr (mid, edited, inl k)))) = counts mid counted _ k.0 k.1
+      goes s (inr (rows, given, inr (counted, known, inr (mid, edited, inr k)))) = gives_on s k.2
+
+  -- A query of one table is answered, and the edit of its rows is safe.
+  module _ (old : State) (params : Row) (table : Table) (tree : ℕ) (filter project : List Term) (unlimited : old.step_limit ≡ None)
+      (typed : accepts_program (desk_with extra) [] (sorted_rows tree filter project []) params ≡ true) where
+    abbrev program : Program
+    program = record { lets = []; body = sorted_rows tree filter project [] }
+
+    pub answered : (s : Option Error) → ¬ Queried old.step_limit (desk_at extra old) program params (Err s)
+    answered None none = none
+    answered (Some e) (inl (is, wrong)) = let bad : true ≡ false = sym typed ∙ wrong in cc
+    answered (Some e) (inr (inl (is, over))) = one_table tree filter project [] (overlay old.now.trees []) params over
+    answered (Some e) (inr (inr (is, limit))) = let none : false ≡ true = subst (λ l. IsSome l) unlimited limit in cc
+
+    -- an UPDATE whose edit is safe
+    pub update_goes : (at : ℕ) → slice_get desk_schema.tables at ≡ Some table
+        → ((rows : List Row) → IsAnswer (sorted_rows tree filter project []) (overlay old.now.trees []) params rows
+        → IsSafe old.now.trees (edit_of old.now.trees table (ids_of rows) Given 1 rows))
+        → (t : List ℕ) (stop : Option Error) → ¬ Does old.step_limit (mode_of old) params (desk_at extra old) t None (Update at program) (Err stop)
+    update_goes at there safe t stop h = rows_go old params table (Update at program) stop goes refers (rw there at h)
+      where
+        goes : (s : Option Error) → ¬ Updates (task_for extra old table params) program params old.now.trees (Err s)
+        goes s (inl k) = answered k.0 k.1
+        goes s (inr (rows, given, inl k)) =
+            edit_goes extra are old.now.trees (edit_of old.now.trees table (ids_of rows) Given 1 rows) (safe rows (given.answer Null)) k.0 k.1
+        goes s (inr (rows, given, inr k)) = gives_on s k.2
+
+        refers : (w : Written) → Updates (task_for extra old table params) program params old.now.trees (Ok w) → Refers All desk_schema w.trees
+        refers w done =
+            let found = went done in
+            let written = went found.2 in
+            subst (Refers All desk_schema) (sym (ap (λ (it : Written). it.trees) (same_value written.2)))
+            (made_refers extra are old.now.trees written.0 (edit_of old.now.trees table (ids_of found.0) Given 1 found.0) (safe found.0 (found.1.answer Null)) written.1)
+
+    -- a DELETE whose edit is safe
+    pub delete_goes : (at : ℕ) → slice_get desk_schema.tables at ≡ Some table
+        → ((rows : List Row) → IsAnswer (sorted_rows tree filter project []) (overlay old.now.trees []) params rows
+        → IsSafe old.now.trees (edit_of old.now.trees table (ids_of rows) Given 0 []))
+        → (t : List ℕ) (stop : Option Error) → ¬ Does old.step_limit (mode_of old) params (desk_at extra old) t None (Delete at program) (Err stop)
+    delete_goes at there safe t stop h = rows_go old params table (Delete at program) stop goes refers (rw there at h)
+      where
+        goes : (s : Option Error) → ¬ Deletes (task_for extra old table params) program old.now.trees (Err s)
+        goes s (inl k) = answered k.0 k.1
+        goes s (inr (rows, given, inl k)) =
+            edit_goes extra are old.now.trees (edit_of old.now.trees table (ids_of rows) Given 0 []) (safe rows (given.answer Null)) k.0 k.1
+        goes s (inr (rows, given, inr k)) = gives_on s k.2
+
+        refers : (w : Written) → Deletes (task_for extra old table params) program old.now.trees (Ok w) → Refers All desk_schema w.trees
+        refers w done =
+            let found = went done in
+            let written = went found.2 in
+            subst (Refers All desk_schema) (sym (ap (λ (it : Written). it.trees) (same_value written.2)))
+            (made_refers extra are old.now.trees written.0 (edit_of old.now.trees table (ids_of found.0) Given 0 []) (safe found.0 (found.1.answer Null)) written.1)

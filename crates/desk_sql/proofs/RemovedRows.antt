@@ -5,7 +5,7 @@ use Rattle.std.specs.List.{AllByRecursion, list_all, list_any}
 use Rattle.std.proofs.lemmas.Bool.{or_right}
 use Rattle.sqlite.specs.Order.{Row}
 use Rattle.sqlite.specs.Table.{Table}
-use Rattle.sqlite.specs.Edit.{Edit, edit_of, edited, Applies}
+use Rattle.sqlite.specs.Edit.{Edit, edit_of, edited}
 use Rattle.sqlite.specs.Rowids.TheVariants.{Given}
 use Rattle.sqlite.specs.Listing.{understood}
 use Rattle.sqlite_trees.specs.Tree.{Trees, with_tree, IsTable}
@@ -24,7 +24,7 @@ use Rattle.sqlite_rules.proofs.RuleLemmas.{Turns, unique_kept, origin, refers_at
 use Rattle.sqlite_rules.proofs.EditLemmas.{turns}
 use Rattle.sqlite_typing.specs.Types.{accepts_program}
 use Rattle.sqlite_tied.specs.Compute.{everything}
-use Rattle.desk_sql.specs.Schema.{desk_schema, to_journey, mark_at}
+use Rattle.desk_sql.specs.Schema.{desk_schema, desk_with, to_journey, mark_at}
 use Rattle.desk_sql.specs.Lists.{numbered_row}
 use Rattle.desk_sql.specs.Rows.{whole, MarkRow, mark_columns}
 use Rattle.desk_sql.specs.Changes.{drops_mark, is_mark_at}
@@ -41,7 +41,7 @@ use Rattle.desk_sql.proofs.Rowids.{rowids_kept, low_without}
 use Rattle.desk_sql.proofs.Storing.{table_of}
 use Rattle.desk_sql.proofs.Testing.{eq_whole, and_true}
 use Rattle.desk_sql.proofs.Updating.{table_deleted}
-use Rattle.desk_sql.proofs.Writing.{deletes}
+use Rattle.desk_sql.proofs.Writing.{Lands, deletes}
 
 -- only journeys are parents
 parent_same : (one two : Trees) (row : Row) (at : ℕ) → one 6 ≡ two 6
@@ -87,7 +87,7 @@ module _ (db : Trees) (rows : List Row) (ordered : IsTable (db 14)) (obeys : Obe
       let bad : true ≡ false = sym fine ∙ h in cc
   permitted TooDeep h = h
 
-  refers : (next : Trees) → Applies desk_schema Enforced db (edit db rows) next → Refers All desk_schema next
+  refers : (next : Trees) → Lands db (edit db rows) next → Refers All desk_schema next
   refers next made =
       let turn = turned next made.rows made.tables in
       let journeys : next 6 ≡ db 6 = made.tables.1.1.1.0 (λ same. (let bad : 6 ≡ 14 = same in omega (arith, bad))) in
@@ -101,7 +101,7 @@ module _ (db : Trees) (rows : List Row) (ordered : IsTable (db 14)) (obeys : Obe
       ])
 
   pub delete_safe : IsSafe db (edit db rows)
-  delete_safe = record { permitted = permitted; storable = λ row none large. none; refers = refers }
+  delete_safe = record { permitted = permitted; storable = λ row none. absurd none; refers = refers }
 
 abbrev place_params : ℕ → ℕ → Row
 place_params journey at = whole journey ∷ whole at ∷ []
@@ -111,9 +111,10 @@ place_test : (journey at : ℕ) (p : ℤ × MarkRow)
 place_test journey at p = simp eq_whole (simp and_true)
 
 place_says : (journey at : ℕ)
-    → Says delete_mark_text (delete 8 delete_mark_query) (place_params journey at) (accepts_program desk_schema [] delete_mark_query (place_params journey at))
+    → Says delete_mark_text (delete 8 delete_mark_query) (place_params journey at)
+    (λ extra. accepts_program (desk_with extra) [] delete_mark_query (place_params journey at))
 unfolding understood everything
-place_says journey at = record { means = record { is = refl; plain = (refl, refl) }; whole = refl; types = refl }
+place_says journey at = record { means = λ _. record { is = refl; plain = (refl, refl) }; whole = λ _. refl; types = λ _. refl }
 
 pub drops : (journey at : ℕ) → Effect delete_mark_text (place_params journey at) (λ _. ⊤) (drops_mark journey at) (λ _. ⊤) (λ _. ⊤) (λ _. ⊤) (λ n. n)
 drops journey at =
@@ -123,7 +124,7 @@ drops journey at =
       made = λ old new t count may any ran. (
           let db = old.now.trees in
           let shown = (may.sees ran.1.was_open).rows in
-          let it = deletes delete_mark_text params old new 8 (mark_at 14) delete_mark_query count says.means.is says.means.plain refl
+          let it = deletes delete_mark_text params old new 8 (mark_at 14) delete_mark_query count says.means refl
           (ready_of old t may ran.1.was_open) ran.0 in
           makes_at old new (edit db it.0) it.2 14 (edited db (edit db it.0)) (drops_mark journey at t) refl refl
           (with_mark db t shown (edited db (edit db it.0)) (filter (λ m. not (is_mark_at journey at m)) t.mark)
@@ -132,11 +133,12 @@ drops journey at =
       reason = λ old new t e room may any up ran. (
           let sees = may.sees up.is_open in
           write_reason delete_mark_text (delete 8 delete_mark_query) params says.means says.whole refl refl old new up sees.schema
-          (delete_goes old params (mark_at 14) 14 delete_mark_query.filter delete_mark_query.project up.unlimited says.types 8 refl
+          (delete_goes sees.schema.extra sees.schema.are old params (mark_at 14) 14 delete_mark_query.filter delete_mark_query.project up.unlimited
+          (says.types sees.schema.extra) 8 refl
           (λ rows asked. delete_safe old.now.trees rows (table_of mark_columns (old.now.trees 14) t.mark sees.rows.mark) (obeys_desk old t sees))) e ran);
       rowids = λ old new t count may any ran n has. (
           let db = old.now.trees in
-          let it = deletes delete_mark_text params old new 8 (mark_at 14) delete_mark_query count says.means.is says.means.plain refl
+          let it = deletes delete_mark_text params old new 8 (mark_at 14) delete_mark_query count says.means refl
           (ready_of old t may ran.1.was_open) ran.0 in
           rowids_kept old new (edit db it.0) it.2 n has (low_without n (db 14) (ids_of it.0) has.mark));
     }

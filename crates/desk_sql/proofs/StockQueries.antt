@@ -32,7 +32,7 @@ night_out s = (whole s.night ∷ [], whole s.night ∷ whole s.allot ∷ whole s
 
 says : (r : NightRange) → SaysQuery Two find_nights_text find_nights_query find_nights_names (range_params r)
 unfolding understood everything
-says r = record { means = record { is = refl; plain = (refl, refl); unlisted = refl; selects = refl }; takes = record { whole = refl; typed = refl } }
+says r = record { means = λ _. record { is = refl; plain = (refl, refl); unlisted = refl; selects = refl }; takes = λ _. record { whole = refl; typed = refl } }
 
 range_test : (r : NightRange) (p : ℤ × StockRow)
     → passes find_nights_query.filter (range_params r) (numbered_row stock_columns p) ≡ is_within r p.1

@@ -1,5 +1,5 @@
 -- Rows that the store can hold, rowids that are free, and keys that are new. For the lemmas of each statement that writes.
-use Rattle.std.proofs.Common.{◌≡◌, ◌<◌, ◌≤◌, ◌^◌, ◌+◌, ◌+ℤ◌, ◌<ℤ◌, ℕ, ℤ, pos, negsuc, zero, suc, inl, inr, Some, List, [], ◌∷◌, map, filter, length, fold, Bool, true, false, not, ◌&&◌, ◌||◌, Less, is_eq, refl, sym, ap, ap₂, subst, ◌∙◌, arith, nat_lt, nat_le, bytes_eq, ◌==◌, sum_by}
+use Rattle.std.proofs.Common.{◌≡◌, ◌<◌, ◌≤◌, ◌^◌, ◌+◌, ◌+ℤ◌, ◌<ℤ◌, ℕ, ℤ, pos, negsuc, zero, suc, ◌⊎◌, inl, inr, Some, List, [], ◌∷◌, ◌++◌, map, filter, length, fold, Bool, true, false, not, ◌&&◌, ◌||◌, Less, is_eq, refl, sym, ap, ap₂, subst, ◌∙◌, arith, nat_lt, nat_le, bytes_eq, ◌==◌, sum_by}
 use Rattle.std.specs.Float.{NotNan}
 use Rattle.std.specs.Float.Ieee
 use Rattle.std.specs.List.{AllByRecursion, list_all}
@@ -17,6 +17,7 @@ use Rattle.sqlite_trees.specs.Tree.{Trees, rowid, IsTable}
 use Rattle.sqlite_trees.specs.View.{IsStorable, IsStorableRow}
 use Rattle.sqlite_schema.specs.Rules.{equal, has_parent, table_reals, index_reals}
 use Rattle.sqlite_rules.specs.Edit.{id_in, is_taken, next_rowid, IsOversized}
+use Rattle.sqlite_rules.specs.Lists.{Has}
 use Rattle.sqlite_rules.proofs.ListLemmas.{some_from, all_has, has_kept}
 use Rattle.sqlite_rules.proofs.ProbeLemmas.{mapped_has}
 use Rattle.sqlite.specs.Ops.{fits_i64, binary, is_false, from_truth}
@@ -31,7 +32,7 @@ use Rattle.sqlite_schema.specs.declared.schema.Index.{Index}
 use Rattle.sqlite_tied.specs.Compute.{everything}
 use Rattle.desk_sql.specs.Lists.{numbered_row, IsTableOf, IsNumbered}
 use Rattle.desk_sql.specs.Rows.{whole, Tables, journey_row, Shows}
-use Rattle.desk_sql.specs.Schema.{desk_schema, to_journey}
+use Rattle.desk_sql.specs.Schema.{desk_schema, index_places, desk_with, IsExtra, to_journey}
 use Rattle.desk_sql.specs.Writable.{AreLow, HasJourney}
 use Rattle.desk_sql.proofs.Keyed.{int_below, next_above, is_table}
 use Rattle.desk_sql.proofs.Tables.{id_of, value_of, own_rise}
@@ -90,18 +91,39 @@ storable reals row none plainly short =
         few : (n : ℕ) → nat_le n 2001 ≡ true → n ≤ 2001
         few n t = grind (arith, nat_tests)
 
--- the row fits the store, and so does its entry in each index
+-- the row fits the store, and so does its entry in each index, whatever indexes there are beside those of the keys
+abbrev pub NeverOversized : Table → Row → Type 0
+NeverOversized table row = (extra : List Index) → AllByRecursion IsExtra extra → ¬ IsOversized (desk_with extra) table row
+
+-- the entry of the row under these columns fits the store
+abbrev EntryFits : Table → Row → List ℕ → Type 0
+EntryFits table row columns = IsStorable (index_reals (table_reals table) columns) (entry_of columns row)
+
+alike : (a b : ℕ) → a ≡ b → (a == b) ≡ true
+alike a b same = grind (arith, nat_tests)
+
+extra_fits : (table : Table) (row : Row) (i : Index) → IsExtra i → i.table ≡ table.tree
+    → AllByRecursion (λ (p : ℕ × List ℕ). EntryFits table row p.1) (filter (λ (p : ℕ × List ℕ). p.0 == table.tree) index_places)
+    → EntryFits table row i.columns
+extra_fits table row i it of entries =
+    all_has (λ (p : ℕ × List ℕ). EntryFits table row p.1) (filter (λ (p : ℕ × List ℕ). p.0 == table.tree) index_places) (i.table, i.columns) entries
+    (has_kept (λ (p : ℕ × List ℕ). p.0 == table.tree) index_places (i.table, i.columns) it.place (alike i.table table.tree of))
+
+has_either : {X : Type 0} (xs ys : List X) (x : X) → Has (xs ++ ys) x → Has xs x ⊎ Has ys x
+has_either [] ys x there = inr there
+has_either (y ∷ xs) ys x (inl is) = inl (inl is)
+has_either (y ∷ xs) ys x (inr later) = elim (has_either xs ys x later) [ inl one ↦ inl (inr one) | inr two ↦ inr two ]
+
 pub held_from : (table : Table) (row : Row) → IsStorableRow (table_reals table) row
-    → AllByRecursion (λ (i : Index). IsStorable (index_reals (table_reals table) i.columns) (entry_of i.columns row))
-    (filter (λ (i : Index). i.table == table.tree) desk_schema.indexes) → ¬ IsOversized desk_schema table row
-held_from table row whole entries (inl large) = large whole
-held_from table row whole entries (inr (i, known, of, large)) =
-    large (all_has (λ (x : Index). IsStorable (index_reals (table_reals table) x.columns) (entry_of x.columns row))
-    (filter (λ (x : Index). x.table == table.tree) desk_schema.indexes) i entries
-    (has_kept (λ (x : Index). x.table == table.tree) desk_schema.indexes i known (alike i.table table.tree of)))
-  where
-    alike : (a b : ℕ) → a ≡ b → (a == b) ≡ true
-    alike a b same = grind (arith, nat_tests)
+    → AllByRecursion (λ (i : Index). EntryFits table row i.columns) (filter (λ (i : Index). i.table == table.tree) desk_schema.indexes)
+    → AllByRecursion (λ (p : ℕ × List ℕ). EntryFits table row p.1) (filter (λ (p : ℕ × List ℕ). p.0 == table.tree) index_places)
+    → NeverOversized table row
+held_from table row whole keys others extra are (inl large) = large whole
+held_from table row whole keys others extra are (inr (i, known, of, large)) = elim (has_either desk_schema.indexes extra i known) [
+  | inl key ↦ large (all_has (λ (x : Index). EntryFits table row x.columns) (filter (λ (x : Index). x.table == table.tree) desk_schema.indexes) i keys
+      (has_kept (λ (x : Index). x.table == table.tree) desk_schema.indexes i key (alike i.table table.tree of)))
+  | inr other ↦ large (extra_fits table row i (all_has IsExtra extra i are other) of others)
+]
 
 -- Rowids.
 

@@ -27,7 +27,7 @@ use Rattle.sqlite_rules.proofs.ListLemmas.{all_has, has_got}
 use Rattle.sqlite_rules.proofs.ProbeLemmas.{mapped_has}
 use Rattle.sqlite_rules.proofs.RuleLemmas.{keeps_at}
 use Rattle.sqlite_typing.specs.Types.{accepts_program}
-use Rattle.desk_sql.specs.Schema.{desk_schema, stock_at}
+use Rattle.desk_sql.specs.Schema.{desk_schema, desk_with, stock_at}
 use Rattle.desk_sql.specs.Lists.{numbered_row, IsTableOf, changed}
 use Rattle.desk_sql.specs.Rows.{Tables, Shows, StockRow, stock_columns}
 use Rattle.desk_sql.specs.Calls.{Sees, MayRun}
@@ -51,7 +51,7 @@ use Rattle.desk_sql.proofs.Places
 -- the text replaces the rows of the tree that pass the tests by those that it shows
 abbrev pub SaysUpdate : List ℕ → ℕ → ℕ → List Term → List Term → Row → Type 0
 SaysUpdate text at tree tests project params =
-    Says text (update at (every_row tree tests project)) params (accepts_program desk_schema [] (every_row tree tests project) params)
+    Says text (update at (every_row tree tests project)) params (λ extra. accepts_program (desk_with extra) [] (every_row tree tests project) params)
 
 -- the rowids of the table are chosen by the store, or none of them is
 abbrev pub Numbering : Table → Type 0
@@ -82,7 +82,7 @@ module _ {X Y : Type 0} {at : ℕ} {table : Table} {f : Y → Row} {id : Y → �
   asks : (old new : State) (t : Tables) (count : ℕ) → MayRun old t → ExecutesInside 0 text params old new (Ok count)
       → (rows : List Row) × IsAnswer q (overlay old.now.trees []) params rows × Edits old new (edit old.now.trees rows)
   asks old new t count may ran =
-      updates text params old new at table q count says.means.is says.means.plain place.there (ready_of old t may ran.1.was_open) ran.0
+      updates text params old new at table q count says.means place.there (ready_of old t may ran.1.was_open) ran.0
 
   rows_after : (db : Trees) (t : Tables) (shows : Shows db t) → Seen t → (rows : List Row) → IsAnswer q (overlay db []) params rows
       → are_fresh (left_by db (edit db rows)) (edit db rows).news ≡ true
@@ -120,7 +120,8 @@ module _ {X Y : Type 0} {at : ℕ} {table : Table} {f : Y → Row} {id : Y → �
     reason = λ old new t e room may fits up ran. (
         let sees = may.sees up.is_open in
         write_reason text (update at q) params says.means says.whole refl refl old new up sees.schema
-        (update_goes old params table table.tree tests project up.unlimited says.types at place.there (safe old t room fits sees)) e ran);
+        (update_goes sees.schema.extra sees.schema.are old params table table.tree tests project up.unlimited (says.types sees.schema.extra)
+        at place.there (safe old t room fits sees)) e ran);
     rowids = λ old new t count may seen ran n has. (
         let db = old.now.trees in
         let shows = (may.sees ran.1.was_open).rows in
@@ -191,7 +192,7 @@ stock_fit db id s fits kind low short =
       keyed = refl;
       fits = fits;
       storable = held_from (stock_at 1) (numbered_row stock_columns (id, s)) (storable _ (numbered_row stock_columns (id, s)) refl refl (omega (arith, short)), omega arith)
-          (storable _ _ refl refl (omega (arith, short)), tt);
+          (storable _ _ refl refl (omega (arith, short)), tt) tt;
     }
 
 -- the kind of a row of stock is in range

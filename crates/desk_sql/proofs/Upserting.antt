@@ -23,10 +23,14 @@ use Rattle.sqlite.specs.declared.error.Error.{Error}
 use Rattle.sqlite.specs.Effect.{value_rows, edit_error}
 use Rattle.sqlite.specs.Listing.{understood}
 use Rattle.sqlite.specs.State.{State, Executes}
-use Rattle.sqlite.proofs.Callers.{IsPlain, command_of, statement_of, runs_as}
-use Rattle.desk_sql.specs.Schema.{desk_schema, stock_at}
+use Rattle.sqlite.proofs.Callers.{statement_of}
+use Rattle.sqlite_schema.specs.declared.schema.Index.{Index}
+use Rattle.std.specs.List.{AllByRecursion}
+use Rattle.desk_sql.specs.Schema.{desk_schema, desk_with, IsExtra, stock_at}
 use Rattle.desk_sql.specs.Calls.{IsReady}
-use Rattle.desk_sql.proofs.Writing.{went, same_value, on_rows, task_for, does_so, edits_so, Edits}
+use Rattle.desk_sql.proofs.Indexes.{are_conflicts}
+use Rattle.desk_sql.proofs.Meaning.{Means}
+use Rattle.desk_sql.proofs.Writing.{went, same_value, on_rows, task_for, does_so, edits_so, runs_ready, Edits}
 
 -- the columns of the key
 abbrev pub target : List ℕ
@@ -45,81 +49,84 @@ IsPut db params q new edit =
     (found : List Row) × AreConflicts (Some target) desk_schema.indexes (stock_at 1) (db 1) new found
     × (((found ≡ []) × (edit ≡ edit_of db (stock_at 1) [] Given 0 (new ∷ []))) ⊎ Replaces db params q new found edit)
 
-abbrev pub task_of : State → Row → Task
-task_of old params = task_for old (stock_at 1) params
+abbrev pub task_of : List Index → State → Row → Task
+task_of extra old params = task_for extra old (stock_at 1) params
 
-module _ (old : State) (params : Row) (q : Program) where
-  abbrev pub clause : Upsert
-  clause = record { target = Some target; update = Some q }
+abbrev pub clause : Program → Upsert
+clause q = record { target = Some target; update = Some q }
 
+module _ (extra : List Index) (are : AllByRecursion IsExtra extra) (old : State) (params : Row) (q : Program) where
   -- the row is inserted, or the rows of the query replace those with its key
   abbrev pub Ends : Row → Trees → Part Written
   Ends new db out =
       (found : List Row) × AreConflicts (Some target) desk_schema.indexes (stock_at 1) (db 1) new found
-      × Meets (task_of old params) (Puts (task_of old params) new db) new db clause found out
+      × Meets (task_of extra old params) (Puts (task_of extra old params) new db) new db (clause q) found out
 
-  clears : (new : Row) (db : Trees) (found : List Row) (out : Result Written (Option Error)) → Clears (task_of old params) Abort new db found out → Puts (task_of old params) new db out
+  clears : (new : Row) (db : Trees) (found : List Row) (out : Result Written (Option Error)) → Clears (task_of extra old params) Abort new db found out → Puts (task_of extra old params) new db out
   clears new db [] out h = h
   clears new db (x ∷ more) out h = h
 
-  ends : (new : Row) (db : Trees) (w : Written) → Upserts (task_of old params) Abort new db (clause ∷ []) (Ok w) → Ends new db (Ok w)
-  ends new db w ([], conflicts, h) = ([], conflicts, clears new db h.0 (Ok w) h.2)
-  ends new db w (there ∷ more, conflicts, h) = (there ∷ more, conflicts, h)
+  ends : (new : Row) (db : Trees) (w : Written) → Upserts (task_of extra old params) Abort new db (clause q ∷ []) (Ok w) → Ends new db (Ok w)
+  ends new db w ([], conflicts, h) = ([], are_conflicts extra are conflicts, clears new db h.0 (Ok w) h.2)
+  ends new db w (there ∷ more, conflicts, h) = (there ∷ more, are_conflicts extra are conflicts, h)
 
-  judged : (new : Row) (db : Trees) (w : Written) (verdict : Option Refusal) → Judged (task_of old params) Abort (clause ∷ []) new db verdict (Ok w) → Ends new db (Ok w)
+  judged : (new : Row) (db : Trees) (w : Written) (verdict : Option Refusal) → Judged (task_of extra old params) Abort (clause q ∷ []) new db verdict (Ok w) → Ends new db (Ok w)
   judged new db w None h = ends new db w h
   judged new db w (Some why) h = absurd (let e : ◌≡◌ {A = Result Written (Option Error)} (Ok w) (Err (Some (edit_error why))) = h in cc)
 
-  tried : (new : Row) (db : Trees) (w : Written) → Tries (task_of old params) Abort (clause ∷ []) new db (Ok w) → Ends new db (Ok w)
+  tried : (new : Row) (db : Trees) (w : Written) → Tries (task_of extra old params) Abort (clause q ∷ []) new db (Ok w) → Ends new db (Ok w)
   tried new db w (inl h) = absurd (let e = h.1 in cc)
   tried new db w (inr h) = judged new db w h.0 h.2
 
 -- one row of VALUES is tried, and no count is kept
-pub tries_one : (old : State) (params : Row) (q : Program) (terms : List Term) (width : ℕ) (db : Trees) (source : Row) (w : Written)
+pub tries_one : (extra : List Index) (are : AllByRecursion IsExtra extra) (old : State) (params : Row) (q : Program) (terms : List Term) (width : ℕ) (db : Trees) (source : Row) (w : Written)
     → stamped (stock_at 1) params ≡ params → value_rows params width (length terms / width) terms ≡ source ∷ []
-    → InsertsOr (task_of old params) Abort (clause old params q ∷ []) (Values terms width) db (Ok w)
-    → (one : Written) × Ends old params q (with_rowid Chosen (db 1) (cast_row (stock_at 1) source)) db (Ok one) × (w.trees ≡ one.trees)
-tries_one old params q terms width db source w unstamped rows h =
+    → InsertsOr (task_of extra old params) Abort (clause q ∷ []) (Values terms width) db (Ok w)
+    → (one : Written) × Ends extra are old params q (with_rowid Chosen (db 1) (cast_row (stock_at 1) source)) db (Ok one) × (w.trees ≡ one.trees)
+tries_one extra are old params q terms width db source w unstamped rows h =
     let given = went h in
     let counted = went given.2 in
     let each = went counted.2 in
     let noted = went each.2 in
     let first : given.0 ≡ source ∷ [] = given.1.1 ∙ ap (λ ps. value_rows ps width (length terms / width) terms) unstamped ∙ rows in
-    let tries = went (subst (λ rs. TriesEach (task_of old params) Abort (clause old params q ∷ []) rs (count_of counted.0) (nothing db) (Ok each.0)) first each.1) in
+    let tries = went (subst (λ rs. TriesEach (task_of extra old params) Abort (clause q ∷ []) rs (count_of counted.0) (nothing db) (Ok each.0)) first each.1) in
     let new = with_rowid Chosen (db 1) (cast_row (stock_at 1) source) in
     let trees : w.trees ≡ tries.0.trees = ap (λ (it : Written). it.trees) (same_value noted.2) ∙ same_value noted.1 ∙ ap (λ (p : Written × ℤ). p.0.trees) (same_value tries.2) in
-    (tries.0, tried old params q new db tries.0 tries.1, trees)
+    (tries.0, tried extra are old params q new db tries.0 tries.1, trees)
 
-ends_in : (old : State) (params : Row) (q : Query) (new : Row) (w : Written) → Ends old params (record { lets = []; body = q }) new old.now.trees (Ok w)
-    → (edit : Edit) × IsPut old.now.trees params q new edit × Edited desk_schema Enforced old.now.trees edit (Ok w.trees)
-ends_in old params q new w ([], conflicts, h) =
+ends_in : (extra : List Index) (are : AllByRecursion IsExtra extra) (old : State) (params : Row) (q : Query) (new : Row) (w : Written)
+    → Ends extra are old params (record { lets = []; body = q }) new old.now.trees (Ok w)
+    → (edit : Edit) × IsPut old.now.trees params q new edit × Edited (desk_with extra) Enforced old.now.trees edit (Ok w.trees)
+ends_in extra are old params q new w ([], conflicts, h) =
     let edit = edit_of old.now.trees (stock_at 1) [] Given 0 (new ∷ []) in
     let all = went h in (
       edit,
       ([], conflicts, inl (refl, refl)),
-      subst (λ (t : Trees). Edited desk_schema Enforced old.now.trees edit (Ok t)) (sym (ap (λ (it : Written). it.trees) (same_value all.2))) all.1,
+      subst (λ (t : Trees). Edited (desk_with extra) Enforced old.now.trees edit (Ok t)) (sym (ap (λ (it : Written). it.trees) (same_value all.2))) all.1,
     )
-ends_in old params q new w (there ∷ more, conflicts, h) =
+ends_in extra are old params q new w (there ∷ more, conflicts, h) =
     let found = went h in
     let written = went found.2 in
     let edit = edit_of old.now.trees (stock_at 1) (ids_of found.0) Given 1 found.0 in (
       edit,
       (there ∷ more, conflicts, inr (there, more, refl, found.0, found.1.answer Null, refl)),
-      subst (λ (t : Trees). Edited desk_schema Enforced old.now.trees edit (Ok t)) (sym (ap (λ (it : Written). it.trees) (same_value written.2))) written.1,
+      subst (λ (t : Trees). Edited (desk_with extra) Enforced old.now.trees edit (Ok t)) (sym (ap (λ (it : Written). it.trees) (same_value written.2))) written.1,
     )
 
 pub upserts : (sql : List ℕ) (params : Row) (old new : State) (terms : List Term) (width : ℕ) (q : Query) (source : Row) (count : ℕ)
-    → command_of (understood desk_schema sql) ≡ InsertOr 1 Abort (Values terms width) (clause old params (record { lets = []; body = q }) ∷ []) → IsPlain (understood desk_schema sql)
+    → Means sql (InsertOr 1 Abort (Values terms width) (clause (record { lets = []; body = q }) ∷ []))
     → stamped (stock_at 1) params ≡ params → value_rows params width (length terms / width) terms ≡ source ∷ []
     → IsReady old → Executes sql params old new (Ok count)
     → (edit : Edit) × IsPut old.now.trees params q (with_rowid Chosen (old.now.trees 1) (cast_row (stock_at 1) source)) edit × Edits old new edit
-upserts sql params old new terms width q source count is plain unstamped rows ready h =
-    let command = InsertOr 1 Abort (Values terms width) (clause old params (record { lets = []; body = q }) ∷ []) in
-    let text = statement_of sql (understood desk_schema sql) in
-    let ran = runs_as sql params old new desk_schema ready.schema command is plain count h in
-    let done = on_rows old params text (stock_at 1) ran.tally new.now command (does_so text params old new command count ready ran) in
-    let one = tries_one old params (record { lets = []; body = q }) terms width old.now.trees source done.0 unstamped rows done.1 in
-    let put = ends_in old params q (with_rowid Chosen (old.now.trees 1) (cast_row (stock_at 1) source)) one.0 one.1 in
+upserts sql params old new terms width q source count means unstamped rows ready h =
+    let command = InsertOr 1 Abort (Values terms width) (clause (record { lets = []; body = q }) ∷ []) in
+    let extra = ready.schema.extra in
+    let are = ready.schema.are in
+    let text = statement_of sql (understood (desk_with extra) sql) in
+    let ran = runs_ready sql params old new command count means ready h in
+    let done = on_rows extra old params text (stock_at 1) ran.tally new.now command (does_so text params old new command count ready ran) in
+    let one = tries_one extra are old params (record { lets = []; body = q }) terms width old.now.trees source done.0 unstamped rows done.1 in
+    let put = ends_in extra are old params q (with_rowid Chosen (old.now.trees 1) (cast_row (stock_at 1) source)) one.0 one.1 in
     (put.0, put.1, edits_so text params old new command count ready ran put.0 done.0 done.2 one.0.trees one.2 put.2)
 
 pub put_tree : (db : Trees) (params : Row) (q : Query) (new : Row) (edit : Edit) → IsPut db params q new edit → edit.table.tree ≡ 1

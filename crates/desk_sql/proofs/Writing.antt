@@ -1,5 +1,5 @@
 -- The effect of a statement that writes on the desk's tables, by its meaning. For the lemmas of each statement.
-use Rattle.std.proofs.Common.{◌≡◌, ◌<◌, ◌^◌, pos, to_z, w64, fold, MatchBool, if◌then◌else◌, subst₂, ◌⊎◌, inl, inr, ℕ, ◌/◌, List, [], length, slice_get, Bool, true, false, cond, Some, None, Ok, Err, Result, refl, sym, ap, subst, ◌∙◌, arith}
+use Rattle.std.proofs.Common.{◌≡◌, ◌≢◌, ◌<◌, ◌^◌, pos, to_z, w64, fold, MatchBool, if◌then◌else◌, subst₂, ◌⊎◌, inl, inr, ℕ, ◌/◌, List, [], length, slice_get, Bool, true, false, cond, Some, None, Ok, Err, Result, refl, sym, ap, subst, ◌∙◌, arith}
 use Rattle.sqlite.specs.declared.types.Value.{Value}
 use Rattle.sqlite.specs.declared.types.Value.TheVariants.{Null}
 use Rattle.std.proofs.lemmas.Int.{ints}
@@ -14,11 +14,14 @@ use Rattle.sqlite.specs.Tree.{Trees}
 use Rattle.sqlite.specs.Source.TheVariants.{Values}
 use Rattle.sqlite.specs.Command.{Command}
 use Rattle.sqlite.specs.Command.TheVariants.{Insert, Update, Delete}
-use Rattle.sqlite.specs.Edit.{Edit, edit_of, taken_by, Applies}
+use Rattle.sqlite.specs.Edit.{Edit, edit_of, edited, taken_by, Applies}
 use Rattle.sqlite.specs.Rowids.TheVariants.{Chosen, Above, Given}
 use Rattle.sqlite.specs.Query.{Query, IsAnswer}
 use Rattle.sqlite.specs.Program.{overlay}
 use Rattle.sqlite_rules.specs.Calls.{ids_of}
+use Rattle.sqlite_rules.specs.Edit.{are_fresh, left_by}
+use Rattle.sqlite_schema.specs.declared.schema.Index.{Index}
+use Rattle.std.specs.List.{AllByRecursion}
 use Rattle.sqlite_schema.specs.declared.schema.Action.TheVariants.{NoAction}
 use Rattle.sqlite_schema.specs.declared.schema.Keys.TheVariants.{Enforced}
 use Rattle.sqlite_rules.specs.Action.{works}
@@ -27,10 +30,12 @@ use Rattle.sqlite.specs.declared.run.Mode.{Mode}
 use Rattle.sqlite.specs.Rows.{Written, Task, Inserts, Edited, CountsIn, Gives, stamped, sequence, count_of, higher, rowids_for}
 use Rattle.sqlite.specs.Effect.{Database, IsDatabase, value_rows}
 use Rattle.sqlite.specs.Listing.{understood}
-use Rattle.sqlite.specs.State.{State, mode_of, Executes, Shows, Writes}
-use Rattle.sqlite.proofs.Callers.{IsPlain, command_of, statement_of, runs_as, one_step}
-use Rattle.desk_sql.specs.Schema.{desk_schema}
+use Rattle.sqlite.specs.State.{State, mode_of, Executes, Shows, Writes, Runs}
+use Rattle.sqlite.proofs.Callers.{statement_of, runs_as, one_step}
+use Rattle.desk_sql.specs.declared.versions.Version.TheVariants.{Two}
+use Rattle.desk_sql.specs.Schema.{desk_schema, desk_with, IsSchemaOf}
 use Rattle.desk_sql.specs.Calls.{IsReady}
+use Rattle.desk_sql.proofs.Meaning.{Means}
 
 either : (b : Bool) (x : Value) → cond b x x ≡ x
 either true x = refl
@@ -53,27 +58,37 @@ went (inr on) = on
 pub same_value : {B E : Type 0} {a b : B} → ◌≡◌ {A = Result B E} (Ok a) (Ok b) → a ≡ b
 same_value e = cc
 
+-- the table has the rows of the edit, and each other table is as it was; nothing is said of indexes
+pub record Lands (db : Trees) (edit : Edit) (next : Trees) : Type 0 where
+  pub fresh : are_fresh (left_by db edit) edit.news ≡ true
+  pub rows : next edit.table.tree ≡ edited db edit
+  pub tables : AllByRecursion (λ t. t.tree ≢ edit.table.tree → next t.tree ≡ db t.tree) desk_schema.tables
+
+pub lands : (extra : List Index) (db next : Trees) (edit : Edit) → Applies (desk_with extra) Enforced db edit next → Lands db edit next
+lands extra db next edit it = record { fresh = it.fresh; rows = it.rows; tables = it.tables }
+
 -- one table was edited, and no other table
 pub record Edits (old new : State) (edit : Edit) : Type 0 where
-  pub schema : new.now.schema ≡ desk_schema
-  pub applies : Applies desk_schema Enforced old.now.trees edit new.now.trees
+  pub schema : IsSchemaOf Two new.now.schema
+  pub applies : Lands old.now.trees edit new.now.trees
   pub shown : Shows old new new.now old.committed true
   pub sound : IsDatabase new.now
 
 abbrev pub source_edit : Table → List Term → ℕ → Row → Trees → Edit
 source_edit table terms width params db = edit_of db table [] Chosen 0 (value_rows params width (length terms / width) terms)
 
-abbrev pub task_for : State → Table → Row → Task
-task_for old table params = record { limit = old.step_limit; keys = Enforced; schema = desk_schema; table = table; params = params }
+abbrev pub task_for : List Index → State → Table → Row → Task
+task_for extra old table params = record { limit = old.step_limit; keys = Enforced; schema = desk_with extra; table = table; params = params }
 
 concludes : (task : Task) (mode : Mode) (w : Written) (tally : Tally) (after : Database) → Concludes task mode None w (Ok (tally, after)) → after ≡ record { schema = task.schema; trees = w.trees }
 concludes task mode w tally after h = ap (λ (p : Tally × Database). p.1) (same_value (went (went h).2).2)
 
 -- a statement on the rows of a table writes the rows, and nothing more
-pub on_rows : (old : State) (params : Row) (text : List ℕ) (table : Table) (tally : Tally) (after : Database) (command : Command)
-    → OnRows (task_for old table params) (mode_of old) None command old.now.trees (Ok (tally, after))
-    → (w : Written) × WritesRows (task_for old table params) old.now.trees command (Ok w) × (after ≡ record { schema = desk_schema; trees = w.trees })
-on_rows old params text table tally after command h = let all = went h in (all.0, all.1, concludes (task_for old table params) (mode_of old) all.0 tally after all.2)
+pub on_rows : (extra : List Index) (old : State) (params : Row) (text : List ℕ) (table : Table) (tally : Tally) (after : Database) (command : Command)
+    → OnRows (task_for extra old table params) (mode_of old) None command old.now.trees (Ok (tally, after))
+    → (w : Written) × WritesRows (task_for extra old table params) old.now.trees command (Ok w) × (after ≡ record { schema = desk_with extra; trees = w.trees })
+on_rows extra old params text table tally after command h =
+    let all = went h in (all.0, all.1, concludes (task_for extra old table params) (mode_of old) all.0 tally after all.2)
 
 -- the rows of VALUES are inserted by one edit
 pub insert_edits : (task : Task) (terms : List Term) (width : ℕ) (db : Trees) (w : Written) → task.table.is_counted ≡ false → stamped task.table task.params ≡ task.params
@@ -95,53 +110,65 @@ no_action true = refl
 no_action false = refl
 
 -- no foreign key of the desk has an action
-pub idle : (depth tree : ℕ) (olds news : List Row) → works desk_schema Enforced depth tree olds news ≡ []
-idle depth tree olds news = simp no_action
+pub idle : (extra : List Index) (depth tree : ℕ) (olds news : List Row) → works (desk_with extra) Enforced depth tree olds news ≡ []
+idle extra depth tree olds news = simp no_action
 
 -- A statement that was run in a transaction that is ready.
 module _ (text : List ℕ) (params : Row) (old new : State) (command : Command) (count : ℕ) (ready : IsReady old)
     (ran : Writes old new None command text params count) where
+  abbrev extra : List Index
+  extra = ready.schema.extra
+
   -- it did what its command says
-  pub does_so : Does old.step_limit (mode_of old) params (record { schema = desk_schema; trees = old.now.trees }) text None command (Ok (ran.tally, new.now))
-  does_so = subst (λ s. Does old.step_limit (mode_of old) params (record old.now { schema = s }) text None command (Ok (ran.tally, new.now))) ready.schema ran.changed
+  pub does_so : Does old.step_limit (mode_of old) params (record { schema = desk_with extra; trees = old.now.trees }) text None command (Ok (ran.tally, new.now))
+  does_so = subst (λ s. Does old.step_limit (mode_of old) params (record old.now { schema = s }) text None command (Ok (ran.tally, new.now))) ready.schema.is ran.changed
 
   -- and left what the one edit of its rows leaves
-  pub edits_so : (edit : Edit) (w : Written) → new.now ≡ record { schema = desk_schema; trees = w.trees } → (mid : Trees) → w.trees ≡ mid
-      → Edited desk_schema Enforced old.now.trees edit (Ok mid) → Edits old new edit
+  pub edits_so : (edit : Edit) (w : Written) → new.now ≡ record { schema = desk_with extra; trees = w.trees } → (mid : Trees) → w.trees ≡ mid
+      → Edited (desk_with extra) Enforced old.now.trees edit (Ok mid) → Edits old new edit
   edits_so edit w now mid trees edited =
-      let step : Applies desk_schema Enforced old.now.trees edit mid
-      = one_step desk_schema Enforced old.now.trees mid edit (idle 0 edit.table.tree (taken_by old.now.trees edit) edit.news) edited in
+      let step : Applies (desk_with extra) Enforced old.now.trees edit mid
+      = one_step (desk_with extra) Enforced old.now.trees mid edit (idle extra 0 edit.table.tree (taken_by old.now.trees edit) edit.news) edited in
       record {
-        schema = ap (λ (d : Database). d.schema) now;
-        applies = subst (λ (t : Trees). Applies desk_schema Enforced old.now.trees edit t) (sym (ap (λ (d : Database). d.trees) now ∙ trees)) step;
+        schema = record { extra = extra; are = ready.schema.are; is = ap (λ (d : Database). d.schema) now };
+        applies = subst (λ (t : Trees). Lands old.now.trees edit t) (sym (ap (λ (d : Database). d.trees) now ∙ trees))
+            (lands extra old.now.trees mid edit step);
         shown = subst (λ b. Shows old new new.now (if b then old.committed else new.now) b) ready.inside ran.shown;
         sound = ran.sound;
       }
 
+-- the text of a statement that was run, and what it did
+pub runs_ready : (sql : List ℕ) (params : Row) (old new : State) (command : Command) (count : ℕ) → Means sql command → (ready : IsReady old)
+    → Executes sql params old new (Ok count)
+    → Runs old new None command (statement_of sql (understood (desk_with ready.schema.extra) sql)) params count
+runs_ready sql params old new command count means ready h =
+    let extra = ready.schema.extra in
+    runs_as sql params old new (desk_with extra) ready.schema.is command (means extra).is (means extra).plain count h
+
 pub inserts : (sql : List ℕ) (params : Row) (old new : State) (at : ℕ) (table : Table) (terms : List Term) (width count : ℕ)
-    → command_of (understood desk_schema sql) ≡ Insert at (Values terms width) → IsPlain (understood desk_schema sql)
+    → Means sql (Insert at (Values terms width))
     → slice_get desk_schema.tables at ≡ Some table → table.is_counted ≡ false → stamped table params ≡ params
-    → works desk_schema Enforced 0 table.tree [] (source_edit table terms width params old.now.trees).news ≡ []
     → IsReady old → Executes sql params old new (Ok count) → Edits old new (source_edit table terms width params old.now.trees)
-inserts sql params old new at table terms width count is plain there uncounted unstamped none ready h =
+inserts sql params old new at table terms width count means there uncounted unstamped ready h =
     let command = Insert at (Values terms width) in
-    let text = statement_of sql (understood desk_schema sql) in
-    let ran = runs_as sql params old new desk_schema ready.schema command is plain count h in
-    let done = on_rows old params text table ran.tally new.now command (rw there at (does_so text params old new command count ready ran)) in
+    let extra = ready.schema.extra in
+    let text = statement_of sql (understood (desk_with extra) sql) in
+    let ran = runs_ready sql params old new command count means ready h in
+    let done = on_rows extra old params text table ran.tally new.now command (rw there at (does_so text params old new command count ready ran)) in
     edits_so text params old new command count ready ran (source_edit table terms width params old.now.trees) done.0 done.2 done.0.trees refl
-    (insert_edits (task_for old table params) terms width old.now.trees done.0 uncounted unstamped done.1)
+    (insert_edits (task_for extra old table params) terms width old.now.trees done.0 uncounted unstamped done.1)
 
 -- an UPDATE deletes the rows that its query names, and inserts those that it shows
 pub updates : (sql : List ℕ) (params : Row) (old new : State) (at : ℕ) (table : Table) (q : Query) (count : ℕ)
-    → command_of (understood desk_schema sql) ≡ Update at (record { lets = []; body = q }) → IsPlain (understood desk_schema sql)
-    → slice_get desk_schema.tables at ≡ Some table
+    → Means sql (Update at (record { lets = []; body = q })) → slice_get desk_schema.tables at ≡ Some table
     → IsReady old → Executes sql params old new (Ok count)
     → (rows : List Row) × IsAnswer q (overlay old.now.trees []) params rows × Edits old new (edit_of old.now.trees table (ids_of rows) Given 1 rows)
-updates sql params old new at table q count is plain there ready h =
+updates sql params old new at table q count means there ready h =
     let command = Update at (record { lets = []; body = q }) in
-    let text = statement_of sql (understood desk_schema sql) in
-    let ran = runs_as sql params old new desk_schema ready.schema command is plain count h in
-    let done = on_rows old params text table ran.tally new.now command (rw there at (does_so text params old new command count ready ran)) in
+    let extra = ready.schema.extra in
+    let text = statement_of sql (understood (desk_with extra) sql) in
+    let ran = runs_ready sql params old new command count means ready h in
+    let done = on_rows extra old params text table ran.tally new.now command (rw there at (does_so text params old new command count ready ran)) in
     let found = went done.1 in
     let written = went found.2 in (
       found.0,
@@ -152,15 +179,15 @@ updates sql params old new at table q count is plain there ready h =
 
 -- a DELETE deletes the rows that its query names
 pub deletes : (sql : List ℕ) (params : Row) (old new : State) (at : ℕ) (table : Table) (q : Query) (count : ℕ)
-    → command_of (understood desk_schema sql) ≡ Delete at (record { lets = []; body = q }) → IsPlain (understood desk_schema sql)
-    → slice_get desk_schema.tables at ≡ Some table
+    → Means sql (Delete at (record { lets = []; body = q })) → slice_get desk_schema.tables at ≡ Some table
     → IsReady old → Executes sql params old new (Ok count)
     → (rows : List Row) × IsAnswer q (overlay old.now.trees []) params rows × Edits old new (edit_of old.now.trees table (ids_of rows) Given 0 [])
-deletes sql params old new at table q count is plain there ready h =
+deletes sql params old new at table q count means there ready h =
     let command = Delete at (record { lets = []; body = q }) in
-    let text = statement_of sql (understood desk_schema sql) in
-    let ran = runs_as sql params old new desk_schema ready.schema command is plain count h in
-    let done = on_rows old params text table ran.tally new.now command (rw there at (does_so text params old new command count ready ran)) in
+    let extra = ready.schema.extra in
+    let text = statement_of sql (understood (desk_with extra) sql) in
+    let ran = runs_ready sql params old new command count means ready h in
+    let done = on_rows extra old params text table ran.tally new.now command (rw there at (does_so text params old new command count ready ran)) in
     let found = went done.1 in
     let written = went found.2 in (
       found.0,

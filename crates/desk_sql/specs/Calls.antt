@@ -10,12 +10,13 @@ use Rattle.sqlite.specs.State.{State, HasCleanDisk, IsUnchanged, IsRolledBack, K
 use Rattle.sqlite.specs.declared.error.Error.{Error}
 use Rattle.desk_sql.specs.declared.versions.Version.{Version}
 use Rattle.desk_sql.specs.declared.versions.Version.TheVariants.{Two}
-use Rattle.desk_sql.specs.Schema.{no_schema, desk_schema, schema_of}
+use Rattle.desk_sql.specs.Schema.{no_schema, IsSchemaOf}
 use Rattle.desk_sql.specs.Rows.{Tables, ShowsIn}
 
--- the connection sees these rows, in tables of this version; the trees list the schema, and obey it
+-- the connection sees these rows, in tables of this version, whatever indexes they have beside those of their keys; the trees list
+-- the schema, and obey it
 pub record SeesIn (v : Version) (s : State) (t : Tables) : Type 0 where
-  pub schema : s.now.schema ≡ schema_of v
+  pub schema : IsSchemaOf v s.now.schema
   pub rows : ShowsIn v s.now.trees t
   pub sound : IsDatabase s.now
 
@@ -33,7 +34,7 @@ MaySee s t = MaySeeIn Two s t
 -- the connection is in a transaction over the desk's tables
 pub record IsReady (s : State) : Type 0 where
   pub inside : IsTrue s.in_transaction
-  pub schema : s.now.schema ≡ desk_schema
+  pub schema : IsSchemaOf Two s.now.schema
 
 -- the connection is in a transaction, and sees these rows if it is open
 pub record MayRun (s : State) (t : Tables) : Type 0 where

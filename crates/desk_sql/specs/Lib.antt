@@ -15,3 +15,4 @@ pub mod Texts
 pub mod Versions
 pub mod Writable
 pub mod Statements
+pub mod Indexing

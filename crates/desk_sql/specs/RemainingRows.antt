@@ -9,7 +9,7 @@ use Rattle.sqlite.specs.Given.{HasGiven, IsEnded}
 use Rattle.sqlite.specs.State.{HasCleanDisk, IsUnchanged}
 use Rattle.sqlite.specs.declared.types.Value.TheVariants.{Text}
 use Rattle.desk_sql.specs.declared.versions.Version.{Version}
-use Rattle.desk_sql.specs.Schema.{schema_of}
+use Rattle.desk_sql.specs.Schema.{IsSchemaOf}
 use Rattle.desk_sql.specs.Lists.{IsListed}
 use Rattle.desk_sql.specs.Rows.{whole, Tables, StockRow, JourneyRow}
 use Rattle.desk_sql.specs.Calls.{MaySeeIn, LeavesNoMore}
@@ -56,7 +56,7 @@ module _ {S : Type 0} (g : Ghosts S) where
   -- were returned, followed by these.
   pub record RunsOn (text : List ℕ) (q : Query) (params : Row) (h : Held S) (later : List Row) : Type 0 where
     pub version : Version
-    pub schema : h.schema ≡ schema_of version
+    pub schema : IsSchemaOf version h.schema
     pub given : List Row
     pub gave : HasGiven g text params h given
     pub whole : (rows : List Row) → IsAnswer q (overlay (state g h).now.trees []) params rows

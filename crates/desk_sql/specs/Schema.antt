@@ -1,5 +1,6 @@
 -- The tables of the desk, and the schemas in which they are created step by step.
-use Rattle.std.specs.Prelude.{ℕ, pos, List, [], ◌∷◌, ◌++◌, codes, true, false, Some, None}
+use Rattle.std.specs.Prelude.{◌≡◌, ℕ, pos, List, [], ◌∷◌, ◌++◌, codes, true, false, Some, None}
+use Rattle.std.specs.List.{AllByRecursion}
 use Rattle.sqlite_value.specs.declared.keys.Collation.TheVariants.{Binary}
 use Rattle.sqlite_value.specs.declared.keys.Order.{Order}
 use Rattle.sqlite_value.specs.declared.value.Value.TheVariants.{Null, Int}
@@ -14,6 +15,7 @@ use Rattle.sqlite_schema.specs.declared.schema.Reference.{Reference}
 use Rattle.sqlite_schema.specs.declared.schema.Table.{Table}
 use Rattle.sqlite_schema.specs.declared.schema.Index.{Index}
 use Rattle.sqlite_schema.specs.declared.schema.Schema.{Schema}
+use Rattle.sqlite_rules.specs.Lists.{Has}
 use Rattle.desk_sql.specs.declared.versions.Version.{Version}
 use Rattle.desk_sql.specs.declared.versions.Version.TheVariants.{One, Two}
 
@@ -191,7 +193,29 @@ desk_schema = record {
   views = [];
 }
 
--- the tables of each version
-abbrev pub schema_of : Version → Schema
-schema_of One = seven_schema
-schema_of Two = desk_schema
+-- Indexes that a file of the newest version may have beside those of its keys.
+
+-- the trees and the columns that they may be on: the agents of the journeys with their numbers, and the journeys of the items with
+-- theirs
+abbrev pub index_places : List (ℕ × List ℕ)
+index_places = (6, 3 ∷ 0 ∷ []) ∷ (13, 2 ∷ 0 ∷ []) ∷ []
+
+-- the index is no key, and is on one of these
+pub record IsExtra (i : Index) : Type 0 where
+  pub plain : i.is_unique ≡ false
+  pub place : Has index_places (i.table, i.columns)
+
+-- the tables of the newest version, with these indexes beside those of their keys
+abbrev pub desk_with : List Index → Schema
+desk_with extra = record desk_schema { indexes = desk_schema.indexes ++ extra }
+
+-- the tables of each version, with these indexes if it may have any
+abbrev pub schema_with : Version → List Index → Schema
+schema_with One extra = seven_schema
+schema_with Two extra = desk_with extra
+
+-- the schema is that of this version, whatever indexes it has beside those of its keys
+pub record IsSchemaOf (v : Version) (schema : Schema) : Type 0 where
+  pub extra : List Index
+  pub are : AllByRecursion IsExtra extra
+  pub is : schema ≡ schema_with v extra

@@ -6,6 +6,7 @@ ghost use Rattle.desk_sql.specs.Causes.{FailsToBuild};
 ghost use Rattle.desk_sql.specs.Changes.{founded};
 ghost use Rattle.desk_sql.specs.Schema.{no_schema, first_schema, seven_schema, desk_schema};
 
+use crate::indexing::add_index;
 use crate::meta::insert_meta;
 use sqlite::{Alter, Error, Transaction};
 use sqlite_schema::schema::Schema;
@@ -17,7 +18,8 @@ pub fn has_no_tables(schema: &Schema) -> bool
     schema.tables.is_empty() && schema.indexes.is_empty() && schema.views.is_empty()
 }
 
-/// Creates all tables, with the row of `meta` of schema 2, in a store that has no table.
+/// Creates all tables, with the index on the agents of the journeys and the row of `meta` of schema 2, in a store that has no
+/// table.
 pub fn make_tables<S: Alter>(tx: &mut Transaction<'_, S>) -> Result<(), Error>
     ensures goes { GoesOn S.Store tx.old.conn tx.new.conn result }
     ensures made { Founds S.Store tx.old.conn.now tx.new.conn.now result founded }
@@ -26,6 +28,7 @@ pub fn make_tables<S: Alter>(tx: &mut Transaction<'_, S>) -> Result<(), Error>
     make_first(tx)?;
     make_next(tx)?;
     make_last(tx)?;
+    add_index(tx)?;
     insert_meta(tx, 2)?;
     Ok(())
 }

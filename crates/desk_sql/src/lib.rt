@@ -9,6 +9,7 @@
 mod answers;
 mod batches;
 mod founding;
+mod indexing;
 mod journeys;
 mod marks;
 mod meta;
@@ -20,6 +21,7 @@ mod versions;
 pub use answers::{KeptAnswer, find_answer, insert_answer};
 pub use batches::{BatchFound, find_batch, insert_batch};
 pub use founding::{has_no_tables, make_tables};
+pub use indexing::{add_index, has_extra_index};
 pub use journeys::{
     Cursor, ItemFound, JourneyFound, find_items, find_journey, first_owned, first_unfinished,
     insert_item, insert_journey, move_journey, read_item, read_journey,

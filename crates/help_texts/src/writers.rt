@@ -192,3 +192,27 @@ Example:
   migrated 1 to 2 events 7
   $ desk migrate old.db
   refused 23 AlreadyNew";
+
+/// What `index` reads and prints.
+pub const INDEX: &str = "\
+Add the index by which an agent's journeys are found
+
+Opens the database FILE without recovering it, and adds the index in one
+commit. Prints 'indexed journeys N', with the number of journeys, or
+'already indexed journeys N' where there is one. Nothing else changes.
+Standard input is not read.";
+
+/// The forms of `index`, its exit statuses, and an example.
+pub const INDEX_NOTES: &str = "\
+Exit status:
+  0  The database has the index now
+  1  A refusal, on standard output, or a fault, on standard error
+  2  Wrong usage, or help, on standard error
+
+Example:
+  $ desk migrate old.db
+  migrated 1 to 2 events 7
+  $ desk index old.db
+  indexed journeys 3
+  $ desk index old.db
+  already indexed journeys 3";

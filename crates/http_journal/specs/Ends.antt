@@ -1,5 +1,5 @@
 -- What is written of a connection that ended.
-use Rattle.std.specs.Prelude.{ℕ, Bool, true, false, List, Option, Some, None, if◌then◌else◌}
+use Rattle.std.specs.Prelude.{ℕ, nat_lt, Bool, true, false, List, Option, Some, None, if◌then◌else◌}
 use Rattle.http_log.specs.Lines.{ended_text}
 use Rattle.http_log.specs.declared.endings.Why.{Why}
 use Rattle.http_log.specs.declared.endings.Why.TheVariants.{Left, CutOff, NotTaken, Closed, Memory}
@@ -20,4 +20,4 @@ why_left false false false = Left
 -- why a connection ended in its turn, in which a page was lost, or was not
 abbrev pub why_of : (is_lost : Bool) → Known → Why
 why_of true known = Memory
-why_of false known = why_left known.is_unsent known.closes known.has_part
+why_of false known = why_left (nat_lt 0 known.unsent) known.closes known.has_part

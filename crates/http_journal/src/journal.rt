@@ -5,13 +5,14 @@ ghost use Rattle.std.specs.String.{string_bytes};
 ghost use Rattle.http_log.specs.Shown.{is_printable};
 
 use crate::known::Known;
-use crate::texts::{ask_of, asked_by};
+use crate::texts::{ask_of, asked_by, refusal_in, status_in};
 use http_live::Standing;
 use http_log::{Peer, Recent, Why, opened_line, request_line};
 use http_messages::Message;
 use http_ways::Arrived;
 use log::info;
 use std::alloc::{AllocError, Global};
+use std::time::Instant;
 
 /// Writes how many events an opening recovered, on standard error.
 pub fn log_opening(rt: &HostRuntime, alloc: Global, recovered: u64) {
@@ -82,23 +83,29 @@ impl<'a> Journal<'a> {
         page: &[u8],
         closes: bool,
     ) -> Result<(), AllocError> {
+        let now = Instant::now(self.rt).ok();
         match standing {
-            Standing::Over => self.sees_end(at, seen),
+            Standing::Over => self.sees_end(at, seen, now),
             Standing::Answered | Standing::Stopped => {
                 self.keep_page(at, page, closes);
-                let _ = self.answers(at, seen, page.get(9..12).unwrap_or(b"?"))?;
+                let _ = self.answers(at, seen, status_in(page), page, now)?;
                 Ok(())
             }
             _ => {
-                self.keep_rest(at, page);
+                self.keep_rest(at, standing, page, now);
                 Ok(())
             }
         }
     }
 
     /// The connection of a seat ended in its turn: its peer ended it, or memory ran out for a page.
-    fn sees_end(&mut self, at: usize, seen: Option<&Arrived>) -> Result<(), AllocError> {
-        let is_lost = self.answers(at, seen, b"lost");
+    fn sees_end(
+        &mut self,
+        at: usize,
+        seen: Option<&Arrived>,
+        now: Option<Instant>,
+    ) -> Result<(), AllocError> {
+        let is_lost = self.answers(at, seen, b"lost", b"", now);
         let why = match self.seats.get(at) {
             None => return Ok(()),
             Some(known) => known.why(is_lost.unwrap_or(true)),
@@ -106,27 +113,29 @@ impl<'a> Journal<'a> {
         self.ends(at, why)
     }
 
-    /// This is left of the page of a seat.
-    fn keep_rest(&mut self, at: usize, page: &[u8]) {
+    /// This is left of the page of a seat after a turn in which no message was answered.
+    fn keep_rest(&mut self, at: usize, standing: Standing, page: &[u8], now: Option<Instant>) {
         if let Some(known) = self.seats.get_mut(at) {
-            known.is_unsent = !page.is_empty();
+            known.goes_on(standing == Standing::Busy, page.len(), now);
         }
     }
 
     /// This is the page of a seat, after which the connection ends, or does not.
     fn keep_page(&mut self, at: usize, page: &[u8], closes: bool) {
         if let Some(known) = self.seats.get_mut(at) {
-            known.is_unsent = !page.is_empty();
+            known.unsent = page.len();
             known.closes = closes;
         }
     }
 
-    /// A message was answered with this status, or lost its page. Returns whether there was one.
+    /// A message was answered with this status and this page at this time, or lost its page. Returns whether there was one.
     fn answers(
         &mut self,
         at: usize,
         seen: Option<&Arrived>,
         status: &[u8],
+        page: &[u8],
+        now: Option<Instant>,
     ) -> Result<bool, AllocError> {
         let Some(known) = self.seats.get_mut(at) else {
             return Ok(false);
@@ -135,21 +144,26 @@ impl<'a> Journal<'a> {
             return Ok(false);
         };
         known.requests = known.requests.saturating_add(1);
-        let peer = known.peer;
-        let again = self.is_again(&arrived.message, status);
-        let asked = asked_by(arrived, status, again);
+        let (peer, millis) = (known.peer, known.millis_since_read(now));
+        let is_accepted = status == b"200".as_slice();
+        let again = is_accepted && self.is_again(&arrived.message);
+        let refused = if is_accepted {
+            b"".as_slice()
+        } else {
+            refusal_in(page)
+        };
+        let asked = asked_by(arrived, status, refused, again, millis);
         let line = request_line(self.alloc, peer, &asked)?;
         self.write(Some(line));
         Ok(true)
     }
 
-    /// Whether the page of a message with this status was a kept one: an accepted request under a key, which was answered
-    /// so before.
-    fn is_again(&mut self, message: &Message, status: &[u8]) -> bool {
-        let Some((agent, key)) = ask_of(message) else {
-            return false;
-        };
-        status == b"200".as_slice() && self.recent.put(agent, key).unwrap_or(false)
+    /// Whether the page of a message that was accepted was a kept one: that of a request under a key, which was accepted before.
+    fn is_again(&mut self, message: &Message) -> bool {
+        match ask_of(message) {
+            Some((agent, key)) => self.recent.put(agent, key).unwrap_or(false),
+            None => false,
+        }
     }
 
     /// The connection of a seat ended, if one was here. Out of memory, its line is left out.

@@ -6,6 +6,7 @@ ghost use Rattle.http_log.specs.Shown.{is_printable};
 
 use http_log::{Peer, Why, ended_line};
 use std::alloc::{AllocError, Global};
+use std::time::Instant;
 
 /// What the log knows of a seat.
 #[derive(Drop)]
@@ -17,10 +18,12 @@ pub struct Known {
     pub(crate) requests: u64,
     /// Whether a message, or part of one, was received before its turn.
     pub(crate) has_part: bool,
-    /// Whether something was left of its page after its last turn.
-    pub(crate) is_unsent: bool,
+    /// How many bytes were left of its page after its last turn.
+    pub(crate) unsent: usize,
     /// Whether its last page closes.
     pub(crate) closes: bool,
+    /// When it was read last, if the clock was.
+    pub(crate) read_at: Option<Instant>,
 }
 
 impl Known {
@@ -50,8 +53,28 @@ impl Known {
             peer,
             requests: 0,
             has_part: false,
-            is_unsent: false,
+            unsent: 0,
             closes: false,
+            read_at: None,
+        }
+    }
+
+    /// A turn ended at this time, after which so many bytes are left of its page. In one that was busy, and sent nothing, it was
+    /// read.
+    pub(crate) fn goes_on(&mut self, is_busy: bool, unsent: usize, now: Option<Instant>) {
+        if is_busy && unsent == self.unsent {
+            self.read_at = now;
+        }
+        self.unsent = unsent;
+    }
+
+    /// How many milliseconds it is since it was read; 0 where the clock was not.
+    pub(crate) fn millis_since_read(&self, now: Option<Instant>) -> u64 {
+        match (self.read_at, now) {
+            (Some(read_at), Some(now)) => {
+                u64::try_from(now.duration_since(read_at).as_millis()).unwrap_or(u64::MAX)
+            }
+            _ => 0,
         }
     }
 
@@ -76,7 +99,7 @@ impl Known {
     {
         if is_lost {
             Why::Memory
-        } else if self.is_unsent {
+        } else if self.unsent > 0 {
             Why::NotTaken
         } else if self.closes {
             Why::Closed

@@ -7,6 +7,32 @@ use http_log::Asked;
 use http_messages::{AskedKind, Message, Request};
 use http_ways::{Arrived, Layout};
 
+/// The name of the member of a body that reports a refusal's number.
+const REFUSED: &[u8] = b"\"refused\":";
+
+/// The status of a page, or `?` where there is none.
+pub(crate) fn status_in(page: &[u8]) -> &[u8] {
+    page.get(9..12).unwrap_or(b"?")
+}
+
+/// The number of the refusal that a page reports, in digits, if it reports one: its body has it after its name.
+pub(crate) fn refusal_in(page: &[u8]) -> &[u8] {
+    for at in 0..page.len() {
+        if let Some(digits) = page[at..].strip_prefix(REFUSED) {
+            return digits_in(digits);
+        }
+    }
+    b""
+}
+
+/// The digits at the front of a text.
+fn digits_in(text: &[u8]) -> &[u8] {
+    match text.iter().position(|byte| !byte.is_ascii_digit()) {
+        Some(end) => &text[..end],
+        None => text,
+    }
+}
+
 /// Under which agent and key a message asks for something to be carried out, if it does.
 pub(crate) fn ask_of(message: &Message) -> Option<(Agent, Key)>
     ensures ask { result ≡ ask_of message.now }
@@ -34,8 +60,15 @@ fn both(agent: Option<Agent>, key: Option<Key>) -> Option<(Agent, Key)>
     }
 }
 
-/// What the line of a message says of it.
-pub(crate) fn asked_by<'m>(arrived: &'m Arrived, status: &'m [u8], again: bool) -> Asked<'m>
+/// What the line of a message says of it: of its page the status, or that it was lost, and the number of the refusal, if it
+/// reports one; whether the page was a kept one, and how many milliseconds it took.
+pub(crate) fn asked_by<'m>(
+    arrived: &'m Arrived,
+    status: &'m [u8],
+    refused: &'m [u8],
+    again: bool,
+    millis: u64,
+) -> Asked<'m>
     ensures agent { result.agent.now ≡ text_of (λ r. unwrap_or r.agent []) arrived.now.message }
     ensures method { result.method.now
         ≡ text_of (method_by arrived.now.layout) arrived.now.message }
@@ -43,6 +76,8 @@ pub(crate) fn asked_by<'m>(arrived: &'m Arrived, status: &'m [u8], again: bool) 
     ensures status { result.status.now ≡ status.now }
     ensures key { result.key.now ≡ text_of (λ r. unwrap_or r.key []) arrived.now.message }
     ensures again { result.again ≡ again }
+    ensures refused { result.refused.now ≡ refused.now }
+    ensures millis { result.millis ≡ millis }
 {
     match &arrived.message {
         Message::NoHead => Asked {
@@ -52,6 +87,8 @@ pub(crate) fn asked_by<'m>(arrived: &'m Arrived, status: &'m [u8], again: bool) 
             status,
             key: b"",
             again,
+            refused,
+            millis,
         },
         Message::Asks(request) => Asked {
             agent: agent_text(request),
@@ -60,6 +97,8 @@ pub(crate) fn asked_by<'m>(arrived: &'m Arrived, status: &'m [u8], again: bool) 
             status,
             key: key_text(request),
             again,
+            refused,
+            millis,
         },
     }
 }

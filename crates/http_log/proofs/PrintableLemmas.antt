@@ -102,12 +102,15 @@ request_part_prints asked agent method target =
 -- how it was answered prints, since what is shown in it does
 pub page_part_prints : (asked : Asked)
     → prints (shown_within 32 asked.status.now) ≡ true → prints (shown_within 32 asked.key.now) ≡ true
+    → prints (shown_within 32 asked.refused.now) ≡ true → asked.millis < 2 ^ 64
     → prints (sentence (page_words asked)) ≡ true
-page_part_prints asked status key =
+page_part_prints asked status key refused small =
     sentence_prints (page_words asked)
     (and_make _ _ (named_prints (codes "status") (shown_within 32 asked.status.now) refl status)
     (and_make _ _ (named_prints (codes "key") (shown_within 32 asked.key.now) refl key)
-    (and_make _ _ (named_prints (codes "again") (again_word asked.again) refl (again_prints asked.again)) refl)))
+    (and_make _ _ (named_prints (codes "again") (again_word asked.again) refl (again_prints asked.again))
+    (and_make _ _ (named_prints (codes "refused") (shown_within 32 asked.refused.now) refl refused)
+    (and_make _ _ (named_prints (codes "ms") (decimal asked.millis) refl (decimal_prints asked.millis small)) refl)))))
 
 -- a sentence of three words, and then another one
 three_before : (a b c : List ℕ) (later : List ℕ)

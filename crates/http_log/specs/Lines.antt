@@ -32,19 +32,22 @@ request_words asked =
     ∷ named (codes "method") (shown_within 32 asked.method.now)
     ∷ named (codes "target") (shown_within 128 asked.target.now) ∷ []
 
--- how it was answered; a key has at most 32 bytes
+-- how it was answered, with the number of the refusal, if there was one, and how many milliseconds it took; a key has at
+-- most 32 bytes
 abbrev pub page_words : Asked → List (List ℕ)
 page_words asked =
     named (codes "status") (shown_within 32 asked.status.now)
     ∷ named (codes "key") (shown_within 32 asked.key.now)
-    ∷ named (codes "again") (again_word asked.again) ∷ []
+    ∷ named (codes "again") (again_word asked.again)
+    ∷ named (codes "refused") (shown_within 32 asked.refused.now)
+    ∷ named (codes "ms") (decimal asked.millis) ∷ []
 
 -- both, in the order of the line
 abbrev pub asked_words : Asked → List (List ℕ)
 asked_words asked = request_words asked ++ page_words asked
 
 -- the line of a request:
--- `request connection=4 door=port agent=ann method=POST target=/journeys status=200 key=k1 again=no`
+-- `request connection=4 door=port agent=ann method=POST target=/journeys status=200 key=k1 again=no refused= ms=3`
 abbrev pub request_text : Peer → Asked → List ℕ
 request_text peer asked = sentence (codes "request" ∷ peer_words peer ++ asked_words asked)
 

@@ -39,6 +39,10 @@ pub struct Asked<'a> {
     pub key: &'a [u8],
     /// Whether the page was a kept one.
     pub again: bool,
+    /// The number of the refusal in digits, if it was refused, else nothing.
+    pub refused: &'a [u8],
+    /// How many milliseconds it took.
+    pub millis: u64,
 }
 
 /// The line of a request, without an end of line. The only fault is out of memory.
@@ -73,8 +77,9 @@ fn page_part(alloc: Global, asked: &Asked<'_>) -> Result<String, AllocError>
 {
     let status = shown(alloc, asked.status, MOST_NAME)?;
     let key = shown(alloc, asked.key, MOST_NAME)?;
-    let again = again_word(asked.again);
-    format!(in alloc; "status={status} key={key} again={again}")
+    let (again, millis) = (again_word(asked.again), asked.millis);
+    let refused = shown(alloc, asked.refused, MOST_NAME)?;
+    format!(in alloc; "status={status} key={key} again={again} refused={refused} ms={millis}")
 }
 
 /// The line of a connection that ended, after so many requests. The only fault is out of memory.

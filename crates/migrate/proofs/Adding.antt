@@ -76,7 +76,7 @@ pub adds_entry2 : (old new : State) (t : Tables) (r : Result ℕ Error) → MayA
     → OnOk r (Adds old new seven_schema (entry2_at 0))
 unfolding understood everything
 adds_entry2 old new t r may =
-    adds entry2_text old new seven_schema (entry2_at 0) r refl (refl, refl) refl refl refl may.inside (λ here. (may.sees here).schema)
+    adds entry2_text old new seven_schema (entry2_at 0) r refl (refl, refl) refl refl refl may.inside (λ here. (may.sees here).schema.is)
 
 -- mark is added after entry2
 pub adds_mark : (old mid new : State) (r : Result ℕ Error) → Adds old mid seven_schema (entry2_at 0) → ExecutesInside 0 mark_text [] mid new r
@@ -127,7 +127,7 @@ has_added a b c t may one two =
       is_open = two.is_open;
       inside = two.inside;
       sees = record {
-        schema = two.schema ∙ desk_is;
+        schema = record { extra = []; are = tt; is = two.schema ∙ desk_is };
         sound = two.sound;
         rows = record {
           meta = rw r0 (shown.meta);

@@ -11,6 +11,7 @@ use Rattle.desk_sql.specs.Calls.{Sees, LeavesNoMore}
 use Rattle.desk_sql.specs.Rows.{Tables, ShowsIn}
 use Rattle.ledger.specs.Answer.{State}
 use Rattle.sql_model.specs.Keeping.{MeansIn, SeesOf, IsKeptIn, KeepsIn}
+use Rattle.desk_sql.specs.Schema.{IsSchemaOf}
 use Rattle.sql_model.proofs.KeepLemmas.{is_database}
 use Rattle.migrate.specs.Copying.{MayAdd}
 use Rattle.migrate.specs.Migrating.{AreNumbersOf, migrated}
@@ -77,7 +78,7 @@ module _ {S : Type 0} (g : Ghosts S) (old late : Held S) (m : Meta) (s : State)
       → IsKeptIn Two (state g end) s
   keeps_new law end shown = record {
     sees = λ _. record {
-      schema = ap (λ (d : Database). d.schema) shown.now_is ∙ has_made.schema;
+      schema = subst (λ (d : Database). IsSchemaOf Two d.schema) (sym shown.now_is) has_made.schema;
       sound = subst IsDatabase (sym shown.now_is) has_made.sound;
       committed = shown.now_is ∙ sym shown.committed_is;
       tables = migrated m saw.tables;

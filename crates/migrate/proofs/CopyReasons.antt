@@ -25,7 +25,9 @@ use Rattle.sqlite_rules.proofs.ProbeLemmas.{has_mapped, mapped_has}
 use Rattle.sqlite_trees.proofs.ListLemmas.{ascending-filter}
 use Rattle.sqlite_typing.specs.Types.{accepts_program}
 use Rattle.sqlite_tied.specs.Compute.{everything}
-use Rattle.desk_sql.specs.Schema.{desk_schema, entry2_at, to_journey}
+use Rattle.std.specs.List.{AllByRecursion}
+use Rattle.sqlite_schema.specs.declared.schema.Index.{Index}
+use Rattle.desk_sql.specs.Schema.{desk_schema, desk_with, IsExtra, entry2_at, to_journey}
 use Rattle.desk_sql.specs.Rows.{Tables, EntryRow, entry_row}
 use Rattle.desk_sql.specs.Causes.{IsUp, HasReason}
 use Rattle.desk_sql.proofs.Causing.{takes}
@@ -37,18 +39,19 @@ use Rattle.desk_sql.proofs.Writing.{task_for}
 use Rattle.migrate.specs.Statements.{copy_items_text, copy_items_query, copy_items_command}
 use Rattle.migrate.specs.Copying.{HasCopied, with_items_below, items_below}
 use Rattle.migrate.proofs.Ranges.{is_between, Rises, items_below-next}
-use Rattle.migrate.proofs.Filling.{copy_items_is, copy_items_plain, program_edit, query_edits, range_params, range_rows, stored, own_rowids}
+use Rattle.migrate.proofs.Filling.{copy_items_means, program_edit, query_edits, range_params, range_rows, stored, own_rowids}
 use Rattle.migrate.proofs.NewItems.{item_fits, item_parent, fresh_after, items_edit, items_safe}
 
 -- The query.
 
-copy_takes : (first last : ℕ) → takes (length copy_items_text) (length (range_params first last)) (understood desk_schema copy_items_text) ≡ true
+copy_takes : (first last : ℕ) (extra : List Index)
+    → takes (length copy_items_text) (length (range_params first last)) (understood (desk_with extra) copy_items_text) ≡ true
 unfolding understood everything
-copy_takes first last = refl
+copy_takes first last extra = refl
 
-copy_typed : (first last : ℕ) → accepts_program desk_schema [] copy_items_query (range_params first last) ≡ true
+copy_typed : (first last : ℕ) (extra : List Index) → accepts_program (desk_with extra) [] copy_items_query (range_params first last) ≡ true
 unfolding everything
-copy_typed first last = refl
+copy_typed first last extra = refl
 
 -- it has no sums, so none overflows
 no_overflow : (db : Trees) (params : Row) → ¬ QueryOverflows copy_items_query db params
@@ -59,32 +62,32 @@ abbrev copy_program : Program
 copy_program = record { lets = []; body = copy_items_query }
 
 -- The statement is run, if the edit of its rows is safe.
-module _ (first last : ℕ) (old : State) (unlimited : old.step_limit ≡ None)
+module _ (extra : List Index) (are : AllByRecursion IsExtra extra) (first last : ℕ) (old : State) (unlimited : old.step_limit ≡ None)
     (safe : (rows : List Row) → IsAnswer copy_items_query (overlay old.now.trees []) (range_params first last) rows
     → IsSafe old.now.trees (program_edit (entry2_at 13) old.now.trees rows)) where
-  sourced : (stopped : Option Error) → ¬ Sourced old.step_limit (desk_at old) (range_params first last) (source.Query copy_program) (Err stopped)
+  sourced : (stopped : Option Error) → ¬ Sourced old.step_limit (desk_at extra old) (range_params first last) (source.Query copy_program) (Err stopped)
   sourced None none = none
-  sourced (Some e) (inl (is, wrong)) = let bad : true ≡ false = sym (copy_typed first last) ∙ wrong in cc
+  sourced (Some e) (inl (is, wrong)) = let bad : true ≡ false = sym (copy_typed first last extra) ∙ wrong in cc
   sourced (Some e) (inr (inl (is, over))) = no_overflow (overlay old.now.trees []) (range_params first last) over
   sourced (Some e) (inr (inr (is, limit))) = let none : false ≡ true = subst (λ l. IsSome l) unlimited limit in cc
 
-  inserts : (s : Option Error) → ¬ Inserts (task_for old (entry2_at 13) (range_params first last)) (source.Query copy_program) old.now.trees (Err s)
+  inserts : (s : Option Error) → ¬ Inserts (task_for extra old (entry2_at 13) (range_params first last)) (source.Query copy_program) old.now.trees (Err s)
   inserts s (inl k) = sourced k.0 k.1
   inserts s (inr (rows, given, inl k)) = gives_on k.0 k.1
   inserts s (inr (rows, given, inr (counter, none, inl k))) =
-      edit_goes old.now.trees (program_edit (entry2_at 13) old.now.trees rows) (safe rows (given.answer Null)) k.0 k.1
+      edit_goes extra are old.now.trees (program_edit (entry2_at 13) old.now.trees rows) (safe rows (given.answer Null)) k.0 k.1
   inserts s (inr (rows, given, inr (counter, none, inr (mid, edited, inl k)))) = gives_on k.0 k.1
   inserts s (inr (rows, given, inr (counter, none, inr (mid, edited, inr k)))) = gives_on s k.2
 
-  refers : (w : Written) → WritesRows (task_for old (entry2_at 13) (range_params first last)) old.now.trees copy_items_command (Ok w)
+  refers : (w : Written) → WritesRows (task_for extra old (entry2_at 13) (range_params first last)) old.now.trees copy_items_command (Ok w)
       → Refers All desk_schema w.trees
   refers w done =
-      let found = query_edits (task_for old (entry2_at 13) (range_params first last)) copy_items_query old.now.trees w refl refl done in
-      made_refers old.now.trees w.trees (program_edit (entry2_at 13) old.now.trees found.0) (safe found.0 found.1) found.2
+      let found = query_edits (task_for extra old (entry2_at 13) (range_params first last)) copy_items_query old.now.trees w refl refl done in
+      made_refers extra are old.now.trees w.trees (program_edit (entry2_at 13) old.now.trees found.0) (safe found.0 found.1) found.2
 
   copy_goes : (text : List ℕ) (stop : Option Error)
-      → ¬ Does old.step_limit (mode_of old) (range_params first last) (desk_at old) text None copy_items_command (Err stop)
-  copy_goes text stop h = rows_go old (range_params first last) (entry2_at 13) copy_items_command stop inserts refers h
+      → ¬ Does old.step_limit (mode_of old) (range_params first last) (desk_at extra old) text None copy_items_command (Err stop)
+  copy_goes text stop h = rows_go extra are old (range_params first last) (entry2_at 13) copy_items_command stop inserts refers h
 
 -- The rows.
 
@@ -148,5 +151,6 @@ module _ (first last : ℕ) (order : first ≤ last) (small : last < 2 ^ 63) (ol
   pub copy_reason : (new : State) (e : Error) → IsUp old → ExecutesInside 0 copy_items_text (range_params first last) old new (Err e)
       → HasReason old new e
   copy_reason new e up ran =
-      write_reason copy_items_text copy_items_command (range_params first last) (record { is = copy_items_is; plain = copy_items_plain })
-      (copy_takes first last) refl refl old new up has.sees.schema (copy_goes first last old up.unlimited safe_range) e ran
+      write_reason copy_items_text copy_items_command (range_params first last) copy_items_means
+      (copy_takes first last) refl refl old new up has.sees.schema
+      (copy_goes has.sees.schema.extra has.sees.schema.are first last old up.unlimited safe_range) e ran

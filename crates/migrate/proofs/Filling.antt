@@ -1,5 +1,5 @@
 -- How the statement that copies a range of items changes entry2.
-use Rattle.std.proofs.Common.{◌≡◌, ◌<ℤ◌, ◌<◌, ◌≤◌, ◌+◌, ℕ, pos, List, [], ◌∷◌, ◌++◌, map, filter, fold, drop, false, if◌then◌else◌, None, MatchBool, Ok, Err, Result, OnOk, refl, sym, ap, subst, subst₂, ◌∙◌, inl, inr, arith}
+use Rattle.std.proofs.Common.{◌≡◌, ◌<ℤ◌, ◌<◌, ◌≤◌, ◌+◌, ℕ, pos, List, [], ◌∷◌, ◌++◌, map, filter, fold, drop, false, if◌then◌else◌, MatchBool, Ok, Err, Result, OnOk, refl, sym, ap, subst, subst₂, ◌∙◌, inl, inr, arith}
 use Rattle.std.proofs.lemmas.Int.{ints}
 use Rattle.std.specs.List.{AllByRecursion}
 use Rattle.std.specs.Ordering.{is_lt, int_cmp}
@@ -10,28 +10,26 @@ use Rattle.sqlite.specs.Table.{Table}
 use Rattle.sqlite.specs.Tree.{Trees, put_row}
 use Rattle.sqlite.specs.Cast.{cast_row}
 use Rattle.sqlite.specs.Source.TheVariants as source
-use Rattle.sqlite.specs.Edit.{Edit, edit_of, taken_by, edited, Applies}
+use Rattle.sqlite.specs.Edit.{Edit, edit_of, edited}
 use Rattle.sqlite.specs.Rowids.TheVariants.{Chosen, Above}
 use Rattle.sqlite.specs.Query.{Query, Output, IsAnswer, output_cmp}
 use Rattle.sqlite.specs.Program.{overlay}
 use Rattle.sqlite.specs.Rows.{Written, Task, Inserts, Edited, CountsIn, Gives, stamped, sequence, count_of, higher, rowids_for}
-use Rattle.sqlite.specs.Does.{Does}
-use Rattle.sqlite.specs.Effect.{Database}
 use Rattle.sqlite.specs.Listing.{understood}
-use Rattle.sqlite.specs.State.{State, mode_of, ExecutesInside, Executes, Shows as ShowsNow}
-use Rattle.sqlite.proofs.Callers.{IsPlain, command_of, statement_of, runs_as, one_step}
-use Rattle.sqlite_schema.specs.declared.schema.Keys.TheVariants.{Enforced}
+use Rattle.sqlite.specs.State.{State, ExecutesInside, Executes}
+use Rattle.sqlite.proofs.Callers.{statement_of}
 use Rattle.sqlite_rules.specs.Edit.{numbered, put_all}
 use Rattle.sqlite_rules.specs.Lists.{Has}
 use Rattle.sqlite_rules.proofs.ListLemmas.{all_has}
 use Rattle.sqlite_trees.specs.Tree.{IsAscending}
 use Rattle.sqlite_trees.proofs.ListLemmas.{ascending-filter, ascending_weaker}
 use Rattle.sqlite_tied.specs.Compute.{everything}
-use Rattle.desk_sql.specs.Schema.{desk_schema, entry2_at}
+use Rattle.desk_sql.specs.Schema.{desk_with, entry2_at}
 use Rattle.desk_sql.specs.Lists.{IsNumbered}
 use Rattle.desk_sql.specs.Rows.{Tables, EntryRow, entry_row, whole}
 use Rattle.desk_sql.specs.Calls.{IsReady, Makes}
-use Rattle.desk_sql.proofs.Writing.{Edits, went, same_value, on_rows, idle, task_for, cast_null}
+use Rattle.desk_sql.proofs.Meaning.{Means}
+use Rattle.desk_sql.proofs.Writing.{Edits, went, same_value, on_rows, does_so, edits_so, runs_ready, task_for, cast_null}
 use Rattle.desk_sql.proofs.Inserting.{cast_int}
 use Rattle.desk_sql.proofs.Framing.{makes_at, with_entries}
 use Rattle.desk_sql.proofs.Testing.{ge_whole, le_whole, and_true}
@@ -47,13 +45,9 @@ use Rattle.migrate.proofs.Ranges.{is_between, Rises, items_below-next}
 
 -- The text.
 
-pub copy_items_is : command_of (understood desk_schema copy_items_text) ≡ copy_items_command
+pub copy_items_means : Means copy_items_text copy_items_command
 unfolding understood everything
-copy_items_is = refl
-
-pub copy_items_plain : IsPlain (understood desk_schema copy_items_text)
-unfolding understood everything
-copy_items_plain = (refl, refl)
+copy_items_means extra = record { is = refl; plain = (refl, refl) }
 
 -- The edit.
 
@@ -82,24 +76,13 @@ copies_rows : (params : Row) (old new : State) (count : ℕ) → stamped (entry2
     → (rows : List Row) × IsAnswer copy_items_query (overlay old.now.trees []) params rows × Edits old new (program_edit (entry2_at 13) old.now.trees rows)
 copies_rows params old new count unstamped ready h =
     let table = entry2_at 13 in
-    let w = runs_as copy_items_text params old new desk_schema ready.schema copy_items_command copy_items_is copy_items_plain count h in
-    let text = statement_of copy_items_text (understood desk_schema copy_items_text) in
-    let all : Does old.step_limit (mode_of old) params (record { schema = desk_schema; trees = old.now.trees }) text None copy_items_command (Ok (w.tally, new.now))
-    = subst (λ s. Does old.step_limit (mode_of old) params (record old.now { schema = s }) text None copy_items_command (Ok (w.tally, new.now))) ready.schema w.changed in
-    let done = on_rows old params text table w.tally new.now copy_items_command all in
-    let found = query_edits (task_for old table params) copy_items_query old.now.trees done.0 refl unstamped done.1 in
+    let extra = ready.schema.extra in
+    let w = runs_ready copy_items_text params old new copy_items_command count copy_items_means ready h in
+    let text = statement_of copy_items_text (understood (desk_with extra) copy_items_text) in
+    let done = on_rows extra old params text table w.tally new.now copy_items_command (does_so text params old new copy_items_command count ready w) in
+    let found = query_edits (task_for extra old table params) copy_items_query old.now.trees done.0 refl unstamped done.1 in
     let edit = program_edit table old.now.trees found.0 in
-    let step : Applies desk_schema Enforced old.now.trees edit done.0.trees
-    = one_step desk_schema Enforced old.now.trees done.0.trees edit (idle 0 table.tree (taken_by old.now.trees edit) edit.news) found.2 in (
-      found.0,
-      found.1,
-      record {
-        schema = ap (λ (d : Database). d.schema) done.2;
-        applies = subst (λ (t : Trees). Applies desk_schema Enforced old.now.trees edit t) (sym (ap (λ (d : Database). d.trees) done.2)) step;
-        shown = subst (λ b. ShowsNow old new new.now (if b then old.committed else new.now) b) ready.inside w.shown;
-        sound = w.sound;
-      },
-    )
+    (found.0, found.1, edits_so text params old new copy_items_command count ready w edit done.0 done.2 done.0.trees refl found.2)
 
 -- The rows.
 

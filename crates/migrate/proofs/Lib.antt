@@ -10,3 +10,4 @@ pub mod Stopping
 pub mod NewItems
 pub mod CopyReasons
 pub mod FailLemmas
+pub mod IndexLemmas

@@ -24,12 +24,13 @@ use Rattle.sqlite_tied.specs.Compute.{everything}
 use Rattle.sqlite.specs.Order.{Row}
 use Rattle.sqlite.specs.Ops.{fits_i64}
 use Rattle.sqlite.specs.Table.{Table}
-use Rattle.sqlite.specs.Edit.{Edit, edited, Applies}
+use Rattle.sqlite.specs.Edit.{Edit, edited}
 use Rattle.desk_sql.specs.Schema.{desk_schema, entry_at, entry2_at, to_journey}
 use Rattle.desk_sql.specs.Rows.{EntryRow, entry_row}
 use Rattle.desk_sql.proofs.Keyed.{put_last}
 use Rattle.desk_sql.proofs.Refusing.{IsSafe}
 use Rattle.desk_sql.proofs.NewRow.{IsFit, desk_apart}
+use Rattle.desk_sql.proofs.Writing.{Lands}
 use Rattle.desk_sql.proofs.Storing.{storable, held_from, fits_whole, range_holds, range_ends, is_between as is_within, untaken}
 use Rattle.migrate.proofs.Filling.{first_below, together}
 use Rattle.migrate.proofs.Ranges.{Rises}
@@ -48,7 +49,7 @@ item_fits db e obeys there small =
       id = pos e.num;
       keyed = refl;
       fits = fits_whole e.num small;
-      storable = held_from (entry2_at 13) (entry_row e) (storable _ (entry_row e) refl refl (omega arith), omega arith) tt;
+      storable = held_from (entry2_at 13) (entry_row e) (storable _ (entry_row e) refl refl (omega arith), omega arith) tt (storable _ _ refl refl (omega arith), tt);
     }
 
 -- and its journey is there
@@ -167,7 +168,7 @@ module _ (db : Trees) (news : List Row) (ordered : IsTable (db 13)) (obeys : Obe
   own_parent ref row (inl is) new = subst (λ (r : Reference). has_parent desk_schema.tables db row r ≡ true) (sym is) (parents row new)
   own_parent ref row (inr none) new = absurd none
 
-  refers : (next : Trees) → Applies desk_schema Enforced db it next → Refers All desk_schema next
+  refers : (next : Trees) → Lands db it next → Refers All desk_schema next
   refers next made =
       let change = turned next made.rows made.tables in
       refers_from All desk_schema next (λ t ref row known of is there. elim (origin desk_schema db next (entry2_at 13) _ _ news change t row known there) [
@@ -178,6 +179,6 @@ module _ (db : Trees) (news : List Row) (ordered : IsTable (db 13)) (obeys : Obe
   pub items_safe : IsSafe db it
   items_safe = record {
     permitted = permitted;
-    storable = λ r there large. (fit r there).storable large;
+    storable = λ r there. (fit r there).storable;
     refers = refers;
   }

@@ -18,7 +18,7 @@ use Rattle.sql_model.specs.Standing.{StandsIn}
 use Rattle.sql_model.proofs.Quieting.{quiet_clean, quiet_leaves}
 use Rattle.migrate.specs.declared.faults.MigrateFault.{MigrateFault}
 use Rattle.migrate.specs.declared.faults.MigrateFault.TheVariants.{AlreadyNew, UnknownSchema, Store, Memory}
-use Rattle.migrate.specs.Migrating.{IsRefusal, LeavesEither, LeavesOneOf, NumbersOld, ShowsAsBefore, ShowsOld, Tells, WasNotOld}
+use Rattle.migrate.specs.Migrating.{IsRefusal, LeavesEither, LeavesOneOf, NumbersOld, ShowsAsBefore, ShowsOld, Tells, WasNotNew, WasNotOld}
 use Rattle.migrate.proofs.Quiet.{as_before}
 use Rattle.migrate.proofs.Reading.{found_keeps}
 
@@ -33,7 +33,7 @@ has_number v n t s stands all =
 
 module _ {S : Type 0} (g : Ghosts S) (old mid : Held S) where
   -- a version that was seen shows that the connection was open: a closed one may be said to see any rows
-  saw_open : (n : ℕ) → SawVersion g old mid n → HasCleanDisk (state g mid) → IsTrue (state g old).is_open
+  pub saw_open : (n : ℕ) → SawVersion g old mid n → HasCleanDisk (state g mid) → IsTrue (state g old).is_open
   saw_open n saw clean = go (state g old).is_open refl
     where
       other : Tables
@@ -47,7 +47,7 @@ module _ {S : Type 0} (g : Ghosts S) (old mid : Held S) where
           absurd (let no : ⊥ = omega (arith, one) in no)
 
   -- tables that show a state have the number of their version
-  saw_number : (v : Version) (n : ℕ) (s : State) → SawVersion g old mid n → HasCleanDisk (state g mid)
+  pub saw_number : (v : Version) (n : ℕ) (s : State) → SawVersion g old mid n → HasCleanDisk (state g mid)
       → SeesOf v (state g old) s → number_of v ≡ n
   saw_number v n s saw clean desk =
       has_number v n desk.tables s desk.stands
@@ -93,7 +93,7 @@ module _ {S : Type 0} (g : Ghosts S) (old mid : Held S) where
     bare_not_old bare clean live s stood =
         let found : IsFound One (state g old) s = stood (at_first clean) in
         let desk : SeesOf One (state g old) s = found.sees live in
-        not_bare (sym desk.schema ∙ bare)
+        not_bare (sym desk.schema.is ∙ bare)
 
   -- so no refusal comes on tables of version 1
   pub refuses_others : Quiet g old mid → (why : MigrateFault) → Tells g old mid why → IsRefusal why → WasNotOld g old mid
@@ -105,9 +105,12 @@ module _ {S : Type 0} (g : Ghosts S) (old mid : Held S) where
   refuses_others quiet Store told is = absurd is
   refuses_others quiet Memory told is = absurd is
 
-  -- A migration that failed after tables of version 1 were read.
+  -- A migration that goes on after tables of version 1 were read.
   module _ (new : Held S) (m : Meta) (quiet : Quiet g old mid) (saw : SawVersion g old mid 1) (filled : old.schema ≡ no_schema → ⊥)
       (sound : WasClean g mid new) where
+    pub was_not_new : WasNotNew g old new
+    was_not_new clean s stood = not_new s saw filled (sound clean) (at_first quiet (sound clean)) stood
+
     -- a crash leaves what it could leave at first, or the new tables
     pub left_either : NumbersOld g old mid m → LeavesOneOf g mid new m → LeavesEither g old new
     left_either numbers left clean One s stood db may =
@@ -117,10 +120,10 @@ module _ {S : Type 0} (g : Ghosts S) (old mid : Held S) where
           | inr next ↦ inr (refl, next)
         ]
     left_either numbers left clean Two s stood db may =
-        absurd (not_new s saw filled (sound clean) (at_first quiet (sound clean)) stood)
+        absurd (was_not_new clean s stood)
 
     -- the connection shows the old tables
     pub shows_either : ShowsOld g mid new → ShowsAsBefore g old new
     shows_either shows clean One s stood live = shows clean s (kept_there quiet s stood) live
     shows_either shows clean Two s stood live =
-        absurd (not_new s saw filled (sound clean) (at_first quiet (sound clean)) stood)
+        absurd (was_not_new clean s stood)

@@ -1,3 +1,4 @@
+pub mod Indexing
 pub mod Statements
 pub mod Copying
 pub mod Migrating

@@ -97,6 +97,10 @@ module _ {S : Type 0} (g : Ghosts S) (old new : Held S) where
   WasNotOld =
       HasCleanDisk (state g new) → IsTrue (state g old).is_open → (s : State) → StoodFor One (state g old) s → ⊥
 
+  -- the connection represented no state in tables of version 2, and none in a store without tables
+  abbrev pub WasNotNew : Type 0
+  WasNotNew = HasCleanDisk (state g new) → (s : State) → StoodFor Two (state g old) s → ⊥
+
   -- the version is unknown: it is 0 and the store has no tables, or the tables have that version
   abbrev pub SawUnknown : ℕ → Type 0
   SawUnknown n =

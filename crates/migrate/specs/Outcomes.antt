@@ -7,7 +7,7 @@ use Rattle.desk_sql.specs.Versions.{SawVersion}
 use Rattle.desk_sql.specs.declared.meta.Meta.{Meta}
 use Rattle.sql_model.specs.Keeping.{WasClean}
 use Rattle.sql_model.specs.Staying.{StaysUp}
-use Rattle.migrate.specs.Migrating.{BringsAll, BringsOver, CountsEvents, HasFew, IsAsBefore, IsFault, IsRefusal, LeavesEither, LeavesNew, LeavesNewOf, LeavesOneOf, NumbersOld, ShowsAsBefore, ShowsOld, Tells, WasNotOld}
+use Rattle.migrate.specs.Migrating.{BringsAll, BringsOver, CountsEvents, HasFew, IsAsBefore, IsFault, IsRefusal, LeavesEither, LeavesNew, LeavesNewOf, LeavesOneOf, NumbersOld, ShowsAsBefore, ShowsOld, Tells, WasNotNew, WasNotOld}
 use Rattle.migrate.specs.Reasons.{FailsForReason, FailsToBringOver}
 use Rattle.migrate.specs.declared.faults.MigrateFault.{MigrateFault}
 use Rattle.migrate.specs.declared.faults.MigrateFault.TheVariants.{Memory}
@@ -18,6 +18,7 @@ module _ {S : Type 0} (g : Ghosts S) (old new : Held S) where
     -- they have the same state, which is all that a crash leaves
     pub same_state : BringsOver g old new
     pub left : LeavesNew g old new
+    pub only_old : WasNotNew g old new
     pub events : CountsEvents g old new n
     pub version : SawVersion g old new 1
 

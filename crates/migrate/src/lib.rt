@@ -7,8 +7,10 @@
 #![tactic(auto)]
 
 mod faults;
+mod indexing;
 mod migrating;
 mod statements;
 
 pub use faults::MigrateFault;
+pub use indexing::{Indexed, index};
 pub use migrating::{Migrated, migrate};

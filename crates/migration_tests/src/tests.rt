@@ -1,6 +1,7 @@
 mod bringing;
 mod failing;
 mod helping;
+mod indexing;
 mod old_desks;
 mod old_files;
 mod refusing;

@@ -20,8 +20,8 @@ use Rattle.sql_items.specs.ItemTexts.{next_item_text}
 
 items_say : (v : Version) (journey after : ℕ) → SaysQuery v (next_item_text v) (find_items_in v) find_items_names (whole journey ∷ whole after ∷ [])
 unfolding understood everything
-items_say One journey after = record { means = record { is = refl; plain = (refl, refl); unlisted = refl; selects = refl }; takes = record { whole = refl; typed = refl } }
-items_say Two journey after = record { means = record { is = refl; plain = (refl, refl); unlisted = refl; selects = refl }; takes = record { whole = refl; typed = refl } }
+items_say One journey after = record { means = λ _. record { is = refl; plain = (refl, refl); unlisted = refl; selects = refl }; takes = λ _. record { whole = refl; typed = refl } }
+items_say Two journey after = record { means = λ _. record { is = refl; plain = (refl, refl); unlisted = refl; selects = refl }; takes = λ _. record { whole = refl; typed = refl } }
 
 items_there : (v : Version) (db : Trees) → overlay db [] (items_tree v) ≡ db (items_tree v)
 items_there One db = refl

@@ -25,10 +25,10 @@ use Rattle.desk_sql.specs.declared.versions.Version.{Version}
 use Rattle.desk_sql.specs.Causes.{IsUp, HasReason}
 use Rattle.desk_sql.specs.Meanings.{sorted_rows}
 use Rattle.desk_sql.specs.RemainingRows.{Rests}
-use Rattle.desk_sql.specs.Schema.{schema_of}
-use Rattle.desk_sql.proofs.Causing.{Takes, takes, of_store, one_table}
+use Rattle.sqlite_schema.specs.declared.schema.Schema.{Schema}
+use Rattle.desk_sql.specs.Schema.{schema_with, IsSchemaOf}
+use Rattle.desk_sql.proofs.Causing.{IsSure, TakesUnder, takes, of_store, one_table, query_reason}
 use Rattle.desk_sql.proofs.Meaning.{MeansEach}
-use Rattle.sql_lists.proofs.QueryReasons.{IsSure, sure_reason}
 
 module _ {S : Type 0} (g : Ghosts S) {q : Query} (sure : IsSure q) {text : List ℕ} {names : List (List ℕ)}
     (m : MeansEach text q names) where
@@ -42,14 +42,14 @@ module _ {S : Type 0} (g : Ghosts S) {q : Query} (sure : IsSure q) {text : List 
       let answers = subst (λ k. Reads k db params rows) is reads in answers.typed
 
   -- and so was one that gave rows
-  accepted : (v : Version) (params : Row) (h : Held S) (given : List Row) → h.schema ≡ schema_of v → (command : Command) (listing : Bool)
+  accepted : (known : Schema) (params : Row) (h : Held S) (given : List Row) → h.schema ≡ known → (command : Command) (listing : Bool)
       → command ≡ Select program names → listing ≡ false → h.params ≡ params
       → HasRead command listing h.schema (g.view h.store) h.params h.step_limit h.reading given
-      → accepts_program (schema_of v) [] q params ≡ true
-  accepted v params h given schema command listing is unlisted same read =
+      → accepts_program known [] q params ≡ true
+  accepted known params h given schema command listing is unlisted same read =
       let db : read.db ≡ database h.schema (g.view h.store).trees
       = subst (λ b. IsSourceOf b (database h.schema (g.view h.store).trees) read.db) unlisted read.source in
-      let of : read.db.schema ≡ schema_of v = ap (λ (d : Database). d.schema) db ∙ schema in
+      let of : read.db.schema ≡ known = ap (λ (d : Database). d.schema) db ∙ schema in
       elim read.at [
         | inl ran ↦ subst (λ s. accepts_program s [] q params ≡ true) of
             (subst (λ p. accepts_program read.db.schema [] q p ≡ true) same (typed_of _ command read.db h.params is ran.1))
@@ -61,22 +61,24 @@ module _ {S : Type 0} (g : Ghosts S) {q : Query} (sure : IsSure q) {text : List 
       ]
 
   -- and it takes its parameters
-  takes_given : (v : Version) (params : Row) (h : Held S) (given : List Row) → h.schema ≡ schema_of v → HasGiven g text params h given
-      → Takes v text q params
+  takes_given : (v : Version) (params : Row) (h : Held S) (given : List Row) → (of : IsSchemaOf v h.schema) → HasGiven g text params h given
+      → TakesUnder (schema_with v of.extra) text q params
   unfolding HasGiven
-  takes_given v params h given schema it =
+  takes_given v params h given of it =
+      let schema = of.is in
+      let means = m v of.extra in
       let c = it.0.found.compiled in
       let run = it.0.statement in
-      let known : understood (schema_of v) text ≡ Ok c = ap (λ s. understood s text) (sym schema) ∙ run.is in
-      let plain = subst IsPlain known (m v).plain in
+      let known : understood (schema_with v of.extra) text ≡ Ok c = ap (λ s. understood s text) (sym schema) ∙ run.is in
+      let plain = subst IsPlain known means.plain in
       let same : h.params ≡ params
       = it.0.given ∙ ap (λ f. timed params f run.now) plain.1 ∙ append-nil params in
       record {
         whole = subst (λ r. takes (length text) (length params) r ≡ true) (sym known)
             (and_from _ _ (le-leb _ _ run.whole) (eq-eqb _ _ run.given));
-        typed = accepted v params h given schema c.command it.0.found.reads_listing
-            (ap command_of (sym known) ∙ (m v).is)
-            (it.0.reads ∙ ap (λ s. reads_listing s text) schema ∙ (m v).unlisted) same it.2;
+        typed = accepted (schema_with v of.extra) params h given schema c.command it.0.found.reads_listing
+            (ap command_of (sym known) ∙ means.is)
+            (it.0.reads ∙ ap (λ s. reads_listing s text) schema ∙ means.unlisted) same it.2;
       }
 
   -- so the next row is not read only out of memory, or where the disk failed or refused
@@ -86,7 +88,7 @@ module _ {S : Type 0} (g : Ghosts S) {q : Query} (sure : IsSure q) {text : List 
       let why = ended over.0 in of_store (state g old) (state g new) up why.0 e why.1 why.2
   advance_reason_sure old new later e up (inl runs) fails ended =
       let v = runs.1.version in
-      sure_reason sure (m v) (takes_given v runs.0 old runs.1.given runs.1.schema runs.1.gave) (state g old) (state g new) up runs.1.schema e
+      query_reason sure (m v) (state g old) (state g new) up runs.1.schema (takes_given v runs.0 old runs.1.given runs.1.schema runs.1.gave) e
       (fails text runs.0 runs.1.given runs.1.gave)
 
 -- the same of a query of one table

@@ -16,7 +16,7 @@ use Rattle.sqlite_resolve.specs.declared.compiled.Compiled.{Compiled}
 use Rattle.sqlite_resolve.specs.declared.error.CompileError.{CompileError}
 use Rattle.desk_sql.specs.declared.versions.Version.{Version}
 use Rattle.desk_sql.specs.declared.versions.Version.TheVariants.{Two}
-use Rattle.desk_sql.specs.Schema.{schema_of}
+use Rattle.desk_sql.specs.Schema.{IsSchemaOf}
 use Rattle.desk_sql.specs.Meanings.{select}
 use Rattle.desk_sql.specs.RemainingRows.{Begins, HandsFirst, Hands, RunsOn, Rests, Starts}
 use Rattle.desk_sql.specs.Rows.{Tables}
@@ -51,14 +51,14 @@ module _ {S : Type 0} (g : Ghosts S) (text : List ℕ) (q : Query) (names : List
   )
 
   -- a query without WITH can always end
-  ends : (v : Version) (h : Held S) → h.schema ≡ schema_of v → (c : Compiled) (db : Database) (it : IsStatement (state g h) text params c)
+  ends : (v : Version) (h : Held S) → IsSchemaOf v h.schema → (c : Compiled) (db : Database) (it : IsStatement (state g h) text params c)
       → IsSourceOf (reads_listing h.schema text) (state g h).now db → EndsIn c.command db (timed params c.formats it.now)
   ends v h schema c db it source =
-      let known : c.command ≡ select q names = ap command_of (sym it.is ∙ ap (λ s. understood s text) schema) ∙ (m v).is in
+      let known : c.command ≡ select q names = ap command_of (sym it.is ∙ ap (λ s. understood s text) schema.is) ∙ (m v schema.extra).is in
       subst (λ k. EndsIn k db (timed params c.formats it.now)) (sym known) tt
 
   -- the rows that were returned start an answer
-  begin_answer : (v : Version) (h : Held S) (given : List Row) → h.schema ≡ schema_of v → HasGiven g text params h given
+  begin_answer : (v : Version) (h : Held S) (given : List Row) → IsSchemaOf v h.schema → HasGiven g text params h given
       → (tail : List Row) × IsAnswer q (overlay (state g h).now.trees []) params (given ++ tail)
   begin_answer v h given schema it =
       let s = state g h in
@@ -66,23 +66,23 @@ module _ {S : Type 0} (g : Ghosts S) (text : List ℕ) (q : Query) (names : List
       (got.0, (whole_answer text q names (m v) params s s (λ _. schema) (given ++ got.0) got.1).1)
 
   -- the rows that remain of a query that has started are its only answer
-  pub starts : (v : Version) (old new : Held S) (later : List Row) → (IsTrue (state g old).is_open → old.schema ≡ schema_of v) → HasBegun g text params old new
+  pub starts : (v : Version) (old new : Held S) (later : List Row) → (IsTrue (state g old).is_open → IsSchemaOf v old.schema) → HasBegun g text params old new
       → (IsTrue (state g old).is_open → (rows : List Row) → IsAnswer q (overlay (state g old).now.trees []) params rows → rows ≡ later)
       → RunsOn g text q params new later
   starts v old new later schema (inl begun) one =
       let live = begun.1.0.was_open in record {
         version = v;
-        schema = ap (λ (d : Database). d.schema) begun.1.0.now_is ∙ schema live;
+        schema = subst (λ (d : Database). IsSchemaOf v d.schema) (sym begun.1.0.now_is) (schema live);
         given = [];
         gave = begun.0;
         whole = λ rows answer. one live rows (subst (λ (d : Database). IsAnswer q (overlay d.trees []) params rows) begun.1.0.now_is answer);
       }
-  starts v old new later schema (inr h) one = absurd (never_returns (understood old.schema text) (understood_bare text (m Two).selects old.schema) h.0)
+  starts v old new later schema (inr h) one = absurd (never_returns (understood old.schema text) (understood_bare text (m Two []).selects old.schema) h.0)
 
   -- the start of a query changes nothing
   begun_same : (old new : Held S) → HasBegun g text params old new → IsUnchanged (state g old) (state g new)
   begun_same old new (inl begun) = begun.1
-  begun_same old new (inr h) = absurd (never_returns (understood old.schema text) (understood_bare text (m Two).selects old.schema) h.0)
+  begun_same old new (inr h) = absurd (never_returns (understood old.schema text) (understood_bare text (m Two []).selects old.schema) h.0)
 
   -- rows that were started, of which these values remain
   pub started : {X : Type 0} (IsList : Tables → List X → Type 0) (RestsOn : Held S → List X → Type 0) (old new : Held S)
@@ -93,7 +93,7 @@ module _ {S : Type 0} (g : Ghosts S) (text : List ℕ) (q : Query) (names : List
     begun = begins;
     same = λ clean. begun_same old new (begun clean);
     mode = mode;
-    survives = leaves_no_more text (m Two).selects params (state g old) (state g new) survives;
+    survives = leaves_no_more text (m Two []).selects params (state g old) (state g new) survives;
   }
 
   -- one more row is the first that remained
@@ -101,7 +101,7 @@ module _ {S : Type 0} (g : Ghosts S) (text : List ℕ) (q : Query) (names : List
       → IsUnchanged (state g old) (state g new) → (more : List Row) × (later ≡ row ∷ more) × RunsOn g text q params new more
   steps old new later row runs advances same =
       let now = same.0.now_is in
-      let schema : new.schema ≡ schema_of runs.version = ap (λ (d : Database). d.schema) now ∙ runs.schema in
+      let schema : IsSchemaOf runs.version new.schema = subst (λ (d : Database). IsSchemaOf runs.version d.schema) (sym now) runs.schema in
       let gave = advances text params runs.given runs.gave in
       let it = begin_answer runs.version new (runs.given ++ row ∷ []) schema gave in
       let more = it.0 in

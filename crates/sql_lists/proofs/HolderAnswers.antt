@@ -42,14 +42,14 @@ use Rattle.sql_lists.specs.declared.holders.HolderFound.{HolderFound}
 
 pub holders_means : MeansEach holders_text holders_query holders_names
 unfolding understood everything
-holders_means One = record { is = refl; plain = (refl, refl); unlisted = refl; selects = refl }
-holders_means Two = record { is = refl; plain = (refl, refl); unlisted = refl; selects = refl }
+holders_means One extra = record { is = refl; plain = (refl, refl); unlisted = refl; selects = refl }
+holders_means Two extra = record { is = refl; plain = (refl, refl); unlisted = refl; selects = refl }
 
 pub holders_take : (kind night : ℕ) (supplier product : List ℕ) (v : Version)
     → Takes v holders_text holders_query (whole kind ∷ Text supplier ∷ Text product ∷ whole night ∷ [])
 unfolding understood everything
-holders_take kind night supplier product One = record { whole = refl; typed = refl }
-holders_take kind night supplier product Two = record { whole = refl; typed = refl }
+holders_take kind night supplier product One extra = record { whole = refl; typed = refl }
+holders_take kind night supplier product Two extra = record { whole = refl; typed = refl }
 
 -- The tests.
 

@@ -50,15 +50,15 @@ use Rattle.sql_lists.proofs.JoinedRows.{joined_answers}
 
 pub holdings_means : MeansEach holdings_text holdings_query holdings_names
 unfolding understood everything
-holdings_means One = record { is = refl; plain = (refl, refl); unlisted = refl; selects = refl }
-holdings_means Two = record { is = refl; plain = (refl, refl); unlisted = refl; selects = refl }
+holdings_means One extra = record { is = refl; plain = (refl, refl); unlisted = refl; selects = refl }
+holdings_means Two extra = record { is = refl; plain = (refl, refl); unlisted = refl; selects = refl }
 
 pub holdings_take : (kind : Option Kind) (supplier product : Option (List ℕ)) (first last : Option ℕ) (v : Version)
     → Takes v holdings_text holdings_query
     (kind_param kind ∷ name_param supplier ∷ name_param product ∷ night_param first ∷ night_param last ∷ [])
 unfolding understood everything
-holdings_take kind supplier product first last One = record { whole = refl; typed = holdings_typed One kind supplier product first last }
-holdings_take kind supplier product first last Two = record { whole = refl; typed = holdings_typed Two kind supplier product first last }
+holdings_take kind supplier product first last One extra = record { whole = refl; typed = holdings_typed One kind supplier product first last extra }
+holdings_take kind supplier product first last Two extra = record { whole = refl; typed = holdings_typed Two kind supplier product first last extra }
 
 -- The tests.
 

@@ -17,7 +17,7 @@ use Rattle.desk_sql.proofs.Answering.{Answers}
 use Rattle.desk_sql.proofs.Ascending.{IsUpTo, ascends, output_total}
 use Rattle.desk_sql.proofs.Permuting.{permuted}
 use Rattle.sql_lists.specs.HoldingLists.{Joined, holding_tests, holdings_query, join, joined}
-use Rattle.sql_lists.proofs.QueryReasons.{IsSure}
+use Rattle.desk_sql.proofs.Causing.{IsSure}
 
 -- no sum of the query overflows, since it has none
 pub holdings_sure : IsSure holdings_query

@@ -1,6 +1,5 @@
 pub mod ListMeanings
 pub mod HandedRows
-pub mod QueryReasons
 pub mod HandedReasons
 pub mod HandedCells
 pub mod HandedJourneys

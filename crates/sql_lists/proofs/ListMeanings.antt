@@ -14,24 +14,24 @@ use Rattle.sql_lists.specs.JourneyLists.{journey_list_query, journey_list_text, 
 
 pub cells_means : (s p : Bool) → MeansEach (cells_text s p) (cells_query s p) find_stock_names
 unfolding understood everything
-cells_means false false One = record { is = refl; plain = (refl, refl); unlisted = refl; selects = refl }
-cells_means false false Two = record { is = refl; plain = (refl, refl); unlisted = refl; selects = refl }
-cells_means true false One = record { is = refl; plain = (refl, refl); unlisted = refl; selects = refl }
-cells_means true false Two = record { is = refl; plain = (refl, refl); unlisted = refl; selects = refl }
-cells_means false true One = record { is = refl; plain = (refl, refl); unlisted = refl; selects = refl }
-cells_means false true Two = record { is = refl; plain = (refl, refl); unlisted = refl; selects = refl }
-cells_means true true One = record { is = refl; plain = (refl, refl); unlisted = refl; selects = refl }
-cells_means true true Two = record { is = refl; plain = (refl, refl); unlisted = refl; selects = refl }
+cells_means false false One extra = record { is = refl; plain = (refl, refl); unlisted = refl; selects = refl }
+cells_means false false Two extra = record { is = refl; plain = (refl, refl); unlisted = refl; selects = refl }
+cells_means true false One extra = record { is = refl; plain = (refl, refl); unlisted = refl; selects = refl }
+cells_means true false Two extra = record { is = refl; plain = (refl, refl); unlisted = refl; selects = refl }
+cells_means false true One extra = record { is = refl; plain = (refl, refl); unlisted = refl; selects = refl }
+cells_means false true Two extra = record { is = refl; plain = (refl, refl); unlisted = refl; selects = refl }
+cells_means true true One extra = record { is = refl; plain = (refl, refl); unlisted = refl; selects = refl }
+cells_means true true Two extra = record { is = refl; plain = (refl, refl); unlisted = refl; selects = refl }
 
 pub stock_means : MeansEach stock_text find_stock_query find_stock_names
 unfolding understood everything
-stock_means One = record { is = refl; plain = (refl, refl); unlisted = refl; selects = refl }
-stock_means Two = record { is = refl; plain = (refl, refl); unlisted = refl; selects = refl }
+stock_means One extra = record { is = refl; plain = (refl, refl); unlisted = refl; selects = refl }
+stock_means Two extra = record { is = refl; plain = (refl, refl); unlisted = refl; selects = refl }
 
 pub stock_takes : (v : Version) → Takes v stock_text find_stock_query []
 unfolding understood everything
-stock_takes One = record { whole = refl; typed = refl }
-stock_takes Two = record { whole = refl; typed = refl }
+stock_takes One extra = record { whole = refl; typed = refl }
+stock_takes Two extra = record { whole = refl; typed = refl }
 
 pub cell_list_means : (s : Option (Bool × Bool)) → MeansEach (cell_list_text s) (cell_list_query s) find_stock_names
 cell_list_means None = stock_means
@@ -40,44 +40,44 @@ cell_list_means (Some asked) = cells_means asked.0 asked.1
 module _ (kind first last : ℕ) where
   pub any_takes : (v : Version) → Takes v (cells_text false false) (cells_query false false) (whole kind ∷ whole first ∷ whole last ∷ [])
   unfolding understood everything
-  any_takes One = record { whole = refl; typed = refl }
-  any_takes Two = record { whole = refl; typed = refl }
+  any_takes One extra = record { whole = refl; typed = refl }
+  any_takes Two extra = record { whole = refl; typed = refl }
 
   pub supplier_takes : (supplier : List ℕ) (v : Version)
       → Takes v (cells_text true false) (cells_query true false) (whole kind ∷ Text supplier ∷ whole first ∷ whole last ∷ [])
   unfolding understood everything
-  supplier_takes supplier One = record { whole = refl; typed = refl }
-  supplier_takes supplier Two = record { whole = refl; typed = refl }
+  supplier_takes supplier One extra = record { whole = refl; typed = refl }
+  supplier_takes supplier Two extra = record { whole = refl; typed = refl }
 
   pub product_takes : (product : List ℕ) (v : Version)
       → Takes v (cells_text false true) (cells_query false true) (whole kind ∷ Text product ∷ whole first ∷ whole last ∷ [])
   unfolding understood everything
-  product_takes product One = record { whole = refl; typed = refl }
-  product_takes product Two = record { whole = refl; typed = refl }
+  product_takes product One extra = record { whole = refl; typed = refl }
+  product_takes product Two extra = record { whole = refl; typed = refl }
 
   pub both_take : (supplier product : List ℕ) (v : Version)
       → Takes v (cells_text true true) (cells_query true true)
       (whole kind ∷ Text supplier ∷ Text product ∷ whole first ∷ whole last ∷ [])
   unfolding understood everything
-  both_take supplier product One = record { whole = refl; typed = refl }
-  both_take supplier product Two = record { whole = refl; typed = refl }
+  both_take supplier product One extra = record { whole = refl; typed = refl }
+  both_take supplier product Two extra = record { whole = refl; typed = refl }
 
 pub journeys_means : (agent : Bool) → MeansEach (journeys_text agent) (journeys_query agent) journey_names
 unfolding understood everything
-journeys_means false One = record { is = refl; plain = (refl, refl); unlisted = refl; selects = refl }
-journeys_means false Two = record { is = refl; plain = (refl, refl); unlisted = refl; selects = refl }
-journeys_means true One = record { is = refl; plain = (refl, refl); unlisted = refl; selects = refl }
-journeys_means true Two = record { is = refl; plain = (refl, refl); unlisted = refl; selects = refl }
+journeys_means false One extra = record { is = refl; plain = (refl, refl); unlisted = refl; selects = refl }
+journeys_means false Two extra = record { is = refl; plain = (refl, refl); unlisted = refl; selects = refl }
+journeys_means true One extra = record { is = refl; plain = (refl, refl); unlisted = refl; selects = refl }
+journeys_means true Two extra = record { is = refl; plain = (refl, refl); unlisted = refl; selects = refl }
 
 pub unfinished_means : MeansEach unfinished_text first_unfinished_query journey_names
 unfolding understood everything
-unfinished_means One = record { is = refl; plain = (refl, refl); unlisted = refl; selects = refl }
-unfinished_means Two = record { is = refl; plain = (refl, refl); unlisted = refl; selects = refl }
+unfinished_means One extra = record { is = refl; plain = (refl, refl); unlisted = refl; selects = refl }
+unfinished_means Two extra = record { is = refl; plain = (refl, refl); unlisted = refl; selects = refl }
 
 pub unfinished_takes : (v : Version) (after : ℕ) → Takes v unfinished_text first_unfinished_query (whole after ∷ [])
 unfolding understood everything
-unfinished_takes One after = record { whole = refl; typed = refl }
-unfinished_takes Two after = record { whole = refl; typed = refl }
+unfinished_takes One after extra = record { whole = refl; typed = refl }
+unfinished_takes Two after extra = record { whole = refl; typed = refl }
 
 pub journey_list_means : (s : Option Bool) → MeansEach (journey_list_text s) (journey_list_query s) journey_names
 journey_list_means None = unfinished_means
@@ -86,11 +86,11 @@ journey_list_means (Some agent) = journeys_means agent
 module _ (least most : ℕ) where
   pub all_take : (v : Version) → Takes v (journeys_text false) (journeys_query false) (whole least ∷ whole most ∷ [])
   unfolding understood everything
-  all_take One = record { whole = refl; typed = refl }
-  all_take Two = record { whole = refl; typed = refl }
+  all_take One extra = record { whole = refl; typed = refl }
+  all_take Two extra = record { whole = refl; typed = refl }
 
   pub agent_takes : (agent : List ℕ) (v : Version)
       → Takes v (journeys_text true) (journeys_query true) (Text agent ∷ whole least ∷ whole most ∷ [])
   unfolding understood everything
-  agent_takes agent One = record { whole = refl; typed = refl }
-  agent_takes agent Two = record { whole = refl; typed = refl }
+  agent_takes agent One extra = record { whole = refl; typed = refl }
+  agent_takes agent Two extra = record { whole = refl; typed = refl }

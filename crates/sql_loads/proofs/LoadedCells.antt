@@ -1,5 +1,5 @@
 -- The writes of a load: one more cell, and the places of the nights of a range. For `insert_cell` and `set_nights`.
-use Rattle.std.proofs.Common.{◌≡◌, ◌+◌, ℕ, ℤ, suc, List, [], ◌∷◌, filter, length, map, drop, cond, slice_get, unwrap_or, inl, Some, None, Ok, Err, Result, IfOk, Bool, true, false, refl, sym, ap, subst, ◌∙◌, arith, not}
+use Rattle.std.proofs.Common.{◌≡◌, ◌+◌, ℕ, ℤ, suc, List, [], ◌∷◌, filter, length, map, drop, cond, slice_get, unwrap_or, inl, Some, None, Ok, Err, Result, IfOk, Bool, true, false, refl, sym, ap, ◌∙◌, arith, not}
 use Rattle.std.specs.List.{AllByRecursion, list_any}
 use Rattle.std.proofs.lemmas.Bool.{false_from_ne_true}
 use Rattle.std.proofs.lemmas.List.{length-map}
@@ -14,21 +14,22 @@ use Rattle.sqlite.specs.Table.{Table}
 use Rattle.sqlite.specs.Cast.{cast_row}
 use Rattle.sqlite.specs.Command.{Command}
 use Rattle.sqlite.specs.Command.TheVariants.{Update}
-use Rattle.sqlite.specs.Does.{Tally, Does, OnRows}
+use Rattle.sqlite.specs.Does.{Tally, OnRows}
 use Rattle.sqlite.specs.Effect.{Database}
 use Rattle.sqlite.specs.Rows.{Written}
 use Rattle.sqlite.specs.Edit.{edit_of, next_rowid}
 use Rattle.sqlite.specs.Rowids.TheVariants.{Given}
 use Rattle.sqlite.specs.Listing.{understood}
 use Rattle.sqlite.specs.State.{State, mode_of, Executes, ExecutesInside}
-use Rattle.sqlite.proofs.Callers.{IsPlain, command_of, statement_of, runs_as}
+use Rattle.sqlite.proofs.Callers.{statement_of}
 use Rattle.sqlite_rules.specs.Calls.{ids_of}
 use Rattle.sqlite_rules.specs.Edit.{without_all}
 use Rattle.sqlite_rules.proofs.PlaceLemmas.{given}
 use Rattle.sqlite_rules.proofs.ListLemmas.{all_has, all_from, some_from}
 use Rattle.sqlite_schema.specs.Rules.{agree}
 use Rattle.sqlite_tied.specs.Compute.{everything}
-use Rattle.desk_sql.specs.Schema.{stock_at, desk_schema}
+use Rattle.sqlite_schema.specs.declared.schema.Index.{Index}
+use Rattle.desk_sql.specs.Schema.{stock_at, desk_schema, desk_with}
 use Rattle.desk_sql.specs.Lists.{numbered_row, IsTableOf}
 use Rattle.desk_sql.specs.Rows.{whole, Tables, StockRow, stock_columns}
 use Rattle.desk_sql.specs.Calls.{IsReady, MayRun}
@@ -39,7 +40,7 @@ use Rattle.desk_sql.specs.Writable.{HasRowids, IsShort}
 use Rattle.desk_sql.specs.Meanings.{update}
 use Rattle.desk_sql.specs.declared.stock.NightRange.{NightRange}
 use Rattle.desk_sql.proofs.Meaning.{Means}
-use Rattle.desk_sql.proofs.Writing.{went, same_value, task_for, cast_null}
+use Rattle.desk_sql.proofs.Writing.{went, same_value, task_for, cast_null, does_so, runs_ready}
 use Rattle.desk_sql.proofs.Inserting.{cast_int}
 use Rattle.desk_sql.proofs.Reading.{passes, shown_of, lists, lists_any}
 use Rattle.desk_sql.proofs.Testing.{eq_whole, eq_text, ge_whole, le_whole, and_true}
@@ -61,7 +62,7 @@ use Rattle.desk_sql.proofs.Storing.{storable, held_from, is_between}
 
 set_nights_means : Means set_nights_text (update 1 set_nights_query)
 unfolding understood everything
-set_nights_means = record { is = refl; plain = (refl, refl) }
+set_nights_means extra = record { is = refl; plain = (refl, refl) }
 
 -- no row is of the cell
 pub each_other : (s : StockRow) (cells : List StockRow) → list_any (is_cell s) cells ≡ false → AllByRecursion (λ x. is_cell s x ≡ false) cells
@@ -75,7 +76,7 @@ agree_new id s p = rw first_key-plain (simp (eq_whole, eq_text) (simp and_true))
 
 cell_says : (s : StockRow) → SaysInsert insert_cell_text 1 insert_cell_terms 7 (put_params s)
 unfolding understood everything
-cell_says s = record { means = record { is = refl; plain = (refl, refl) }; whole = refl; types = refl }
+cell_says s = record { means = λ _. record { is = refl; plain = (refl, refl) }; whole = λ _. refl; types = λ _. refl }
 
 -- One more cell: it is appended, since its rowid is the next.
 pub loads_cell : (s : StockRow) → Effect insert_cell_text (put_params s) (λ _. ⊤) (adds_cell s) (HasRowids 1) (MayAddCell s) (λ _. ⊤) suc
@@ -85,7 +86,7 @@ loads_cell s =
     let free : (is_between s.free 0 s.allot && true) ≡ true = rw (range_holds s.free 0 s.allot (omega arith) fits.free) refl in
     record {
       alone = (refl, refl, and_from (is_between s.kind 0 3) (is_between s.free 0 s.allot && true) kind free);
-      storable = held_from (stock_at 1) _ (storable _ _ refl refl (omega (arith, fits.short)), omega arith) (storable _ _ refl refl (omega (arith, fits.short)), tt);
+      storable = held_from (stock_at 1) _ (storable _ _ refl refl (omega (arith, fits.short)), omega arith) (storable _ _ refl refl (omega (arith, fits.short)), tt) tt;
       single = (
         rows_all stock_columns (db 1) t.stock _ (λ x. is_cell s x ≡ false) shown.stock
             (λ p apart. agree_new (next_rowid (db 1)) s p ∙ apart) (each_other s t.stock fits.lacks),
@@ -101,9 +102,9 @@ module _ (old : State) (params : Row) (at : ℕ) (table : Table) (q : Query) whe
   abbrev command : Command
   command = Update at (record { lets = []; body = q })
 
-  on_table : (tally : Tally) (after : Database) → OnRows (task_for old table params) (mode_of old) None command old.now.trees (Ok (tally, after))
+  on_table : (extra : List Index) (tally : Tally) (after : Database) → OnRows (task_for extra old table params) (mode_of old) None command old.now.trees (Ok (tally, after))
       → (rows : List Row) × IsAnswer q (overlay old.now.trees []) params rows × (unwrap_or tally.rows 0 ≡ length rows)
-  on_table tally after h =
+  on_table extra tally after h =
       let all = went h in
       let told = went (went all.2).2 in
       let found = went all.1 in
@@ -117,15 +118,14 @@ module _ (old : State) (params : Row) (at : ℕ) (table : Table) (q : Query) whe
             ∙ ap length (given (without_all (old.now.trees table.tree) (ids_of found.0)) (map write found.0)) ∙ length-map found.0 write,
       )
 
-  updates_many : (sql : List ℕ) (new : State) (count : ℕ) → command_of (understood desk_schema sql) ≡ command → IsPlain (understood desk_schema sql)
+  updates_many : (sql : List ℕ) (new : State) (count : ℕ) → Means sql command
       → slice_get desk_schema.tables at ≡ Some table → IsReady old → Executes sql params old new (Ok count)
       → (rows : List Row) × IsAnswer q (overlay old.now.trees []) params rows × (count ≡ length rows)
-  updates_many sql new count is plain there ready h =
-      let w = runs_as sql params old new desk_schema ready.schema command is plain count h in
-      let text = statement_of sql (understood desk_schema sql) in
-      let all : Does old.step_limit (mode_of old) params (record { schema = desk_schema; trees = old.now.trees }) text None command (Ok (w.tally, new.now))
-      = subst (λ s. Does old.step_limit (mode_of old) params (record old.now { schema = s }) text None command (Ok (w.tally, new.now))) ready.schema w.changed in
-      let it = on_table w.tally new.now (rw there at all) in
+  updates_many sql new count means there ready h =
+      let extra = ready.schema.extra in
+      let w = runs_ready sql params old new command count means ready h in
+      let text = statement_of sql (understood (desk_with extra) sql) in
+      let it = on_table extra w.tally new.now (rw there at (does_so text params old new command count ready w)) in
       (it.0, it.1, w.counted ∙ it.2)
 
 abbrev pub set_params : NightRange → ℕ → ℕ → Row
@@ -139,7 +139,7 @@ set_test r allot free p = simp (eq_whole, eq_text, ge_whole, le_whole) (simp and
 set_says : (r : NightRange) (allot free : ℕ)
     → SaysUpdate set_nights_text 1 1 set_nights_query.filter set_nights_query.project (set_params r allot free)
 unfolding understood everything
-set_says r allot free = record { means = record { is = refl; plain = (refl, refl) }; whole = refl; types = refl }
+set_says r allot free = record { means = λ _. record { is = refl; plain = (refl, refl) }; whole = λ _. refl; types = λ _. refl }
 
 pub sets_places : (w : NightRange) (allot free : ℕ) → Effect set_nights_text (set_params w allot free) (λ _. ⊤) (sets_nights w allot free)
     (HasRowids 0) (MaySetNights w allot free) (λ _. ⊤) (λ n. n)
@@ -188,6 +188,6 @@ module _ (old new : State) (t : Tables) (w : NightRange) (allot free : ℕ) wher
       let here = ran.1.was_open in
       let db = old.now.trees in
       let shown = (may.sees here).rows.stock in
-      let it = updates_many old params 1 (stock_at 1) set_nights_query set_nights_text new n set_nights_means.is set_nights_means.plain refl
+      let it = updates_many old params 1 (stock_at 1) set_nights_query set_nights_text new n set_nights_means refl
       (ready_of old t may here) ran.0 in
       it.2 ∙ rows_shown db shown it.0 it.1

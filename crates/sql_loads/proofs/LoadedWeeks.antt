@@ -18,7 +18,8 @@ use Rattle.sqlite_rules.specs.Edit.{numbered, put_all, is_taken, are_fresh}
 use Rattle.sqlite_rules.proofs.ListLemmas.{all_has}
 use Rattle.sqlite_typing.specs.Types.{accepts_terms}
 use Rattle.sqlite_tied.specs.Compute.{everything}
-use Rattle.desk_sql.specs.Schema.{stock_at, desk_schema}
+use Rattle.sqlite_schema.specs.declared.schema.Index.{Index}
+use Rattle.desk_sql.specs.Schema.{stock_at, desk_with}
 use Rattle.desk_sql.specs.Lists.{numbered_row, IsTableOf}
 use Rattle.desk_sql.specs.Rows.{whole, Tables, StockRow, stock_columns}
 use Rattle.desk_sql.specs.Calls.{MayRun}
@@ -45,7 +46,7 @@ use Rattle.sql_loads.proofs.NewRows.{stock_edit, agrees, rows_safe}
 
 insert_week_means : Means insert_week_text (insert 1 insert_week_terms 7)
 unfolding understood everything
-insert_week_means = record { is = refl; plain = (refl, refl) }
+insert_week_means extra = record { is = refl; plain = (refl, refl) }
 
 abbrev pub week_params : StockRow → Row
 week_params s =
@@ -205,9 +206,9 @@ week_values s = simp (cast_int, cast_null, one_more, two_more, three_more, four_
 week_news : (db : Trees) (s : StockRow) → (week_edit db s).news ≡ next_rows (db 1) (week_from s)
 week_news db s = ap (numbered Chosen (db 1)) (week_values s) ∙ numbered_next (db 1) (week_from s)
 
-week_takes : (s : StockRow) → takes (length insert_week_text) (length (week_params s)) (understood desk_schema insert_week_text) ≡ true
+week_takes : (s : StockRow) (extra : List Index) → takes (length insert_week_text) (length (week_params s)) (understood (desk_with extra) insert_week_text) ≡ true
 unfolding understood everything
-week_takes s = refl
+week_takes s extra = refl
 
 week_typed : (s : StockRow) → accepts_terms insert_week_terms (week_params s) ≡ true
 unfolding everything
@@ -232,8 +233,8 @@ loads_week s = record {
     edits : (old new : State) (t : Tables) (count : ℕ) → MayRun old t → ExecutesInside 0 insert_week_text (week_params s) old new (Ok count)
         → Edits old new (week_edit old.now.trees s)
     edits old new t count may ran =
-        inserts insert_week_text (week_params s) old new 1 (stock_at 1) insert_week_terms 7 count insert_week_means.is
-        insert_week_means.plain refl refl refl refl (ready_of old t may ran.1.was_open) ran.0
+        inserts insert_week_text (week_params s) old new 1 (stock_at 1) insert_week_terms 7 count insert_week_means
+        refl refl refl (ready_of old t may ran.1.was_open) ran.0
 
     reason : (old new : State) (t : Tables) (e : Error) → HasRowids 7 old.now.trees → MayRun old t → MayAddWeek s t → IsUp old
         → ExecutesInside 0 insert_week_text (week_params s) old new (Err e) → HasReason old new e
@@ -257,5 +258,5 @@ loads_week s = record {
         rows_safe db news (table_of stock_columns (db 1) t.stock shown) (obeys_desk old t sees) fit (fresh_next (week_from s) (db 1) t.stock shown)
         single (next_apart 7 s (db 1)) refl in
         write_reason insert_week_text (insert 1 insert_week_terms 7) (week_params s) insert_week_means (week_takes s) refl refl old new up sees.schema
-        (insert_goes old (week_params s) 1 (stock_at 1) insert_week_terms 7 refl refl refl (week_typed s) up.unlimited
+        (insert_goes sees.schema.extra sees.schema.are old (week_params s) 1 (stock_at 1) insert_week_terms 7 refl refl refl (week_typed s) up.unlimited
         (subst (λ rows. IsSafe db (stock_edit rows)) (sym (week_news db s)) safe)) e

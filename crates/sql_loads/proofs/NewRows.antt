@@ -22,11 +22,12 @@ use Rattle.sqlite_rules.proofs.PlaceLemmas.{named_parent}
 use Rattle.sqlite.specs.Order.{Row}
 use Rattle.sqlite.specs.Ops.{fits_i64}
 use Rattle.sqlite.specs.Table.{Table}
-use Rattle.sqlite.specs.Edit.{Edit, edited, Applies}
+use Rattle.sqlite.specs.Edit.{Edit, edited}
 use Rattle.desk_sql.specs.Schema.{desk_schema, stock_at}
 use Rattle.desk_sql.proofs.Refusing.{IsSafe}
 use Rattle.desk_sql.proofs.NewRow.{IsFit, desk_apart, same_number}
 use Rattle.desk_sql.proofs.Upserting.{target}
+use Rattle.desk_sql.proofs.Writing.{Lands}
 
 -- the insertion of rows of stock
 abbrev pub stock_edit : List Row → Edit
@@ -127,7 +128,7 @@ module _ (db : Trees) (news : List Row) (ordered : IsTable (db 1)) (obeys : Obey
           (subst (λ n. Has (next n) parent.0) named.2 (stays named.0 named.1 parent.0 (subst (λ n. Has (db n) parent.0) (sym named.2) parent.1))) parent.2
 
   -- stock refers to no table
-  refers : (next : Trees) → Applies desk_schema Enforced db it next → Refers All desk_schema next
+  refers : (next : Trees) → Lands db it next → Refers All desk_schema next
   refers next made =
       let change = turned next made.rows made.tables in
       refers_from All desk_schema next (λ t ref row known of is there. elim (origin desk_schema db next (stock_at 1) _ _ news change t row known there) [
@@ -138,6 +139,6 @@ module _ (db : Trees) (news : List Row) (ordered : IsTable (db 1)) (obeys : Obey
   pub rows_safe : is_referred desk_schema Enforced it ≡ true → IsSafe db it
   rows_safe referred = record {
     permitted = permitted referred;
-    storable = λ r there large. (fit r there).storable large;
+    storable = λ r there. (fit r there).storable;
     refers = refers;
   }

@@ -1,16 +1,15 @@
 -- What a read keeps. For the functions that read.
-use Rattle.std.proofs.Common.{◌≡◌, inl, inr, Bool, true, false, IsTrue, refl, sym, ap, subst, ◌∙◌}
+use Rattle.std.proofs.Common.{◌≡◌, inl, inr, Bool, true, false, IsTrue, refl, sym, subst, ◌∙◌}
 use Rattle.sqlite.specs.Tree.{Trees}
 use Rattle.sqlite.specs.Effect.{Database, IsDatabase}
 use Rattle.sqlite.specs.State.{State as Connected, HasCleanDisk, Survives}
 use Rattle.desk_sql.specs.declared.versions.Version.{Version}
-use Rattle.sqlite_schema.specs.declared.schema.Schema.{Schema}
 use Rattle.desk_sql.specs.Calls.{SeesIn, MaySeeIn}
-use Rattle.desk_sql.specs.Schema.{schema_of}
+use Rattle.desk_sql.specs.Schema.{IsSchemaOf}
 use Rattle.desk_sql.specs.Rows.{Tables, ShowsIn, no_rows}
 use Rattle.ledger.specs.Answer.{State}
 use Rattle.sql_model.specs.Standing.{StandsIn}
-use Rattle.sql_model.specs.Keeping.{IsKeptIn, SeesOf}
+use Rattle.sql_model.specs.Keeping.{AreTreesOf, IsKeptIn, SeesOf}
 
 -- the tables that a connection which keeps a state may see, and which represent it if it is open
 pub record IsSeen (v : Version) (c : Connected) (s : State) : Type 0 where
@@ -29,11 +28,9 @@ seen_by {v} c s kept = by_cases c.is_open refl
         let shut : IsTrue c.is_open → ⊥ = λ live. (let no : true ≡ false = sym live ∙ e in cc) in
         record { tables = no_rows; may = λ live. absurd (shut live); stands = λ live. absurd (shut live) }
 
--- trees in which a connection sees tables of a version list the schema of that version, and obey it
-pub is_database : {v : Version} (c : Connected) (t : Tables) → SeesIn v c t
-    → IsDatabase (record { schema = schema_of v; trees = c.now.trees })
-is_database c t sees =
-    subst (λ (schema : Schema). IsDatabase (record { schema = schema; trees = c.now.trees })) sees.schema sees.sound
+-- trees in which a connection sees tables of a version list a schema of that version, and obey it
+pub is_database : {v : Version} (c : Connected) (t : Tables) → SeesIn v c t → AreTreesOf v c.now.trees
+is_database c t sees = record { schema = c.now.schema; known = sees.schema; sound = sees.sound }
 
 -- what a crash may leave after a read, it could leave before
 pub left_before : (a b : Connected) → Survives a b (λ _. ⊥) → HasCleanDisk b → (db : Trees) → b.may_leave db → a.may_leave db
@@ -42,7 +39,7 @@ left_before a b less clean db may = elim (less.crash clean db may) [ inl before 
 -- a connection still sees a desk if both of its databases are as before
 pub same_desk : {v : Version} (a b : Connected) (s : State) → SeesOf v a s → b.now ≡ a.now → b.committed ≡ a.committed → SeesOf v b s
 same_desk {v} a b s saw now committed = record {
-  schema = ap (λ (d : Database). d.schema) now ∙ saw.schema;
+  schema = subst (λ (d : Database). IsSchemaOf v d.schema) (sym now) saw.schema;
   sound = subst IsDatabase (sym now) saw.sound;
   committed = now ∙ saw.committed ∙ sym committed;
   tables = saw.tables;

@@ -1,19 +1,24 @@
 -- A connection opened over a desk's trees represents their state. For `openings`.
-use Rattle.std.proofs.Common.{◌≡◌, inl, inr, [], refl, sym, subst}
+use Rattle.std.proofs.Common.{◌≡◌, inl, inr, List, [], refl, sym, ap, subst, ◌∙◌}
 use Rattle.sqlite.specs.Tree.{Trees}
 use Rattle.sqlite.specs.State.{State as Connected}
 use Rattle.desk_sql.specs.declared.versions.Version.{Version}
 use Rattle.desk_sql.specs.declared.versions.Version.TheVariants.{One, Two}
-use Rattle.desk_sql.specs.Schema.{no_schema, schema_of}
+use Rattle.sqlite_schema.specs.declared.schema.Index.{Index}
+use Rattle.sqlite_schema.specs.declared.schema.Schema.{Schema}
+use Rattle.desk_sql.specs.Schema.{no_schema, schema_with, IsSchemaOf}
 use Rattle.ledger.specs.Answer.{State}
 use Rattle.sql_restart.specs.Schemas.{OneSchema}
 use Rattle.sql_model.specs.Keeping.{MeansIn, MeansNew, MeansOf, SeesOf, SeesNew, Sees, IsFound}
 use Rattle.sql_model.specs.Openings.{IsOpenedOver}
 
 -- the desk has no views
-no_views : (v : Version) → (schema_of v).views ≡ []
-no_views One = refl
-no_views Two = refl
+no_views : (v : Version) (extra : List Index) → (schema_with v extra).views ≡ []
+no_views One extra = refl
+no_views Two extra = refl
+
+none_viewed : (v : Version) (schema : Schema) → IsSchemaOf v schema → schema.views ≡ []
+none_viewed v schema it = ap (λ (s : Schema). s.views) it.is ∙ no_views v it.extra
 
 module _ (one : OneSchema) (v : Version) (c : Connected) (s : State) (it : IsOpenedOver v c s) where
   -- trees that list the desk's schema show the desk
@@ -21,7 +26,9 @@ module _ (one : OneSchema) (v : Version) (c : Connected) (s : State) (it : IsOpe
   sees_of w means =
       let sound = (it.live it.opens.is_open).0 in
       record {
-        schema = one (schema_of w) c.now.schema c.now.trees (no_views w) means.of sound;
+        schema = subst (IsSchemaOf w)
+            (sym (one means.of.schema c.now.schema c.now.trees (none_viewed w means.of.schema means.of.known) means.of.sound sound))
+            means.of.known;
         sound = sound;
         committed = it.opens.clean;
         tables = means.tables;

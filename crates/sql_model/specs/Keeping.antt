@@ -7,14 +7,21 @@ use Rattle.sqlite.specs.Held.{Held, state}
 use Rattle.sqlite.specs.State.{State as Connected, HasCleanDisk}
 use Rattle.desk_sql.specs.declared.versions.Version.{Version}
 use Rattle.desk_sql.specs.declared.versions.Version.TheVariants.{One, Two}
-use Rattle.desk_sql.specs.Schema.{schema_of, no_schema}
+use Rattle.sqlite_schema.specs.declared.schema.Schema.{Schema}
+use Rattle.desk_sql.specs.Schema.{IsSchemaOf, no_schema}
 use Rattle.desk_sql.specs.Rows.{Tables, ShowsIn}
 use Rattle.ledger.specs.Answer.{State, start}
 use Rattle.sql_model.specs.Standing.{StandsIn}
 
--- the trees list the desk's schema of this version and obey it, and its tables represent the state
+-- the trees list a schema of this version, and obey it
+pub record AreTreesOf (v : Version) (db : Trees) : Type 0 where
+  pub schema : Schema
+  pub known : IsSchemaOf v schema
+  pub sound : IsDatabase (record { schema = schema; trees = db })
+
+-- they do, and its tables represent the state
 pub record MeansIn (v : Version) (db : Trees) (s : State) : Type 0 where
-  pub of : IsDatabase (record { schema = schema_of v; trees = db })
+  pub of : AreTreesOf v db
   pub tables : Tables
   pub shown : ShowsIn v db tables
   pub stands : StandsIn v tables s
@@ -44,7 +51,7 @@ Leaves c s t = (db : Trees) → c.may_leave db → Means db s ⊎ Means db t
 
 -- the connection sees the desk's tables of this version, committed, and they represent the state
 pub record SeesOf (v : Version) (c : Connected) (s : State) : Type 0 where
-  pub schema : c.now.schema ≡ schema_of v
+  pub schema : IsSchemaOf v c.now.schema
   pub sound : IsDatabase c.now
   pub committed : c.now ≡ c.committed
   pub tables : Tables

@@ -125,6 +125,15 @@ module _ {S : Type 0} {g : Ghosts S} {old new : Held S} {v : Version} where
         quiet = it.quiet;
       })
 
+  -- what is read of each desk is read of those that fit
+  pub read_less : {V : Type 0} {result : Result V Fault} {IsGood : State → Type 0} {IsRead IsShown : State → V → Type 0}
+      → ReadIn g old new v result AnyDesk IsRead → ((s : State) (x : V) → IsRead s x → IsShown s x) → ReadIn g old new v result IsGood IsShown
+  read_less {result = result} {IsRead = IsRead} {IsShown = IsShown} it less = record {
+    shows = λ clean s desk keeps. also_ok result (IsRead s) (IsShown s) (less s) (it.shows clean s desk keeps);
+    store = λ clean s desk spelled keeps good up store. it.store clean s desk spelled keeps tt up store;
+    quiet = it.quiet;
+  }
+
 -- One read after another.
 
 module _ {S : Type 0} {g : Ghosts S} {a b c : Held S} {v : Version} where

@@ -7,6 +7,8 @@ use Rattle.sqlite.specs.Effect.{Database, IsDatabase}
 use Rattle.sqlite.specs.State.{HasCleanDisk, KeepsCommit, Survives, Shows as Sees2}
 use Rattle.sqlite.specs.Held.{Held, state}
 use Rattle.sqlite.specs.declared.error.Error.{Error}
+use Rattle.desk_sql.specs.declared.versions.Version.TheVariants.{Two}
+use Rattle.desk_sql.specs.Schema.{IsSchemaOf}
 use Rattle.desk_sql.specs.Calls.{MayRun, Makes}
 use Rattle.desk_sql.specs.Rows.{Tables, Shows}
 use Rattle.desk_sql.specs.Writable.{HasRowids}
@@ -87,7 +89,7 @@ module _ {S : Type 0} (g : Ghosts S) (old late : Held S) (Fits : Tables → Type
       → IsKept (state g end) next
   keeps_next law end shown = record {
     sees = λ _. record {
-      schema = ap (λ (d : Database). d.schema) shown.now_is ∙ has_made.sees.schema;
+      schema = subst (λ (d : Database). IsSchemaOf Two d.schema) (sym shown.now_is) has_made.sees.schema;
       sound = subst IsDatabase (sym shown.now_is) has_made.sees.sound;
       committed = shown.now_is ∙ sym shown.committed_is;
       tables = after saw.tables;

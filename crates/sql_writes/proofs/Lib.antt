@@ -12,3 +12,4 @@ pub mod RunPuts
 pub mod RunWrites
 pub mod RunLemmas
 pub mod RunWeeks
+pub mod Batches

@@ -52,7 +52,7 @@ module _ {S : Type 0} (g : Ghosts S) (old late end : Held S) (was : Idle old) (b
 
   -- no desk was kept there whose opening could fail
   keeps_none : (f : OpenFault) → FailsToOpen g old end f
-  keeps_none f clean v s keeps up store = absurd (not_bare v (sym ((keeps (at_first clean)).sees up.is_open).schema ∙ bare))
+  keeps_none f clean v s keeps up store = absurd (not_bare v old.schema ((keeps (at_first clean)).sees up.is_open).schema bare)
 
   -- after a rollback it has no tables, as before
   bare_again : CommitsNothing g begun late → (HasCleanDisk (state g end) → IsRolledBack (state g late) (state g end)) → HasCleanDisk (state g end)
@@ -72,7 +72,7 @@ module _ {S : Type 0} (g : Ghosts S) (old late end : Held S) (was : Idle old) (b
     only = λ clean v s stood. (was_new v (state g old) s (stood (at_first clean)) bare (has_founded g old late bare (at_late clean) made live).0).0;
     version = λ clean v t sees. (
         let has = has_founded g old late bare (at_late clean) made live in
-        absurd (not_bare v (sym (sees has.0).schema ∙ bare)));
+        absurd (not_bare v old.schema (sees has.0).schema bare));
     idle = still_idle;
     sound = at_first;
     up = stays_begun g old end (stays_twice g begun late end (stays_up g begun late less) (stays_committing g late end Commits over) at_late);

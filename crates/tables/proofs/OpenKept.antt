@@ -16,7 +16,7 @@ use Rattle.desk_sql.specs.Calls.{Sees, MaySeeIn, MayBuild, Founds, WasOpen, Leav
 use Rattle.desk_sql.specs.Changes.{founded}
 use Rattle.desk_sql.specs.FoundRows.{IsMeta, meta_of}
 use Rattle.desk_sql.specs.Rows.{Tables, MetaRow, Shows, ShowsIn}
-use Rattle.desk_sql.specs.Schema.{no_schema, schema_of}
+use Rattle.desk_sql.specs.Schema.{no_schema, IsSchemaOf}
 use Rattle.desk_sql.specs.declared.meta.Meta.{Meta}
 use Rattle.commands.specs.declared.replies.Fault.{Fault}
 use Rattle.commands.specs.declared.replies.Fault.TheVariants as fault
@@ -36,16 +36,16 @@ use Rattle.tables.specs.Opening.{FailsOpening, FailsToOpen, Tells}
 use Rattle.sql_writes.proofs.CommitLemmas.{KeepsOne}
 
 -- the schema of the desk has tables, in each version
-pub not_bare : (v : Version) → schema_of v ≡ no_schema → ⊥
-not_bare One e = let n : ◌≡◌ {A = ℕ} 7 0 = ap (λ (s : Schema). length s.tables) e in omega arith
-not_bare Two e = let n : ◌≡◌ {A = ℕ} 9 0 = ap (λ (s : Schema). length s.tables) e in omega arith
+pub not_bare : (v : Version) (schema : Schema) → IsSchemaOf v schema → schema ≡ no_schema → ⊥
+not_bare One schema it bare = let n : ◌≡◌ {A = ℕ} 7 0 = ap (λ (s : Schema). length s.tables) (sym it.is ∙ bare) in omega (arith, n)
+not_bare Two schema it bare = let n : ◌≡◌ {A = ℕ} 9 0 = ap (λ (s : Schema). length s.tables) (sym it.is ∙ bare) in omega (arith, n)
 
 -- a connection without tables that represented a state counts as one of the newest version; it is a new desk's state
 pub was_new : (v : Version) (c : Connected) (s : State) → IsFound v c s → c.now.schema ≡ no_schema → IsTrue c.is_open
     → (v ≡ Two) × (s ≡ start)
-was_new One c s found bare open_now = absurd (not_bare One (sym (found.sees open_now).schema ∙ bare))
+was_new One c s found bare open_now = absurd (not_bare One c.now.schema (found.sees open_now).schema bare)
 was_new Two c s found bare open_now = elim (found.sees open_now) [
-  | inl desk ↦ absurd (not_bare Two (sym desk.schema ∙ bare))
+  | inl desk ↦ absurd (not_bare Two c.now.schema desk.schema bare)
   | inr fresh ↦ (refl, fresh.new)
 ]
 
@@ -91,9 +91,9 @@ rolled_back late end e inside (inr over) = absurd (let no : true ≡ false = sym
 
 pub still_bare : (v : Version) (a b : Connected) (s : State) → IsFound v a s → a.now.schema ≡ no_schema
     → HasGoneBack a b → SeesFound v b s
-still_bare One a b s found bare back = absurd (not_bare One (sym (found.sees back.was_open).schema ∙ bare))
+still_bare One a b s found bare back = absurd (not_bare One a.now.schema (found.sees back.was_open).schema bare)
 still_bare Two a b s found bare back = elim (found.sees back.was_open) [
-  | inl desk ↦ absurd (not_bare Two (sym desk.schema ∙ bare))
+  | inl desk ↦ absurd (not_bare Two a.now.schema desk.schema bare)
   | inr fresh ↦ inr (still_new a b s back fresh)
 ]
 
@@ -142,7 +142,7 @@ module _ {S : Type 0} (g : Ghosts S) (old late : Held S) where
       → ShowsNow (state g late) (state g end) (state g late).now (state g late).now false → IsKept (state g end) start
   keeps_founded law end sees shown = record {
     sees = λ _. record {
-      schema = ap (λ (d : Database). d.schema) shown.now_is ∙ sees.schema;
+      schema = subst (λ (d : Database). IsSchemaOf Two d.schema) (sym shown.now_is) sees.schema;
       sound = subst IsDatabase (sym shown.now_is) sees.sound;
       committed = shown.now_is ∙ sym shown.committed_is;
       tables = founded;
@@ -219,7 +219,7 @@ module _ (old new : Connected) (m : Meta) (seen : (v : Version) (t : Tables) →
         let is = read.0.0 in
         record {
           sees = λ _. record {
-            schema = ap (λ (d : Database). d.schema) is.now_is ∙ desk.schema;
+            schema = subst (λ (d : Database). IsSchemaOf v d.schema) (sym is.now_is) desk.schema;
             sound = subst IsDatabase (sym is.now_is) desk.sound;
             committed = is.now_is ∙ desk.committed ∙ sym is.committed_is;
             tables = desk.tables;

@@ -169,6 +169,7 @@ fn asked(alloc: Global, words: Vec<String>) -> Result<String, AllocError> {
         ),
         Ok(Job::Why { file, id, format }) => format!(in alloc; "why|{file}|{id}{}", shown(format)),
         Ok(Job::Migrate { file }) => format!(in alloc; "migrate|{file}"),
+        Ok(Job::Index { file }) => format!(in alloc; "index|{file}"),
         Ok(Job::Version) => String::from_str(alloc, "version"),
         Err(JobFault::Usage(usage)) => Ok(usage),
         Err(JobFault::Memory) => Err(AllocError),
@@ -177,7 +178,7 @@ fn asked(alloc: Global, words: Vec<String>) -> Result<String, AllocError> {
 
 // the words, separated by bars, and the job with its values; a bad number of a journey is no usage
 #[rattlefmt::skip]
-const JOBS: [(&str, &str); 76] = [
+const JOBS: [(&str, &str); 77] = [
     ("run|x.db",                    "run|x.db"),
     ("run|a b/x.db",                "run|a b/x.db"),
     ("run|--|-x.db",                "run|-x.db"),
@@ -225,6 +226,7 @@ const JOBS: [(&str, &str); 76] = [
     ("history|x.db|12|--format|csv", "history|x.db|12|csv"),
     ("history|--format=json|x.db|one", "history|x.db|one|json"),
     ("migrate|x.db",                "migrate|x.db"),
+    ("index|x.db",                  "index|x.db"),
     ("stock|x.db|--kind|room",      "stock|x.db|kind room"),
     ("stock|--supplier|AL|x.db",    "stock|x.db|supplier AL"),
     ("stock|x.db|--product=12345678", "stock|x.db|product 12345678"),

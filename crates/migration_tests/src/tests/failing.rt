@@ -14,31 +14,30 @@ use std::process::Abort;
 use std::test::Fail;
 
 // more calls than any run here makes of one disk
-const MOST_CALLS: u64 = 10_000;
+pub const MOST_CALLS: u64 = 10_000;
 
 /// The result of migration, if the file was opened at all.
 type Answer = Option<Result<Migrated, MigrateFault>>;
 
 /// The call from which a disk fails, and whether the machine or the program ends then.
 #[derive(Clone, Copy)]
-struct Stop {
-    in_log: bool,
-    crashes: bool,
-    calls: u64,
+pub struct Stop {
+    pub in_log: bool,
+    pub crashes: bool,
+    pub calls: u64,
 }
 
-/// The state after a crash: the result before it, the files, and whether a call failed.
+/// The files after a crash, and whether a call failed.
 #[derive(Drop)]
-struct Left {
-    answer: Answer,
+pub struct LeftFiles {
     log: Memory,
     db: Memory,
-    met: bool,
+    pub met: bool,
 }
 
-impl Left {
+impl LeftFiles {
     /// Opens what was left for a session, and closes it.
-    fn open_for<R: Abort, T: Session<R>>(
+    pub fn open_for<R: Abort, T: Session<R>>(
         &self,
         rt: &R,
         alloc: Global,
@@ -47,6 +46,13 @@ impl Left {
         open_for(rt, alloc, self.log.bytes(), self.db.bytes(), session)?;
         Ok(())
     }
+}
+
+/// The result of a migration that was stopped, if the file was opened at all, and what a crash left of it.
+#[derive(Drop)]
+struct Left {
+    answer: Answer,
+    files: LeftFiles,
 }
 
 fn has_blown<D: Disk>(disk: &mut D) -> bool {
@@ -71,8 +77,14 @@ impl<R: Abort> Session<R> for Migration {
     }
 }
 
-/// One run over disks with this database.
-fn stop_once(rt: &impl Abort, alloc: Global, bytes: &[u8], stop: Stop) -> Result<Left, Fail> {
+/// One session over disks with this database.
+pub fn stop_once<R: Abort, T: Session<R>>(
+    rt: &R,
+    alloc: Global,
+    bytes: &[u8],
+    stop: Stop,
+    session: &mut T,
+) -> Result<LeftFiles, Fail> {
     let (log_calls, db_calls) = if stop.in_log {
         (stop.calls, u64::MAX)
     } else {
@@ -80,19 +92,27 @@ fn stop_once(rt: &impl Abort, alloc: Global, bytes: &[u8], stop: Stop) -> Result
     };
     let log = Fuse::new(Memory::new(alloc), log_calls);
     let db = Fuse::new(disk_of(alloc, bytes)?, db_calls);
-    let mut migration = Migration { answer: None };
-    let files = close_failing(rt, alloc, Files { log, db }, &mut migration)?;
+    let files = close_failing(rt, alloc, Files { log, db }, session)?;
     let Files { mut log, mut db } = files;
     let met = has_blown(&mut log) || has_blown(&mut db);
     if stop.crashes {
         log.crash();
         db.crash();
     }
-    Ok(Left {
-        answer: migration.answer,
+    Ok(LeftFiles {
         log: disk_of(alloc, log.inner().bytes())?,
         db: disk_of(alloc, db.inner().bytes())?,
         met,
+    })
+}
+
+/// One migration over disks with this database.
+fn migrate_once(rt: &impl Abort, alloc: Global, bytes: &[u8], stop: Stop) -> Result<Left, Fail> {
+    let mut migration = Migration { answer: None };
+    let files = stop_once(rt, alloc, bytes, stop, &mut migration)?;
+    Ok(Left {
+        answer: migration.answer,
+        files,
     })
 }
 
@@ -115,7 +135,7 @@ impl Trial<'_> {
             Schema::New => Err(MigrateFault::AlreadyNew),
         };
         match left.answer {
-            None | Some(Err(MigrateFault::Store)) => left.met,
+            None | Some(Err(MigrateFault::Store)) => left.files.met,
             Some(answer) => answer == sound,
         }
     }
@@ -147,7 +167,7 @@ impl Trial<'_> {
             left,
             found: None,
         };
-        left.open_for(rt, alloc, &mut completion)?;
+        left.files.open_for(rt, alloc, &mut completion)?;
         Ok(completion.found.ok_or("nothing is found")?)
     }
 }
@@ -222,10 +242,10 @@ fn stop_at_each_call_of(
             crashes,
             calls,
         };
-        let left = stop_once(rt, alloc, trial.bytes, stop)?;
+        let left = migrate_once(rt, alloc, trial.bytes, stop)?;
         let found = trial.check_left(rt, alloc, &left)?;
         met.count(left.answer, found);
-        if !left.met {
+        if !left.files.met {
             return Ok(met);
         }
         calls = calls.saturating_add(every);
@@ -251,7 +271,7 @@ fn stop_at_each_call(
 }
 
 /// The old file, migrated and closed.
-fn migrated(rt: &impl Abort, alloc: Global, file: &OldFile) -> Result<ClosedFile, Fail> {
+pub fn migrated(rt: &impl Abort, alloc: Global, file: &OldFile) -> Result<ClosedFile, Fail> {
     let mut migration = Migration { answer: None };
     let db = open_for(rt, alloc, &[], file.bytes(), &mut migration)?;
     migration.answer.ok_or("nothing is answered")??;
@@ -311,7 +331,7 @@ fn without_commit(rt: &impl Abort, alloc: Global, bytes: &[u8]) -> Result<Left, 
             crashes: true,
             calls,
         };
-        let left = stop_once(rt, alloc, bytes, stop)?;
+        let left = migrate_once(rt, alloc, bytes, stop)?;
         if let Some(Ok(_)) = left.answer {
             break;
         }
@@ -351,5 +371,5 @@ fn a_commit_that_fails_leaves_the_old_file(rt: HostRuntime) -> Result<(), Fail> 
         "a fault",
         left.answer == Some(Err(MigrateFault::Store)),
     );
-    left.open_for(&rt, alloc, &mut Shown)
+    left.files.open_for(&rt, alloc, &mut Shown)
 }

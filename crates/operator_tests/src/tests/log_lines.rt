@@ -42,6 +42,8 @@ fn a_request_has_one_line(rt: HostRuntime) -> Result<(), Fail> {
         status: b"200",
         key: b"k-1",
         again: true,
+        refused: b"",
+        millis: 0,
     };
     let mut peer = Peer {
         number: 4,
@@ -50,18 +52,20 @@ fn a_request_has_one_line(rt: HostRuntime) -> Result<(), Fail> {
     let line = request_line(rt.alloc(), peer, &asked)?;
     assert_eq!(rt;
         line.as_str(),
-        "request connection=4 door=port agent=ann method=POST target=/journeys/1/step status=200 key=k-1 again=yes"
+        "request connection=4 door=port agent=ann method=POST target=/journeys/1/step status=200 key=k-1 again=yes refused= ms=0"
     );
     asked.agent = b"";
     asked.key = b"";
     asked.target = b"/stop\n";
     asked.status = b"lost";
     asked.again = false;
+    asked.refused = b"28";
+    asked.millis = 18_446_744_073_709_551_615;
     peer.is_house = true;
     let line = request_line(rt.alloc(), peer, &asked)?;
     assert_eq!(rt;
         line.as_str(),
-        "request connection=4 door=house agent= method=POST target=/stop\\x0a status=lost key= again=no"
+        "request connection=4 door=house agent= method=POST target=/stop\\x0a status=lost key= again=no refused=28 ms=18446744073709551615"
     );
     Ok(())
 }

@@ -8,7 +8,7 @@ use Rattle.clap.specs.declared.error.kind.ErrorKind.{ErrorKind}
 use Rattle.clap.specs.declared.error.kind.ErrorKind.TheVariants.{OutOfMemory}
 use Rattle.command_line.specs.Subcommands.{app_for, has_any}
 use Rattle.command_line.specs.declared.subcommands.Subcommand.{Subcommand}
-use Rattle.command_line.specs.declared.subcommands.Subcommand.TheVariants.{Run, Serve, Recover, Load, Stock, Summary, Holders, Unfinished, Journeys, History, Why, Migrate}
+use Rattle.command_line.specs.declared.subcommands.Subcommand.TheVariants.{Run, Serve, Recover, Load, Stock, Summary, Holders, Unfinished, Journeys, History, Why, Migrate, Index}
 use Rattle.command_line.proofs.words.matches_in.Goals as goal
 
 is_exact : (s : Subcommand) → is_simple (app_for s) ≡ true
@@ -25,6 +25,7 @@ is_exact Journeys = refl
 is_exact History = refl
 is_exact Why = refl
 is_exact Migrate = refl
+is_exact Index = refl
 
 is_free : (s : Subcommand) → is_simple_and_free (app_for s) ≡ true
 unfolding clap_on_literals
@@ -40,6 +41,7 @@ is_free Journeys = refl
 is_free History = refl
 is_free Why = refl
 is_free Migrate = refl
+is_free Index = refl
 
 -- a list that has a kind is not empty
 kinds_there : (kind : ErrorKind) (kinds : Kinds) → IsAmong kind kinds → has_any kinds ≡ true

@@ -7,7 +7,7 @@ use Rattle.migrate.specs.Reasons.{HasTooMany}
 use Rattle.migrate.specs.declared.faults.MigrateFault.TheVariants.{UnknownSchema}
 use Rattle.migrate.proofs.FailLemmas.{fails_later}
 use Rattle.migrate.proofs.Quiet.{as_before}
-use Rattle.migrate.proofs.Stopping.{kept_there, left_as_before, left_either, refuses_others, shows_as_before, shows_either}
+use Rattle.migrate.proofs.Stopping.{kept_there, left_as_before, left_either, refuses_others, shows_as_before, shows_either, was_not_new}
 use Rattle.migrate.proofs.Telling.{not_refused, tells_later}
 use Rattle.migrate.proofs.migrating.migrate.Goals as goal
 
@@ -63,9 +63,12 @@ returns-clause-migrates g c =
     let read = c.in_ok-meta.ensures.reads in
     let sound = c.bring_over.ensures.idle.sound in
     let brought = c.in_ok-bring_over.ensures.brings in
+    let filled : old.schema ≡ no_schema → ⊥ = λ none.
+    let never : Ok c.in_ok-meta.meta ≡ Err (UnknownSchema 0) = sym c.in_ok-meta.was ∙ c.read_old.ensures.bare none in cc in
     record {
       same_state = λ clean s stood. brought.done s (read.numbers (sound clean) s stood) (kept_there g.S.Store old mid quiet s stood) clean;
       left = λ clean s stood. brought.left clean s (read.numbers (sound clean) s stood) (kept_there g.S.Store old mid quiet s stood);
+      only_old = was_not_new g.S.Store old mid c.bring_over.new.conn c.in_ok-meta.meta quiet read.version filled sound;
       events = λ clean s stood. ap (λ (r : MetaRow). r.events) (read.numbers (sound clean) s stood);
       version = λ clean v t sees. read.version (sound clean) v t sees;
     }

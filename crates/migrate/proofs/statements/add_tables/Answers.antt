@@ -26,7 +26,7 @@ returns-in_err-execute-clause-reason g c clean t may up =
     let a = state g.S.Store c.args.tx.now.conn.now in
     let b = state g.S.Store c.execute.new.self.conn.now in
     let e = c.in_err-execute.field-0.0 in
-    let reason : HasReason a b e = create_reason seven_schema entry2_text (entry2_at 0) entry2_is_new a b e up (may.sees up.is_open).schema
+    let reason : HasReason a b e = create_reason seven_schema entry2_text (entry2_at 0) entry2_is_new a b e up (may.sees up.is_open).schema.is
     (c.in_err-execute.ensures.runs clean may.inside) in
     search rules
 

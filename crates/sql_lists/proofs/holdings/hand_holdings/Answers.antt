@@ -1,11 +1,11 @@
 -- The rows that remain of the query are its only answer, and it changes nothing, whether it starts or not.
 use Rattle.std.proofs.Common.{refl}
+use Rattle.desk_sql.proofs.Beginning.{not_begun_sure}
 use Rattle.desk_sql.proofs.Selecting.{ok_each}
 use Rattle.sql_lists.specs.HoldingLists.{HoldingsRest, ListsHoldings, holdings_names, holdings_params, holdings_query, holdings_text}
 use Rattle.sql_lists.proofs.HandedRows.{started}
 use Rattle.sql_lists.proofs.HoldingAnswers.{holdings_begin, holdings_means, holdings_take}
 use Rattle.sql_lists.proofs.JoinedRows.{holdings_sure}
-use Rattle.sql_lists.proofs.QueryReasons.{not_begun_sure}
 use Rattle.sql_lists.proofs.holdings.hand_holdings.Goals as goal
 
 pub returns : goal.returns

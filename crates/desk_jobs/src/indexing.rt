@@ -1,0 +1,77 @@
+//! The index on the agents of journeys as a job, and the line that reports it.
+ghost use Rattle.std.specs.Prelude.{◌≡◌, codes, if◌then◌else◌, IfErr, IfOk, OnOk};
+ghost use Rattle.std.specs.Io.KnownBytes.{Appends};
+ghost use Rattle.sqlite.specs.Held.{state};
+ghost use Rattle.sqlite.specs.State.{HasCleanDisk};
+ghost use Rattle.streams.specs.Written.{WroteFront};
+ghost use Rattle.program_ends.specs.Ends.{EndsJob, IfDone};
+ghost use Rattle.desk_sql.specs.Calls.{Idle};
+ghost use Rattle.migrate.specs.Indexing.{HasIndex};
+ghost use Rattle.histories.specs.Following.{StandsStill};
+ghost use Rattle.desk_jobs.specs.Ends.{EndsWriting, IsOfWriting};
+ghost use Rattle.desk_jobs.specs.Jobs.{Leaves};
+ghost use Rattle.desk_jobs.specs.Migrating.{FailsIndex, indexed_line};
+
+use crate::migrating::end_of_fault;
+use migrate::{Indexed, index};
+use program_ends::End;
+use protocols::ServeFault;
+use sqlite::{Alter, Connection};
+use std::alloc::Global;
+use std::io::Write;
+use streams::send;
+
+/// Adds the index on the agents of journeys to the tables of a connection, in one commit, unless they have one. Nothing is
+/// recovered. Returns the connection, and how many journeys are indexed or why none are.
+pub fn index_over<S: Alter>(conn: Connection<S>) -> (Connection<S>, Result<Indexed, End>)
+    requires idle { Idle conn }
+
+    ensures indexed { IfOk result.1 (HasIndex S.Store conn result.0) }
+    ensures failed { IfErr result.1 (FailsIndex S.Store conn result.0) }
+    ensures follows { HasCleanDisk (state S.Store result.0) → StandsStill S.Store conn result.0 }
+    ensures leaves { Leaves S.Store conn result.0 }
+{
+    let mut conn = conn;
+    match index(&mut conn) {
+        Ok(indexed) => (conn, Ok(indexed)),
+        Err(fault) => (conn, Err(end_of_fault(fault))),
+    }
+}
+
+/// Writes the line with the number of indexed journeys, and flushes it. At a fault a prefix of the line was written.
+pub fn tell_indexed<O: Write>(alloc: Global, indexed: Indexed, out: &mut O) -> End
+    ensures told { IfDone result (Appends (O.contents out.old) (O.contents out.new)
+        (indexed_line indexed)) }
+    ensures front { WroteFront (O.contents out.old) (O.contents out.new) (indexed_line indexed) }
+    ensures end { EndsJob result }
+    ensures writing { EndsWriting result }
+{
+    match send_indexed(alloc, indexed, out) {
+        Ok(()) => End::Done,
+        Err(fault) => End::Fault(fault.into()),
+    }
+}
+
+/// Writes the line with the number of indexed journeys, and flushes it.
+fn send_indexed<O: Write>(alloc: Global, indexed: Indexed, out: &mut O) -> Result<(), ServeFault>
+    ensures sent { OnOk result (Appends (O.contents out.old) (O.contents out.new)
+        (indexed_line indexed)) }
+    ensures front { WroteFront (O.contents out.old) (O.contents out.new) (indexed_line indexed) }
+    ensures fault { IfErr result IsOfWriting }
+{
+    let (words, journeys) = (words_of(indexed.is_new), indexed.journeys);
+    let line = format!(in alloc; "{words} {journeys}\n")?;
+    Ok(send(out, line.as_bytes())?)
+}
+
+/// The words before the number, where the index was made now, or was there.
+fn words_of(is_new: bool) -> &'static str
+    ensures words { result.now ≡ (if is_new then codes "indexed journeys"
+        else codes "already indexed journeys") }
+{
+    if is_new {
+        "indexed journeys"
+    } else {
+        "already indexed journeys"
+    }
+}

@@ -1,0 +1,196 @@
+-- The text that makes the index on the agents of the journeys: what it leaves, and why it fails. For `add_index` and `make_tables`.
+use Rattle.std.proofs.Common.{◌≡◌, ◌≤◌, ◌+◌, ◌^◌, ◌∙◌, ℕ, inl, inr, List, [], ◌∷◌, length, codes, Option, None, Some, Ok, Err, Result, OnOk, true, false, if◌then◌else◌, IsUtf8, refl, sym, ap, subst, arith}
+use Rattle.std.specs.List.{AllByRecursion}
+use Rattle.sqlite_value.specs.declared.value.Value.TheVariants.{Text}
+use Rattle.sqlite_value.specs.Order.{value_cmp}
+use Rattle.sqlite_trees.specs.Sound.{fits_kind, is_free_name, same_name, begins}
+use Rattle.sqlite_trees.specs.Tree.{Trees}
+use Rattle.sqlite_trees.specs.View.{IsStorable}
+use Rattle.sqlite_sql.specs.Catalog.{entry_of}
+use Rattle.sqlite_schema.specs.declared.schema.Constraint.TheVariants.{Unique}
+use Rattle.sqlite_schema.specs.declared.schema.Index.{Index}
+use Rattle.sqlite_schema.specs.declared.schema.Schema.{Schema}
+use Rattle.sqlite_schema.specs.Rules.{Keeps, table_reals, index_reals}
+use Rattle.sqlite_rules.specs.Lists.{Has}
+use Rattle.sqlite_rules.proofs.ListLemmas.{all_has}
+use Rattle.sqlite_rules.proofs.ProbeLemmas.{has_mapped}
+use Rattle.sqlite_catalog.specs.declared.error.Refusal.{Refusal}
+use Rattle.sqlite_catalog.specs.declared.error.Refusal.TheVariants.{Invalid, NameTaken, BadName, TooBig, BadKey, BadText, Violates}
+use Rattle.sqlite_catalog.specs.Listing.{is_fit}
+use Rattle.sqlite_catalog.specs.Calls.{RefusesIndex}
+use Rattle.sqlite_resolve.specs.Compile.{index_defined_by}
+use Rattle.sqlite.specs.Table.{Table}
+use Rattle.sqlite.specs.Command.TheVariants.{CreateIndex}
+use Rattle.sqlite.specs.Change.{is_used, is_reserved}
+use Rattle.sqlite_catalog.specs.Change.{indexed}
+use Rattle.sqlite.specs.Does.{Tally, Does, MakesIndex as Does_index}
+use Rattle.sqlite.specs.declared.error.Error.{Error}
+use Rattle.sqlite.specs.Effect.{Database}
+use Rattle.sqlite.specs.Listing.{understood}
+use Rattle.sqlite.specs.State.{State, mode_of, Writes, Shows, ExecutesInside}
+use Rattle.sqlite.proofs.Callers.{IsPlain, command_of, statement_of, runs_as}
+use Rattle.sqlite_tied.specs.Compute.{everything}
+use Rattle.desk_sql.specs.Schema.{desk_schema, IsExtra, journey_at}
+use Rattle.desk_sql.specs.Rows.{JourneyRow, journey_row, Tables}
+use Rattle.desk_sql.specs.Calls.{Makes, Sees}
+use Rattle.desk_sql.specs.Causes.{IsUp, HasReason}
+use Rattle.desk_sql.specs.Indexing.{agent_index_text, agent_index_at, indexed_schema, MayIndex, MakesIndex, AreShortAgents}
+use Rattle.desk_sql.specs.Writable.{IsShort}
+use Rattle.desk_sql.proofs.Causing.{takes}
+use Rattle.desk_sql.proofs.CreateReasons.{as_text}
+use Rattle.desk_sql.proofs.Framing.{shows_same}
+use Rattle.desk_sql.proofs.Indexes.{unique_more}
+use Rattle.desk_sql.proofs.Refusing.{gives_on, seen_with, statement_reason}
+use Rattle.desk_sql.proofs.Storing.{storable}
+use Rattle.desk_sql.proofs.Writing.{went, same_value}
+
+abbrev text : List ℕ
+text = agent_index_text
+
+-- the table that has the index
+abbrev owner : Table
+owner = journey_at 6
+
+-- The text is one statement without parameters, which makes this index on the journeys.
+text_meant : command_of (understood desk_schema text) ≡ CreateIndex 3
+unfolding understood everything value_cmp fits_kind is_free_name same_name begins lib.Ieee.is_nan lib.Ieee.lt
+text_meant = refl
+
+text_plain : IsPlain (understood desk_schema text)
+unfolding understood everything value_cmp fits_kind is_free_name same_name begins lib.Ieee.is_nan lib.Ieee.lt
+text_plain = (refl, refl)
+
+text_alone : statement_of text (understood desk_schema text) ≡ text
+unfolding understood everything value_cmp fits_kind is_free_name same_name begins lib.Ieee.is_nan lib.Ieee.lt
+text_alone = refl
+
+text_whole : takes (length text) 0 (understood desk_schema text) ≡ true
+unfolding understood everything value_cmp fits_kind is_free_name same_name begins lib.Ieee.is_nan lib.Ieee.lt
+text_whole = refl
+
+text_defined : index_defined_by owner text ≡ Ok (agent_index_at 0)
+unfolding understood everything value_cmp fits_kind is_free_name same_name begins lib.Ieee.is_nan lib.Ieee.lt
+text_defined = refl
+
+is_free : is_used desk_schema (codes "journey_agent") ≡ false
+unfolding understood everything value_cmp fits_kind is_free_name same_name begins lib.Ieee.is_nan lib.Ieee.lt
+is_free = refl
+
+is_unreserved : is_reserved (codes "journey_agent") ≡ false
+unfolding understood everything value_cmp fits_kind is_free_name same_name begins lib.Ieee.is_nan lib.Ieee.lt
+is_unreserved = refl
+
+is_listed : is_fit (Text (codes "index")) (Text (codes "journey_agent")) (Text (codes "journey")) (Text text) ≡ true
+unfolding understood everything value_cmp fits_kind is_free_name same_name begins lib.Ieee.is_nan lib.Ieee.lt
+is_listed = refl
+
+becomes : indexed desk_schema owner (agent_index_at 0) ≡ indexed_schema
+unfolding everything
+becomes = refl
+
+-- the index that the text defines
+only : (index : Index) → index_defined_by owner text ≡ Ok index → index ≡ agent_index_at 0
+only index defined = let both : Ok index ≡ Ok (agent_index_at 0) = sym defined ∙ text_defined in same_value both
+
+-- it is one that the desk's tables may have
+is_extra : AllByRecursion IsExtra (agent_index_at 16 ∷ [])
+is_extra = (record { plain = refl; place = inl refl }, tt)
+
+-- What it leaves.
+
+pub makes_index : (old new : State) (r : Result ℕ Error) → MayIndex old → ExecutesInside 0 text [] old new r → OnOk r (MakesIndex old new)
+makes_index old new (Err e) may h = tt
+makes_index old new (Ok count) may h =
+    let start = may.bare h.1.was_open in
+    let w = subst (λ t. Writes old new None (CreateIndex 3) t [] count) text_alone
+    (runs_as text [] old new desk_schema start (CreateIndex 3) text_meant text_plain count h.0) in
+    let does : Does old.step_limit (mode_of old) [] (record { schema = desk_schema; trees = old.now.trees }) text None (CreateIndex 3) (Ok (w.tally, new.now))
+    = subst (λ s. Does old.step_limit (mode_of old) [] (record old.now { schema = s }) text None (CreateIndex 3) (Ok (w.tally, new.now))) start w.changed in
+    let all = went does in
+    let made = all.1 in
+    let now : new.now ≡ all.0 = ap (λ (p : Tally × Database). p.1) (same_value all.2) in
+    let shown : Shows old new new.now old.committed true
+    = subst (λ b. Shows old new new.now (if b then old.committed else new.now) b) may.inside w.shown in
+    record {
+      was_open = shown.was_open;
+      is_open = shown.is_open;
+      inside = shown.mode;
+      schema = ap (λ (d : Database). d.schema) now ∙ made.is ∙ ap (indexed desk_schema owner) (only made.index made.defined) ∙ becomes;
+      rows = subst (λ (t : Trees). AllByRecursion (λ x. t x.tree ≡ old.now.trees x.tree) desk_schema.tables)
+          (sym (ap (λ (d : Database). d.trees) now)) made.rows;
+      sound = w.sound;
+      committed = shown.committed_is;
+    }
+
+-- a transaction that sees rows still sees them
+pub indexed_makes : (old new : State) (t : Tables) → MakesIndex old new → Sees old t → Makes old new t
+indexed_makes old new t it sees =
+    let o = it.rows in
+    record {
+      was_open = it.was_open;
+      is_open = it.is_open;
+      inside = it.inside;
+      sees = record {
+        schema = record { extra = agent_index_at 16 ∷ []; are = is_extra; is = it.schema };
+        rows = shows_same new.now.trees old.now.trees t o.0 o.1.0 o.1.1.0 o.1.1.1.0 o.1.1.1.1.0 o.1.1.1.1.1.1.0 o.1.1.1.1.1.1.1.0
+            o.1.1.1.1.1.1.1.1.0 sees.rows;
+        sound = it.sound;
+      };
+      committed = it.committed;
+    }
+
+-- Why it fails.
+
+unrefused : (db : Trees) (why : Refusal) → Keeps Unique desk_schema db → ¬ RefusesIndex desk_schema db owner text why
+unrefused db (Invalid e) keeps wrong = let no = sym text_defined ∙ wrong in cc
+unrefused db NameTaken keeps (index, defined, used) =
+    let no = sym used ∙ ap (λ (i : Index). is_used desk_schema i.name) (only index defined) ∙ is_free in cc
+unrefused db BadName keeps (index, defined, inl (inl no_text)) =
+    no_text (subst (λ (i : Index). IsUtf8 i.name) (sym (only index defined)) (as_text (codes "journey_agent") refl))
+unrefused db BadName keeps (index, defined, inl (inr (reserved, own))) =
+    let no = sym reserved ∙ ap (λ (i : Index). is_reserved i.name) (only index defined) ∙ is_unreserved in cc
+unrefused db BadName keeps (index, defined, inr no_text) = no_text (as_text (codes "journey") refl)
+unrefused db TooBig keeps (index, defined, inl many) = let no : 65536 ≤ 16 = many in omega (arith, no)
+unrefused db TooBig keeps (index, defined, inr (inl big)) = let no : 2 ^ 64 ≤ 0 = big in omega (arith, no)
+unrefused db TooBig keeps (index, defined, inr (inr big)) =
+    let no : 2 ^ 64 ≤ 0 = subst (λ (i : Index). 2 ^ 64 ≤ index_reals (table_reals owner) i.columns) (only index defined) big in omega (arith, no)
+unrefused db BadKey keeps none = none
+unrefused db BadText keeps (index, defined, unfit) =
+    let no = sym unfit ∙ ap (λ (i : Index). is_fit (Text (codes "index")) (Text i.name) (Text owner.name) (Text text)) (only index defined) ∙ is_listed in cc
+unrefused db (Violates rule) keeps (index, defined, unique, broken) =
+    broken (subst (λ (s : Schema). Keeps Unique s db) (sym (ap (indexed desk_schema owner) (only index defined) ∙ becomes))
+    (unique_more (agent_index_at 16 ∷ []) is_extra db keeps))
+
+-- and its row fits the list of objects, and each entry the store
+unstopped : (s : State) (stop : Option Error) → Keeps Unique desk_schema s.now.trees → AreShortAgents s
+    → ¬ Does_index text (seen_with desk_schema s) owner (Err stop)
+unstopped s None keeps short (index, defined, inl long) =
+    let high = subst (λ (i : Index). 10 ^ 9 ≤ length i.name + length owner.name + length text + 200) (only index defined) long in
+    let no : 10 ^ 9 ≤ 300 = low_from high in omega (arith, no)
+  where
+    low_from : 10 ^ 9 ≤ 13 + 7 + 48 + 200 → 10 ^ 9 ≤ 300
+    low_from high = omega (arith, high)
+unstopped s None keeps short (index, defined, inr (row, there, large)) =
+    let j = has_mapped journey_row short.journeys row (subst (λ rs. Has rs row) short.shown.rows_are there) in
+    let fits = all_has (λ (k : JourneyRow). IsShort (length k.agent)) short.journeys j.0 short.short j.1 in
+    let entry : IsStorable (index_reals (table_reals owner) (3 ∷ 0 ∷ [])) (entry_of (3 ∷ 0 ∷ []) (journey_row j.0))
+    = storable _ _ refl refl (omega (arith, fits)) in
+    subst (λ (i : Index). ¬ IsStorable (index_reals (table_reals owner) i.columns) (entry_of i.columns row)) (only index defined) large
+    (subst (λ r. IsStorable (index_reals (table_reals owner) (3 ∷ 0 ∷ [])) (entry_of (3 ∷ 0 ∷ []) r)) (sym j.2) entry)
+unstopped s (Some e) keeps short (inl no_text) = no_text.0 (as_text text refl)
+unstopped s (Some e) keeps short (inr refused) = unrefused s.now.trees refused.0 keeps refused.1
+
+goes : (old : State) (stop : Option Error) → Keeps Unique desk_schema old.now.trees → AreShortAgents old
+    → ¬ Does old.step_limit (mode_of old) [] (seen_with desk_schema old) text None (CreateIndex 3) (Err stop)
+goes old stop keeps short (inl h) = unstopped old h.0 keeps short h.1
+goes old stop keeps short (inr (after, made, gives)) = gives_on stop gives
+
+-- so it fails out of memory, or where the disk failed or refused
+pub index_reason : (old new : State) (e : Error) → MayIndex old → AreShortAgents old → IsUp old → ExecutesInside 0 text [] old new (Err e)
+    → HasReason old new e
+index_reason old new e may short up ran =
+    let has = may.bare up.is_open in
+    let keeps = subst (λ (s : Schema). Keeps Unique s old.now.trees) has ((may.sound up.is_open).obeys.rules Unique) in
+    statement_reason text (CreateIndex 3) [] text_meant text_plain text_whole refl refl old new up has
+    (λ stop does. goes old stop keeps short
+    (subst (λ t. Does old.step_limit (mode_of old) [] (seen_with desk_schema old) t None (CreateIndex 3) (Err stop)) text_alone does)) e ran

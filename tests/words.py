@@ -1,0 +1,176 @@
+"""Counts what the house style forbids in the pages and in the texts of help: phrases that only this repository uses, sentences of
+more than 35 words, pages of more than 300 lines, and decisions that are no record. A count above its limit fails. A limit is only
+ever lowered.
+
+words.py            compares the counts with the limits, and ends with 1 where one is above
+words.py --list     prints each place that counts, page by page
+words.py --pages    prints the counts of each page
+"""
+import re
+import sys
+from pathlib import Path
+
+TOP = Path(__file__).resolve().parents[1]
+LONG, MOST_LINES = 35, 300
+# pages that list one entry after another, each read by itself
+RECORDS = {"docs/FORMATS.md", "docs/PROMISES.md", "docs/DECISIONS.md", "docs/RECORDS.md", "docs/CHANGES_OF_CRATES.md"}
+
+# each phrase, and what the field says instead; code and names in backticks are not counted
+PHRASES = [
+    (r"wrong (?:body|bodies)|bod(?:y|ies) that (?:must be|are to be) refused", "a mutant that the prover must reject"),
+    (r"edits?", "a mutant; in a command or a file's name it stays"),
+    (r"may be found|might be found", "a recoverable state"),
+    (r"(?:the )?house's door", "the administrator's socket"),
+    (r"outlooks?", "a dry run of the next step"),
+    (r"by (?:a|each|either|its|their) ways?(?! (?:back|down|on|up))|the wide (?:way|one)|the profile or", "strict mode, lenient mode"),
+    (r"(?:only |comes |fails? |Store )for a reason|(?:has|have) a reason", "implies an I/O error; has an I/O error as its cause"),
+    (r"refused (?:by|for) (?:a|the) name(?: alone)?|only a name refused", "an invalid mutant, which does not compile"),
+    (r"seats?|seated", "a connection, a slot; accepts; of a flight a place"),
+    (r"hand(?:s|ed|ing)? out", "flushed, yielded, returned"),
+    (r"(?:is|are|was|were|be|been) given back", "is returned"),
+    (r"closes what was there", "replaces"),
+    (r"want of memory", "out of memory"),
+]
+PHRASES = [(re.compile(rf"\b(?:{phrase})\b", re.IGNORECASE), instead) for phrase, instead in PHRASES]
+# in CHANGES alone: what stayed is not said
+UNCHANGED = re.compile(r"\bas (?:it|they) (?:was|were)\b", re.IGNORECASE)
+
+# a decision begins with its number, title, date and status, and has at most so many lines
+DECISIONS, RECORD_LINES = "docs/DECISIONS.md", 12
+RECORD = re.compile(r"(\d+)\. \*\*[^*]+\.\*\* \*\d{4}-\d\d-\d\d; (?:stands|(?:replaced|completed|extended)\b|tried and dropped)[^*]*\.\* ")
+
+# the most that there may be of each, and what is aimed at; a limit above its aim is lowered as soon as it can be
+LIMITS = {"phrases": 2, "sentences": 9, "pages": 4, "decisions": 0}
+AIMS = {"phrases": 0, "sentences": 9, "pages": 0, "decisions": 0}
+
+
+class Text:
+    """A page, or the texts of help: its name, its lines, and its prose as (line, text), one for each paragraph, item and cell."""
+
+    def __init__(self, name, source, parts):
+        self.name, self.lines, self.parts = name, source.count("\n"), list(parts)
+
+    def phrases(self):
+        """Each phrase that is to go: its line, itself, and what to say."""
+        for line, text in self.parts:
+            plain = re.sub(r"`[^`]*`|\]\([^)]*\)", " ` ", text)
+            for phrase, instead in PHRASES:
+                yield from ((line, found[0], instead) for found in phrase.finditer(plain))
+            if "CHANGES" in self.name:
+                yield from ((line, found[0], "nothing") for found in UNCHANGED.finditer(plain))
+
+    def sentences(self):
+        """Each sentence that is too long: its line, its number of words, and its first words."""
+        for line, text in self.parts:
+            plain = re.sub(r"`[^`]*`", "`code`", re.sub(r"\]\([^)]*\)|\*\*|!?\[", "", text))
+            for sentence in re.split(r"(?<=[.!?])[)\"*]* +(?=[A-Z`\"(*\[0-9])", plain):
+                words = [word for word in sentence.split() if re.search(r"\w", word)]
+                if len(words) > LONG:
+                    yield line, len(words), " ".join(words[:9])
+
+    def is_long(self):
+        return self.lines > MOST_LINES and self.name not in RECORDS
+
+
+def parts_of_page(source):
+    """The prose of a Markdown page: paragraphs, items of lists and cells of tables, without blocks of code."""
+    first, held, in_code = 0, [], False
+    for number, line in enumerate(source.splitlines() + [""], 1):
+        stripped = line.strip()
+        if stripped.startswith("```"):
+            in_code = not in_code
+            stripped = ""
+        begins = not stripped or in_code or re.match(r"[-*] |\d+\. |#|\||>|!\[", stripped)
+        if begins and held:
+            yield first, " ".join(held)
+            held = []
+        if in_code or not stripped:
+            continue
+        if stripped.startswith("|"):
+            yield from ((number, cell.strip()) for cell in re.split(r"(?<!\\)\|", stripped)[1:-1])
+        else:
+            first = first if held else number
+            held.append(re.sub(r"^(?:[-*] |\d+\. |#+ |> )", "", stripped))
+
+
+def parts_of_help(source):
+    """The prose of the constants of a source: paragraphs and items, without examples and tables of words."""
+    for constant in re.finditer(r'"\\\n(.*?)";', source, re.DOTALL):
+        first = source.count("\n", 0, constant.start(1)) + 1
+        for paragraph in re.finditer(r"(?:.+\n?)+", constant[1]):
+            line = first + constant[1].count("\n", 0, paragraph.start())
+            text = paragraph[0]
+            if re.search(r"^ ", text, re.MULTILINE):
+                yield from ((line, row.strip()) for row in re.split(r"\n(?=  \S)", text))
+            else:
+                yield line, " ".join(text.split())
+
+
+def bad_decisions():
+    """Each decision that is no record, or whose number does not rise: its line, and why."""
+    last, lines = 0, (TOP / DECISIONS).read_text(encoding="utf-8").splitlines()
+    starts = [n for n, line in enumerate(lines) if re.match(r"\d+\. ", line)]
+    for start, end in zip(starts, starts[1:] + [len(lines)]):
+        text = " ".join(line.strip() for line in lines[start:end])
+        found = RECORD.match(text)
+        if not found:
+            yield start + 1, "not of the form: number, title, date, status"
+        elif end - start > RECORD_LINES:
+            yield start + 1, f"{end - start} lines"
+        elif int(found[1]) <= last:
+            yield start + 1, "a number that does not rise"
+        last = int(found[1]) if found else last
+
+
+def texts():
+    """All pages of the repository, and the texts of help."""
+    for path in sorted(TOP.glob("*.md")) + sorted((TOP / "docs").glob("*.md")):
+        source = path.read_text(encoding="utf-8")
+        yield Text(str(path.relative_to(TOP)), source, parts_of_page(source))
+    for path in sorted((TOP / "crates/help_texts/src").glob("*.rt")):
+        source = path.read_text(encoding="utf-8")
+        text = Text(str(path.relative_to(TOP)), source, parts_of_help(source))
+        text.lines = 0
+        yield text
+
+
+def show(word):
+    """Prints each place that counts, or the counts of each page."""
+    for text in texts():
+        phrases, sentences = list(text.phrases()), list(text.sentences())
+        if word == "--pages" and (phrases or sentences or text.is_long()):
+            print(f"{text.name}: {len(phrases)} phrases, {len(sentences)} sentences, {text.lines} lines")
+        elif word == "--list":
+            for line, found, instead in phrases:
+                print(f"{text.name}:{line}: '{found}': {instead}")
+            for line, count, begin in sentences:
+                print(f"{text.name}:{line}: {count} words: {begin} ..")
+            if text.is_long():
+                print(f"{text.name}: {text.lines} lines")
+    if word == "--list":
+        for line, why in bad_decisions():
+            print(f"{DECISIONS}:{line}: {why}")
+
+
+def main(words):
+    if words in (["--list"], ["--pages"]):
+        show(words[0])
+        return 0
+    if words:
+        print(__doc__.strip(), file=sys.stderr)
+        return 2
+    pages = list(texts())
+    counts = {
+        "phrases": sum(len(list(text.phrases())) for text in pages),
+        "sentences": sum(len(list(text.sentences())) for text in pages),
+        "pages": sum(text.is_long() for text in pages),
+        "decisions": len(list(bad_decisions())),
+    }
+    above = {name: count for name, count in counts.items() if count > LIMITS[name]}
+    for name, count in counts.items():
+        print(f"{name}: {count}, at most {LIMITS[name]}" + ("; lower the limit" if max(count, AIMS[name]) < LIMITS[name] else ""))
+    return 1 if above else 0
+
+
+if __name__ == "__main__":
+    sys.exit(main(sys.argv[1:]))
