@@ -3,7 +3,7 @@ use Rattle.std.proofs.Common.{◌≡◌, ◌∙◌, ap, sym, subst, refl, ℕ, �
 use Rattle.std.proofs.lemmas.List.{length-take-le, take_all}
 use Rattle.httparse.specs.Grammar.{RequestHead}
 use Rattle.httparse.proofs.GrammarLemmas.{request_unique}
-use Rattle.http_messages.specs.Heads.{IsHead, IsNoHead, parts_of}
+use Rattle.http_messages.specs.Heads.{IsHead, parts_of}
 use Rattle.http_messages.specs.Messages.{first_told}
 use Rattle.http_messages.specs.Places.{IsToldAt}
 use Rattle.http_messages.proofs.HeadLemmas.{first_of_told}
@@ -56,7 +56,3 @@ module _ (bytes : List ℕ) (at : IsToldAt bytes (length bytes)) where
         ap (λ z. asks_to_go_on (parts_of z)) (sym same) ∙ due.asks,
         ap (λ z. has_body (head_kind (parts_of z))) (sym same) ∙ ap has_body due.begins.framed ∙ due.has_body,
       )
-
-  -- and not for what is no head
-  pub not_due : IsNoHead bytes → IsDue bytes → ⊥
-  not_due none due = none due.head (due_head due)

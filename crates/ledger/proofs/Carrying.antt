@@ -1,7 +1,7 @@
 -- One part of recovery: one journey after another goes on, by steps of some kind, until none of them is in some kind of
 -- phase. For the law of recovery.
 use Rattle.std.proofs.Common.{◌≡◌, ℕ, zero, suc, ◌+◌, ◌<◌, ◌≤◌, List, [], ◌∷◌, ◌++◌, refl, ap, sym, ◌∙◌, arith, append_assoc, eqb-true, Bool, true, false, ◌==◌, nat_le}
-use Rattle.std.proofs.lemmas.Bool.{and_parts, and_from, le-leb, leb-true, eqb-false}
+use Rattle.std.proofs.lemmas.Bool.{and_from, le-leb, eqb-false}
 use Rattle.std.specs.List.{list_all}
 use Rattle.commands.specs.declared.items.Item.{Item}
 use Rattle.commands.specs.declared.items.Phase.{Phase}
@@ -9,7 +9,7 @@ use Rattle.ledger.specs.Ledger.{Event, Did, is_in, is_item_allowed, AreAllowedAf
 use Rattle.ledger.specs.Recovery.{is_by_number, journey_of, are_items, is_forward}
 use Rattle.ledger.proofs.Growing.{IsLegal-append}
 use Rattle.ledger.proofs.Phases.{is_in-later}
-use Rattle.ledger.proofs.Recovering.{above-lower}
+use Rattle.ledger.proofs.Recovering.{from-lower, above-lower}
 use Rattle.ledger.proofs.Working.{left_of, left_of-fewer}
 
 -- items of this kind are steps, and a journey in this kind of phase may make one
@@ -27,17 +27,6 @@ pub record Carries (test : Item → Bool) (passes : Phase → Bool) (first n : �
   pub sorted : is_by_number events ≡ true
   pub behind : list_all (λ d. nat_le first (journey_of d)) events ≡ true
   pub done : (j : ℕ) → first ≤ j → j < first + n → is_in passes (l ++ events) j ≡ false
-
--- events from the next number on are events from this one on
-behind-lower : (first : ℕ) (p : List Event)
-    → list_all (λ d. nat_le (suc first) (journey_of d)) p ≡ true
-    → list_all (λ d. nat_le first (journey_of d)) p ≡ true
-behind-lower first [] e = refl
-behind-lower first (d ∷ p) e =
-    let both = and_parts (nat_le (suc first) (journey_of d))
-    (list_all (λ c. nat_le (suc first) (journey_of c)) p) e in
-    let here = leb-true _ _ both.0 in
-    and_from _ _ (le-leb _ _ (omega arith)) (behind-lower first p both.1)
 
 -- no event is needed if there is no journey
 carries-none : (test : Item → Bool) (passes : Phase → Bool) (first : ℕ) (l : List Event)
@@ -61,7 +50,7 @@ carries-next test passes first n l out c =
       allowed = c.allowed;
       items = c.items;
       sorted = c.sorted;
-      behind = behind-lower first c.events c.behind;
+      behind = from-lower first (suc first) c.events (omega arith) c.behind;
       done = λ j low high. by_first j (j == first) refl low high;
     }
   where

@@ -1,5 +1,5 @@
 -- An open journey has just one step, and a finished one does not go on. For the law of steps.
-use Rattle.std.proofs.Common.{◌≡◌, ℕ, ◌+◌, ◌<◌, ◌⊎◌, List, [], ◌∷◌, length, map, refl, ap, sym, ◌∙◌, arith, inl, inr, Bool, true, false, Option, Some, None, option_map, option_to_list, find, cond, if◌then◌else◌, IsTrue}
+use Rattle.std.proofs.Common.{◌≡◌, ℕ, ◌+◌, ◌⊎◌, List, [], ◌∷◌, map, refl, ap, sym, ◌∙◌, arith, inl, inr, Bool, true, false, Option, Some, None, option_map, option_to_list, find, if◌then◌else◌, IsTrue}
 use Rattle.std.proofs.lemmas.Bool.{false_from_ne_true}
 use Rattle.std.specs.Prelude.{unwrap_or}
 use Rattle.plan.specs.PlanModel.{Planned}
@@ -17,6 +17,7 @@ use Rattle.ledger.specs.Recovery.{is_forward}
 use Rattle.ledger.proofs.Coming.{step-comes, step-may_come, compensation-comes, compensation-may_come, stop-comes, refused-comes, refused-may_come, save-comes}
 use Rattle.ledger.proofs.Growing.{is_item_allowed-may_do, is_item_allowed-none}
 use Rattle.ledger.proofs.Ledgers.{all_go}
+use Rattle.ledger.proofs.Lists.{last_of-some, find-next, find-first}
 use Rattle.ledger.proofs.Modes.{Goes, going_back-falls}
 
 -- Phases.
@@ -24,37 +25,29 @@ use Rattle.ledger.proofs.Modes.{Goes, going_back-falls}
 -- no phase both runs and goes back
 pub run_or_back : {X : Type 0} (p : Phase) → is_running p ≡ true → is_going_back p ≡ true → X
 run_or_back Run run back = cc
-run_or_back (Back q) run back = cc
-run_or_back Ended run back = cc
-run_or_back Undone run back = cc
+run_or_back _ run back = cc
 
 -- an open phase runs or goes back
 open-cases : (p : Phase) → is_open p ≡ true → (is_running p ≡ true) ⊎ (is_going_back p ≡ true)
 open-cases Run e = inl refl
 open-cases (Back q) e = inr refl
-open-cases Ended e = cc
-open-cases Undone e = cc
+open-cases _ e = cc
 
 -- an open phase is not a finished one
 open-unfinished : (p : Phase) → is_open p ≡ true → is_finished p ≡ false
-open-unfinished Run e = refl
-open-unfinished (Back q) e = refl
 open-unfinished Ended e = cc
 open-unfinished Undone e = cc
+open-unfinished _ e = refl
 
 -- a finished phase neither runs nor goes back
 finished_not_running : {X : Type 0} (p : Phase) → is_finished p ≡ true → is_running p ≡ true → X
 finished_not_running Run e run = cc
-finished_not_running (Back q) e run = cc
-finished_not_running Ended e run = cc
-finished_not_running Undone e run = cc
+finished_not_running _ e run = cc
 
 -- a finished phase does not go back
 finished_not_back : {X : Type 0} (p : Phase) → is_finished p ≡ true → is_going_back p ≡ true → X
 finished_not_back Run e back = cc
-finished_not_back (Back q) e back = cc
-finished_not_back Ended e back = cc
-finished_not_back Undone e back = cc
+finished_not_back _ e back = cc
 
 -- Of one history.
 
@@ -66,16 +59,6 @@ record OneStep (plan : Planned) (h : List Item) (fits : Bool) : Type 0 where
   alone : (other : Item) → IsTrue (is_forward other) → may_come plan h fits other ≡ true
       → other ≡ step
   found : find (may_come plan h fits) (step_choices plan h) ≡ Some step
-
--- where the first does not pass, the search goes on
-find-next : {X : Type 0} (test : X → Bool) (x : X) (xs : List X) → test x ≡ false
-    → find test (x ∷ xs) ≡ find test xs
-find-next test x xs e = ap (λ b. cond b (Some x) (find test xs)) e
-
--- where the first passes, it is found
-find-first : {X : Type 0} (test : X → Bool) (x : X) (xs : List X) → test x ≡ true
-    → find test (x ∷ xs) ≡ Some x
-find-first test x xs e = ap (λ b. cond b (Some x) (find test xs)) e
 
 -- the choices of a step after its first
 abbrev other_choices : Planned → List Item → List Item
@@ -105,10 +88,8 @@ fitting-step plan h run =
         ∙ ap (Transaction (position_of h + 1)) comes.option
     alone (Compensation i c) forward may =
         run_or_back (phase plan h) run (compensation-comes plan h true i c may).back
-    alone (Turn p Stop) forward may = cc
     alone (Turn p Refused) forward may = let e = (refused-comes plan h true p may).unfitting in cc
-    alone (Turn p Asked) forward may = cc
-    alone (Save p) forward may = cc
+    alone _ forward may = cc
 
 -- a running journey whose next want does not fit has the refused turn as its step
 refused-step : (plan : Planned) (h : List Item) → is_running (phase plan h) ≡ true
@@ -138,17 +119,9 @@ refused-step plan h run =
         let bad = (step-comes plan h false i c may).fitting in cc
     alone (Compensation i c) forward may =
         run_or_back (phase plan h) run (compensation-comes plan h false i c may).back
-    alone (Turn p Stop) forward may = cc
     alone (Turn p Refused) forward may =
         ap (λ n. Turn n Refused) (refused-comes plan h false p may).target
-    alone (Turn p Asked) forward may = cc
-    alone (Save p) forward may = cc
-
--- a list that is not empty has a last element
-last_of-some : {X : Type 0} (xs : List X) → 0 < length xs → (t : X) × (last_of xs ≡ Some t)
-last_of-some [] e = absurd (omega arith)
-last_of-some (x ∷ []) e = (x, refl)
-last_of-some (x ∷ y ∷ ys) e = last_of-some (y ∷ ys) (omega arith)
+    alone _ forward may = cc
 
 -- a journey that goes back has the compensation of its last transaction as its step
 back-step : (plan : Planned) (h : List Item) (fits : Bool) → is_going_back (phase plan h) ≡ true
@@ -185,11 +158,9 @@ back-step plan h fits back t last =
         let same : Some t ≡ Some (i, c) = sym last ∙ comes.last in
         let pair : t ≡ (i, c) = cc in
         ap (λ (s : ℕ × ℕ). Compensation s.0 s.1) (sym pair)
-    alone (Turn p Stop) forward may = cc
     alone (Turn p Refused) forward may =
         run_or_back (phase plan h) (refused-comes plan h fits p may).running back
-    alone (Turn p Asked) forward may = cc
-    alone (Save p) forward may = cc
+    alone _ forward may = cc
 
 -- an open journey that follows its word has one step
 one-step : (plan : Planned) (h : List Item) (fits : Bool) → Goes plan h

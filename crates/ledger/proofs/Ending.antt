@@ -1,7 +1,8 @@
 -- A history item by item: each may come after those before it, where the journey is after it, and which of them
 -- finishes it. For those who read a history one item at a time.
-use Rattle.std.proofs.Common.{◌≡◌, ℕ, ◌+◌, ◌-◌, ◌<◌, ◌⊎◌, List, [], ◌∷◌, ◌++◌, refl, ap, sym, ◌∙◌, subst, arith, append_assoc, append-nil, eqb-true, eq-eqb, inl, inr, Bool, true, false, ◌==◌, ◌&&◌, ◌||◌, nat_lt, Option, Some, None, if◌then◌else◌, IsTrue}
-use Rattle.std.proofs.lemmas.Bool.{ne_eqb, eqb-false}
+use Rattle.std.proofs.Common.{◌≡◌, ℕ, ◌-◌, ◌<◌, ◌⊎◌, List, [], ◌∷◌, ◌++◌, refl, ap, sym, ◌∙◌, subst, arith, append_assoc, append-nil, eqb-true, eq-eqb, inl, inr, Bool, true, false, ◌==◌, ◌&&◌, ◌||◌, nat_lt, Option, Some, None, if◌then◌else◌, IsTrue}
+use Rattle.std.proofs.Math.Bool.{or-false}
+use Rattle.std.proofs.lemmas.Bool.{ne_eqb, eqb-false, and_right}
 use Rattle.std.proofs.lemmas.Bool.Decides.{nat_tests}
 use Rattle.plan.specs.PlanModel.{Planned, step_count, numbered}
 use Rattle.commands.specs.declared.items.Cause.{Cause}
@@ -159,9 +160,8 @@ finished_at n pos turned going = go (pos == n) (turned && (pos == 0))
 
     go : (a b : Bool)
         → is_finished (if a then Ended else if b then Undone else back_or_run pos going) ≡ (a || b)
-    go true b = refl
-    go false true = refl
     go false false = open_yet going
+    go _ _ = refl
 
 -- the same, of a history by its position and whether it turned to the start
 finished_by : (plan : Planned) (h : List Item) (pos : ℕ) (turned : Bool) → position_of h ≡ pos
@@ -171,14 +171,6 @@ finished_by plan h pos turned at is =
     finished_at (step_count plan) (position_of h) (has_turned_to_start h) (going_to h)
     ∙ ap (λ p. (p == step_count plan) || (has_turned_to_start h && (p == 0))) at
     ∙ ap (λ t. (pos == step_count plan) || (t && (pos == 0))) is
-
-and_no : (v : Bool) → (v && false) ≡ false
-and_no true = refl
-and_no false = refl
-
-or_no : (v : Bool) → (v || false) ≡ v
-or_no true = refl
-or_no false = refl
 
 swapped : (a b : ℕ) → (a == b) ≡ (b == a)
 swapped a b = grind (arith, nat_tests)
@@ -193,7 +185,7 @@ first_back i target above = go (i == 1) refl
         ap (λ b. b && (i - 1 == 0)) (eq-eqb 0 target (omega arith)) ∙ eq-eqb (i - 1) 0 (omega arith)
     go false e =
         let other = eqb-false i 1 e in
-        ap (λ b. (0 == target) && b) (ne_eqb (i - 1) 0 (λ z. omega arith)) ∙ and_no (0 == target)
+        ap (λ b. (0 == target) && b) (ne_eqb (i - 1) 0 (λ z. omega arith)) ∙ and_right (0 == target) false refl
 
 module _ (plan : Planned) (h later : List Item) where
   -- a transaction finishes it if it is that of the last step
@@ -204,7 +196,7 @@ module _ (plan : Planned) (h later : List Item) where
       let up = running-rises plan h on.goes.mode comes.running in
       finished_by plan (h ++ Transaction i c ∷ []) i false (stands-transaction plan h later i c on)
       (turned-other h (Transaction i c) refl ∙ up.0.unturned)
-      ∙ or_no (i == step_count plan)
+      ∙ or-false (i == step_count plan)
 
   -- a compensation finishes it if it is that of the first step
   pub finished-compensation : (i c : ℕ) → GoesOn plan h (Compensation i c) later
@@ -258,8 +250,8 @@ module _ (plan : Planned) (h later : List Item) where
           let t = has_turned_to_start (h ++ Turn p Asked ∷ []) in
           finished_by plan (h ++ Turn p Asked ∷ []) (position_of h) t (position_of-turn h p Asked) refl
           ∙ ap (λ v. v || (t && (position_of h == 0))) (ne_eqb (position_of h) (step_count plan) (λ e. omega arith))
-          ∙ ap (λ v. t && v) stands ∙ and_no t
-          ∙ sym (ap (λ v. (p == 0) && v) stands ∙ and_no (p == 0))
+          ∙ ap (λ v. t && v) stands ∙ and_right t false refl
+          ∙ sym (ap (λ v. (p == 0) && v) stands ∙ and_right (p == 0) false refl)
       by_mode (fell f) = absurd (let bad : false ≡ true = at Undone (phase-fallen plan h f) in cc)
 
   -- a save-point never finishes it

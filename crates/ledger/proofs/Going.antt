@@ -56,13 +56,11 @@ turned-turn h p cause e = turned-more h (Turn p cause) ∙ ap (λ b. b || (0 == 
 pub is_taken-other : (h : List Item) (x : Item) (p : ℕ) → is_compensation_of p x ≡ false
     → is_taken (x ∷ []) p ≡ false → is_taken (h ++ x ∷ []) p ≡ is_taken h p
 is_taken-other [] x p other same = same
-is_taken-other (Transaction i c ∷ h) x p other same = is_taken-other h x p other same
-is_taken-other (Compensation i c ∷ h) x p other same = is_taken-other h x p other same
-is_taken-other (Turn q cause ∷ h) x p other same = is_taken-other h x p other same
 is_taken-other (Save q ∷ h) x p other same =
     ap (λ b. (p == q && not b) || is_taken (h ++ x ∷ []) p) (compensated-other p h x other)
     ∙ ap (λ b. (p == q && not (list_any (is_compensation_of p) h)) || b)
     (is_taken-other h x p other same)
+is_taken-other (_ ∷ h) x p other same = is_taken-other h x p other same
 
 -- a turn leaves the save-points, since it leaves the position and what was taken
 is_save_point-turn : (plan : Planned) (h : List Item) (q : ℕ) (cause : Cause) (p : ℕ)

@@ -8,21 +8,21 @@ use Rattle.ledger.specs.Ledger.{Event, Loaded, Began, Did, Journey, journeys, jo
 
 -- Legality.
 
--- events that are allowed, and one more that they allow
-AreAllowedAfter-append : (before es : List Event) (e : Event) → AreAllowedAfter before es
-    → IsTrue (is_allowed (before ++ es) e) → AreAllowedAfter before (es ++ e ∷ [])
-AreAllowedAfter-append before [] e all one =
-    (subst (λ l. IsTrue (is_allowed l e)) (append-nil before) one, tt)
-AreAllowedAfter-append before (d ∷ es) e all one = (
-  all.0,
-  AreAllowedAfter-append (before ++ d ∷ []) es e all.1
-      (subst (λ l. IsTrue (is_allowed l e)) (sym (append_assoc before (d ∷ []) es)) one),
+-- events that are allowed, and others that these allow, are allowed together
+pub AreAllowedAfter-join : (before xs ys : List Event) → AreAllowedAfter before xs
+    → AreAllowedAfter (before ++ xs) ys → AreAllowedAfter before (xs ++ ys)
+AreAllowedAfter-join before [] ys first rest =
+    subst (λ l. AreAllowedAfter l ys) (append-nil before) rest
+AreAllowedAfter-join before (e ∷ xs) ys first rest = (
+  first.0,
+  AreAllowedAfter-join (before ++ e ∷ []) xs ys first.1
+      (subst (λ l. AreAllowedAfter l ys) (sym (append_assoc before (e ∷ []) xs)) rest),
 )
 
 -- a legal ledger stays legal with an event that is allowed
 pub IsLegal-append : (l : List Event) (e : Event) → IsLegal l → IsTrue (is_allowed l e)
     → IsLegal (l ++ e ∷ [])
-IsLegal-append l e legal one = AreAllowedAfter-append [] l e legal one
+IsLegal-append l e legal one = AreAllowedAfter-join [] l (e ∷ []) legal (one, tt)
 
 -- each allowed event keeps this property of a legal ledger
 abbrev pub Keeps : (List Event → Type 0) → Type 0

@@ -1,5 +1,6 @@
 -- How many places of a cell are held, as events come. For the law that no cell is overfull.
-use Rattle.std.proofs.Common.{◌≡◌, ℕ, suc, ◌+◌, ◌≤◌, List, [], ◌∷◌, ◌++◌, length, refl, ap, sym, ◌∙◌, arith, subst, eqb-true, length-append, Bool, true, false, not, ◌==◌, Option, Some, None, option_map, sum_by, if◌then◌else◌}
+use Rattle.std.proofs.Common.{◌≡◌, ℕ, suc, ◌+◌, ◌≤◌, List, [], ◌∷◌, ◌++◌, length, refl, ap, sym, ◌∙◌, arith, subst, eq-eqb, length-append, not, ◌==◌, Option, Some, None, option_map, sum_by}
+use Rattle.std.proofs.lemmas.Bool.{ne_eqb}
 use Rattle.std.proofs.lemmas.List.Sums.{sum_by-cons, sum_by-append}
 use Rattle.std.specs.Prelude.{unwrap_or}
 use Rattle.allotment.specs.Cells.{numbers_from}
@@ -12,10 +13,10 @@ use Rattle.ledger.specs.Ledger.{Event, Loaded, Began, Did, Journey, journeys, jo
 use Rattle.ledger.specs.History.{net}
 use Rattle.ledger.proofs.Growing.{journeys-began, journeys-loaded, journeys-did, history-began, history-loaded, history-did_same, history-did_other}
 use Rattle.ledger.proofs.Ledgers.{AllGo}
-use Rattle.ledger.proofs.Lists.{numbered-some, numbered-past}
+use Rattle.ledger.proofs.Lists.{numbered-some, numbered-past, number-within}
 use Rattle.ledger.proofs.Numbers.{numbers_from-append}
 use Rattle.ledger.proofs.Standing.{net-transaction, net-compensation, net-turn, net-save}
-use Rattle.ledger.proofs.Sums.{sum_by-same, sum_by-filter, only_at, sum_by-once}
+use Rattle.ledger.proofs.Sums.{sum_by-same, sum_by-filter, sum_by-changed}
 
 -- what a journey, if there is one, holds by its history
 abbrev held_in : Cell → List Item → Option Journey → ℕ
@@ -92,40 +93,26 @@ held-began l agent plan x all =
 
 -- Items.
 
--- where an item adds so much at most to what its journey holds, it adds so much at most to all
-pub held-did : (l : List Event) (k : ℕ) (item : Item) (a : Journey) (x : Cell) (d : ℕ)
-    → journey_at l k ≡ Some a
-    → held_by a.plan (history l k ++ item ∷ []) x ≤ held_by a.plan (history l k) x + d
-    → held (l ++ Did k item ∷ []) x ≤ held l x + d
-held-did l k item a x d at adds =
-    subst (λ n. sum_by (held_by_journey (l ++ Did k item ∷ []) x) (numbers_from 1 n) ≤ held l x + d)
-    (sym (ap length (journeys-did l k item)))
-    (sum_by-once (held_by_journey l x) (held_by_journey (l ++ Did k item ∷ []) x) k d 1
-    (length (journeys l)) (λ j. each j (j == k) refl))
+-- an item changes what is held as it changes what its own journey holds
+pub held-did : (l : List Event) (k : ℕ) (item : Item) (a : Journey) (x : Cell) → journey_at l k ≡ Some a
+    → held (l ++ Did k item ∷ []) x + held_by a.plan (history l k) x
+    ≡ held l x + held_by a.plan (history l k ++ item ∷ []) x
+held-did l k item a x at =
+    let within = number-within (journeys l) k a at in
+    let sums = sum_by-changed (held_by_journey l x) (held_by_journey (l ++ Did k item ∷ []) x) k 1
+    (length (journeys l)) other within.0 within.1 in
+    let all = ap (λ js. sum_by (held_by_journey (l ++ Did k item ∷ []) x) (numbers_from 1 (length js))) (journeys-did l k item) in
+    let old = ap (held_in x (history l k)) at in
+    let new : held_by_journey (l ++ Did k item ∷ []) x k ≡ held_by a.plan (history l k ++ item ∷ []) x =
+    ap (λ h. held_in x h (journey_at (l ++ Did k item ∷ []) k)) (history-did_same l k item k (eq-eqb k k refl))
+    ∙ ap (λ js. held_in x (history l k ++ item ∷ []) (numbered js k)) (journeys-did l k item)
+    ∙ ap (held_in x (history l k ++ item ∷ [])) at in
+    omega arith
   where
-    each : (j : ℕ) (v : Bool) → (j == k) ≡ v
-        → held_by_journey (l ++ Did k item ∷ []) x j ≤ held_by_journey l x j + only_at k d j
-    each j false e =
-        let now : held_by_journey (l ++ Did k item ∷ []) x j ≡ held_by_journey l x j =
-        ap (λ h. held_in x h (journey_at (l ++ Did k item ∷ []) j))
-        (history-did_other l k item j e)
-        ∙ ap (λ js. held_in x (history l j) (numbered js j)) (journeys-did l k item) in
-        omega arith
-    each j true e =
-        let is : j ≡ k = eqb-true _ _ e in
-        let here : journey_at l j ≡ Some a = ap (journey_at l) is ∙ at in
-        let now : held_by_journey (l ++ Did k item ∷ []) x j
-        ≡ held_by a.plan (history l k ++ item ∷ []) x =
-        ap (λ h. held_in x h (journey_at (l ++ Did k item ∷ []) j))
-        (history-did_same l k item j e)
-        ∙ ap (λ js. held_in x (history l j ++ item ∷ []) (numbered js j))
-        (journeys-did l k item)
-        ∙ ap (held_in x (history l j ++ item ∷ [])) here
-        ∙ ap (λ i. held_by a.plan (history l i ++ item ∷ []) x) is in
-        let was : held_by_journey l x j ≡ held_by a.plan (history l k) x =
-        ap (held_in x (history l j)) here ∙ ap (λ i. held_by a.plan (history l i) x) is in
-        let added : only_at k d j ≡ d = ap (λ b. if b then d else 0) e in
-        omega arith
+    other : (j : ℕ) → (j ≡ k → ⊥) → held_by_journey (l ++ Did k item ∷ []) x j ≡ held_by_journey l x j
+    other j apart =
+        ap (λ h. held_in x h (journey_at (l ++ Did k item ∷ []) j)) (history-did_other l k item j (ne_eqb j k apart))
+        ∙ ap (λ js. held_in x (history l j) (numbered js j)) (journeys-did l k item)
 
 -- What an item of a journey does to what that journey holds.
 

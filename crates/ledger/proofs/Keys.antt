@@ -7,7 +7,7 @@ use Rattle.commands.specs.Request.{Request}
 use Rattle.commands.specs.declared.replies.Reply.{Reply}
 use Rattle.ledger.specs.Answer.{State, answer, KeptReply, state_with, outcome_for, outcome}
 use Rattle.ledger.specs.Ledger.{Event}
-use Rattle.ledger.specs.World.{Moment, Done, Cut, Reopened, acts, times_acted}
+use Rattle.ledger.specs.World.{Moment, Done, Cut, acts, times_acted}
 use Rattle.ledger.proofs.Outcomes.{IsKept, outcome-kept}
 
 -- One request.
@@ -123,8 +123,7 @@ never_again agent key s (Cut asked ask true ∷ later) k =
     let b = never_again agent key (outcome s ask asked).state later
     (outcome-kept s ask asked agent key k) in
     omega arith
-never_again agent key s (Cut asked ask false ∷ later) k = never_again agent key s later k
-never_again agent key s (Reopened ∷ later) k = never_again agent key s later k
+never_again agent key s (_ ∷ later) k = never_again agent key s later k
 
 -- after a request that acts its reply is kept; after one that does not, the later ones act at most once
 one_more : (agent key : List ℕ) (s : State) (ask : Option Asked) (asked : Request)
@@ -148,5 +147,4 @@ acts_once agent key s (Done asked ask reply ∷ later) =
     one_more agent key s ask asked later (acts_once agent key (outcome s ask asked).state later)
 acts_once agent key s (Cut asked ask true ∷ later) =
     one_more agent key s ask asked later (acts_once agent key (outcome s ask asked).state later)
-acts_once agent key s (Cut asked ask false ∷ later) = acts_once agent key s later
-acts_once agent key s (Reopened ∷ later) = acts_once agent key s later
+acts_once agent key s (_ ∷ later) = acts_once agent key s later

@@ -1,7 +1,8 @@
 -- Lists: their last element, the element of a number, and the first that passes a test. For
 -- ledgers, allotments and answers.
-use Rattle.std.proofs.Common.{◌≡◌, ℕ, zero, suc, ◌+◌, ◌≤◌, ◌⊎◌, List, [], ◌∷◌, ◌++◌, length, map, refl, ap, sym, ◌∙◌, arith, inl, inr, Bool, true, false, ◌&&◌, ◌||◌, not, nat_lt, Some, None, find, position, slice_get, cond}
+use Rattle.std.proofs.Common.{◌≡◌, ℕ, zero, suc, ◌+◌, ◌<◌, ◌≤◌, ◌⊎◌, List, [], ◌∷◌, ◌++◌, length, map, refl, ap, sym, ◌∙◌, arith, inl, inr, Bool, true, false, ◌&&◌, ◌||◌, not, nat_lt, Some, None, find, position, slice_get, cond}
 use Rattle.std.proofs.lemmas.Bool.{ltb-false, and_parts}
+use Rattle.std.proofs.lemmas.Option.{slice_get_within}
 use Rattle.std.specs.List.{list_any, list_all, position_or_len}
 use Rattle.plan.specs.PlanModel.{numbered}
 use Rattle.ledger.specs.History.{last_of}
@@ -15,6 +16,12 @@ last_of-is [] t e = cc
 last_of-is (x ∷ []) t e = let is : x ≡ t = cc in ([], ap (λ y. y ∷ []) is)
 last_of-is (x ∷ y ∷ ys) t e =
     let rest = last_of-is (y ∷ ys) t e in (x ∷ rest.0, ap (λ zs. x ∷ zs) rest.1)
+
+-- a list that is not empty has a last element
+pub last_of-some : {X : Type 0} (xs : List X) → 0 < length xs → (t : X) × (last_of xs ≡ Some t)
+last_of-some [] e = absurd (omega arith)
+last_of-some (x ∷ []) e = (x, refl)
+last_of-some (x ∷ y ∷ ys) e = last_of-some (y ∷ ys) (omega arith)
 
 -- what comes before does not change the last element
 pub last_of-append : {X : Type 0} (xs : List X) (y : X) (ys : List X)
@@ -85,12 +92,25 @@ pub numbered-past : {X : Type 0} (xs : List X) → numbered xs (suc (length xs))
 numbered-past [] = refl
 numbered-past (x ∷ xs) = numbered-past xs
 
+-- the number of an element is one from 1 to how many there are
+pub number-within : {X : Type 0} (xs : List X) (j : ℕ) (a : X) → numbered xs j ≡ Some a → (1 ≤ j) × (j < 1 + length xs)
+number-within xs zero a at = cc
+number-within xs (suc i) a at = let below = slice_get_within xs i a at in (omega arith, omega arith)
+
 -- Tests.
 
 -- a list whose images are none is empty
 pub map-none : {X Y : Type 0} (f : X → Y) (xs : List X) → map f xs ≡ [] → xs ≡ []
 map-none f [] e = refl
 map-none f (x ∷ xs) e = cc
+
+-- where the first does not pass, the search goes on
+pub find-next : {X : Type 0} (test : X → Bool) (x : X) (xs : List X) → test x ≡ false → find test (x ∷ xs) ≡ find test xs
+find-next test x xs e = ap (λ b. cond b (Some x) (find test xs)) e
+
+-- where the first passes, it is found
+pub find-first : {X : Type 0} (test : X → Bool) (x : X) (xs : List X) → test x ≡ true → find test (x ∷ xs) ≡ Some x
+find-first test x xs e = ap (λ b. cond b (Some x) (find test xs)) e
 
 -- the first that passes passes
 pub find-passes : {X : Type 0} (test : X → Bool) (xs : List X) (x : X)

@@ -2,9 +2,9 @@
 use Rattle.std.proofs.Common.{◌≡◌, ℕ, ◌+◌, ◌-◌, ◌*◌, ◌<◌, ◌≤◌, List, [], ◌∷◌, ◌++◌, refl, ap, sym, ◌∙◌, arith, Bool, true, false}
 use Rattle.std.proofs.Math.Nat.{mul-le-mul_left}
 use Rattle.plan.specs.PlanModel.{Planned, step_count}
-use Rattle.commands.specs.declared.items.Cause.TheVariants.{Stop, Refused, Asked}
+use Rattle.commands.specs.declared.items.Cause.TheVariants.{Refused}
 use Rattle.commands.specs.declared.items.Item.{Item}
-use Rattle.commands.specs.declared.items.Item.TheVariants.{Transaction, Compensation, Turn, Save}
+use Rattle.commands.specs.declared.items.Item.TheVariants.{Transaction, Compensation, Turn}
 use Rattle.commands.specs.declared.items.Phase.{Phase}
 use Rattle.commands.specs.declared.items.Phase.TheVariants.{Run, Back, Ended, Undone}
 use Rattle.ledger.specs.History.{position_of, refusals, is_refused_turn, phase, is_running, is_going_back, may_come}
@@ -39,25 +39,19 @@ steps_left plan h = left_in plan h (phase plan h)
 pub left_in-most : (plan : Planned) (h : List Item) (p : Phase)
     → left_in plan h p ≤ way plan h + position_of h
 left_in-most plan h Run = omega arith
-left_in-most plan h (Back p) = omega arith
-left_in-most plan h Ended = omega arith
-left_in-most plan h Undone = omega arith
+left_in-most plan h _ = omega arith
 
 -- what is left while it runs
 left_in-running : (plan : Planned) (h : List Item) (p : Phase) → is_running p ≡ true
     → left_in plan h p ≡ way plan h - position_of h
 left_in-running plan h Run e = refl
-left_in-running plan h (Back q) e = cc
-left_in-running plan h Ended e = cc
-left_in-running plan h Undone e = cc
+left_in-running plan h _ e = cc
 
 -- what is left while it goes back
 left_in-back : (plan : Planned) (h : List Item) (p : Phase) → is_going_back p ≡ true
     → left_in plan h p ≡ way plan h + position_of h
-left_in-back plan h Run e = cc
 left_in-back plan h (Back q) e = refl
-left_in-back plan h Ended e = cc
-left_in-back plan h Undone e = cc
+left_in-back plan h _ e = cc
 
 -- Rounds.
 
@@ -150,7 +144,5 @@ pub fewer_left : (plan : Planned) (h : List Item) (fits : Bool) (x : Item) → G
     → steps_left plan (h ++ x ∷ []) < steps_left plan h
 fewer_left plan h fits (Transaction i c) g forward may = fewer-transaction plan h fits i c g may
 fewer_left plan h fits (Compensation i c) g forward may = fewer-compensation plan h fits i c g may
-fewer_left plan h fits (Turn p Stop) g forward may = cc
 fewer_left plan h fits (Turn p Refused) g forward may = fewer-refused plan h fits p g may
-fewer_left plan h fits (Turn p Asked) g forward may = cc
-fewer_left plan h fits (Save p) g forward may = cc
+fewer_left plan h fits _ g forward may = cc

@@ -70,6 +70,12 @@ pub part-more : (h before part : List Item) (x : Item) → h ≡ before ++ part
     → h ++ x ∷ [] ≡ before ++ (part ++ x ∷ [])
 part-more h before part x e = ap (λ g. g ++ x ∷ []) e ∙ append_assoc before part (x ∷ [])
 
+-- no journey is above its end
+pub position_of-most : (plan : Planned) (h : List Item) → Mode plan h → position_of h ≤ step_count plan
+position_of-most plan h (rises r) = r.within
+position_of-most plan h (falls f) = let a = f.falls in let b = f.short in omega arith
+position_of-most plan h (fell f) = let a = f.low in omega arith
+
 -- Phases.
 
 -- a journey that is not above its target runs

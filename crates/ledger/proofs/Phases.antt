@@ -1,7 +1,7 @@
 -- In which phases the journeys of a ledger are: what the items of other journeys leave, and what follows if none is in
 -- such a phase. For the parts that recovery adds.
-use Rattle.std.proofs.Common.{◌≡◌, ℕ, zero, suc, ◌+◌, ◌<◌, ◌≤◌, List, [], ◌∷◌, ◌++◌, length, refl, ap, sym, ◌∙◌, arith, append_assoc, append-nil, eqb-true, Bool, true, false, ◌==◌, not, nat_lt, Option, option_map}
-use Rattle.std.proofs.lemmas.Bool.{and_parts, ltb-true, ltb-false, eqb-false, or_parts, ne_eqb}
+use Rattle.std.proofs.Common.{◌≡◌, ℕ, zero, suc, ◌+◌, ◌<◌, ◌≤◌, List, [], ◌∷◌, ◌++◌, length, refl, ap, sym, ◌∙◌, arith, append_assoc, append-nil, eqb-true, Bool, true, false, ◌==◌, nat_lt, Option, option_map}
+use Rattle.std.proofs.lemmas.Bool.{and_parts, ltb-true, ltb-false, eqb-false, or_parts, ne_eqb, not-true}
 use Rattle.std.proofs.lemmas.Option.{slice_get_past}
 use Rattle.std.specs.Prelude.{unwrap_or}
 use Rattle.std.specs.List.{list_all, list_any}
@@ -10,7 +10,7 @@ use Rattle.plan.specs.PlanModel.{numbered}
 use Rattle.commands.specs.declared.items.Item.{Item}
 use Rattle.commands.specs.declared.items.Phase.{Phase}
 use Rattle.ledger.specs.History.{phase}
-use Rattle.ledger.specs.Ledger.{Event, Loaded, Began, Did, Journey, journeys, journey_at, history, is_in}
+use Rattle.ledger.specs.Ledger.{Event, Did, Journey, journeys, journey_at, history, is_in}
 use Rattle.ledger.specs.Recovery.{journey_of, are_items, has_none}
 use Rattle.ledger.proofs.Growing.{journeys-did, history-did_other}
 
@@ -34,8 +34,6 @@ pub is_in-later : (passes : Phase → Bool) (test : Item → Bool) (j : ℕ) (l 
     → list_all (are_items test) p ≡ true → list_all (λ d. nat_lt j (journey_of d)) p ≡ true
     → is_in passes (l ++ p) j ≡ is_in passes l j
 is_in-later passes test j l [] items later = ap (λ m. is_in passes m j) (append-nil l)
-is_in-later passes test j l (Loaded name rows ∷ p) items later = cc
-is_in-later passes test j l (Began agent plan ∷ p) items later = cc
 is_in-later passes test j l (Did k item ∷ p) items later =
     let rest = and_parts (test item) (list_all (are_items test) p) items in
     let above = and_parts (nat_lt j k) (list_all (λ d. nat_lt j (journey_of d)) p) later in
@@ -43,6 +41,7 @@ is_in-later passes test j l (Did k item ∷ p) items later =
     ap (λ m. is_in passes m j) (sym (append_assoc l (Did k item ∷ []) p))
     ∙ is_in-later passes test j (l ++ Did k item ∷ []) p rest.1 above.1
     ∙ is_in-did_other passes l k item j (ne_eqb j k (λ e. omega arith))
+is_in-later passes test j l (_ ∷ p) items later = cc
 
 -- Numbers.
 
@@ -60,11 +59,6 @@ none-numbered test first (suc n) j none low high =
     go fails rest true e = ap test (sym (eqb-true _ _ e)) ∙ fails
     go fails rest false e = let ne = eqb-false _ _ e in rest (omega arith)
 
--- what is not true is false
-not-true_is_false : (b : Bool) → not b ≡ true → b ≡ false
-not-true_is_false true e = cc
-not-true_is_false false e = refl
-
 -- where no journey is in such a phase, this one is not
 pub has_none-at : (passes : Phase → Bool) (l : List Event) (j : ℕ) → has_none passes l ≡ true
     → is_in passes l j ≡ false
@@ -74,7 +68,7 @@ has_none-at passes l (suc i) none = go (nat_lt i (length (journeys l))) refl
     go : (v : Bool) → nat_lt i (length (journeys l)) ≡ v → is_in passes l (suc i) ≡ false
     go true e =
         let within = ltb-true _ _ e in
-        none-numbered (is_in passes l) 1 (length (journeys l)) (suc i) (not-true_is_false _ none)
+        none-numbered (is_in passes l) 1 (length (journeys l)) (suc i) (not-true _ none)
         (omega arith) (omega arith)
     go false e =
         ap (passing passes (history l (suc i)))

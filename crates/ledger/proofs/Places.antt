@@ -56,7 +56,8 @@ did-room : (l : List Event) (k : ℕ) (item : Item) (a : Journey) (d : Cell → 
     → ((x : Cell) → held l x + d x ≤ unwrap_or (allotment l x) 0)
     → NoCellIsOverfull (l ++ Did k item ∷ [])
 did-room l k item a d at adds room x =
-    let more = held-did l k item a x (d x) at (adds x) in
+    let more = held-did l k item a x at in
+    let own = adds x in
     let enough = room x in
     subst (λ o. held (l ++ Did k item ∷ []) x ≤ unwrap_or o 0)
     (sym (allotment-same l (Did k item) x refl)) (omega arith)

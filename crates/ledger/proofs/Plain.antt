@@ -5,7 +5,7 @@ use Rattle.std.proofs.lemmas.List.Folds.{list_any-append}
 use Rattle.std.specs.List.{list_any}
 use Rattle.plan.specs.PlanModel.{Planned, step_count, is_marked_at}
 use Rattle.commands.specs.declared.items.Item.{Item}
-use Rattle.commands.specs.declared.items.Item.TheVariants.{Transaction, Compensation, Turn, Save}
+use Rattle.commands.specs.declared.items.Item.TheVariants.{Save}
 use Rattle.ledger.specs.History.{is_save, is_taken, is_save_point, position_of}
 use Rattle.ledger.specs.Laws.{HasNoSavePoint, EachPlainJourneyIsAllOrNothing}
 use Rattle.ledger.specs.Ledger.{Event, history, IsLegal}
@@ -16,10 +16,8 @@ use Rattle.ledger.proofs.Runs.{word-append, up-none, up-join, down-none}
 -- where no save-point was taken, none stands
 is_taken-none : (h : List Item) (p : ℕ) → list_any is_save h ≡ false → is_taken h p ≡ false
 is_taken-none [] p none = refl
-is_taken-none (Transaction i c ∷ h) p none = is_taken-none h p none
-is_taken-none (Compensation i c ∷ h) p none = is_taken-none h p none
-is_taken-none (Turn q cause ∷ h) p none = is_taken-none h p none
 is_taken-none (Save q ∷ h) p none = cc
+is_taken-none (_ ∷ h) p none = is_taken-none h p none
 
 -- a plan without marks and a history without save-points have no save-point
 is_save_point-none : (plan : Planned) (h : List Item) (p : ℕ)

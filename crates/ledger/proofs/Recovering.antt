@@ -1,14 +1,15 @@
 -- A ledger has at most one recovered ledger. For the law of recovery.
 use Rattle.std.proofs.Common.{◌≡◌, ℕ, ◌<◌, ◌≤◌, List, [], ◌∷◌, ◌++◌, refl, ap, sym, ◌∙◌, arith, append_assoc, append-nil, subst, Bool, true, false, not, nat_le, nat_lt, Option, Some, None}
-use Rattle.std.proofs.lemmas.Bool.{and_parts, and_from, leb-true, ltb-true, ltb-false, lt-ltb}
+use Rattle.std.proofs.lemmas.Bool.{and_parts, and_from, leb-true, le-leb, ltb-true, ltb-false, lt-ltb}
 use Rattle.std.specs.List.{list_all}
 use Rattle.commands.specs.declared.items.Item.{Item}
-use Rattle.commands.specs.declared.items.Item.TheVariants.{Transaction, Compensation, Turn, Save}
+use Rattle.commands.specs.declared.items.Item.TheVariants.{Compensation, Turn, Save}
 use Rattle.commands.specs.declared.items.Phase.{Phase}
 use Rattle.ledger.specs.History.{next_want, phase, is_compensation, is_going_back, is_open, is_finished}
 use Rattle.ledger.specs.Laws.{AtMostOneIsRecovered}
 use Rattle.ledger.specs.Ledger.{Event, Loaded, Began, Did, Journey, journey_at, history, fits, is_in, is_item_allowed, AreAllowedAfter, IsLegal}
 use Rattle.ledger.specs.Recovery.{stops, is_by_number, journey_of, are_items, has_none, is_forward, IsRecovered}
+use Rattle.allotment.proofs.TestLemmas.{list_all_weaker}
 use Rattle.ledger.proofs.Coming.{compensation-comes}
 use Rattle.ledger.proofs.Deciding.{each_open_has_one, no_finished_goes_on}
 use Rattle.ledger.proofs.Growing.{IsLegal-append, is_item_allowed-may_do, absurd_item}
@@ -17,11 +18,11 @@ use Rattle.ledger.proofs.Phases.{passing, is_in-later, has_none-at}
 -- A part of what recovery adds.
 
 -- events of some kind of item, by rising number, after which no journey is in some kind of phase
-record IsPart (test : Item → Bool) (passes : Phase → Bool) (l p : List Event) : Type 0 where
-  allowed : AreAllowedAfter l p
-  items : list_all (are_items test) p ≡ true
-  sorted : is_by_number p ≡ true
-  none : has_none passes (l ++ p) ≡ true
+pub record IsPart (test : Item → Bool) (passes : Phase → Bool) (l p : List Event) : Type 0 where
+  pub allowed : AreAllowedAfter l p
+  pub items : list_all (are_items test) p ≡ true
+  pub sorted : is_by_number p ≡ true
+  pub none : has_none passes (l ++ p) ≡ true
 
 -- in a journey no two such items may come
 abbrev IsAlone : (Item → Bool) → Type 0
@@ -33,15 +34,19 @@ abbrev NeedsPhase : (Item → Bool) → (Phase → Bool) → Type 0
 NeedsPhase test passes = (l : List Event) (j : ℕ) (x : Item) → test x ≡ true
     → is_item_allowed l j x ≡ true → is_in passes l j ≡ true
 
+-- what comes from a number on comes from each lower one on
+pub from-lower : (a b : ℕ) (p : List Event) → a ≤ b → list_all (λ d. nat_le b (journey_of d)) p ≡ true
+    → list_all (λ d. nat_le a (journey_of d)) p ≡ true
+from-lower a b p lower =
+    list_all_weaker (λ d. nat_le b (journey_of d)) (λ d. nat_le a (journey_of d))
+    (λ d e. let here = leb-true b (journey_of d) e in le-leb a (journey_of d) (omega arith)) p
+
 -- what is not below k is above j, if j is below k
-pub above-lower : (j k : ℕ) (p : List Event) → j < k
-    → list_all (λ d. nat_le k (journey_of d)) p ≡ true
+pub above-lower : (j k : ℕ) (p : List Event) → j < k → list_all (λ d. nat_le k (journey_of d)) p ≡ true
     → list_all (λ d. nat_lt j (journey_of d)) p ≡ true
-above-lower j k [] lower e = refl
-above-lower j k (d ∷ p) lower e =
-    let both = and_parts (nat_le k (journey_of d)) (list_all (λ c. nat_le k (journey_of c)) p) e in
-    let here = leb-true _ _ both.0 in
-    and_from _ _ (lt-ltb j (journey_of d) (omega arith)) (above-lower j k p lower both.1)
+above-lower j k p lower =
+    list_all_weaker (λ d. nat_le k (journey_of d)) (λ d. nat_lt j (journey_of d))
+    (λ d e. let here = leb-true k (journey_of d) e in lt-ltb j (journey_of d) (omega arith)) p
 
 -- a part that begins with a later journey leaves this one as it is, so this one cannot be in such a phase
 not_passed : {X : Type 0} (test : Item → Bool) (passes : Phase → Bool) (l : List Event) (j k : ℕ)
@@ -161,10 +166,9 @@ step-alone l j x y legal x_is y_is x_may y_may =
 
 -- a compensation is a step
 pub compensation-forward : (x : Item) → is_compensation x ≡ true → is_forward x ≡ true
-compensation-forward (Transaction i c) e = refl
-compensation-forward (Compensation i c) e = refl
 compensation-forward (Turn p cause) e = cc
 compensation-forward (Save p) e = cc
+compensation-forward _ e = refl
 
 -- only one compensation may come
 compensation-alone : IsAlone is_compensation
@@ -173,7 +177,6 @@ compensation-alone l j x y legal x_is y_is x_may y_may =
 
 -- a compensation may come only in a journey that goes back
 compensation-needs_back : NeedsPhase is_compensation is_going_back
-compensation-needs_back l j (Transaction i c) is may = cc
 compensation-needs_back l j (Compensation i c) is may = go (journey_at l j) refl
   where
     go : (o : Option Journey) → journey_at l j ≡ o → is_in is_going_back l j ≡ true
@@ -182,8 +185,7 @@ compensation-needs_back l j (Compensation i c) is may = go (journey_at l j) refl
         ap (passing is_going_back (history l j)) at
         ∙ (compensation-comes a.plan (history l j) (fits l (next_want a.plan (history l j))) i c
         (sym (is_item_allowed-may_do l j (Compensation i c) a at) ∙ may)).back
-compensation-needs_back l j (Turn p cause) is may = cc
-compensation-needs_back l j (Save p) is may = cc
+compensation-needs_back l j _ is may = cc
 
 -- Recovery.
 
@@ -197,17 +199,17 @@ AreAllowedAfter-split before (e ∷ xs) ys all =
     ((all.0, rest.0), subst (λ l. AreAllowedAfter l ys) (append_assoc before (e ∷ []) xs) rest.1)
 
 -- the parts of a recovered ledger, after its turns
-record Parts (l r : List Event) : Type 0 where
-  backward : List Event
-  forward : List Event
-  whole : r ≡ ((l ++ stops l) ++ backward) ++ forward
-  turned : IsLegal (l ++ stops l)
-  back : IsPart is_compensation is_going_back (l ++ stops l) backward
-  returned : IsLegal ((l ++ stops l) ++ backward)
-  on : IsPart is_forward is_open ((l ++ stops l) ++ backward) forward
+pub record Parts (l r : List Event) : Type 0 where
+  pub backward : List Event
+  pub forward : List Event
+  pub whole : r ≡ ((l ++ stops l) ++ backward) ++ forward
+  pub turned : IsLegal (l ++ stops l)
+  pub back : IsPart is_compensation is_going_back (l ++ stops l) backward
+  pub returned : IsLegal ((l ++ stops l) ++ backward)
+  pub on : IsPart is_forward is_open ((l ++ stops l) ++ backward) forward
 
 -- each recovered ledger has these parts
-parts : (l r : List Event) → IsRecovered l r → Parts l r
+pub parts : (l r : List Event) → IsRecovered l r → Parts l r
 parts l r e =
     let last = AreAllowedAfter-split [] ((l ++ stops l) ++ e.backward) e.forward
     (subst IsLegal e.whole e.legal) in

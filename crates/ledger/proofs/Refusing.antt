@@ -1,9 +1,8 @@
 -- How often a journey was refused, as items come: within its tries, unless it has turned to its start. For the modes of
 -- a journey, and for how many steps it may still make.
-use Rattle.std.proofs.Common.{◌≡◌, ℕ, ◌+◌, ◌≤◌, List, [], ◌∷◌, ◌++◌, length, refl, ap, sym, ◌∙◌, arith, length-append, eq-eqb, Bool, true, false, ◌==◌, nat_lt, filter, if◌then◌else◌}
+use Rattle.std.proofs.Common.{◌≡◌, ℕ, ◌+◌, ◌≤◌, List, [], ◌∷◌, ◌++◌, refl, ap, sym, ◌∙◌, arith, eq-eqb, Bool, true, false, ◌==◌, nat_lt, if◌then◌else◌}
 use Rattle.std.proofs.lemmas.Bool.{ltb-true, or_parts}
-use Rattle.std.proofs.lemmas.List.Elements.{filter-append}
-use Rattle.std.proofs.lemmas.List.Sums.{length-filter}
+use Rattle.std.proofs.lemmas.List.Sums.{sum_by_push}
 use Rattle.plan.specs.PlanModel.{Planned}
 use Rattle.commands.specs.declared.items.Cause.TheVariants.{Refused}
 use Rattle.commands.specs.declared.items.Item.{Item}
@@ -15,24 +14,14 @@ use Rattle.ledger.proofs.Going.{turned-more}
 abbrev pub HasTries : Planned → List Item → Type 0
 HasTries plan h = has_turned_to_start h ≡ false → refusals h ≤ plan.tries
 
--- the refusals of a history with one more item are those of both
-refusals-more : (h : List Item) (x : Item)
-    → refusals (h ++ x ∷ []) ≡ refusals h + refusals (x ∷ [])
-refusals-more h x =
-    let all = length-filter is_refused_turn (h ++ x ∷ []) in
-    let old = length-filter is_refused_turn h in
-    let new = length-filter is_refused_turn (x ∷ []) in
-    let cut = ap length (filter-append is_refused_turn h (x ∷ [])) in
-    let parts = length-append (filter is_refused_turn h) (filter is_refused_turn (x ∷ [])) in
-    omega arith
+-- only a refused turn is one more refusal
+pub refusals-more : (h : List Item) (x : Item) → refusals (h ++ x ∷ []) ≡ refusals h + (if is_refused_turn x then 1 else 0)
+refusals-more h x = sum_by_push (λ y. if is_refused_turn y then 1 else 0) h x
 
 -- an item that is no refused turn does not change how often the journey was refused
-pub refusals-other : (h : List Item) (x : Item) → is_refused_turn x ≡ false
-    → refusals (h ++ x ∷ []) ≡ refusals h
+pub refusals-other : (h : List Item) (x : Item) → is_refused_turn x ≡ false → refusals (h ++ x ∷ []) ≡ refusals h
 refusals-other h x other =
-    let more = refusals-more h x in
-    let none : refusals (x ∷ []) ≡ 0 = rw other refl in
-    omega arith
+    let more = refusals-more h x ∙ ap (λ b. refusals h + (if b then 1 else 0)) other in omega arith
 
 -- a refused turn is one more refusal
 pub refusals-refused : (h : List Item) (p : ℕ)

@@ -5,7 +5,7 @@ use Rattle.plan.specs.PlanModel.{Planned, step_count}
 use Rattle.commands.specs.declared.items.Cause.{Cause}
 use Rattle.commands.specs.declared.items.Item.{Item}
 use Rattle.commands.specs.declared.items.Item.TheVariants.{Transaction, Turn, Save}
-use Rattle.ledger.specs.History.{position_of, is_save_point}
+use Rattle.ledger.specs.History.{position_of, going_to, is_save_point, has_turned_to_start}
 use Rattle.ledger.specs.Word.{word, up, down, Up}
 use Rattle.ledger.proofs.Going.{going_to-transaction, going_to-turn, going_to-save, turned-other, turned-turn, kept-turn}
 use Rattle.ledger.proofs.Modes.{Rising, Falling, Fallen, Mode, rises, falls, fell, part-more}
@@ -38,25 +38,31 @@ rising-transaction plan h i c r below is =
       arrived = λ p e. let none = going_to-transaction h i c in cc;
     }
 
+-- an item that moves nothing leaves the journey on its way up, if it is at its target or below
+stays : (plan : Planned) (h : List Item) (x : Item) → Rising plan h → word (x ∷ []) ≡ []
+    → position_of (h ++ x ∷ []) ≡ position_of h → has_turned_to_start (h ++ x ∷ []) ≡ false
+    → ((p : ℕ) → going_to (h ++ x ∷ []) ≡ Some p → position_of h ≤ p) → Rising plan (h ++ x ∷ [])
+stays plan h x r silent pos unturned arrived = record {
+  before = r.before;
+  part = r.part ++ x ∷ [];
+  from = r.from;
+  returns = r.returns;
+  whole = part-more h r.before r.part x r.whole;
+  low = let a = r.low in omega arith;
+  within = let a = r.within in omega arith;
+  reads =
+      word-append r.part (x ∷ []) ∙ ap (λ w. word r.part ++ w) silent ∙ append-nil (word r.part) ∙ r.reads
+      ∙ ap (up r.from) (sym pos);
+  unturned = unturned;
+  arrived = λ p e. let k = arrived p e in omega arith;
+}
+
 -- a save-point changes neither the word nor the direction
 pub rising-save : (plan : Planned) (h : List Item) (p : ℕ) → Rising plan h
     → Rising plan (h ++ Save p ∷ [])
 rising-save plan h p r =
-    let pos = position_of-save h p in
-    record {
-      before = r.before;
-      part = r.part ++ Save p ∷ [];
-      from = r.from;
-      returns = r.returns;
-      whole = part-more h r.before r.part (Save p) r.whole;
-      low = let a = r.low in omega arith;
-      within = let a = r.within in omega arith;
-      reads =
-          word-append r.part (Save p ∷ []) ∙ append-nil (word r.part) ∙ r.reads
-          ∙ ap (up r.from) (sym pos);
-      unturned = turned-other h (Save p) refl ∙ r.unturned;
-      arrived = λ q e. let k = r.arrived q (sym (going_to-save h p) ∙ e) in omega arith;
-    }
+    stays plan h (Save p) r refl (position_of-save h p) (turned-other h (Save p) refl ∙ r.unturned)
+    (λ q e. r.arrived q (sym (going_to-save h p) ∙ e))
 
 -- a turn to a target below is the top of the way up, and the way down begins
 turn-down : (plan : Planned) (h : List Item) (p : ℕ) (cause : Cause) → Rising plan h
@@ -90,24 +96,12 @@ turn-down plan h p cause r below kept lower =
 turn-here : (plan : Planned) (h : List Item) (p : ℕ) (cause : Cause) → Rising plan h
     → position_of h ≤ p → 0 < p → Rising plan (h ++ Turn p cause ∷ [])
 turn-here plan h p cause r here more =
-    let pos = position_of-turn h p cause in
-    record {
-      before = r.before;
-      part = r.part ++ Turn p cause ∷ [];
-      from = r.from;
-      returns = r.returns;
-      whole = part-more h r.before r.part (Turn p cause) r.whole;
-      low = let a = r.low in omega arith;
-      within = let a = r.within in omega arith;
-      reads =
-          word-append r.part (Turn p cause ∷ []) ∙ append-nil (word r.part) ∙ r.reads
-          ∙ ap (up r.from) (sym pos);
-      unturned = turned-turn h p cause r.unturned ∙ ne_eqb 0 p (λ e. omega arith);
-      arrived = λ q e.
-          let same : Some q ≡ Some p = sym e ∙ going_to-turn h p cause in
-          let k : q ≡ p = cc in
-          omega arith;
-    }
+    stays plan h (Turn p cause) r refl (position_of-turn h p cause)
+    (turned-turn h p cause r.unturned ∙ ne_eqb 0 p (λ e. omega arith))
+    (λ q e.
+    let same : Some q ≡ Some p = sym e ∙ going_to-turn h p cause in
+    let k : q ≡ p = cc in
+    omega arith)
 
 -- a turn to the start, at the start, ends the journey: no step had to be compensated
 turn-at_start : (plan : Planned) (h : List Item) (p : ℕ) (cause : Cause) → Rising plan h

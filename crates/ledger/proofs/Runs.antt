@@ -3,7 +3,7 @@ use Rattle.std.proofs.Common.{◌≡◌, ℕ, suc, ◌-◌, ◌≤◌, List, [],
 use Rattle.std.proofs.lemmas.List.{reverse-append, map-append}
 use Rattle.allotment.specs.Cells.{numbers_from}
 use Rattle.commands.specs.declared.items.Item.{Item}
-use Rattle.commands.specs.declared.items.Item.TheVariants.{Transaction, Compensation, Turn, Save}
+use Rattle.commands.specs.declared.items.Item.TheVariants.{Transaction, Compensation}
 use Rattle.ledger.specs.Word.{Up, Down, word, up, down}
 use Rattle.ledger.proofs.Numbers.{numbers_between-join, numbers_between-none, numbers_between-one}
 
@@ -12,8 +12,7 @@ pub word-append : (g h : List Item) → word (g ++ h) ≡ word g ++ word h
 word-append [] h = refl
 word-append (Transaction i c ∷ g) h = ap (λ w. Up i ∷ w) (word-append g h)
 word-append (Compensation i c ∷ g) h = ap (λ w. Down i ∷ w) (word-append g h)
-word-append (Turn p cause ∷ g) h = word-append g h
-word-append (Save p ∷ g) h = word-append g h
+word-append (_ ∷ g) h = word-append g h
 
 -- Runs of no step, of one step, and of steps that join.
 

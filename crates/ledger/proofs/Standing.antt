@@ -44,9 +44,7 @@ net-other (Transaction i c ∷ h) x other =
     (compensated-other i h x (other i))
     ∙ ap (λ xs. if list_any (is_compensation_of i) h then xs else (i, c) ∷ xs) (net-other h x other)
     ∙ adds-append i c (list_any (is_compensation_of i) h) (net h) (net (x ∷ []))
-net-other (Compensation i c ∷ h) x other = net-other h x other
-net-other (Turn p cause ∷ h) x other = net-other h x other
-net-other (Save p ∷ h) x other = net-other h x other
+net-other (_ ∷ h) x other = net-other h x other
 
 -- a transaction is appended
 pub net-transaction : (h : List Item) (i c : ℕ)
@@ -85,9 +83,7 @@ net-compensation (Transaction j d ∷ h) i c =
     (net-compensation h i c)
     ∙ without-step (λ t. not (t.0 == i)) (list_any (is_compensation_of j) h) (j == i) (j, d) (net h)
     refl
-net-compensation (Compensation j d ∷ h) i c = net-compensation h i c
-net-compensation (Turn p cause ∷ h) i c = net-compensation h i c
-net-compensation (Save p ∷ h) i c = net-compensation h i c
+net-compensation (_ ∷ h) i c = net-compensation h i c
 
 -- Positions.
 
@@ -137,7 +133,7 @@ standing-transaction h i c is e =
     ∙ ap (numbers_from 1) (sym (position_of-transaction h i c))
 
 -- leaving out a number above all of these changes nothing
-filter-above : (xs : List (ℕ × ℕ)) (first n m : ℕ) → map (λ t. t.0) xs ≡ numbers_from first n
+pub filter-above : (xs : List (ℕ × ℕ)) (first n m : ℕ) → map (λ t. t.0) xs ≡ numbers_from first n
     → first + n ≤ m → filter (λ t. not (t.0 == m)) xs ≡ xs
 filter-above [] first n m e h = refl
 filter-above (x ∷ xs) first zero m e h = cc
@@ -147,6 +143,16 @@ filter-above (x ∷ xs) first (suc n) m e h =
     let differs : not (x.0 == m) ≡ true = not_from_false _ (ne_eqb x.0 m (λ same. omega arith)) in
     ap (λ b. cond b (x ∷ filter (λ t. not (t.0 == m)) xs) (filter (λ t. not (t.0 == m)) xs)) differs
     ∙ ap (λ ys. x ∷ ys) (filter-above xs (suc first) n m rest (omega arith))
+
+-- if the steps of a list are numbered consecutively, so are those before the last
+pub front-numbered : (front : List (ℕ × ℕ)) (i c : ℕ)
+    → map (λ t. t.0) (front ++ (i, c) ∷ []) ≡ numbers_from 1 (length front + 1)
+    → map (λ t. t.0) front ≡ numbers_from 1 (length front)
+front-numbered front i c e =
+    sym (front_of-snoc (map (λ t. t.0) front) i)
+    ∙ ap front_of
+    (sym (map-append (λ t. t.0) front ((i, c) ∷ [])) ∙ e ∙ numbers_from-append 1 (length front) 1)
+    ∙ front_of-snoc (numbers_from 1 (length front)) (1 + length front)
 
 -- what the compensation of the last transaction does: its step was the last that stood, the position is one lower, and
 -- the steps up to there stand
@@ -165,15 +171,12 @@ compensates h i c stands last =
     let front = cut.0 in
     let size : position_of h ≡ length front + 1 =
     ap length cut.1 ∙ length-append front ((i, c) ∷ []) in
-    let both : map (λ t. t.0) front ++ i ∷ []
-    ≡ numbers_from 1 (length front) ++ (1 + length front) ∷ [] =
-    sym (map-append (λ t. t.0) front ((i, c) ∷ [])) ∙ ap (map (λ t. t.0)) (sym cut.1) ∙ stands
-    ∙ ap (numbers_from 1) size ∙ numbers_from-append 1 (length front) 1 in
-    let low : map (λ t. t.0) front ≡ numbers_from 1 (length front) =
-    sym (front_of-snoc (map (λ t. t.0) front) i) ∙ ap front_of both
-    ∙ front_of-snoc (numbers_from 1 (length front)) (1 + length front) in
+    let numbered : map (λ t. t.0) (front ++ (i, c) ∷ []) ≡ numbers_from 1 (length front + 1) =
+    ap (map (λ t. t.0)) (sym cut.1) ∙ stands ∙ ap (numbers_from 1) size in
+    let low = front-numbered front i c numbered in
     let same_last : Some i ≡ Some (1 + length front) =
-    sym (last_of-append (map (λ t. t.0) front) i []) ∙ ap last_of both
+    sym (last_of-append (map (λ t. t.0) front) i [])
+    ∙ ap last_of (sym (map-append (λ t. t.0) front ((i, c) ∷ [])) ∙ numbered ∙ numbers_from-append 1 (length front) 1)
     ∙ last_of-append (numbers_from 1 (length front)) (1 + length front) [] in
     let i_is : i ≡ 1 + length front = cc in
     let left : net (h ++ Compensation i c ∷ []) ≡ front =

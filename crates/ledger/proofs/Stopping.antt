@@ -12,12 +12,12 @@ use Rattle.commands.specs.declared.items.Item.{Item}
 use Rattle.commands.specs.declared.items.Item.TheVariants.{Turn}
 use Rattle.commands.specs.declared.items.Phase.{Phase}
 use Rattle.commands.specs.declared.items.Phase.TheVariants.{Run, Back, Ended, Undone}
-use Rattle.ledger.specs.History.{position_of, last_save, phase, is_running, is_open}
+use Rattle.ledger.specs.History.{last_save, phase, is_running, is_open}
 use Rattle.ledger.specs.Ledger.{Event, Did, Journey, journeys, journey_at, begun_by, history, item_of, is_in, is_allowed, AreAllowedAfter}
 use Rattle.ledger.specs.Recovery.{last_save_of, stops}
 use Rattle.ledger.proofs.Growing.{journeys-did, history-did_other, is_item_allowed-may_do}
 use Rattle.ledger.proofs.Lowering.{way, left_in, steps_left, left_in-most, way-other, way-most}
-use Rattle.ledger.proofs.Modes.{Mode, rises, falls, fell, Goes, running-rises}
+use Rattle.ledger.proofs.Modes.{Goes, running-rises, position_of-most}
 use Rattle.ledger.proofs.Phases.{passing}
 use Rattle.ledger.proofs.Standing.{position_of-turn}
 
@@ -203,12 +203,6 @@ history-stops l j low high =
     ∙ ap (λ r. history l j ++ r) (stops-at l j (length (journeys l)) 1 low high)
 
 -- What may come after them.
-
--- no journey is above its end
-position_of-most : (plan : Planned) (h : List Item) → Mode plan h → position_of h ≤ step_count plan
-position_of-most plan h (rises r) = r.within
-position_of-most plan h (falls f) = let a = f.falls in let b = f.short in omega arith
-position_of-most plan h (fell f) = let a = f.low in omega arith
 
 -- 1 for a journey that turns, else 0
 abbrev pub turns_of : Bool → ℕ

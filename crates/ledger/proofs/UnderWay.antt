@@ -1,19 +1,24 @@
--- Each ledger that recovery passes through is a prefix of the recovered ledger. For the law of recovery.
-use Rattle.std.proofs.Common.{◌≡◌, ℕ, suc, ◌+◌, ◌<◌, ◌≤◌, List, [], ◌∷◌, ◌++◌, length, refl, ap, sym, ◌∙◌, arith, append_assoc, append-nil, subst, Bool, true, false, not, nat_le, nat_lt}
-use Rattle.std.proofs.lemmas.Bool.{and_parts, and_from, le-leb, leb-true, lt-ltb, ltb-true, ltb-false, not_from_false}
+-- Each ledger that recovery passes through is a prefix of the recovered ledger, and there is one, by no more events than its
+-- bound. For the law of recovery.
+use Rattle.std.proofs.Common.{◌≡◌, ℕ, suc, ◌+◌, ◌<◌, ◌≤◌, List, [], ◌∷◌, ◌++◌, length, refl, ap, sym, ◌∙◌, arith, append_assoc, append-nil, subst, length-append, Bool, true, false, not, nat_le, nat_lt}
+use Rattle.std.proofs.lemmas.Bool.{and_parts, and_from, leb-true, ltb-true, ltb-false, not_from_false}
 use Rattle.std.proofs.lemmas.List.Folds.{list_all-append}
 use Rattle.std.specs.List.{list_all, list_any}
 use Rattle.allotment.specs.Cells.{numbers_from}
 use Rattle.commands.specs.declared.items.Item.{Item}
 use Rattle.commands.specs.declared.items.Phase.{Phase}
 use Rattle.ledger.specs.History.{is_compensation, is_going_back, is_open}
-use Rattle.ledger.specs.Laws.{EachRecoveryGoesOn}
+use Rattle.ledger.specs.Laws.{EachRecoveryGoesOn, IsRecoverable}
 use Rattle.ledger.specs.Ledger.{Event, journeys, is_in, AreAllowedAfter, IsLegal}
-use Rattle.ledger.specs.Recovery.{stops, journey_of, is_by_number, are_items, has_none, is_forward, IsRecovered, HasReached, HasComeTo, turning, going_back, going_on, BeginsRecovered}
+use Rattle.ledger.specs.Recovery.{stops, journey_of, is_by_number, are_items, has_none, is_forward, bound, IsRecovered, HasReached, HasComeTo, turning, going_back, going_on, BeginsRecovered}
 use Rattle.ledger.proofs.Carrying.{IsStage, Carries, carries-all}
 use Rattle.ledger.proofs.Phases.{is_in-later}
-use Rattle.ledger.proofs.Recoverable.{back-stage, forward-stage, journeys-items, none-pass, CarriesAll, carried-none, AreAllowedAfter-join}
+use Rattle.ledger.proofs.Bounding.{stops-within}
+use Rattle.ledger.proofs.Growing.{AreAllowedAfter-join}
+use Rattle.ledger.proofs.Recoverable.{back-stage, forward-stage, journeys-items, none-pass, CarriesAll, carried-none, compensations-forward}
+use Rattle.ledger.proofs.Recovering.{above-lower, from-lower, parts, AreAllowedAfter-split}
 use Rattle.ledger.proofs.Stopping.{stops-allowed}
+use Rattle.ledger.proofs.Working.{steps-within}
 
 -- What is left of a part.
 
@@ -25,17 +30,6 @@ record Completes (test : Item → Bool) (passes : Phase → Bool) (before part :
   items : list_all (are_items test) (part ++ rest) ≡ true
   sorted : is_by_number (part ++ rest) ≡ true
   none : has_none passes ((before ++ part) ++ rest) ≡ true
-
--- what comes from a number on comes from each lower one on
-from-lower : (a b : ℕ) (r : List Event) → a ≤ b
-    → list_all (λ d. nat_le b (journey_of d)) r ≡ true
-    → list_all (λ d. nat_le a (journey_of d)) r ≡ true
-from-lower a b [] lower all = refl
-from-lower a b (d ∷ r) lower all =
-    let both = and_parts (nat_le b (journey_of d)) (list_all (λ c. nat_le b (journey_of c)) r) all
-    in
-    let here = leb-true _ _ both.0 in
-    and_from _ _ (le-leb _ _ (omega arith)) (from-lower a b r lower both.1)
 
 -- events up to a number, followed by events from there on, are by number
 by_number-join : (p q : List Event) (number : ℕ) → is_by_number p ≡ true
@@ -51,17 +45,6 @@ by_number-join (e ∷ p) q number sorted low sorted_rest high =
     (list_all-append (λ d. nat_le (journey_of e) (journey_of d)) p q
     ∙ and_from _ _ first.0 (from-lower (journey_of e) number q (leb-true _ _ lows.0) high))
     (by_number-join p q number first.1 lows.1 sorted_rest high)
-
--- events from a number on are of later journeys than each one below it
-behind-below : (j number : ℕ) (p : List Event) → j < number
-    → list_all (λ d. nat_le number (journey_of d)) p ≡ true
-    → list_all (λ d. nat_lt j (journey_of d)) p ≡ true
-behind-below j number [] below all = refl
-behind-below j number (d ∷ p) below all =
-    let both = and_parts (nat_le number (journey_of d))
-    (list_all (λ c. nat_le number (journey_of c)) p) all in
-    let here = leb-true _ _ both.0 in
-    and_from _ _ (lt-ltb _ _ (omega arith)) (behind-below j number p below both.1)
 
 -- a part that has reached a journey is completed from that journey on
 completes : (test : Item → Bool) (passes : Phase → Bool) → IsStage test passes
@@ -92,7 +75,7 @@ completes test passes stage before part number legal reached =
     at j high true e =
         let below = ltb-true _ _ e in
         is_in-later passes test j (before ++ part) c.events c.items
-        (behind-below j number c.events below c.behind)
+        (above-lower j number c.events below c.behind)
         ∙ reached.done j below
     at j high false e = let above = ltb-false _ _ e in c.done j above (omega arith)
 
@@ -204,3 +187,28 @@ recovery-goes_on l legal begun come = by_part begun come
     by_part _ (going_back part number reached) = from-part l part number turned reached
     by_part _ (going_on back part last number reached none on) =
         from-forward l back part last number turned reached none on
+
+-- Each legal ledger is recovered.
+
+-- a recovered ledger has no more new events than its bound
+recovered-within : (l r : List Event) → IsLegal l → IsRecovered l r → length r ≤ length l + bound l
+recovered-within l r legal e =
+    let p = parts l r e in
+    let first = stops-within l legal in
+    let second = steps-within p.backward (l ++ stops l) p.turned p.back.allowed (compensations-forward p.backward p.back.items) in
+    let third = steps-within p.forward ((l ++ stops l) ++ p.backward) p.returned p.on.allowed p.on.items in
+    let size = ap length p.whole ∙ length-append ((l ++ stops l) ++ p.backward) p.forward in
+    let size_back = length-append (l ++ stops l) p.backward in
+    let size_turned = length-append l (stops l) in
+    omega arith
+
+-- the turns, then the compensations, then the steps
+pub recovered-exists : (l : List Event) → IsLegal l → IsRecoverable l
+recovered-exists l legal =
+    let begun = from-turns l (AreAllowedAfter-join [] l (stops l) legal (stops-allowed l)) in
+    record {
+      recovered = (l ++ stops l) ++ begun.rest;
+      is_recovered = begun.recovered;
+      within = recovered-within l ((l ++ stops l) ++ begun.rest) legal begun.recovered;
+      cut_off = λ front rest is. (AreAllowedAfter-split [] front rest (subst IsLegal is begun.recovered.legal)).0;
+    }

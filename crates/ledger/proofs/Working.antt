@@ -1,20 +1,20 @@
 -- The steps that are left to all journeys of a ledger, and that each step of one of them leaves fewer. For the bound of
 -- recovery.
-use Rattle.std.proofs.Common.{◌≡◌, ℕ, zero, suc, ◌+◌, ◌<◌, ◌≤◌, List, [], ◌∷◌, ◌++◌, length, refl, ap, sym, ◌∙◌, arith, append_assoc, append-nil, eqb-true, eq-eqb, Bool, true, false, ◌==◌, nat_lt, Option, Some, None, option_map, sum_by}
-use Rattle.std.proofs.lemmas.Bool.{and_parts, ne_eqb, eqb-false, ltb-true, ltb-false}
-use Rattle.std.proofs.lemmas.List.Sums.{sum_by-cons}
-use Rattle.std.proofs.lemmas.Option.{slice_get_past}
+use Rattle.std.proofs.Common.{◌≡◌, ℕ, ◌+◌, ◌<◌, ◌≤◌, List, [], ◌∷◌, ◌++◌, length, refl, ap, sym, ◌∙◌, arith, append_assoc, append-nil, eq-eqb, true, false, ◌==◌, Option, Some, None, option_map, sum_by}
+use Rattle.std.proofs.lemmas.Bool.{and_parts, ne_eqb}
 use Rattle.std.specs.Prelude.{unwrap_or}
 use Rattle.std.specs.List.{list_all}
 use Rattle.allotment.specs.Cells.{numbers_from}
 use Rattle.plan.specs.PlanModel.{numbered}
 use Rattle.commands.specs.declared.items.Item.{Item}
 use Rattle.ledger.specs.History.{next_want}
-use Rattle.ledger.specs.Ledger.{Event, Loaded, Began, Did, Journey, journeys, journey_at, numbers, history, fits, is_item_allowed, AreAllowedAfter, IsLegal}
+use Rattle.ledger.specs.Ledger.{Event, Did, Journey, journeys, journey_at, numbers, history, fits, is_item_allowed, AreAllowedAfter, IsLegal}
 use Rattle.ledger.specs.Recovery.{are_items, is_forward}
 use Rattle.ledger.proofs.Growing.{IsLegal-append, journeys-did, history-did_same, history-did_other, is_item_allowed-may_do, absurd_item}
 use Rattle.ledger.proofs.Ledgers.{all_go}
+use Rattle.ledger.proofs.Lists.{number-within}
 use Rattle.ledger.proofs.Lowering.{steps_left, fewer_left}
+use Rattle.ledger.proofs.Sums.{sum_by-changed}
 
 -- One journey.
 
@@ -64,57 +64,6 @@ pub work-sum : (l : List Event) → work l ≡ sum_by (left_of l) (numbers l)
 unfolding work
 work-sum l = refl
 
--- where none of consecutive numbers is k, and all other terms are the same, so is the sum
-sum_by-past : (f g : ℕ → ℕ) (k : ℕ) → ((j : ℕ) → (j == k) ≡ false → g j ≡ f j)
-    → (n first : ℕ) → k < first
-    → sum_by g (numbers_from first n) ≡ sum_by f (numbers_from first n)
-sum_by-past f g k same zero first past = refl
-sum_by-past f g k same (suc n) first past =
-    let a = sum_by-cons g first (numbers_from (suc first) n) in
-    let b = sum_by-cons f first (numbers_from (suc first) n) in
-    let one = same first (ne_eqb first k (λ e. omega arith)) in
-    let rest = sum_by-past f g k same n (suc first) (omega arith) in
-    omega arith
-
--- where one of consecutive numbers has less, and all other terms are the same, the sum is less
-sum_by-fewer : (f g : ℕ → ℕ) (k : ℕ) → ((j : ℕ) → (j == k) ≡ false → g j ≡ f j) → g k < f k
-    → (n first : ℕ) → first ≤ k → k < first + n
-    → sum_by g (numbers_from first n) < sum_by f (numbers_from first n)
-sum_by-fewer f g k same less zero first low high = absurd (omega arith)
-sum_by-fewer f g k same less (suc n) first low high =
-    go (first == k) refl (λ above. sum_by-fewer f g k same less n (suc first) above (omega arith))
-  where
-    go : (v : Bool) → (first == k) ≡ v
-        → (suc first ≤ k
-        → sum_by g (numbers_from (suc first) n) < sum_by f (numbers_from (suc first) n))
-        → sum_by g (first ∷ numbers_from (suc first) n)
-        < sum_by f (first ∷ numbers_from (suc first) n)
-    go true e rest =
-        let a = sum_by-cons g first (numbers_from (suc first) n) in
-        let b = sum_by-cons f first (numbers_from (suc first) n) in
-        let is = eqb-true _ _ e in
-        let old = ap f is in
-        let new = ap g is in
-        let past = sum_by-past f g k same n (suc first) (omega arith) in
-        omega arith
-    go false e rest =
-        let a = sum_by-cons g first (numbers_from (suc first) n) in
-        let b = sum_by-cons f first (numbers_from (suc first) n) in
-        let one = same first e in
-        let other = eqb-false _ _ e in
-        let later = rest (omega arith) in
-        omega arith
-
--- the number of a journey is one of the numbers of all journeys
-pub number-within : (js : List Journey) (j : ℕ) (a : Journey) → numbered js j ≡ Some a
-    → (1 ≤ j) × (j < 1 + length js)
-number-within js zero a at = cc
-number-within js (suc i) a at = go (nat_lt i (length js)) refl
-  where
-    go : (v : Bool) → nat_lt i (length js) ≡ v → (1 ≤ suc i) × (suc i < 1 + length js)
-    go true e = let below = ltb-true _ _ e in (omega arith, omega arith)
-    go false e = let none = slice_get_past js i (ltb-false _ _ e) in cc
-
 -- a step of one journey leaves fewer steps to all
 work-fewer : (l : List Event) (k : ℕ) (x : Item) → IsLegal l → is_forward x ≡ true
     → is_item_allowed l k x ≡ true → work (l ++ Did k x ∷ []) < work l
@@ -129,9 +78,9 @@ work-fewer l k x legal forward may = go (journey_at l k) refl
         let within = number-within (journeys l) k a at in
         let count = ap (λ js. sum_by (left_of (l ++ Did k x ∷ [])) (numbers_from 1 (length js)))
         (journeys-did l k x) in
-        let fewer = sum_by-fewer (left_of l) (left_of (l ++ Did k x ∷ [])) k
-        (left_of-other l k x) (left_of-fewer l k x legal forward may) (length (journeys l)) 1
-        within.0 within.1 in
+        let changed = sum_by-changed (left_of l) (left_of (l ++ Did k x ∷ [])) k 1 (length (journeys l))
+        (λ j apart. left_of-other l k x j (ne_eqb j k apart)) within.0 within.1 in
+        let fewer = left_of-fewer l k x legal forward may in
         omega arith
 
 -- there are no more steps than were left
@@ -139,8 +88,6 @@ pub steps-within : (p l : List Event) → IsLegal l → AreAllowedAfter l p
     → list_all (are_items is_forward) p ≡ true → length p + work (l ++ p) ≤ work l
 steps-within [] l legal allowed items =
     let same = ap work (append-nil l) in omega arith
-steps-within (Loaded name rows ∷ p) l legal allowed items = cc
-steps-within (Began agent plan ∷ p) l legal allowed items = cc
 steps-within (Did k x ∷ p) l legal allowed items =
     let both = and_parts (is_forward x) (list_all (are_items is_forward) p) items in
     let here = work-fewer l k x legal both.0 allowed.0 in
@@ -148,3 +95,4 @@ steps-within (Did k x ∷ p) l legal allowed items =
     allowed.1 both.1 in
     let same = ap work (append_assoc l (Did k x ∷ []) p) in
     omega arith
+steps-within (_ ∷ p) l legal allowed items = cc

@@ -50,5 +50,4 @@ after-ledger s (Done asked ask reply ∷ later) =
     grown _ _ _ _ _ (outcome-ledger s ask asked) (after-ledger (outcome s ask asked).state later)
 after-ledger s (Cut asked ask true ∷ later) =
     grown _ _ _ _ _ (outcome-ledger s ask asked) (after-ledger (outcome s ask asked).state later)
-after-ledger s (Cut asked ask false ∷ later) = after-ledger s later
-after-ledger s (Reopened ∷ later) = after-ledger s later
+after-ledger s (_ ∷ later) = after-ledger s later

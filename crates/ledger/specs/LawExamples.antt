@@ -6,7 +6,7 @@ use Rattle.allotment.specs.declared.codes.Kind.TheVariants.{Flight, Transfer}
 use Rattle.plan.specs.PlanModel.{Planned, is_marked_at}
 use Rattle.commands.specs.Names.{house}
 use Rattle.ledger.specs.Examples.{want, row, step, untried, done, undone}
-use Rattle.ledger.specs.JourneyExamples.{one_aborted, saved_after_1_and_3, stopped_twice, unmarked, begun_unmarked}
+use Rattle.ledger.specs.JourneyExamples.{one_aborted, saved_after_1_and_3, stopped_twice, begun_unmarked}
 use Rattle.ledger.specs.Laws.{HasNoSavePoint}
 use Rattle.ledger.specs.Ledger.{Event, Journey, journey_at, history, IsLegal}
 use Rattle.ledger.specs.RecoveryExamples.{allowed_by_test, aborted_to_2, items}

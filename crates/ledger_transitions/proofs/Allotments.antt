@@ -1,6 +1,6 @@
 -- What one more event changes of the allotment of a cell. For each desk that stores how many places are allotted.
 use Rattle.std.proofs.Common.{◌≡◌, ℕ, List, [], ◌∷◌, ◌++◌, length, refl, ap, sym, ◌∙◌, append-nil, Bool, true, false, not, ◌==◌, ◌&&◌, cond, filter, find, flat_map, Option, Some, None, option_map, option_to_list, IsTrue}
-use Rattle.std.proofs.lemmas.Bool.{and_parts, or_parts}
+use Rattle.std.proofs.lemmas.Bool.{and_parts, or_parts, not-true}
 use Rattle.std.proofs.lemmas.Grind.{flat_map-append}
 use Rattle.std.proofs.lemmas.List.Elements.{filter-append}
 use Rattle.std.specs.List.{list_any, list_all}
@@ -50,12 +50,8 @@ filter-distinct x [] distinct = refl
 filter-distinct x (r ∷ rows) distinct =
     let both = and_parts (not (list_any (λ (s : Row). is_cell r.cell s.cell) rows))
     (are_distinct rows) distinct in
-    go (is_cell x r.cell) refl (not-true-is _ both.0) (filter-distinct x rows both.1)
+    go (is_cell x r.cell) refl (not-true _ both.0) (filter-distinct x rows both.1)
   where
-    not-true-is : (b : Bool) → not b ≡ true → b ≡ false
-    not-true-is true e = cc
-    not-true-is false e = refl
-
     go : (v : Bool) → is_cell x r.cell ≡ v
         → list_any (λ (s : Row). is_cell r.cell s.cell) rows ≡ false
         → filter (λ (s : Row). is_cell x s.cell) rows

@@ -224,16 +224,12 @@ save-back l j a p legal at back =
 -- the phase that runs
 running-is : (p : Phase) → is_running p ≡ true → p ≡ Run
 running-is Run e = refl
-running-is (Back q) e = cc
-running-is Ended e = cc
-running-is Undone e = cc
+running-is _ e = cc
 
 -- a phase that goes back goes back to some position
 going_back-is : (p : Phase) → is_going_back p ≡ true → (q : ℕ) × (p ≡ Back q)
-going_back-is Run e = cc
 going_back-is (Back q) e = (q, refl)
-going_back-is Ended e = cc
-going_back-is Undone e = cc
+going_back-is _ e = cc
 
 -- to a step: of the items that a step makes, the one that may come next
 pub step-answer : (l : List Event) (j : ℕ) (a : Journey) (x : Item) → IsLegal l
@@ -251,10 +247,8 @@ step-answer l j a (Compensation i c) legal at forward comes =
     (fits l (next_want a.plan (history l j))) i c comes in
     let back = going_back-is _ k.back in
     step-back l j a back.0 i c legal at back.1 k.last
-step-answer l j a (Turn p Stop) legal at forward comes = cc
 step-answer l j a (Turn p Refused) legal at forward comes =
     let k = refused-comes a.plan (history l j) (fits l (next_want a.plan (history l j))) p comes in
     step-refused l j a legal at (running-is _ k.running) (not-true _ k.unfitting)
     ∙ sym (ap (λ n. moves j a.plan (cursor_of a.plan (history l j)) (Turn n Refused)) k.target)
-step-answer l j a (Turn p Asked) legal at forward comes = cc
-step-answer l j a (Save p) legal at forward comes = cc
+step-answer l j a _ legal at forward comes = cc

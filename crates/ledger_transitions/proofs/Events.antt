@@ -9,6 +9,7 @@ use Rattle.allotment.specs.declared.cells.Row.{Row}
 use Rattle.plan.specs.PlanModel.{Planned, numbered}
 use Rattle.commands.specs.declared.items.Item.{Item}
 use Rattle.ledger.specs.Ledger.{Event, Loaded, Began, Did, Journey, journeys, journey_at, numbers, history, batches_named, rows_if_named, IsLegal}
+pub use Rattle.ledger.proofs.Growing.{journeys-loaded, journeys-began, journeys-did, history-loaded, history-began}
 use Rattle.ledger.proofs.Growing as growing
 use Rattle.ledger.proofs.Ledgers.{all_go}
 use Rattle.ledger.proofs.Lists.{numbered-past}
@@ -25,21 +26,6 @@ length-more l e = length-append l (e ∷ [])
 -- the journey that a begin makes
 abbrev pub begun : List ℕ → Planned → Journey
 begun agent plan = record { agent = agent; plan = plan }
-
--- a batch begins no journey
-pub journeys-loaded : (l : List Event) (name : List ℕ) (rows : List Row)
-    → journeys (l ++ Loaded name rows ∷ []) ≡ journeys l
-journeys-loaded l name rows = growing.journeys-loaded l name rows
-
--- a journey that is begun is the last one
-pub journeys-began : (l : List Event) (agent : List ℕ) (plan : Planned)
-    → journeys (l ++ Began agent plan ∷ []) ≡ journeys l ++ begun agent plan ∷ []
-journeys-began l agent plan = growing.journeys-began l agent plan
-
--- an item begins no journey
-pub journeys-did : (l : List Event) (k : ℕ) (item : Item)
-    → journeys (l ++ Did k item ∷ []) ≡ journeys l
-journeys-did l k item = growing.journeys-did l k item
 
 -- a begin adds one journey
 pub journey_count-began : (l : List Event) (agent : List ℕ) (plan : Planned)
@@ -75,13 +61,11 @@ journey_at-began_new l agent plan =
 -- at a number that is not the last of a list, an appended element changes nothing
 numbered-other : {X : Type 0} (xs : List X) (x : X) (j : ℕ) → (j ≡ suc (length xs) → ⊥)
     → numbered (xs ++ x ∷ []) j ≡ numbered xs j
-numbered-other xs x zero other = refl
 numbered-other [] x (suc zero) other = absurd (other refl)
-numbered-other [] x (suc (suc j)) other = refl
-numbered-other (y ∷ ys) x (suc zero) other = refl
 numbered-other (y ∷ ys) x (suc (suc j)) other =
     numbered-other ys x (suc j)
     (λ e. other (let k : suc (suc j) ≡ suc (suc (length ys)) = omega arith in k))
+numbered-other _ x _ other = refl
 
 -- at each other number a begin changes nothing
 pub journey_at-began_other : (l : List Event) (agent : List ℕ) (plan : Planned) (j : ℕ)
@@ -121,16 +105,6 @@ numbers-began l agent plan =
     (let e : 1 + length (journeys l) ≡ length (journeys l) + 1 = omega arith in e)
 
 -- Histories.
-
--- a batch leaves each history
-pub history-loaded : (l : List Event) (name : List ℕ) (rows : List Row) (j : ℕ)
-    → history (l ++ Loaded name rows ∷ []) j ≡ history l j
-history-loaded l name rows j = growing.history-loaded l name rows j
-
--- a begin leaves each history
-pub history-began : (l : List Event) (agent : List ℕ) (plan : Planned) (j : ℕ)
-    → history (l ++ Began agent plan ∷ []) j ≡ history l j
-history-began l agent plan j = growing.history-began l agent plan j
 
 -- an item is appended to its journey's history
 pub history-did_same : (l : List Event) (j : ℕ) (item : Item)

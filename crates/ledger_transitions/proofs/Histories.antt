@@ -15,7 +15,7 @@ use Rattle.ledger.specs.History.{net, position_of, is_taken, is_save_point, phas
 use Rattle.ledger.specs.Ledger.{Event, Journey, journey_at, history, IsLegal}
 use Rattle.ledger.proofs.Coming.{step-comes, compensation-comes}
 use Rattle.ledger.proofs.Journeys.{goes-begin, goes-more}
-use Rattle.ledger.proofs.Modes.{Goes, Mode, rises, falls, fell, running-rises}
+use Rattle.ledger.proofs.Modes.{Goes, running-rises, position_of-most}
 use Rattle.ledger.proofs.Standing.{compensates, net-transaction, net-compensation, net-turn, net-save, position_of-transaction, position_of-turn, position_of-save}
 use Rattle.ledger_transitions.specs.Legal.{HasHistory}
 use Rattle.ledger_transitions.proofs.Taking.{is_taken-more}
@@ -47,14 +47,6 @@ pub record Follows (plan : Planned) (h : List Item) : Type 0 where
   -- each with one of its options
   pub options : list_all (is_option_of plan) (net h) ≡ true
   pub taken : (p : ℕ) → IsTrue (is_taken h p) → IsWithin plan h p
-
--- Positions.
-
--- on its way a journey is at no position after its last step
-within-mode : (plan : Planned) (h : List Item) → Mode plan h → position_of h ≤ step_count plan
-within-mode plan h (rises r) = r.within
-within-mode plan h (falls f) = let a = f.falls in let b = f.short in omega arith
-within-mode plan h (fell f) = let a = f.low in omega arith
 
 -- Save-points.
 
@@ -210,7 +202,7 @@ follows-more plan h may_fit x f may =
       good = f.good;
       few = f.few;
       goes = g;
-      within = within-mode plan (h ++ x ∷ []) g.mode;
+      within = position_of-most plan (h ++ x ∷ []) g.mode;
       stands = g.stands;
       options = chosen.options;
       taken = taken-more plan h may_fit x f.goes may f.taken;

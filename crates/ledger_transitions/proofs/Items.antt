@@ -3,7 +3,6 @@
 use Rattle.std.proofs.Common.{◌≡◌, ℕ, ◌+◌, ◌-◌, ◌≤◌, List, [], ◌∷◌, ◌++◌, length, map, refl, ap, sym, ◌∙◌, arith, append-nil, length-append, eqb-true, eq-eqb, Bool, true, false, not, ◌==◌, ◌||◌, ◌&&◌, nat_lt, filter, cond, if◌then◌else◌, Some, IsTrue}
 use Rattle.std.proofs.lemmas.Bool.{and_parts, ltb-true, ltb-false, eqb-false, ne_eqb}
 use Rattle.std.proofs.lemmas.List.Elements.{filter-append}
-use Rattle.std.proofs.lemmas.List.Sums.{sum_by_push}
 use Rattle.allotment.specs.Cells.{numbers_from}
 use Rattle.plan.specs.PlanModel.{Planned, step_count}
 use Rattle.commands.specs.declared.items.Cause.{Cause}
@@ -13,33 +12,20 @@ use Rattle.commands.specs.declared.items.Item.{Item}
 use Rattle.commands.specs.declared.items.Item.TheVariants.{Transaction, Compensation, Turn, Save}
 use Rattle.commands.specs.declared.items.Phase.{Phase}
 use Rattle.commands.specs.declared.items.Phase.TheVariants.{Run, Back, Ended, Undone}
-use Rattle.ledger.specs.History.{net, position_of, refusals, phase, phase_at, back_or_run, going_to, has_turned_to_start, is_save_point, is_refused_turn, is_running, may_come, may_turn}
+use Rattle.ledger.specs.History.{net, position_of, refusals, phase, phase_at, back_or_run, going_to, has_turned_to_start, is_save_point, is_running, may_come, may_turn}
 use Rattle.ledger.proofs.Coming.{step-comes, compensation-comes, stop-comes, refused-comes}
 use Rattle.ledger.proofs.Going.{going_to-turn, going_to-compensation, going_to-save, turned-other, turned-turn}
 use Rattle.ledger.proofs.Lists.{last_of-is}
 use Rattle.ledger.proofs.Modes.{Goes, Mode, rises, falls, fell, Rising, upward, runs, ended, phase-falling, phase-fallen, running-rises, going_back-falls}
+use Rattle.ledger.proofs.Refusing.{refusals-more, refusals-other}
 use Rattle.ledger.proofs.Rising.{rising-transaction}
-use Rattle.ledger.proofs.Standing.{compensates, position_of-transaction, position_of-turn, position_of-save}
+use Rattle.ledger.proofs.Standing.{compensates, filter-above, front-numbered, position_of-transaction, position_of-turn, position_of-save}
 use Rattle.ledger.proofs.Standing as standing
 use Rattle.ledger_transitions.specs.JourneyChanges.{phase_up, phase_down, phase_back, used_after, cursor_after}
 use Rattle.ledger_transitions.specs.Cursors.{cursor_of}
-use Rattle.ledger_transitions.proofs.Events as events
 use Rattle.ledger_transitions.proofs.Histories.{Follows}
-use Rattle.ledger_transitions.proofs.Numbered.{filter-above, front-numbered}
 
 -- Refusals.
-
--- only a refused turn is one more refusal
-pub refusals-more : (h : List Item) (x : Item)
-    → refusals (h ++ x ∷ []) ≡ refusals h + (if is_refused_turn x then 1 else 0)
-refusals-more h x = sum_by_push (λ y. if is_refused_turn y then 1 else 0) h x
-
--- an item that is no refused turn leaves the refusals
-refusals-other : (h : List Item) (x : Item) → is_refused_turn x ≡ false
-    → refusals (h ++ x ∷ []) ≡ refusals h
-refusals-other h x other =
-    refusals-more h x ∙ ap (λ b. refusals h + (if b then 1 else 0)) other
-    ∙ (let e : refusals h + 0 ≡ refusals h = omega arith in e)
 
 -- a turn adds a refusal by its cause
 refusals-turn : (h : List Item) (p : ℕ) (cause : Cause)

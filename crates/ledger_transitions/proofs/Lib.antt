@@ -3,7 +3,6 @@ pub mod Taking
 pub mod Inductions
 pub mod Histories
 pub mod Positions
-pub mod Numbered
 pub mod Items
 pub mod Taken
 pub mod Allotments

@@ -1,5 +1,5 @@
 -- The answer to a request about a journey, by the first of its choices that is allowed. For each such request.
-use Rattle.std.proofs.Common.{◌≡◌, ℕ, List, [], ◌∷◌, ap, ◌∙◌, Bool, true, false, if◌then◌else◌, cond, find, Option, Some, None, option_map, option_and_then}
+use Rattle.std.proofs.Common.{◌≡◌, ℕ, List, [], ◌∷◌, ap, ◌∙◌, Bool, true, false, if◌then◌else◌, find, Option, Some, None, option_map, option_and_then}
 use Rattle.std.specs.Prelude.{unwrap_or}
 use Rattle.plan.specs.PlanModel.{Planned}
 use Rattle.commands.specs.declared.items.Cursor.{Cursor}
@@ -10,6 +10,7 @@ use Rattle.commands.specs.declared.replies.Reply.TheVariants as reply
 use Rattle.ledger.specs.History.{next_want, phase, is_finished}
 use Rattle.ledger.specs.Ledger.{Event, Did, Journey, journey_at, history, fits, may_do, IsLegal}
 use Rattle.ledger.specs.Replies.{Answer, refused, sees, seen_journey, moved, answer_choices, answer_move}
+pub use Rattle.ledger.proofs.Lists.{find-next, find-first}
 use Rattle.ledger_transitions.specs.Answers.{moves}
 use Rattle.ledger_transitions.specs.Cursors.{cursor_of}
 use Rattle.ledger_transitions.proofs.Histories.{follows}
@@ -88,16 +89,6 @@ pub move-found : (l : List Event) (j : ℕ) (choices : Planned → List Item →
 move-found l j choices otherwise a x legal at unfinished found comes =
     move-first l j choices otherwise a (Some x) unfinished found
     ∙ moved-moves l j a x legal at comes
-
--- where the first does not pass, the search goes on
-pub find-next : {X : Type 0} (test : X → Bool) (x : X) (xs : List X) → test x ≡ false
-    → find test (x ∷ xs) ≡ find test xs
-find-next test x xs e = ap (λ b. cond b (Some x) (find test xs)) e
-
--- where the first passes, it is found
-pub find-first : {X : Type 0} (test : X → Bool) (x : X) (xs : List X) → test x ≡ true
-    → find test (x ∷ xs) ≡ Some x
-find-first test x xs e = ap (λ b. cond b (Some x) (find test xs)) e
 
 -- an only choice is made if it is allowed, else the request is refused
 pub move-only : (l : List Event) (j : ℕ) (choices : Planned → List Item → List Item)

@@ -1,9 +1,10 @@
 -- The position and the last standing step of a journey, by its phase. For each desk that stores a cursor.
-use Rattle.std.proofs.Common.{◌≡◌, ℕ, ◌<◌, List, [], ◌∷◌, length, refl, ap, sym, ◌∙◌, arith, Some}
+use Rattle.std.proofs.Common.{◌≡◌, ℕ, ◌<◌, List, ap, sym, ◌∙◌, arith, Some}
 use Rattle.plan.specs.PlanModel.{Planned, step_count}
 use Rattle.commands.specs.declared.items.Item.{Item}
 use Rattle.commands.specs.declared.items.Phase.TheVariants.{Run, Back}
 use Rattle.ledger.specs.History.{net, position_of, phase, is_running, is_going_back, last_of}
+use Rattle.ledger.proofs.Lists.{last_of-some}
 use Rattle.ledger.proofs.Modes.{falls, phase-falling, running-rises, going_back-falls}
 use Rattle.ledger.proofs.Standing.{compensates}
 use Rattle.ledger_transitions.proofs.Histories.{Follows}
@@ -24,12 +25,6 @@ back_above plan h p f back =
     let falls_to = way.falls in
     let short = way.short in
     (omega arith, omega arith)
-
--- a list that is not empty has a last element
-last_of-some : {X : Type 0} (xs : List X) → 0 < length xs → (t : X) × (last_of xs ≡ Some t)
-last_of-some [] e = absurd (omega arith)
-last_of-some (x ∷ []) e = (x, refl)
-last_of-some (x ∷ y ∷ ys) e = last_of-some (y ∷ ys) (omega arith)
 
 -- above the start the last transaction that stands is that of the position
 pub last_standing : (plan : Planned) (h : List Item) → Follows plan h → 0 < position_of h

@@ -47,22 +47,17 @@ given_up false gone false later = refl
 is_taken-save : (h : List Item) (q p : ℕ)
     → is_taken (h ++ Save q ∷ []) p ≡ ((p == q) || is_taken h p)
 is_taken-save [] q p = only_now (p == q)
-is_taken-save (Transaction i c ∷ h) q p = is_taken-save h q p
-is_taken-save (Compensation i c ∷ h) q p = is_taken-save h q p
-is_taken-save (Turn r cause ∷ h) q p = is_taken-save h q p
 is_taken-save (Save r ∷ h) q p =
     ap (λ b. (p == r && not b) || is_taken (h ++ Save q ∷ []) p)
     (compensated-other p h (Save q) refl)
     ∙ ap (λ b. (p == r && not (list_any (is_compensation_of p) h)) || b) (is_taken-save h q p)
     ∙ or_swap (p == r && not (list_any (is_compensation_of p) h)) (p == q) (is_taken h p)
+is_taken-save (_ ∷ h) q p = is_taken-save h q p
 
 -- the compensation of step i drops the save-point at i, and no other
 is_taken-compensation : (h : List Item) (i c p : ℕ)
     → is_taken (h ++ Compensation i c ∷ []) p ≡ (not (p == i) && is_taken h p)
 is_taken-compensation [] i c p = none_left (not (p == i))
-is_taken-compensation (Transaction j d ∷ h) i c p = is_taken-compensation h i c p
-is_taken-compensation (Compensation j d ∷ h) i c p = is_taken-compensation h i c p
-is_taken-compensation (Turn r cause ∷ h) i c p = is_taken-compensation h i c p
 is_taken-compensation (Save r ∷ h) i c p =
     let gone : Bool = list_any (is_compensation_of p) h in
     ap (λ b. (p == r && not b) || is_taken (h ++ Compensation i c ∷ []) p)
@@ -70,6 +65,7 @@ is_taken-compensation (Save r ∷ h) i c p =
     ∙ ap (λ b. gone || b) (or-false (p == i)))
     ∙ ap (λ b. (p == r && not (gone || (p == i))) || b) (is_taken-compensation h i c p)
     ∙ given_up (p == r) gone (p == i) (is_taken h p)
+is_taken-compensation (_ ∷ h) i c p = is_taken-compensation h i c p
 
 -- each item changes the save-points that were taken as the rule says
 pub is_taken-more : (h : List Item) (x : Item) (p : ℕ)

@@ -12,7 +12,7 @@ use Rattle.commands.specs.declared.items.Item.TheVariants.{Transaction, Compensa
 use Rattle.commands.specs.declared.items.Phase.{Phase}
 use Rattle.commands.specs.declared.items.Phase.TheVariants.{Run, Back, Ended, Undone}
 use Rattle.commands.specs.declared.replies.Refusal.TheVariants.{NoSavePoint}
-use Rattle.ledger.specs.History.{net, last_of, position_of, refusals, phase, is_running, is_going_back, is_finished, is_done_with, may_come, next_option, next_want, refused_target}
+use Rattle.ledger.specs.History.{net, last_of, position_of, refusals, phase, is_running, is_going_back, is_finished, may_come, next_option, next_want, refused_target}
 use Rattle.ledger.specs.Ledger.{Event, Journey, journey_at, history, fits, item_of}
 use Rattle.ledger.specs.Replies.{Answer, answer_move, compensation, step_choices}
 use Rattle.ledger.proofs.Coming.{step-may_come, compensation-may_come}
@@ -134,20 +134,6 @@ next-back plan h p i c back last =
     ∙ find-first (may_come plan h true) (Compensation i c) []
     (compensation-may_come plan h true i c (ap is_going_back back) last))
 
--- of a finished one: none
-next-finished : (plan : Planned) (h : List Item) (q : Phase) → phase plan h ≡ q → is_running q ≡ false
-    → is_going_back q ≡ false → next_of plan h ≡ None
-next-finished plan h q is stays ends =
-    ap (option_and_then (with_want plan))
-    (next-other plan h q is stays ∙ go (last_of (net h)))
-  where
-    go : (o : Option (ℕ × ℕ))
-        → find (may_come plan h true) (map (λ (s : ℕ × ℕ). Compensation s.0 s.1) (option_to_list o)) ≡ None
-    go None = refl
-    go (Some t) =
-        find-next (may_come plan h true) (Compensation t.0 t.1) []
-        (ap (λ b. b && is_done_with (last_of (net h)) t.0 t.1) (ap is_going_back is ∙ ends))
-
 -- What a step makes.
 
 -- a step of the house, of a journey that is there
@@ -256,13 +242,6 @@ module _ (l : List Event) (j : ℕ) (r : Record) (of : IsJourneyOf l j r) where
       sym (next-back r.plan h p r.cursor.pos c (phase-is l j r (Back p) is back) here.last
       ∙ ap (option_map (the_next (Compensation r.cursor.pos c))) down.want_is
       ∙ ap (λ x. Some (the_next x n.want)) (sym down.item_is))
-
-  -- a finished one has none
-  pub ended_has_none : r.cursor.phase ≡ Ended → None ≡ next_of r.plan h
-  ended_has_none ended = sym (next-finished r.plan h Ended (phase-is l j r Ended is ended) refl refl)
-
-  pub undone_has_none : r.cursor.phase ≡ Undone → None ≡ next_of r.plan h
-  undone_has_none undone = sym (next-finished r.plan h Undone (phase-is l j r Undone is undone) refl refl)
 
   -- What a step makes of the next step.
 

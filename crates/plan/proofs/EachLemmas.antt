@@ -1,15 +1,21 @@
 -- Reading one part after another, up to the first fault. For the readers of the options of a step and of the steps.
+use mathlib.Core.List.{map-map}
 use Rattle.std.proofs.Common.{◌≡◌, ℕ, suc, ◌+◌, ◌<◌, List, [], ◌∷◌, ◌++◌, map, length, drop, refl, sym, ap, ◌∙◌, arith, append_assoc, get_or, Option, Some, None, Ok, Err, filter_map, flat_map, option_map, Result}
 use Rattle.std.specs.List.{enumerate_from}
 use Rattle.std.proofs.Math.Seq.{drop-cons}
 use Rattle.std.proofs.lemmas.List.{append-nil}
+use Rattle.serde_json.specs.View.{view}
+use Rattle.serde_json.specs.declared.value.Value.{Value}
 use Rattle.allotment.specs.Want.{Wanted}
 use Rattle.allotment.specs.Making.{first_fault}
 use Rattle.allotment.specs.Texts.{parts, bar, semicolon}
 use Rattle.plan.specs.declared.faults.BadPlan.{BadPlan}
-use Rattle.plan.specs.Drafts.{OptionDraft, want_of, option_faults, step_of, step_faults}
+use Rattle.plan.specs.PlanModel.{StepPlan}
+use Rattle.plan.specs.Drafts.{OptionDraft, StepDraft, want_of, option_faults, step_of, step_faults}
 use Rattle.plan.specs.PlanLine.{option_draft, step_draft}
+use Rattle.plan.specs.PlanJson.{json_option, json_step}
 use Rattle.plan.specs.Levels.{judged_option, option_in, options_in, step_in, steps_in}
+use Rattle.plan.specs.JsonLevels.{judged_step, want_of_json, wants_of_json, step_of_json, steps_of_json, views}
 
 -- One after another.
 
@@ -97,58 +103,67 @@ first_onto x xs [] [] = refl
 first_onto x xs [] (f ∷ more) = refl
 first_onto x xs (g ∷ fs) more = refl
 
--- the drafts of options
-abbrev option_drafts : List (List ℕ) → List (Option OptionDraft)
-option_drafts ts = map option_draft ts
+-- Options, by their drafts.
 
--- the first fault of options, by the first option and the later ones
+-- the first fault of options, or the wants that they mean
+abbrev pub options_judged : ℕ → List (Option OptionDraft) → Result (List Wanted) BadPlan
+options_judged i os = first_fault (filter_map (option_map want_of) os) (flat_map (option_faults i) os)
+
+-- the first fault of options is that of the first one, or else of the later ones
 options_onto : (i : ℕ) (o : Option OptionDraft) (os : List (Option OptionDraft))
-    → first_fault (filter_map (option_map want_of) (o ∷ os)) (flat_map (option_faults i) (o ∷ os))
-    ≡ onto (judged_option i o) (first_fault (filter_map (option_map want_of) os) (flat_map (option_faults i) os))
+    → options_judged i (o ∷ os) ≡ onto (judged_option i o) (options_judged i os)
 options_onto i None os = refl
 options_onto i (Some o) os =
     first_onto (want_of o) (filter_map (option_map want_of) os) (option_faults i (Some o)) (flat_map (option_faults i) os)
 
--- what is read of an option, whatever its number
-unfoldable pub option_at : ℕ → ℕ → List ℕ → Result Wanted BadPlan
-option_at i k t = option_in i t
-
--- the number of an option does not matter
-pub option_at-is : (i k : ℕ) (t : List ℕ) → option_at i k t ≡ option_in i t
-unfolding option_at
-option_at-is i k t = refl
-
--- options are read one after another
-options_each : (i k : ℕ) (ts : List (List ℕ))
-    → each (option_at i) k ts
-    ≡ first_fault (filter_map (option_map want_of) (option_drafts ts)) (flat_map (option_faults i) (option_drafts ts))
-unfolding option_at option_in
-options_each i k [] = refl
-options_each i k (t ∷ ts) =
-    ap (onto (judged_option i (option_draft t))) (options_each i (k + 1) ts)
-    ∙ sym (options_onto i (option_draft t) (option_drafts ts))
+-- options are read one after another, whatever their numbers
+options_each : {A : Type 0} (draft : A → Option OptionDraft) (i k : ℕ) (ts : List A)
+    → each (λ n t. judged_option i (draft t)) k ts ≡ options_judged i (map draft ts)
+options_each draft i k [] = refl
+options_each draft i k (t ∷ ts) =
+    ap (onto (judged_option i (draft t))) (options_each draft i (k + 1) ts) ∙ sym (options_onto i (draft t) (map draft ts))
 
 -- the options of a text
-pub options_whole : (i : ℕ) (text : List ℕ)
-    → behind [] (each (option_at i) 0 (parts bar text)) ≡ options_in i text
-unfolding options_in
-options_whole i text = none_behind _ ∙ options_each i 0 (parts bar text)
+pub options_whole : (i : ℕ) (text : List ℕ) → behind [] (each (λ k. option_in i) 0 (parts bar text)) ≡ options_in i text
+unfolding option_in options_in
+options_whole i text = none_behind _ ∙ options_each option_draft i 0 (parts bar text)
+
+-- the options of JSON values
+pub wants_whole : (i : ℕ) (vs : List Value)
+    → behind [] (each (λ k v. want_of_json i (view v)) 0 vs) ≡ wants_of_json i (views vs)
+unfolding want_of_json wants_of_json
+wants_whole i vs =
+    none_behind _ ∙ options_each (λ v. json_option (view v)) i 0 vs ∙ ap (options_judged i) (sym (map-map json_option view vs))
+
+-- Steps, by their drafts.
+
+-- the first fault of steps, of so many and from this number on, or the steps that they mean
+abbrev pub steps_judged : ℕ → ℕ → List (Option StepDraft) → Result (List StepPlan) BadPlan
+steps_judged n i ss = first_fault (filter_map (option_map step_of) ss) (flat_map (step_faults n) (enumerate_from i ss))
+
+-- the first fault of steps is that of the first one, or else of the later ones
+steps_onto : (n i : ℕ) (s : Option StepDraft) (ss : List (Option StepDraft))
+    → steps_judged n i (s ∷ ss) ≡ onto (judged_step n i s) (steps_judged n (i + 1) ss)
+steps_onto n i None ss = refl
+steps_onto n i (Some s) ss =
+    first_onto (step_of s) (filter_map (option_map step_of) ss) (step_faults n (i, Some s))
+    (flat_map (step_faults n) (enumerate_from (i + 1) ss))
 
 -- steps are read one after another
-steps_each : (n i : ℕ) (ts : List (List ℕ))
-    → each (step_in n) i ts
-    ≡ first_fault (filter_map (option_map step_of) (map (λ t. Some (step_draft t)) ts))
-    (flat_map (step_faults n) (enumerate_from i (map (λ t. Some (step_draft t)) ts)))
-unfolding step_in
-steps_each n i [] = refl
-steps_each n i (t ∷ ts) =
-    ap (onto (step_in n i t)) (steps_each n (i + 1) ts)
-    ∙ sym (first_onto (step_of (step_draft t)) (filter_map (option_map step_of) (map (λ t. Some (step_draft t)) ts))
-    (step_faults n (i, Some (step_draft t)))
-    (flat_map (step_faults n) (enumerate_from (i + 1) (map (λ t. Some (step_draft t)) ts))))
+steps_each : {A : Type 0} (draft : A → Option StepDraft) (n i : ℕ) (ts : List A)
+    → each (λ k t. judged_step n k (draft t)) i ts ≡ steps_judged n i (map draft ts)
+steps_each draft n i [] = refl
+steps_each draft n i (t ∷ ts) =
+    ap (onto (judged_step n i (draft t))) (steps_each draft n (i + 1) ts) ∙ sym (steps_onto n i (draft t) (map draft ts))
 
 -- the steps of a text
-pub steps_whole : (n : ℕ) (text : List ℕ)
-    → behind [] (each (step_in n) 1 (parts semicolon text)) ≡ steps_in n text
-unfolding steps_in
-steps_whole n text = none_behind _ ∙ steps_each n 1 (parts semicolon text)
+pub steps_whole : (n : ℕ) (text : List ℕ) → behind [] (each (step_in n) 1 (parts semicolon text)) ≡ steps_in n text
+unfolding step_in steps_in
+steps_whole n text = none_behind _ ∙ steps_each (λ t. Some (step_draft t)) n 1 (parts semicolon text)
+
+-- the steps of JSON values
+pub json_steps_whole : (n : ℕ) (vs : List Value)
+    → behind [] (each (λ i v. step_of_json n i (view v)) 1 vs) ≡ steps_of_json n (views vs)
+unfolding step_of_json steps_of_json
+json_steps_whole n vs =
+    none_behind _ ∙ steps_each (λ v. json_step (view v)) n 1 vs ∙ ap (steps_judged n 1) (sym (map-map json_step view vs))

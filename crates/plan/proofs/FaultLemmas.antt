@@ -1,15 +1,17 @@
--- At which step a fault may be. For the reader of lines.
+-- At which step a fault may be. For the readers of lines and of JSON.
 use Rattle.std.proofs.Common.{◌≡◌, ℕ, ◌+◌, ◌≤◌, ◌&&◌, ◌==◌, not, Bool, true, false, List, [], ◌∷◌, ◌++◌, length, refl, subst, arith, Option, Some, None, Err, flat_map, is_some, nat_le}
 use Rattle.std.specs.List.{AllByRecursion, enumerate_from}
 use Rattle.std.proofs.lemmas.Bool.{leb-true}
+use Rattle.serde_json.specs.Data.{Data}
 use Rattle.allotment.specs.Limits.{is_between, is_code, is_count, are_nights}
 use Rattle.allotment.specs.Making.{unless, first_fault}
-use Rattle.plan.specs.Limits.{most_options, most_steps}
+use Rattle.plan.specs.Limits.{most_options, most_steps, most_tries}
 use Rattle.plan.specs.declared.causes.PlanCause.{PlanCause}
 use Rattle.plan.specs.declared.causes.PlanCause.TheVariants as cause
 use Rattle.plan.specs.declared.faults.BadPlan.{BadPlan}
-use Rattle.plan.specs.Drafts.{Draft, StepDraft, OptionDraft, at, kind_or_any, number_or_none, option_faults, step_faults}
+use Rattle.plan.specs.Drafts.{Draft, StepDraft, OptionDraft, at, kind_or_any, number_or_none, option_faults, step_faults, plan_of, judged}
 use Rattle.plan.specs.PlanLine.{line_draft, plan_in}
+use Rattle.plan.specs.PlanJson.{json_draft, plan_in_json}
 use Rattle.allotment.proofs.TestLemmas.{and_both}
 
 -- a fact of two lists
@@ -91,22 +93,33 @@ told_at_0 : (a : Bool) (fs : List BadPlan) (f : BadPlan) {X : Type 0} (x : X)
 told_at_0 false fs f x e = let same : at 0 cause.Tries ≡ f = cc in subst (up_to most_steps) same (omega arith)
 told_at_0 true fs f x e = let same : at 0 cause.Steps ≡ f = cc in subst (up_to most_steps) same (omega arith)
 
--- the reported fault of a line names no step after the last one that a plan may have, however many steps the line has
-pub told_within_steps : (a b : Bool) (d : Draft) (f : BadPlan) {X : Type 0} (x : X) → is_between 1 most_steps (length d.steps) ≡ b
-    → first_fault x (unless a (at 0 cause.Tries) ++ unless b (at 0 cause.Steps)
-    ++ flat_map (step_faults (length d.steps)) (enumerate_from 1 d.steps)) ≡ Err f → f.step ≤ most_steps
-told_within_steps a false d f x e h = told_at_0 a (flat_map (step_faults (length d.steps)) (enumerate_from 1 d.steps)) f x h
-told_within_steps a true d f x e h =
-    let n = length d.steps in
-    let few : n ≤ most_steps = leb-true n most_steps (and_both (nat_le 1 n) (nat_le n most_steps) e).1 in
-    let tries = unless a (at 0 cause.Tries) in
-    let steps = flat_map (step_faults n) (enumerate_from 1 d.steps) in
-    first_of_all (up_to most_steps) x (tries ++ [] ++ steps) f h
-    (all_append (up_to most_steps) (tries ++ []) steps
-    (all_append (up_to most_steps) tries [] (wrong_step most_steps 0 a cause.Tries (omega arith)) tt)
-    (steps_step most_steps n 1 d.steps (omega arith)))
+-- the reported fault of a draft names no step after the last one that a plan may have, however many steps it has
+draft_fault : (o : Option Draft) (f : BadPlan) → judged o ≡ Err f → f.step ≤ most_steps
+draft_fault None f e = let same : at 0 cause.Shape ≡ f = cc in subst (up_to most_steps) same (omega arith)
+draft_fault (Some d) f e = by (is_between 1 most_steps (length d.steps)) refl e
+  where
+    tries : Bool
+    tries = is_some d.tries && nat_le (number_or_none d.tries) most_tries
 
--- a fault of a line names such a step
+    steps : List BadPlan
+    steps = flat_map (step_faults (length d.steps)) (enumerate_from 1 d.steps)
+
+    by : (b : Bool) → is_between 1 most_steps (length d.steps) ≡ b
+        → first_fault (plan_of (Some d)) (unless tries (at 0 cause.Tries) ++ unless b (at 0 cause.Steps) ++ steps) ≡ Err f → f.step ≤ most_steps
+    by false e h = told_at_0 tries steps f _ h
+    by true e h =
+        let few : length d.steps ≤ most_steps = leb-true _ most_steps (and_both (nat_le 1 (length d.steps)) _ e).1 in
+        first_of_all (up_to most_steps) _ ((unless tries (at 0 cause.Tries) ++ []) ++ steps) f h
+        (all_append (up_to most_steps) (unless tries (at 0 cause.Tries) ++ []) steps
+        (all_append (up_to most_steps) (unless tries (at 0 cause.Tries)) [] (wrong_step most_steps 0 tries cause.Tries (omega arith)) tt)
+        (steps_step most_steps (length d.steps) 1 d.steps (omega arith)))
+
+-- so does that of a line
 pub fault_step : (text : List ℕ) (f : BadPlan) → plan_in text ≡ Err f → f.step ≤ most_steps
 unfolding plan_in
-fault_step text f e = told_within_steps _ _ (line_draft text) f _ refl e
+fault_step text f e = draft_fault (Some (line_draft text)) f e
+
+-- and that of a value
+pub json_fault_step : (d : Data) (f : BadPlan) → plan_in_json d ≡ Err f → f.step ≤ most_steps
+unfolding plan_in_json
+json_fault_step d f e = draft_fault (json_draft d) f e

@@ -1,5 +1,5 @@
 -- The JSON value of a plan is read as the plan. For the law that says so.
-use Rattle.std.proofs.Common.{◌≡◌, ℕ, Bool, true, List, [], ◌∷◌, map, length, refl, ap, ◌∙◌, arith, Option, Some, Ok, nat_le}
+use Rattle.std.proofs.Common.{◌≡◌, ℕ, Bool, true, List, map, length, refl, ap, ◌∙◌, arith, Option, Some, Ok, nat_le}
 use Rattle.std.specs.List.{list_all}
 use Rattle.std.proofs.lemmas.Bool.{le-leb}
 use Rattle.allotment.specs.Want.{Wanted}
@@ -7,24 +7,23 @@ use Rattle.allotment.specs.Limits.{is_between, is_want}
 use Rattle.allotment.specs.Nights.{night_text, night_in}
 use Rattle.allotment.specs.Texts.{keep_if, kind_word, kind_of_word}
 use Rattle.allotment.specs.declared.codes.Kind.{Kind}
-use Rattle.allotment.specs.declared.codes.Kind.TheVariants.{Flight, Room, Transfer, Cover}
-use Rattle.plan.specs.Limits.{most_options, most_steps, most_tries}
-use Rattle.plan.specs.PlanModel.{Planned, StepPlan, is_step, is_last_unmarked, is_plan}
+use Rattle.allotment.specs.declared.codes.Kind.TheVariants.{Flight}
+use Rattle.plan.specs.Limits.{most_options, most_tries}
+use Rattle.plan.specs.PlanModel.{Planned, StepPlan, is_step, is_plan}
 use Rattle.plan.specs.Drafts.{OptionDraft, StepDraft, drafted, drafted_step, drafted_plan, judged}
 use Rattle.plan.specs.PlanJson.{json_option, json_step, step_with, draft_with, json_draft, plan_in_json}
 use Rattle.plan.specs.PlanData.{want_data, step_data, plan_data}
 use Rattle.allotment.proofs.TestLemmas.{and_both, and_make, keep_if_yes}
 use Rattle.allotment.proofs.NightLemmas.{night_in-night_text}
 use Rattle.plan.proofs.MemberLemmas.{values_of-items_of}
-use Rattle.plan.proofs.KeptLemmas.{IsGood, is_good}
-use Rattle.plan.proofs.SpellLemmas.{made_is, made_again}
+use Rattle.plan.proofs.LimitLemmas.{limited}
+use Rattle.plan.proofs.KeptLemmas.{IsGood, is_good, drafted_again}
+use Rattle.plan.proofs.SpellLemmas.{map_again}
 
 -- the word of a kind is read as the kind
 word_again : (k : Kind) → kind_of_word (kind_word k) ≡ Some k
 word_again Flight = refl
-word_again Room = refl
-word_again Transfer = refl
-word_again Cover = refl
+word_again _ = refl
 
 -- an option with this kind and this first night, and else as the want
 abbrev made : Wanted → Option Kind → Option ℕ → OptionDraft
@@ -43,15 +42,6 @@ option_again w g =
     ap (λ z. Some (made w z (night_in (night_text w.first)))) (word_again w.kind)
     ∙ ap (λ z. Some (made w (Some w.kind) z)) (night_in-night_text w.first g.night)
 
--- the values of all options are read back as these
-options_again : (ws : List Wanted) → list_all is_want ws ≡ true
-    → map json_option (map want_data ws) ≡ map (λ w. Some (drafted w)) ws
-options_again [] e = refl
-options_again (w ∷ ws) e =
-    let both = and_both (is_want w) (list_all is_want ws) e in
-    ap (λ z. z ∷ map json_option (map want_data ws)) (option_again w (is_good w both.0))
-    ∙ ap (λ z. Some (drafted w) ∷ z) (options_again ws both.1)
-
 -- a step with these options
 abbrev marked_so : List (Option OptionDraft) → Bool → StepDraft
 marked_so options mark = record { options = options; is_marked = mark }
@@ -61,16 +51,8 @@ step_again : (s : StepPlan) → is_step s ≡ true → json_step (step_data s) �
 step_again s e =
     let both = and_both (is_between 1 most_options (length s.options)) (list_all is_want s.options) e in
     ap (λ z. Some (step_with z s.is_marked)) (values_of-items_of (map want_data s.options))
-    ∙ ap (λ z. Some (marked_so z s.is_marked)) (options_again s.options both.1)
-
--- the values of all steps are read back as these
-steps_again : (steps : List StepPlan) → list_all is_step steps ≡ true
-    → map json_step (map step_data steps) ≡ map (λ s. Some (drafted_step s)) steps
-steps_again [] e = refl
-steps_again (s ∷ steps) e =
-    let both = and_both (is_step s) (list_all is_step steps) e in
-    ap (λ z. z ∷ map json_step (map step_data steps)) (step_again s both.0)
-    ∙ ap (λ z. Some (drafted_step s) ∷ z) (steps_again steps both.1)
+    ∙ ap (λ z. Some (marked_so z s.is_marked))
+    (map_again is_want want_data json_option (λ w. Some (drafted w)) (λ w good. option_again w (is_good w good)) s.options both.1)
 
 -- the value of a plan is read as what the plan says
 draft_again : (p : Planned) → list_all is_step p.steps ≡ true → nat_le p.tries most_tries ≡ true
@@ -79,13 +61,12 @@ draft_again p good few =
     let in_range : is_between 0 most_tries p.tries ≡ true = and_make _ _ (le-leb 0 p.tries (omega arith)) few in
     ap (λ z. Some (draft_with (keep_if (is_between 0 most_tries) p.tries) z)) (values_of-items_of (map step_data p.steps))
     ∙ ap (λ z. Some (draft_with z (map step_data p.steps))) (keep_if_yes (is_between 0 most_tries) p.tries in_range)
-    ∙ ap (λ z. Some (record { steps = z; tries = Some p.tries })) (steps_again p.steps good)
+    ∙ ap (λ z. Some (record { steps = z; tries = Some p.tries }))
+    (map_again is_step step_data json_step (λ s. Some (drafted_step s)) step_again p.steps good)
 
 -- the value of a plan is read back as the plan
 pub json_again : (p : Planned) → is_plan p ≡ true → plan_in_json (plan_data p) ≡ Ok p
 unfolding plan_in_json
 json_again p e =
-    let all = and_both _ (nat_le p.tries most_tries) e in
-    let marks = and_both _ (is_last_unmarked p.steps) all.0 in
-    let counts = and_both (is_between 1 most_steps (length p.steps)) (list_all is_step p.steps) marks.0 in
-    ap judged (draft_again p counts.1 all.1) ∙ made_is p ∙ made_again p e
+    let all = limited p e in
+    ap judged (draft_again p all.each_step (le-leb p.tries most_tries all.few_tries)) ∙ drafted_again p e

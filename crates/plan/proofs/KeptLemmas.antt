@@ -1,23 +1,25 @@
--- The drafts of wants, steps and plans: their only faults are the limits that they break. For plans that are made of
--- steps, and for lines.
-use Rattle.std.proofs.Common.{◌≡◌, ℕ, ◌+◌, ◌<◌, ◌≤◌, ◌^◌, Bool, true, false, not, ◌&&◌, ◌==◌, List, [], ◌∷◌, ◌++◌, map, length, refl, sym, ap, ◌∙◌, arith, eq-eqb, Option, Some, Ok, Err, flat_map, filter_map, option_map, nat_le}
+-- Wants, steps and plans, and their drafts: the only faults of these are the limits that they break. For plans that are
+-- made of steps, and for lines.
+use Rattle.std.proofs.Common.{◌≡◌, ◌≢◌, ℕ, ◌+◌, ◌<◌, ◌≤◌, ◌^◌, ◌⊎◌, inl, inr, Bool, true, false, not, ◌&&◌, ◌==◌, List, [], ◌∷◌, ◌++◌, map, length, refl, sym, ap, ◌∙◌, arith, Some, Ok, Err, flat_map, filter_map, option_map, nat_le, Result}
 use Rattle.std.specs.List.{AllByRecursion, list_all, enumerate_from}
-use Rattle.std.proofs.lemmas.Bool.{leb-true}
+use Rattle.std.proofs.lemmas.Bool.{le-leb, leb-true, lt-leb}
 use Rattle.std.proofs.lemmas.List.{length-map}
 use Rattle.allotment.specs.Want.{Wanted}
 use Rattle.allotment.specs.Limits.{is_between, is_night, is_code, is_count, are_nights, most_nights, is_want}
 use Rattle.allotment.specs.Making.{unless, first_fault}
 use Rattle.plan.specs.Limits.{most_options, most_steps, most_tries}
+use Rattle.plan.specs.declared.causes.PlanCause.TheVariants as cause
 use Rattle.plan.specs.declared.faults.BadPlan.{BadPlan}
-use Rattle.plan.specs.PlanModel.{Planned, StepPlan, is_last_unmarked}
-use Rattle.plan.specs.Drafts.{OptionDraft, option_faults, step_faults, want_of, step_of, drafted, drafted_step, plan_made}
+use Rattle.plan.specs.PlanModel.{Planned, StepPlan, is_last_unmarked, is_step, is_plan}
+use Rattle.plan.specs.Drafts.{at, option_faults, step_faults, want_of, step_of, plan_of, drafted, drafted_step, drafted_plan, judged, plan_made}
 use Rattle.plan.specs.Levels.{step_limits, step_kept, steps_kept}
 use Rattle.allotment.proofs.TestLemmas.{and_both}
-use Rattle.plan.proofs.ListFacts.{append_none, not_left, unless_none, first_fault_ok, flat_map_none}
+use Rattle.plan.proofs.LimitLemmas.{limited}
 use Rattle.plan.proofs.OptionLemmas.{nights_few}
-use Rattle.plan.proofs.LevelLemmas.{told_step, first_of_step, limits_fail, limits_pass}
+use Rattle.plan.proofs.CleanLemmas.{HasNight, HasNights, judged_keeps}
 use Rattle.plan.proofs.EachLemmas.{each, behind, none_behind, onto, first_onto}
-use Rattle.plan.proofs.LineLemmas.{told_line, first_of_line}
+use Rattle.plan.proofs.LevelLemmas.{limits_fail, limits_pass, mark_right}
+use Rattle.plan.proofs.LineLemmas.{between_yes, with_tries, draft_no_tries, draft_miscounted, draft_by_steps}
 
 -- A want.
 
@@ -51,12 +53,12 @@ is_good w e =
     }
 
 -- a test that passes finds nothing wrong
-pub unless_yes : {F : Type 0} (b : Bool) (f : F) → b ≡ true → unless b f ≡ []
+unless_yes : {F : Type 0} (b : Bool) (f : F) → b ≡ true → unless b f ≡ []
 unless_yes true f e = refl
 unless_yes false f e = cc
 
 -- nothing and nothing is nothing
-pub none_append : {X : Type 0} (xs ys : List X) → xs ≡ [] → ys ≡ [] → xs ++ ys ≡ []
+none_append : {X : Type 0} (xs ys : List X) → xs ≡ [] → ys ≡ [] → xs ++ ys ≡ []
 none_append [] ys e f = f
 none_append (x ∷ xs) ys e f = cc
 
@@ -68,54 +70,54 @@ option_clean i w g =
     (unless_yes _ _ g.count)
 
 -- nothing is wrong with the options of wants
-pub options_clean : (i : ℕ) (ws : List Wanted) → list_all is_want ws ≡ true
+options_clean : (i : ℕ) (ws : List Wanted) → list_all is_want ws ≡ true
     → flat_map (option_faults i) (map (λ w. Some (drafted w)) ws) ≡ []
 options_clean i [] e = refl
 options_clean i (w ∷ ws) e =
     let both = and_both (is_want w) (list_all is_want ws) e in
     none_append _ _ (option_clean i w (is_good w both.0)) (options_clean i ws both.1)
 
--- the wants that their options mean
-wants_back : (ws : List Wanted) → filter_map (option_map want_of) (map (λ w. Some (drafted w)) ws) ≡ ws
-wants_back [] = refl
-wants_back (w ∷ ws) = ap (λ z. w ∷ z) (wants_back ws)
+-- what drafts of values mean are the values
+drafted_back : {X Y : Type 0} (draft : X → Y) (mean : Y → X) → ((x : X) → mean (draft x) ≡ x) → (xs : List X)
+    → filter_map (option_map mean) (map (λ x. Some (draft x)) xs) ≡ xs
+drafted_back draft mean back [] = refl
+drafted_back draft mean back (x ∷ xs) =
+    ap (λ z. z ∷ filter_map (option_map mean) (map (λ y. Some (draft y)) xs)) (back x)
+    ∙ ap (λ z. x ∷ z) (drafted_back draft mean back xs)
 
 -- the steps that their drafts mean
-pub steps_back : (steps : List StepPlan) → filter_map (option_map step_of) (map (λ s. Some (drafted_step s)) steps) ≡ steps
-steps_back [] = refl
-steps_back (s ∷ steps) =
-    let later = filter_map (option_map step_of) (map (λ r. Some (drafted_step r)) steps) in
-    ap (λ z. record { options = z; is_marked = s.is_marked } ∷ later) (wants_back s.options)
-    ∙ ap (λ z. s ∷ z) (steps_back steps)
+steps_back : (steps : List StepPlan) → filter_map (option_map step_of) (map (λ s. Some (drafted_step s)) steps) ≡ steps
+steps_back = drafted_back drafted_step step_of (λ s.
+    ap (λ z. record { options = z; is_marked = s.is_marked }) (drafted_back drafted want_of (λ w. refl) s.options))
 
 -- A step.
 
--- the first fault of a step of wants is that of its mark, then of the number of its options
-pub kept_told : (n i : ℕ) (s : StepPlan) → list_all is_want s.options ≡ true
-    → step_kept n i s
-    ≡ told_step (not (s.is_marked && i == n)) (is_between 1 most_options (length s.options)) i s.is_marked (Ok s.options)
-unfolding step_kept
-kept_told n i s good =
-    let drafts : List (Option OptionDraft) = map (λ w. Some (drafted w)) s.options in
-    let marked : Bool = not (s.is_marked && i == n) in
-    first_of_step marked (is_between 1 most_options (length drafts)) i s.is_marked s.options (flat_map (option_faults i) drafts)
-    ∙ ap (λ z. told_step marked (is_between 1 most_options (length drafts)) i s.is_marked (first_fault s.options z))
+-- nothing is wrong with a step that keeps both limits, and whose wants keep theirs
+step_clean : (n i : ℕ) (s : StepPlan) → not (s.is_marked && i == n) ≡ true → is_between 1 most_options (length s.options) ≡ true
+    → list_all is_want s.options ≡ true → step_faults n (i, Some (drafted_step s)) ≡ []
+step_clean n i s mark count good =
+    none_append _ _
+    (none_append _ _ (unless_yes _ _ mark)
+    (unless_yes _ _ (ap (is_between 1 most_options) (length-map s.options (λ w. Some (drafted w))) ∙ count)))
     (options_clean i s.options good)
-    ∙ ap (λ z. told_step marked (is_between 1 most_options z) i s.is_marked (Ok s.options)) (length-map s.options (λ w. Some (drafted w)))
 
 -- a limit that a step breaks is reported
-pub kept_refused : (n i : ℕ) (s : StepPlan) (f : BadPlan) → list_all is_want s.options ≡ true
-    → Err f ≡ step_limits n i s.is_marked (length s.options) → step_kept n i s ≡ Err f
-kept_refused n i s f good limits =
-    kept_told n i s good
-    ∙ limits_fail (not (s.is_marked && i == n)) (is_between 1 most_options (length s.options)) i s.is_marked (Ok s.options) f limits
+pub kept_refused : (n i : ℕ) (s : StepPlan) (f : BadPlan) → Err f ≡ step_limits n i s.is_marked (length s.options)
+    → step_kept n i s ≡ Err f
+unfolding step_kept
+kept_refused n i s f limits =
+    let draft = drafted_step s in
+    limits_fail (not (s.is_marked && i == n)) (is_between 1 most_options (length draft.options)) i s
+    (flat_map (option_faults i) draft.options) f
+    (limits ∙ ap (step_limits n i s.is_marked) (sym (length-map s.options (λ w. Some (drafted w)))))
 
 -- where a step keeps both limits, it is read unchanged
 pub kept_within : (n i : ℕ) (s : StepPlan) → list_all is_want s.options ≡ true
     → Ok tt ≡ step_limits n i s.is_marked (length s.options) → step_kept n i s ≡ Ok s
+unfolding step_kept
 kept_within n i s good limits =
-    kept_told n i s good
-    ∙ limits_pass (not (s.is_marked && i == n)) (is_between 1 most_options (length s.options)) i s.is_marked (Ok s.options) limits
+    let pass = limits_pass (not (s.is_marked && i == n)) (is_between 1 most_options (length s.options)) i limits in
+    ap (first_fault s) (step_clean n i s pass.0 pass.1 good)
 
 -- The steps.
 
@@ -135,41 +137,83 @@ pub kept_whole : (n : ℕ) (steps : List StepPlan) → behind [] (each (step_kep
 unfolding steps_kept
 kept_whole n steps = none_behind _ ∙ kept_each n 1 steps
 
--- equal numbers compare as equal
-eq_yes : (i n : ℕ) (t : Bool) → (i == n) ≡ t → i ≡ n → t ≡ true
-eq_yes i n t e same = sym e ∙ eq-eqb i n same
+-- a test that does not hold is false
+not_so : (b : Bool) → not b ≡ true → b ≡ false
+not_so true e = cc
+not_so false e = refl
 
--- no mark is on the last of steps that have no fault
-unmarked_by : (n i : ℕ) (steps : List StepPlan) → i + length steps ≡ n + 1
-    → AllByRecursion (λ x. step_faults n x ≡ []) (enumerate_from i (map (λ s. Some (drafted_step s)) steps))
-    → is_last_unmarked steps ≡ true
-unmarked_by n i [] l e = refl
-unmarked_by n i (s ∷ []) l e =
-    let first = append_none _ _ (append_none _ _ e.0).0 in
-    let same : i ≡ n = omega arith in
-    not_left s.is_marked (i == n) (eq_yes i n (i == n) refl same) (unless_none _ _ first.0)
-unmarked_by n i (s ∷ t ∷ steps) l e = unmarked_by n (i + 1) (t ∷ steps) (omega arith) e.1
+-- no mark stands on the last of so many
+mark_in_place : (n i : ℕ) (s : StepPlan) (steps : List StepPlan) → i + length (s ∷ steps) ≡ n + 1
+    → is_last_unmarked (s ∷ steps) ≡ true → (s.is_marked ≡ false) ⊎ (i ≢ n)
+mark_in_place n i s [] l u = inl (not_so s.is_marked u)
+mark_in_place n i s (t ∷ steps) l u = inr (λ same. absurd (omega arith))
 
--- no mark is on the last of steps that keep the limits
-pub kept_unmarked : (n : ℕ) (steps : List StepPlan) → n ≡ length steps → steps_kept n steps ≡ Ok steps → is_last_unmarked steps ≡ true
-unfolding steps_kept
-kept_unmarked n steps many e =
-    let all = enumerate_from 1 (map (λ s. Some (drafted_step s)) steps) in
-    let both = first_fault_ok steps steps (flat_map (step_faults n) all) e in
-    unmarked_by n 1 steps (omega arith) (flat_map_none (step_faults n) all both.0)
+-- no mark stands on the last of the later ones
+rest_unmarked : (s : StepPlan) (steps : List StepPlan) → is_last_unmarked (s ∷ steps) ≡ true → is_last_unmarked steps ≡ true
+rest_unmarked s [] u = refl
+rest_unmarked s (t ∷ steps) u = u
+
+-- nothing is wrong with steps that keep the limits
+steps_clean : (n i : ℕ) (steps : List StepPlan) → i + length steps ≡ n + 1 → is_last_unmarked steps ≡ true
+    → list_all is_step steps ≡ true → flat_map (step_faults n) (enumerate_from i (map (λ s. Some (drafted_step s)) steps)) ≡ []
+steps_clean n i [] l u e = refl
+steps_clean n i (s ∷ steps) l u e =
+    let both = and_both (is_step s) (list_all is_step steps) e in
+    let here = and_both (is_between 1 most_options (length s.options)) (list_all is_want s.options) both.0 in
+    none_append _ _ (step_clean n i s (mark_right s.is_marked i n (mark_in_place n i s steps l u)) here.0 here.1)
+    (steps_clean n (i + 1) steps (omega arith) (rest_unmarked s steps u) both.1)
 
 -- A plan.
 
--- the first fault of a plan of steps is that of its tries, then of the number of its steps, then of a step
-pub made_told : (p : Planned) (n : ℕ) → n ≡ length p.steps
-    → plan_made p ≡ told_line (nat_le p.tries most_tries) (is_between 1 most_steps n) p.tries (steps_kept n p.steps)
+-- what a draft of a plan that keeps the limits means, or the fault in it, is the plan
+pub drafted_again : (p : Planned) → is_plan p ≡ true → judged (Some (drafted_plan p)) ≡ Ok p
+drafted_again p e =
+    let all = limited p e in
+    let count : length (map (λ s. Some (drafted_step s)) p.steps) ≡ length p.steps = length-map p.steps (λ s. Some (drafted_step s)) in
+    let clean = none_append _ _
+    (none_append _ _ (unless_yes _ (at 0 cause.Tries) (le-leb p.tries most_tries all.few_tries))
+    (unless_yes _ (at 0 cause.Steps)
+    (ap (is_between 1 most_steps) count ∙ between_yes (length p.steps) most_steps all.some_steps all.few_steps)))
+    (ap (λ n. flat_map (step_faults n) (enumerate_from 1 (map (λ s. Some (drafted_step s)) p.steps))) count
+    ∙ steps_clean (length p.steps) 1 p.steps (omega arith) all.last_unmarked all.each_step) in
+    ap (first_fault (plan_of (Some (drafted_plan p)))) clean
+    ∙ ap (λ z. Ok (record { steps = z; tries = p.tries })) (steps_back p.steps)
+
+-- too many tries
+pub made_tries : (p : Planned) → most_tries < p.tries → plan_made p ≡ Err (at 0 cause.Tries)
+unfolding plan_made
+made_tries p many = draft_no_tries (drafted_plan p) (lt-leb p.tries most_tries many)
+
+-- no step, or too many
+pub made_miscounted : (p : Planned) (n : ℕ) → n ≡ length p.steps → p.tries ≤ most_tries → (n ≡ 0) ⊎ (most_steps < n)
+    → plan_made p ≡ Err (at 0 cause.Steps)
+unfolding plan_made
+made_miscounted p n same few out =
+    draft_miscounted (drafted_plan p) n (length-map p.steps (λ s. Some (drafted_step s)) ∙ sym same) (le-leb p.tries most_tries few) out
+
+-- where tries and number are in order, the first fault of a plan is that of its steps
+pub made_by_steps : (p : Planned) (n : ℕ) (r : Result (List StepPlan) BadPlan) → n ≡ length p.steps → p.tries ≤ most_tries
+    → 1 ≤ n → n ≤ most_steps → steps_kept n p.steps ≡ r → plan_made p ≡ with_tries p.tries r
 unfolding plan_made steps_kept
-made_told p n many =
-    let drafts = map (λ s. Some (drafted_step s)) p.steps in
-    let same : length drafts ≡ n = length-map p.steps (λ s. Some (drafted_step s)) ∙ sym many in
-    first_of_line (nat_le p.tries most_tries) (is_between 1 most_steps (length drafts)) p.tries (filter_map (option_map step_of) drafts)
-    (flat_map (step_faults (length drafts)) (enumerate_from 1 drafts))
-    ∙ ap (λ z. told_line (nat_le p.tries most_tries) (is_between 1 most_steps z) p.tries
-    (first_fault (filter_map (option_map step_of) drafts) (flat_map (step_faults z) (enumerate_from 1 drafts)))) same
-    ∙ ap (λ z. told_line (nat_le p.tries most_tries) (is_between 1 most_steps n) p.tries
-    (first_fault z (flat_map (step_faults n) (enumerate_from 1 drafts)))) (steps_back p.steps)
+made_by_steps p n r same few low high kept =
+    draft_by_steps (drafted_plan p) n r (length-map p.steps (λ s. Some (drafted_step s)) ∙ sym same) (le-leb p.tries most_tries few) low high
+    (ap (λ z. first_fault z (flat_map (step_faults n) (enumerate_from 1 (map (λ s. Some (drafted_step s)) p.steps)))) (steps_back p.steps) ∙ kept)
+
+-- the first nights of wants that keep the limits are nights
+wants_nights : (ws : List Wanted) → list_all is_want ws ≡ true → AllByRecursion HasNight (map (λ w. Some (drafted w)) ws)
+wants_nights [] e = tt
+wants_nights (w ∷ ws) e =
+    let both = and_both (is_want w) (list_all is_want ws) e in ((λ there. (is_good w both.0).night), wants_nights ws both.1)
+
+-- so are those of steps
+steps_nights : (steps : List StepPlan) → list_all is_step steps ≡ true
+    → AllByRecursion HasNights (map (λ s. Some (drafted_step s)) steps)
+steps_nights [] e = tt
+steps_nights (s ∷ steps) e =
+    let both = and_both (is_step s) (list_all is_step steps) e in
+    (wants_nights s.options (and_both _ (list_all is_want s.options) both.0).1, steps_nights steps both.1)
+
+-- a plan that is made of steps that keep the limits keeps them
+pub made_keeps : (p : Planned) → list_all is_step p.steps ≡ true → plan_made p ≡ Ok p → is_plan p ≡ true
+unfolding plan_made
+made_keeps p limits made = judged_keeps (drafted_plan p) p (steps_nights p.steps limits) made

@@ -1,7 +1,10 @@
 -- What is read of a step, by its mark, the number of its options and what they are; and what faults say. For the readers.
-use Rattle.std.proofs.Common.{◌≡◌, ◌≢◌, ℕ, Bool, true, false, not, ◌&&◌, ◌==◌, ◌⊎◌, inl, inr, List, [], ◌∷◌, ◌++◌, map, length, refl, sym, ap, ◌∙◌, Ok, Err, flat_map, Result}
+use Rattle.std.proofs.Common.{◌≡◌, ◌≢◌, ℕ, Bool, true, false, not, ◌&&◌, ◌==◌, ◌⊎◌, inl, inr, List, [], ◌∷◌, ◌++◌, map, length, refl, sym, ap, ◌∙◌, Some, None, Ok, Err, flat_map, Result}
 use Rattle.std.proofs.lemmas.Bool.{eqb-true}
 use Rattle.std.proofs.lemmas.List.{length-map}
+use Rattle.serde_json.specs.Data.{Data}
+use Rattle.serde_json.specs.View.{view}
+use Rattle.serde_json.specs.declared.value.Value.{Value}
 use Rattle.allotment.specs.Want.{Wanted}
 use Rattle.allotment.specs.Limits.{is_between}
 use Rattle.allotment.specs.Making.{unless, first_fault}
@@ -13,95 +16,124 @@ use Rattle.plan.specs.declared.faults.PlanFault.{PlanFault}
 use Rattle.plan.specs.declared.faults.PlanFault.TheVariants.{Bad, Memory}
 use Rattle.plan.specs.PlanModel.{StepPlan}
 use Rattle.plan.specs.Faults.{IfBad}
-use Rattle.plan.specs.Drafts.{at, option_faults, step_of}
-use Rattle.plan.specs.PlanLine.{option_draft, has_mark, without_mark, step_draft}
+use Rattle.plan.specs.Drafts.{StepDraft, at, option_faults, step_of}
+use Rattle.plan.specs.PlanLine.{option_draft, has_mark, without_mark}
+use Rattle.plan.specs.PlanJson.{json_option, json_step, step_with}
 use Rattle.plan.specs.Levels.{options_in, step_in, step_limits}
+use Rattle.plan.specs.JsonLevels.{judged_step, wants_of_json, step_of_json, views}
+use Rattle.plan.proofs.EachLemmas.{options_judged}
 
 -- a fact of a fault of the plan implies each weaker fact
 pub IfBad-weaker : (fault : PlanFault) (P Q : BadPlan → Type 0) → ((b : BadPlan) → P b → Q b) → IfBad P fault → IfBad Q fault
 IfBad-weaker (Bad b) P Q f h = f b h
 IfBad-weaker Memory P Q f h = tt
 
--- the result of a step: the fault of its mark, the fault of the number of its options, or what its options give
-abbrev pub told_step : Bool → Bool → ℕ → Bool → Result (List Wanted) BadPlan → Result StepPlan BadPlan
-told_step false few i m r = Err (at i cause.Save)
-told_step true false i m r = Err (at i cause.Options)
-told_step true true i m (Ok ws) = Ok (record { options = ws; is_marked = m })
-told_step true true i m (Err f) = Err f
+-- the step of these options, or their fault
+abbrev pub with_mark : Bool → Result (List Wanted) BadPlan → Result StepPlan BadPlan
+with_mark m (Ok ws) = Ok (record { options = ws; is_marked = m })
+with_mark m (Err f) = Err f
 
--- the first fault of a step is that of its mark, then that of the number of its options, then one of theirs
-pub first_of_step : (a b : Bool) (i : ℕ) (m : Bool) (ws : List Wanted) (fs : List BadPlan)
-    → let s : StepPlan = record { options = ws; is_marked = m } in
-    first_fault s (unless a (at i cause.Save) ++ unless b (at i cause.Options) ++ fs) ≡ told_step a b i m (first_fault ws fs)
-first_of_step false b i m ws fs = refl
-first_of_step true false i m ws fs = refl
-first_of_step true true i m ws [] = refl
-first_of_step true true i m ws (f ∷ fs) = refl
+-- the first fault of a step of these options is theirs
+marked_so : (m : Bool) (ws : List Wanted) (fs : List BadPlan)
+    → let s : StepPlan = record { options = ws; is_marked = m } in first_fault s fs ≡ with_mark m (first_fault ws fs)
+marked_so m ws [] = refl
+marked_so m ws (f ∷ fs) = refl
 
--- the result of the mark and the number of options, by the tests of both
+-- what is wrong with a step, by the tests of its mark and of the number of its options, and then this
+abbrev pub with_limits : Bool → Bool → ℕ → List BadPlan → List BadPlan
+with_limits a b i fs = unless a (at i cause.Save) ++ unless b (at i cause.Options) ++ fs
+
+-- what the two tests report
 abbrev pub limits_by : Bool → Bool → ℕ → Result (Unit {0}) BadPlan
 limits_by a b i = first_fault tt (unless a (at i cause.Save) ++ unless b (at i cause.Options))
 
 -- a limit that is not kept is reported
-pub limits_fail : (a b : Bool) (i : ℕ) (m : Bool) (r : Result (List Wanted) BadPlan) (f : BadPlan)
-    → Err f ≡ limits_by a b i → told_step a b i m r ≡ Err f
-limits_fail false b i m r f e = let same : at i cause.Save ≡ f = cc in ap Err same
-limits_fail true false i m r f e = let same : at i cause.Options ≡ f = cc in ap Err same
-limits_fail true true i m r f e = cc
+pub limits_fail : {X : Type 0} (a b : Bool) (i : ℕ) (x : X) (fs : List BadPlan) (f : BadPlan)
+    → Err f ≡ limits_by a b i → first_fault x (with_limits a b i fs) ≡ Err f
+limits_fail false b i x fs f e = cc
+limits_fail true false i x fs f e = cc
+limits_fail true true i x fs f e = cc
 
--- where both limits are kept, the result is that of the options
-pub limits_pass : (a b : Bool) (i : ℕ) (m : Bool) (r : Result (List Wanted) BadPlan)
-    → Ok tt ≡ limits_by a b i → told_step a b i m r ≡ told_step true true i m r
-limits_pass false b i m r e = cc
-limits_pass true false i m r e = cc
-limits_pass true true i m r e = refl
-
--- where both limits are kept, there are as many options as there may be
-pub limits_count : (a b : Bool) (i : ℕ) → Ok tt ≡ limits_by a b i → b ≡ true
-limits_count false b i e = cc
-limits_count true false i e = cc
-limits_count true true i e = refl
-
--- whether a step with so many options has as many as it may
-abbrev may_have : List ℕ → Bool
-may_have rest = is_between 1 most_options (length (map option_draft (parts bar rest)))
-
--- the first fault of a step is that of its mark, then of the number of its options, then of an option
-step_told : (n i : ℕ) (text : List ℕ)
-    → step_in n i text
-    ≡ told_step (not (has_mark text && i == n)) (may_have (without_mark text)) i (has_mark text) (options_in i (without_mark text))
-unfolding step_in options_in
-step_told n i text =
-    first_of_step (not (has_mark text && i == n)) (may_have (without_mark text)) i (has_mark text)
-    (step_of (step_draft text)).options (flat_map (option_faults i) (map option_draft (parts bar (without_mark text))))
-
--- the same, where the text was cut into its options and its mark
-step_cut : (n i k : ℕ) (text rest : List ℕ) (m : Bool)
-    → rest ≡ without_mark text → m ≡ has_mark text → k ≡ length (parts bar rest)
-    → step_in n i text ≡ told_step (not (m && i == n)) (is_between 1 most_options k) i m (options_in i rest)
-step_cut n i k text rest m cut mark many =
-    step_told n i text
-    ∙ ap (λ z. told_step (not (z && i == n)) (may_have (without_mark text)) i z (options_in i (without_mark text))) (sym mark)
-    ∙ ap (λ z. told_step (not (m && i == n)) (may_have z) i m (options_in i z)) (sym cut)
-    ∙ ap (λ z. told_step (not (m && i == n)) (is_between 1 most_options z) i m (options_in i rest))
-    (length-map (parts bar rest) option_draft ∙ sym many)
+-- where both limits are kept, each test passes
+pub limits_pass : (a b : Bool) (i : ℕ) → Ok tt ≡ limits_by a b i → (a ≡ true) × (b ≡ true)
+limits_pass true true i e = (refl, refl)
+limits_pass _ _ i e = cc
 
 -- the mark of a step, or the number of its options, is wrong
-pub step_refused : (n i k : ℕ) (text rest : List ℕ) (m : Bool) (f : BadPlan)
-    → rest ≡ without_mark text → m ≡ has_mark text → k ≡ length (parts bar rest)
-    → Err f ≡ step_limits n i m k → step_in n i text ≡ Err f
-step_refused n i k text rest m f cut mark many limits =
-    step_cut n i k text rest m cut mark many
-    ∙ limits_fail (not (m && i == n)) (is_between 1 most_options k) i m (options_in i rest) f limits
+pub step_refused : (n i k : ℕ) (s : StepDraft) (f : BadPlan) → length s.options ≡ k
+    → Err f ≡ step_limits n i s.is_marked k → judged_step n i (Some s) ≡ Err f
+step_refused n i k s f many limits =
+    limits_fail (not (s.is_marked && i == n)) (is_between 1 most_options (length s.options)) i (step_of s)
+    (flat_map (option_faults i) s.options) f (limits ∙ ap (step_limits n i s.is_marked) (sym many))
 
 -- where mark and number are in order, the first fault of a step is that of its options
-pub step_by_options : (n i k : ℕ) (text rest : List ℕ) (m : Bool) (r : Result (List Wanted) BadPlan)
+pub step_by_options : (n i k : ℕ) (s : StepDraft) (r : Result (List Wanted) BadPlan) → length s.options ≡ k
+    → Ok tt ≡ step_limits n i s.is_marked k → options_judged i s.options ≡ r
+    → judged_step n i (Some s) ≡ with_mark s.is_marked r
+step_by_options n i k s r many limits read =
+    let pass = limits_pass (not (s.is_marked && i == n)) (is_between 1 most_options k) i limits in
+    let count = ap (is_between 1 most_options) many ∙ pass.1 in
+    let fs = flat_map (option_faults i) s.options in
+    ap (λ z. first_fault (step_of s) (with_limits z (is_between 1 most_options (length s.options)) i fs)) pass.0
+    ∙ ap (λ z. first_fault (step_of s) (with_limits true z i fs)) count
+    ∙ marked_so s.is_marked (step_of s).options fs ∙ ap (with_mark s.is_marked) read
+
+-- A step of a line, which was cut into its options and its mark.
+
+-- the draft of such a step
+abbrev cut_so : List ℕ → Bool → StepDraft
+cut_so rest m = record { options = map option_draft (parts bar rest); is_marked = m }
+
+-- it is that of the text
+draft_cut : (n i : ℕ) (text rest : List ℕ) (m : Bool) → rest ≡ without_mark text → m ≡ has_mark text
+    → step_in n i text ≡ judged_step n i (Some (cut_so rest m))
+unfolding step_in
+draft_cut n i text rest m cut mark =
+    ap (λ z. judged_step n i (Some (cut_so z (has_mark text)))) (sym cut)
+    ∙ ap (λ z. judged_step n i (Some (cut_so rest z))) (sym mark)
+
+-- its mark, or the number of its options, is wrong
+pub cut_refused : (n i k : ℕ) (text rest : List ℕ) (m : Bool) (f : BadPlan)
     → rest ≡ without_mark text → m ≡ has_mark text → k ≡ length (parts bar rest)
-    → Ok tt ≡ step_limits n i m k → options_in i rest ≡ r → step_in n i text ≡ told_step true true i m r
-step_by_options n i k text rest m r cut mark many limits read =
-    step_cut n i k text rest m cut mark many
-    ∙ limits_pass (not (m && i == n)) (is_between 1 most_options k) i m (options_in i rest) limits
-    ∙ ap (told_step true true i m) read
+    → Err f ≡ step_limits n i m k → step_in n i text ≡ Err f
+cut_refused n i k text rest m f cut mark many limits =
+    draft_cut n i text rest m cut mark
+    ∙ step_refused n i k (cut_so rest m) f (length-map (parts bar rest) option_draft ∙ sym many) limits
+
+-- where they are in order, its first fault is that of its options
+pub cut_by_options : (n i k : ℕ) (text rest : List ℕ) (m : Bool) (r : Result (List Wanted) BadPlan)
+    → rest ≡ without_mark text → m ≡ has_mark text → k ≡ length (parts bar rest)
+    → Ok tt ≡ step_limits n i m k → options_in i rest ≡ r → step_in n i text ≡ with_mark m r
+unfolding options_in
+cut_by_options n i k text rest m r cut mark many limits read =
+    draft_cut n i text rest m cut mark
+    ∙ step_by_options n i k (cut_so rest m) r (length-map (parts bar rest) option_draft ∙ sym many) limits read
+
+-- A step of JSON.
+
+-- a value of another shape
+pub json_step_unshaped : (n i : ℕ) (d : Data) → None ≡ json_step d → step_of_json n i d ≡ Err (at i cause.Shape)
+unfolding step_of_json
+json_step_unshaped n i d e = ap (judged_step n i) (sym e)
+
+-- its mark, or the number of its options, is wrong
+pub json_step_refused : (n i : ℕ) (d : Data) (vs : List Value) (m : Bool) (f : BadPlan)
+    → Some (step_with (views vs) m) ≡ json_step d → Err f ≡ step_limits n i m (length vs) → step_of_json n i d ≡ Err f
+unfolding step_of_json
+json_step_refused n i d vs m f e limits =
+    ap (judged_step n i) (sym e)
+    ∙ step_refused n i (length vs) (step_with (views vs) m) f (length-map (views vs) json_option ∙ length-map vs view) limits
+
+-- where they are in order, its first fault is that of its options
+pub json_step_by_wants : (n i : ℕ) (d : Data) (vs : List Value) (m : Bool) (r : Result (List Wanted) BadPlan)
+    → Some (step_with (views vs) m) ≡ json_step d → Ok tt ≡ step_limits n i m (length vs) → wants_of_json i (views vs) ≡ r
+    → step_of_json n i d ≡ with_mark m r
+unfolding step_of_json wants_of_json
+json_step_by_wants n i d vs m r e limits read =
+    ap (judged_step n i) (sym e)
+    ∙ step_by_options n i (length vs) (step_with (views vs) m) r (length-map (views vs) json_option ∙ length-map vs view) limits read
+
+-- Tests of a mark.
 
 -- two different numbers compare as different
 mark_by : (t : Bool) (i n : ℕ) → (i == n) ≡ t → i ≢ n → not t ≡ true

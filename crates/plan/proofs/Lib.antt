@@ -1,6 +1,6 @@
 pub mod LimitLemmas
-pub mod StepLemmas
 pub mod ListFacts
+pub mod CleanLemmas
 pub mod ReadLemmas
 pub mod CutLemmas
 pub mod EndLemmas
@@ -11,13 +11,11 @@ pub mod LevelLemmas
 pub mod LineLemmas
 pub mod FaultLemmas
 pub mod KeptLemmas
-pub mod MadeLemmas
 pub mod PrintLemmas
+pub mod StepLemmas
 pub mod LackLemmas
 pub mod SpellLemmas
 pub mod MemberLemmas
 pub mod JsonOptionLemmas
-pub mod JsonEachLemmas
-pub mod JsonPlanLemmas
 pub mod JsonKeptLemmas
 pub mod JsonAgainLemmas

@@ -1,8 +1,12 @@
--- What is read of a line, by its tries, the number of its steps and what they are. For the reader of lines.
-use Rattle.std.proofs.Common.{◌≡◌, ℕ, ◌<◌, ◌≤◌, Bool, true, false, ◌&&◌, List, [], ◌∷◌, ◌++◌, length, refl, sym, ap, ◌∙◌, arith, Option, Some, None, Ok, Err, flat_map, is_some, nat_le, Result}
+-- What is read of a plan, by its tries, the number of its steps and what they are. For the readers of lines and JSON, and
+-- for the call that makes a plan of steps.
+use Rattle.std.proofs.Common.{◌≡◌, ℕ, ◌<◌, ◌≤◌, ◌⊎◌, inl, inr, Bool, true, false, ◌&&◌, List, [], ◌∷◌, ◌++◌, length, refl, sym, ap, ◌∙◌, arith, Option, Some, None, Ok, Err, flat_map, is_some, nat_le, option_map, Result}
 use Rattle.std.specs.List.{enumerate_from}
-use Rattle.std.proofs.lemmas.Bool.{le-leb, leb-true}
+use Rattle.std.proofs.lemmas.Bool.{le-leb, lt-leb}
 use Rattle.std.proofs.lemmas.List.{length-map}
+use Rattle.serde_json.specs.Data.{Data}
+use Rattle.serde_json.specs.View.{view}
+use Rattle.serde_json.specs.declared.value.Value.{Value}
 use Rattle.allotment.specs.Limits.{is_between}
 use Rattle.allotment.specs.Making.{unless, first_fault}
 use Rattle.allotment.specs.Texts.{parts, semicolon}
@@ -10,90 +14,146 @@ use Rattle.plan.specs.Limits.{most_steps, most_tries}
 use Rattle.plan.specs.declared.causes.PlanCause.TheVariants as cause
 use Rattle.plan.specs.declared.faults.BadPlan.{BadPlan}
 use Rattle.plan.specs.PlanModel.{Planned, StepPlan}
-use Rattle.plan.specs.Drafts.{at, number_or_none, step_faults, plan_of}
+use Rattle.plan.specs.Drafts.{Draft, at, number_or_none, step_faults, plan_of, judged}
 use Rattle.plan.specs.PlanLine.{front_of, end_of, tries_in, step_draft, line_draft, plan_in}
+use Rattle.plan.specs.PlanJson.{json_step, json_steps, json_tries, draft_with, plan_in_json}
 use Rattle.plan.specs.Levels.{step_drafts, steps_in}
+use Rattle.plan.specs.JsonLevels.{steps_of_json, views}
 use Rattle.allotment.proofs.CutLemmas.{some_part}
-use Rattle.plan.proofs.LevelLemmas.{and_false}
 use Rattle.allotment.proofs.TestLemmas.{and_make}
+use Rattle.plan.proofs.EachLemmas.{steps_judged}
+use Rattle.plan.proofs.LevelLemmas.{and_false}
 use Rattle.plan.proofs.ReadLemmas.{tries_read}
 
--- the result of a line: the fault of its tries, the fault of the number of its steps, or what its steps give
-abbrev pub told_line : Bool → Bool → ℕ → Result (List StepPlan) BadPlan → Result Planned BadPlan
-told_line false few tries r = Err (at 0 cause.Tries)
-told_line true false tries r = Err (at 0 cause.Steps)
-told_line true true tries (Ok steps) = Ok (record { steps = steps; tries = tries })
-told_line true true tries (Err f) = Err f
+-- Numbers within limits.
 
--- the first fault of a line is that of its tries, then that of the number of its steps, then one of theirs
-pub first_of_line : (a b : Bool) (tries : ℕ) (steps : List StepPlan) (fs : List BadPlan)
-    → let p : Planned = record { steps = steps; tries = tries } in
-    first_fault p (unless a (at 0 cause.Tries) ++ unless b (at 0 cause.Steps) ++ fs) ≡ told_line a b tries (first_fault steps fs)
-first_of_line false b tries steps fs = refl
-first_of_line true false tries steps fs = refl
-first_of_line true true tries steps [] = refl
-first_of_line true true tries steps (f ∷ fs) = refl
+-- 0, or a number over the most, is not from 1 to the most
+pub between_no : (n most : ℕ) → (n ≡ 0) ⊎ (most < n) → is_between 1 most n ≡ false
+between_no n most (inl none) = ap (is_between 1 most) none
+between_no n most (inr many) = and_false (nat_le 1 n) (nat_le n most) (lt-leb n most many)
+
+-- a number from 1 to the most is between them
+pub between_yes : (n most : ℕ) → 1 ≤ n → n ≤ most → is_between 1 most n ≡ true
+between_yes n most low high = and_make _ _ (le-leb 1 n low) (le-leb n most high)
+
+-- A draft of a plan.
 
 -- whether these are tries
 abbrev pub are_tries : Option ℕ → Bool
 are_tries tries = is_some tries && nat_le (number_or_none tries) most_tries
 
--- the result of a line with so many steps
-line_told : (text : List ℕ) (n : ℕ) → n ≡ length (parts semicolon (front_of text))
-    → plan_in text
-    ≡ told_line (are_tries (tries_in (end_of text))) (is_between 1 most_steps n) (number_or_none (tries_in (end_of text))) (steps_in n (front_of text))
-unfolding plan_in steps_in
-line_told text n e =
-    let drafts = step_drafts (front_of text) in
-    let same : length drafts ≡ n = length-map (parts semicolon (front_of text)) (λ t. Some (step_draft t)) ∙ sym e in
-    let tries = tries_in (end_of text) in
-    let steps = (plan_of (Some (line_draft text))).steps in
-    first_of_line (are_tries tries) (is_between 1 most_steps (length drafts)) (number_or_none tries) steps
-    (flat_map (step_faults (length drafts)) (enumerate_from 1 drafts))
-    ∙ ap (λ z. told_line (are_tries tries) (is_between 1 most_steps z) (number_or_none tries)
-    (first_fault steps (flat_map (step_faults z) (enumerate_from 1 drafts)))) same
+-- the plan of these steps, or their fault
+abbrev pub with_tries : ℕ → Result (List StepPlan) BadPlan → Result Planned BadPlan
+with_tries tries (Ok steps) = Ok (record { steps = steps; tries = tries })
+with_tries tries (Err f) = Err f
+
+-- the first fault of a plan of these steps is theirs
+tried_so : (tries : ℕ) (steps : List StepPlan) (fs : List BadPlan)
+    → let p : Planned = record { steps = steps; tries = tries } in first_fault p fs ≡ with_tries tries (first_fault steps fs)
+tried_so tries steps [] = refl
+tried_so tries steps (f ∷ fs) = refl
+
+-- the first fault of a draft, by the tests of its tries and of the number of its steps
+draft_told : (d : Draft) (a b : Bool) → are_tries d.tries ≡ a → is_between 1 most_steps (length d.steps) ≡ b
+    → judged (Some d)
+    ≡ first_fault (plan_of (Some d))
+    (unless a (at 0 cause.Tries) ++ unless b (at 0 cause.Steps) ++ flat_map (step_faults (length d.steps)) (enumerate_from 1 d.steps))
+draft_told d a b e h =
+    let told : Bool → Bool → Result Planned BadPlan = λ y z. first_fault (plan_of (Some d))
+    (unless y (at 0 cause.Tries) ++ unless z (at 0 cause.Steps) ++ flat_map (step_faults (length d.steps)) (enumerate_from 1 d.steps)) in
+    ap (λ y. told y (is_between 1 most_steps (length d.steps))) e ∙ ap (told a) h
+
+-- its tries are none
+pub draft_no_tries : (d : Draft) → are_tries d.tries ≡ false → judged (Some d) ≡ Err (at 0 cause.Tries)
+draft_no_tries d e = draft_told d false _ e refl
+
+-- it has no step, or too many
+pub draft_miscounted : (d : Draft) (n : ℕ) → length d.steps ≡ n → are_tries d.tries ≡ true → (n ≡ 0) ⊎ (most_steps < n)
+    → judged (Some d) ≡ Err (at 0 cause.Steps)
+draft_miscounted d n many e out =
+    draft_told d true false e (ap (is_between 1 most_steps) many ∙ between_no n most_steps out)
+
+-- where tries and number are in order, the first fault of a draft is that of its steps
+pub draft_by_steps : (d : Draft) (n : ℕ) (r : Result (List StepPlan) BadPlan) → length d.steps ≡ n → are_tries d.tries ≡ true
+    → 1 ≤ n → n ≤ most_steps → steps_judged n 1 d.steps ≡ r → judged (Some d) ≡ with_tries (number_or_none d.tries) r
+draft_by_steps d n r many e low high read =
+    draft_told d true true e (ap (is_between 1 most_steps) many ∙ between_yes n most_steps low high)
+    ∙ tried_so (number_or_none d.tries) (plan_of (Some d)).steps (flat_map (step_faults (length d.steps)) (enumerate_from 1 d.steps))
+    ∙ ap (λ z. with_tries (number_or_none d.tries) (steps_judged z 1 d.steps)) many
+    ∙ ap (with_tries (number_or_none d.tries)) read
+
+-- A line.
 
 -- a line that ends in no tries
 pub line_no_tries : (text : List ℕ) → tries_in (end_of text) ≡ None → plan_in text ≡ Err (at 0 cause.Tries)
-line_no_tries text e =
-    let n = length (parts semicolon (front_of text)) in
-    line_told text n refl
-    ∙ ap (λ z. told_line (are_tries z) (is_between 1 most_steps n) (number_or_none z) (steps_in n (front_of text))) e
+unfolding plan_in
+line_no_tries text e = draft_no_tries (line_draft text) (ap are_tries e)
 
--- tries that are read are at most 9
-tries_few : (text : List ℕ) (tries : ℕ) → tries_in (end_of text) ≡ Some tries → are_tries (Some tries) ≡ true
-tries_few text tries e =
-    let read = tries_read (end_of text) (ap is_some e) in
-    le-leb tries most_tries (omega (arith, read.few, ap number_or_none e))
+-- a line that was cut into its steps, so many, and its tries
+module _ (text front : List ℕ) (tries n : ℕ) (cut : front ≡ front_of text) (read : tries_in (end_of text) ≡ Some tries)
+    (many : n ≡ length (parts semicolon front)) where
+  -- its draft has so many steps
+  line_count : length (line_draft text).steps ≡ n
+  line_count =
+      length-map (parts semicolon (front_of text)) (λ t. Some (step_draft t))
+      ∙ ap (λ z. length (parts semicolon z)) (sym cut) ∙ sym many
 
--- the first fault of a line with tries is that of the number of its steps, then of a step
-line_with_tries : (text front : List ℕ) (tries n : ℕ) → front ≡ front_of text → tries_in (end_of text) ≡ Some tries
-    → n ≡ length (parts semicolon front)
-    → plan_in text ≡ told_line true (is_between 1 most_steps n) tries (steps_in n front)
-line_with_tries text front tries n same e many =
-    line_told text n (many ∙ ap (λ z. length (parts semicolon z)) same)
-    ∙ ap (λ z. told_line (are_tries z) (is_between 1 most_steps n) (number_or_none z) (steps_in n (front_of text))) e
-    ∙ ap (λ z. told_line z (is_between 1 most_steps n) tries (steps_in n (front_of text))) (tries_few text tries e)
-    ∙ ap (λ z. told_line true (is_between 1 most_steps n) tries (steps_in n z)) (sym same)
+  -- tries that are read are at most 9
+  line_tries : are_tries (tries_in (end_of text)) ≡ true
+  line_tries =
+      let is = tries_read (end_of text) (ap is_some read) in
+      ap are_tries read ∙ le-leb tries most_tries (omega (arith, is.few, ap number_or_none read))
 
--- more than the most are not at most so many
-over_by : (n : ℕ) (b : Bool) → nat_le n most_steps ≡ b → most_steps < n → b ≡ false
-over_by n true e h = let few : n ≤ most_steps = leb-true n most_steps e in absurd (omega arith)
-over_by n false e h = refl
+  -- more steps than a plan may have
+  pub line_too_long : most_steps < n → plan_in text ≡ Err (at 0 cause.Steps)
+  unfolding plan_in
+  line_too_long long = draft_miscounted (line_draft text) n line_count line_tries (inr long)
 
--- more steps than a plan may have
-pub line_too_long : (text front : List ℕ) (tries n : ℕ) → front ≡ front_of text → tries_in (end_of text) ≡ Some tries
-    → n ≡ length (parts semicolon front) → most_steps < n → plan_in text ≡ Err (at 0 cause.Steps)
-line_too_long text front tries n same e many h =
-    line_with_tries text front tries n same e many
-    ∙ ap (λ z. told_line true z tries (steps_in n front)) (and_false (nat_le 1 n) (nat_le n most_steps) (over_by n (nat_le n most_steps) refl h))
+  -- where they are not too many, the first fault of a line is that of its steps
+  pub line_by_steps : (r : Result (List StepPlan) BadPlan) → n ≤ most_steps → steps_in n front ≡ r → plan_in text ≡ with_tries tries r
+  unfolding plan_in steps_in
+  line_by_steps r short steps =
+      let some : 1 ≤ n = omega (arith, many, some_part semicolon front) in
+      draft_by_steps (line_draft text) n r line_count line_tries some short
+      (ap (λ z. steps_judged n 1 (step_drafts z)) (sym cut) ∙ steps)
+      ∙ ap (λ z. with_tries (number_or_none z) r) read
 
--- where tries and number are in order, the first fault of a line is that of its steps
-pub line_by_steps : (text front : List ℕ) (tries n : ℕ) (r : Result (List StepPlan) BadPlan)
-    → front ≡ front_of text → tries_in (end_of text) ≡ Some tries
-    → n ≡ length (parts semicolon front) → n ≤ most_steps → steps_in n front ≡ r → plan_in text ≡ told_line true true tries r
-line_by_steps text front tries n r same e many h steps =
-    let some : 1 ≤ n = omega (arith, some_part semicolon front) in
-    line_with_tries text front tries n same e many
-    ∙ ap (λ z. told_line true z tries (steps_in n front)) (and_make _ _ (le-leb 1 n some) (le-leb n most_steps h))
-    ∙ ap (told_line true true tries) steps
+-- A JSON value.
+
+-- a value of another shape
+pub json_unshaped : (d : Data) → None ≡ json_steps d → plan_in_json d ≡ Err (at 0 cause.Shape)
+unfolding plan_in_json
+json_unshaped d e = ap (λ o. judged (option_map (draft_with (json_tries d)) o)) (sym e)
+
+-- a value of the shape of a plan, with tries or none
+json_shaped : (d : Data) (vs : List Value) (tries : Option ℕ) → Some (views vs) ≡ json_steps d → tries ≡ json_tries d
+    → plan_in_json d ≡ judged (Some (draft_with tries (views vs)))
+unfolding plan_in_json
+json_shaped d vs tries e same =
+    ap (λ o. judged (option_map (draft_with (json_tries d)) o)) (sym e) ∙ ap (λ t. judged (Some (draft_with t (views vs)))) (sym same)
+
+-- its tries are none
+pub json_no_tries : (d : Data) (vs : List Value) → Some (views vs) ≡ json_steps d → None ≡ json_tries d
+    → plan_in_json d ≡ Err (at 0 cause.Tries)
+json_no_tries d vs e none = json_shaped d vs None e none ∙ draft_no_tries (draft_with None (views vs)) refl
+
+-- a value of the shape of a plan, with these tries
+module _ (d : Data) (vs : List Value) (tries : ℕ) (shape : Some (views vs) ≡ json_steps d) (read : Some tries ≡ json_tries d)
+    (few : tries ≤ most_tries) where
+  -- its draft has as many steps as there are values
+  json_count : length (draft_with (Some tries) (views vs)).steps ≡ length vs
+  json_count = length-map (views vs) json_step ∙ length-map vs view
+
+  -- it has no step, or too many
+  pub json_miscounted : (length vs ≡ 0) ⊎ (most_steps < length vs) → plan_in_json d ≡ Err (at 0 cause.Steps)
+  json_miscounted out =
+      json_shaped d vs (Some tries) shape read
+      ∙ draft_miscounted (draft_with (Some tries) (views vs)) (length vs) json_count (le-leb tries most_tries few) out
+
+  -- where tries and number are in order, its first fault is that of its steps
+  pub json_by_steps : (r : Result (List StepPlan) BadPlan) → 1 ≤ length vs → length vs ≤ most_steps
+      → steps_of_json (length vs) (views vs) ≡ r → plan_in_json d ≡ with_tries tries r
+  unfolding steps_of_json
+  json_by_steps r low high steps =
+      json_shaped d vs (Some tries) shape read
+      ∙ draft_by_steps (draft_with (Some tries) (views vs)) (length vs) r json_count (le-leb tries most_tries few) low high steps

@@ -7,15 +7,15 @@ use Rattle.allotment.specs.Making.{unless, first_fault, want_made}
 use Rattle.allotment.specs.Nights.{night_in}
 use Rattle.allotment.specs.Texts.{parts, slash, keep_if, number_in, kind_of_letter}
 use Rattle.allotment.specs.declared.codes.Kind.{Kind}
-use Rattle.allotment.specs.declared.codes.Kind.TheVariants.{Flight, Room, Transfer, Cover}
+use Rattle.allotment.specs.declared.codes.Kind.TheVariants.{Flight}
 use Rattle.allotment.specs.declared.wants.Bad.{Bad}
 use Rattle.allotment.specs.declared.wants.Bad.TheVariants as bad
 use Rattle.plan.specs.declared.causes.PlanCause.TheVariants as cause
 use Rattle.plan.specs.declared.faults.BadPlan.{BadPlan}
-use Rattle.plan.specs.Drafts.{OptionDraft, at, number_or_none, want_of}
+use Rattle.plan.specs.Drafts.{OptionDraft, at, number_or_none}
 use Rattle.plan.specs.PlanLine.{option_draft, option_of_parts}
 use Rattle.plan.specs.Levels.{cause_of, judged_option, option_in}
-use Rattle.allotment.proofs.TestLemmas.{and_both, and_make}
+use Rattle.allotment.proofs.TestLemmas.{and_both, and_make, fails_too}
 use Rattle.plan.proofs.NumberLemmas.{small_number}
 
 -- a number that is there, from 1 to 255
@@ -25,9 +25,7 @@ small o = number_or_none (option_and_then (keep_if (is_between 1 255)) o)
 -- no kind may have more than 60 nights
 pub nights_few : (k : Kind) (n : ℕ) → n ≤ most_nights k → n ≤ 60
 nights_few Flight n l = omega arith
-nights_few Room n l = omega arith
-nights_few Transfer n l = omega arith
-nights_few Cover n l = omega arith
+nights_few _ n l = omega arith
 
 -- nights that a kind may have are from 1 to 255
 nights_between : (k : Kind) (f n : ℕ) → are_nights k f n ≡ true → is_between 1 255 n ≡ true
@@ -44,30 +42,28 @@ count_between n e =
     let most : n ≤ 50 = leb-true n 50 both.1 in
     and_make _ _ both.0 (le-leb n 255 (omega arith))
 
--- a test that 0 does not pass, nor a number over 255, says of a number what it says of the small number
-test_by : (test : ℕ → Bool) (n : ℕ) (b : Bool) → is_between 1 255 n ≡ b → (v : Bool) → test n ≡ v
-    → (test n ≡ true → is_between 1 255 n ≡ true) → test 0 ≡ false
-    → test n ≡ test (number_or_none (if b then Some n else None))
-test_by test n true e v t small zero = refl
-test_by test n false e true t small zero = let in_range = small t in cc
-test_by test n false e false t small zero = t ∙ sym zero
+-- a test says of an option's number, if there is one, what it says of this one; where it passes, this is the number
+pub record Tells (test : ℕ → Bool) (o : Option ℕ) (n : ℕ) : Type 0 where
+  pub same : (is_some o && test (number_or_none o)) ≡ test n
+  pub value : test n ≡ true → number_or_none o ≡ n
 
--- the same where there is a number, or none
-test_same : (test : ℕ → Bool) (o : Option ℕ) → ((n : ℕ) → test n ≡ true → is_between 1 255 n ≡ true) → test 0 ≡ false
-    → (is_some o && test (number_or_none o)) ≡ test (small o)
-test_same test None in_range zero = sym zero
-test_same test (Some n) in_range zero = test_by test n (is_between 1 255 n) refl (test n) refl (in_range n) zero
+-- so it is with a test that 0 does not pass, and the number or 0
+pub tells_there : (test : ℕ → Bool) (o : Option ℕ) → test 0 ≡ false → Tells test o (number_or_none o)
+tells_there test None zero = record { same = sym zero; value = λ e. refl }
+tells_there test (Some n) zero = record { same = refl; value = λ e. refl }
 
--- where the small number passes, it is the number
-value_by : (test : ℕ → Bool) (n : ℕ) (b : Bool) → test 0 ≡ false → test (number_or_none (if b then Some n else None)) ≡ true
-    → n ≡ number_or_none (if b then Some n else None)
-value_by test n true zero e = refl
-value_by test n false zero e = cc
-
--- the same where there is a number, or none
-value_same : (test : ℕ → Bool) (o : Option ℕ) → test 0 ≡ false → test (small o) ≡ true → number_or_none o ≡ small o
-value_same test None zero e = refl
-value_same test (Some n) zero e = value_by test n (is_between 1 255 n) zero e
+-- and with a test that no number over 255 passes either, and the number from 1 to 255 or 0
+tells_small : (test : ℕ → Bool) (o : Option ℕ) → ((n : ℕ) → test n ≡ true → is_between 1 255 n ≡ true) → test 0 ≡ false
+    → Tells test o (small o)
+tells_small test None in_range zero = tells_there test None zero
+tells_small test (Some n) in_range zero = by (is_between 1 255 n) refl
+  where
+    by : (b : Bool) → is_between 1 255 n ≡ b → Tells test (Some n) (number_or_none (if b then Some n else None))
+    by true e = record { same = refl; value = λ t. refl }
+    by false e = record {
+      same = fails_too (test n) (is_between 1 255 n) (in_range n) e ∙ sym zero;
+      value = λ t. let bad : true ≡ false = sym t ∙ zero in cc;
+    }
 
 -- the result of an option whose want is made of its parts so
 abbrev pub told_want : ℕ → Result Wanted Bad → Result Wanted BadPlan
@@ -81,54 +77,29 @@ pub first_told : (i : ℕ) (codes night nights count : Bool) (v w : Wanted) → 
     ++ unless nights (at i cause.Nights) ++ unless count (at i cause.Count))
     ≡ told_want i (first_fault w
     (unless codes bad.Code ++ unless night bad.Night ++ unless nights bad.Nights ++ unless count bad.Count))
-first_told i false night nights count v w same = refl
-first_told i true false nights count v w same = refl
-first_told i true true false count v w same = refl
-first_told i true true true false v w same = refl
 first_told i true true true true v w same = ap Ok (same refl refl)
+first_told i _ _ _ _ v w same = refl
 
 -- an option of these six parts
-abbrev six_draft : Kind → List ℕ → List ℕ → List ℕ → List ℕ → List ℕ → OptionDraft
-six_draft k s p f n c = record {
-  kind = Some k;
-  supplier = s;
-  product = p;
-  first = night_in f;
-  nights = number_in n;
-  count = number_in c;
-}
-
--- the two wants are one, where their numbers are
-two_wants : (k : Kind) (s p : List ℕ) (f : ℕ) {a b x y : ℕ} → a ≡ x → b ≡ y
-    → let want : ℕ → ℕ → Wanted = λ nights count. record {
-      kind = k;
-      supplier = s;
-      product = p;
-      first = f;
-      nights = nights;
-      count = count;
-    } in want a b ≡ want x y
-two_wants k s p f {a} {b} {x} {y} e g = cc
+abbrev pub six_said : Option Kind → List ℕ → List ℕ → List ℕ → Option ℕ → Option ℕ → OptionDraft
+six_said k s p f n c = record { kind = k; supplier = s; product = p; first = night_in f; nights = n; count = c }
 
 -- the first fault of an option with a kind is that of the want of its parts
-kind_told : (i : ℕ) (k : Kind) (s p f n c : List ℕ)
-    → judged_option i (Some (six_draft k s p f n c)) ≡ told_want i (want_made k s p f (small_number n) (small_number c))
-kind_told i k s p f n c =
-    let codes = is_code s && is_code p in
+kind_told : (i : ℕ) (k : Kind) (s p f : List ℕ) (n c : Option ℕ) (a b : ℕ)
+    → Tells (are_nights k (number_or_none (night_in f))) n a → Tells is_count c b
+    → judged_option i (Some (six_said (Some k) s p f n c)) ≡ told_want i (want_made k s p f a b)
+kind_told i k s p f n c a b nights count =
+    let good = is_code s && is_code p in
     let night = is_some (night_in f) in
     let first = number_or_none (night_in f) in
-    let nights_test : ℕ → Bool = are_nights k first in
-    let nights = test_same nights_test (number_in n) (nights_between k first) refl in
-    let counts = test_same is_count (number_in c) count_between refl in
-    let v = want_of (six_draft k s p f n c) in
-    let told : Bool → Bool → Result Wanted BadPlan = λ a b. first_fault v
-    (unless true (at i cause.Kind) ++ unless codes (at i cause.Code) ++ unless night (at i cause.Night)
-    ++ unless a (at i cause.Nights) ++ unless b (at i cause.Count)) in
-    ap (λ a. told a (is_some (number_in c) && is_count (number_or_none (number_in c)))) nights
-    ∙ ap (told (nights_test (small_number n))) counts
-    ∙ first_told i codes night (nights_test (small_number n)) (is_count (small_number c)) v _
-    (λ e g. two_wants k s p first
-    (value_same nights_test (number_in n) refl e) (value_same is_count (number_in c) refl g))
+    let want : ℕ → ℕ → Wanted = λ x y. record { kind = k; supplier = s; product = p; first = first; nights = x; count = y } in
+    let told : Bool → Bool → Result Wanted BadPlan = λ x y. first_fault (want (number_or_none n) (number_or_none c))
+    (unless true (at i cause.Kind) ++ unless good (at i cause.Code) ++ unless night (at i cause.Night)
+    ++ unless x (at i cause.Nights) ++ unless y (at i cause.Count)) in
+    ap (λ x. told x (is_some c && is_count (number_or_none c))) nights.same
+    ∙ ap (told (are_nights k first a)) count.same
+    ∙ first_told i good night (are_nights k first a) (is_count b) (want (number_or_none n) (number_or_none c)) (want a b)
+    (λ e g. ap (λ x. want x (number_or_none c)) (nights.value e) ∙ ap (want a) (count.value g))
 
 -- the result of an option by its kind and its other parts
 abbrev pub told_option : ℕ → Option Kind → List ℕ → List ℕ → List ℕ → ℕ → ℕ → Result Wanted BadPlan
@@ -136,24 +107,21 @@ told_option i None s p f n c = Err (at i cause.Kind)
 told_option i (Some k) s p f n c = told_want i (want_made k s p f n c)
 
 -- the first fault of an option is that of its kind
-with_kind : (i : ℕ) (o : Option Kind) (s p f n c : List ℕ)
-    → judged_option i (Some (record {
-      kind = o;
-      supplier = s;
-      product = p;
-      first = night_in f;
-      nights = number_in n;
-      count = number_in c;
-    })) ≡ told_option i o s p f (small_number n) (small_number c)
-with_kind i None s p f n c = refl
-with_kind i (Some k) s p f n c = kind_told i k s p f n c
+pub option_judged : (i : ℕ) (o : Option Kind) (s p f : List ℕ) (n c : Option ℕ) (a b : ℕ)
+    → ((k : Kind) → Tells (are_nights k (number_or_none (night_in f))) n a) → Tells is_count c b
+    → judged_option i (Some (six_said o s p f n c)) ≡ told_option i o s p f a b
+option_judged i None s p f n c a b nights count = refl
+option_judged i (Some k) s p f n c a b nights count = kind_told i k s p f n c a b (nights k) count
 
 -- the first fault of an option of six parts is that of its kind, then of the want of its parts
 pub option_told : (i : ℕ) (text k s p f n c : List ℕ) → parts slash text ≡ k ∷ s ∷ p ∷ f ∷ n ∷ c ∷ []
     → option_in i text ≡ told_option i (kind_of_letter k) s p f (small_number n) (small_number c)
 unfolding option_in
 option_told i text k s p f n c e =
-    ap (λ z. judged_option i (option_of_parts z)) e ∙ with_kind i (kind_of_letter k) s p f n c
+    ap (λ z. judged_option i (option_of_parts z)) e
+    ∙ option_judged i (kind_of_letter k) s p f (number_in n) (number_in c) (small_number n) (small_number c)
+    (λ kind. tells_small (are_nights kind (number_or_none (night_in f))) (number_in n) (nights_between kind (number_or_none (night_in f))) refl)
+    (tells_small is_count (number_in c) count_between refl)
 
 -- a text that has not six parts has the wrong shape
 pub option_shape : (i : ℕ) (text : List ℕ) → option_draft text ≡ None → option_in i text ≡ Err (at i cause.Shape)

@@ -30,10 +30,10 @@ printed_more c old before now after ts t so_far (inr first) printed =
     ∙ ap (λ z. old ++ (joined c z ++ t)) first.0
     ∙ ap (λ z. old ++ joined c (z ++ t ∷ [])) (sym first.0)
 
--- the texts up to an index, and one more
-pub texts_more : {X : Type 0} (f : X → List ℕ) (xs : List X) (k : ℕ) (x : X) → k < length xs → x ≡ get_or xs k x
+-- the images up to an index, and one more
+pub mapped_more : {X Y : Type 0} (f : X → Y) (xs : List X) (k : ℕ) (x : X) → k < length xs → x ≡ get_or xs k x
     → map f (take (k + 1) xs) ≡ map f (take k xs) ++ f x ∷ []
-texts_more f xs k x l e =
+mapped_more f xs k x l e =
     let next : k + 1 ≡ suc k = omega arith in
     ap (λ z. map f (take z xs)) next
     ∙ ap (map f) (take-suc xs k x l)

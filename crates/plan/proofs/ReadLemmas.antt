@@ -1,22 +1,21 @@
 -- What is read as a plan is spelled as its line. For the law that a plan has one spelling.
-use Rattle.std.proofs.Common.{◌≡◌, ℕ, zero, suc, ◌+◌, ◌-◌, ◌<◌, ◌≤◌, Bool, true, false, not, ◌&&◌, ◌==◌, List, [], ◌∷◌, ◌++◌, map, length, take, drop, refl, sym, ap, subst, ◌∙◌, arith, eq-eqb, Option, Some, Ok, find, filter_map, option_map, is_some, bytes_eq, decimal, if◌then◌else◌}
-use Rattle.std.specs.List.{AllByRecursion, list_all, enumerate_from}
+use Rattle.std.proofs.Common.{◌≡◌, ℕ, zero, suc, ◌+◌, ◌-◌, ◌<◌, ◌≤◌, Bool, true, false, ◌&&◌, List, [], ◌∷◌, ◌++◌, map, length, take, drop, refl, sym, ap, subst, ◌∙◌, arith, Option, Some, None, Ok, find, is_some, bytes_eq, decimal, if◌then◌else◌}
+use Rattle.std.specs.List.{AllByRecursion, enumerate_from}
 use Rattle.std.specs.Str.Parse.{digits_value}
 use Rattle.std.proofs.lemmas.List.Splits.{join_with_byte-slice_split}
-use Rattle.std.proofs.lemmas.List.{append-nil, take-append-drop, length-map}
-use Rattle.std.proofs.lemmas.Bool.{le-leb}
-use Rattle.allotment.specs.Want.{Wanted}
+use Rattle.std.proofs.lemmas.List.{append-nil, take-append-drop}
 use Rattle.allotment.specs.Cells.{numbers_from}
-use Rattle.allotment.specs.Limits.{is_between, is_night, is_want}
+use Rattle.allotment.specs.Limits.{is_night}
 use Rattle.allotment.specs.Texts.{parts, joined, number_in, slash, bar, semicolon, star, kind_letter, kinds, kind_of_letter, want_text}
 use Rattle.allotment.specs.Nights.{night_text, night_in, named_night}
 use Rattle.allotment.specs.declared.codes.Kind.TheVariants.{Flight}
-use Rattle.plan.specs.Limits.{most_options, most_steps, most_tries}
-use Rattle.plan.specs.PlanModel.{Planned, StepPlan, is_step, is_last_unmarked}
+use Rattle.plan.specs.Limits.{most_tries}
+use Rattle.plan.specs.PlanModel.{Planned}
 use Rattle.plan.specs.Drafts.{OptionDraft, StepDraft, kind_or_any, number_or_none, option_faults, step_faults, faults, want_of, step_of, plan_of}
 use Rattle.plan.specs.PlanLine.{step_text, mark_text, tries_text, tries_in, IsPlanLine, option_of_parts, option_draft, has_mark, without_mark, step_draft, line_draft, plan_in}
-use Rattle.allotment.proofs.TestLemmas.{keep_if_some, same_bytes, and_both, and_make}
-use Rattle.plan.proofs.ListFacts.{append_none, not_left, unless_none, flat_map_none, first_fault_ok, find_passes, some_is}
+use Rattle.allotment.proofs.TestLemmas.{keep_if_some, same_bytes, and_both}
+use Rattle.plan.proofs.ListFacts.{append_none, unless_none, flat_map_none, first_fault_ok, find_passes, some_is}
+use Rattle.plan.proofs.CleanLemmas.{HasNight, HasNights, all_images, wants_of, steps_of, draft_keeps}
 
 -- Parts of an option.
 
@@ -48,75 +47,43 @@ six_same s p {a} {b} {c} {d} {x} {y} {z} {w} e f g h =
     ∙ ap (λ v. joined slash (x ∷ s ∷ p ∷ y ∷ v ∷ d ∷ [])) g
     ∙ ap (λ v. joined slash (x ∷ s ∷ p ∷ y ∷ z ∷ v ∷ [])) h
 
--- what is read of an option that has no fault
-record ReadsOption (x : Option OptionDraft) (text : List ℕ) : Type 0 where
-  pub draft : OptionDraft
-  pub there : x ≡ Some draft
-  pub spelled : want_text (want_of draft) ≡ text
-  pub good : is_want (want_of draft) ≡ true
+-- an option has the shape of one, and its want has this text
+abbrev Spells : Option OptionDraft → List ℕ → Type 0
+Spells None t = ⊥
+Spells (Some o) t = want_text (want_of o) ≡ t
 
 -- the parts of an option that has no fault
-option_reads : (i : ℕ) (ps : List (List ℕ)) → option_faults i (option_of_parts ps) ≡ [] → ReadsOption (option_of_parts ps) (joined slash ps)
-option_reads i [] e = cc
-option_reads i (k ∷ []) e = cc
-option_reads i (k ∷ s ∷ []) e = cc
-option_reads i (k ∷ s ∷ p ∷ []) e = cc
-option_reads i (k ∷ s ∷ p ∷ f ∷ []) e = cc
-option_reads i (k ∷ s ∷ p ∷ f ∷ n ∷ []) e = cc
+option_reads : (i : ℕ) (ps : List (List ℕ)) → option_faults i (option_of_parts ps) ≡ [] → Spells (option_of_parts ps) (joined slash ps)
 option_reads i (k ∷ s ∷ p ∷ f ∷ n ∷ c ∷ []) e =
     let last = append_none _ _ e in
     let fourth = append_none _ _ last.0 in
     let third = append_none _ _ fourth.0 in
-    let second = append_none _ _ third.0 in
-    let kind = kind_read k (unless_none _ _ second.0) in
-    let codes = unless_none _ _ second.1 in
-    let night = night_read f (unless_none _ _ third.1) in
     let nights = and_both _ _ (unless_none _ _ fourth.1) in
     let count = and_both _ _ (unless_none _ _ last.1) in
-    let n_read = number_read n nights.0 in
-    let c_read = number_read c count.0 in
-    record {
-      draft = _;
-      there = refl;
-      spelled = six_same s p kind night.1 n_read c_read;
-      good = and_make _ _ (and_make _ _ (and_make _ _ codes night.0) nights.1) count.1;
-    }
-option_reads i (k ∷ s ∷ p ∷ f ∷ n ∷ c ∷ d ∷ more) e = cc
+    six_same s p (kind_read k (unless_none _ _ (append_none _ _ third.0).0)) (night_read f (unless_none _ _ third.1)).1
+    (number_read n nights.0) (number_read c count.0)
+option_reads i _ e = cc
 
--- the same of its text
-option_reads_text : (i : ℕ) (t : List ℕ) → option_faults i (option_draft t) ≡ [] → ReadsOption (option_draft t) t
-option_reads_text i t e =
-    let P : List ℕ → Type 0 = λ z. ReadsOption (option_draft t) z in
-    subst P (join_with_byte-slice_split slash t) (option_reads i (parts slash t) e)
+-- the first night of an option is read as a night
+option_night : (ps : List (List ℕ)) → HasNight (option_of_parts ps)
+option_night (k ∷ s ∷ p ∷ f ∷ n ∷ c ∷ []) = λ there. (night_read f there).0
+option_night _ = tt
 
 -- The options of a step.
 
--- the wants that options mean
-wants_in : List (Option OptionDraft) → List Wanted
-wants_in xs = filter_map (option_map want_of) xs
-
--- what is read of options that have no fault
-record ReadsOptions (xs : List (Option OptionDraft)) (ts : List (List ℕ)) : Type 0 where
-  pub spelled : map want_text (wants_in xs) ≡ ts
-  pub good : list_all is_want (wants_in xs) ≡ true
-  pub many : length (wants_in xs) ≡ length ts
-
 -- one option, and the later ones
-options_cons : (x : Option OptionDraft) (xs : List (Option OptionDraft)) (t : List ℕ) (ts : List (List ℕ)) → ReadsOption x t → ReadsOptions xs ts → ReadsOptions (x ∷ xs) (t ∷ ts)
-unfolding wants_in
-options_cons x xs t ts here later =
-    let P : Option OptionDraft → Type 0 = λ z. ReadsOptions (z ∷ xs) (t ∷ ts) in
-    subst P (sym here.there) (record {
-      spelled = ap (λ z. z ∷ map want_text (wants_in xs)) here.spelled ∙ ap (λ z. t ∷ z) later.spelled;
-      good = and_make _ _ here.good later.good;
-      many = ap (λ z. suc z) later.many;
-    })
+options_cons : (o : Option OptionDraft) (os : List (Option OptionDraft)) (t : List ℕ) (ts : List (List ℕ)) → Spells o t
+    → map want_text (wants_of os) ≡ ts → map want_text (wants_of (o ∷ os)) ≡ t ∷ ts
+options_cons None os t ts here later = absurd here
+options_cons (Some o) os t ts here later = ap (λ z. z ∷ map want_text (wants_of os)) here ∙ ap (λ z. t ∷ z) later
 
 -- options without a fault are spelled by their texts
-options_read : (i : ℕ) (ts : List (List ℕ)) → AllByRecursion (λ o. option_faults i o ≡ []) (map option_draft ts) → ReadsOptions (map option_draft ts) ts
-unfolding wants_in
-options_read i [] e = record { spelled = refl; good = refl; many = refl }
-options_read i (t ∷ ts) e = options_cons _ _ t ts (option_reads_text i t e.0) (options_read i ts e.1)
+options_read : (i : ℕ) (ts : List (List ℕ)) → AllByRecursion (λ o. option_faults i o ≡ []) (map option_draft ts)
+    → map want_text (wants_of (map option_draft ts)) ≡ ts
+options_read i [] e = refl
+options_read i (t ∷ ts) e =
+    options_cons (option_draft t) (map option_draft ts) t ts
+    (subst (Spells (option_draft t)) (join_with_byte-slice_split slash t) (option_reads i (parts slash t) e.0)) (options_read i ts e.1)
 
 -- A step.
 
@@ -127,29 +94,14 @@ marked_text t true e =
     ap (λ z. take (length t - 1) t ++ z) (sym end) ∙ take-append-drop (length t - 1) t
 marked_text t false e = append-nil t
 
--- what is read of a step that has no fault, the one of this number of so many
-record ReadsStep (n i : ℕ) (t : List ℕ) : Type 0 where
-  pub spelled : step_text (step_of (step_draft t)) ≡ t
-  pub unmarked : not (has_mark t && i == n) ≡ true
-  pub good : is_step (step_of (step_draft t)) ≡ true
-
 -- a step without a fault is spelled by its options, joined again, and its mark
-step_reads : (n i : ℕ) (t : List ℕ) → step_faults n (i, Some (step_draft t)) ≡ [] → ReadsStep n i t
-unfolding wants_in
+step_reads : (n i : ℕ) (t : List ℕ) → step_faults n (i, Some (step_draft t)) ≡ [] → step_text (step_of (step_draft t)) ≡ t
 step_reads n i t e =
-    let last = append_none _ _ e in
-    let first = append_none _ _ last.0 in
     let ts = parts bar (without_mark t) in
-    let options = options_read i ts (flat_map_none (option_faults i) (map option_draft ts) last.1) in
-    let counts : length (map option_draft ts) ≡ length (wants_in (map option_draft ts)) =
-    length-map ts option_draft ∙ sym options.many in
-    record {
-      spelled = ap (λ z. joined bar z ++ mark_text (has_mark t)) options.spelled
-          ∙ ap (λ z. z ++ mark_text (has_mark t)) (join_with_byte-slice_split bar (without_mark t))
-          ∙ marked_text t (has_mark t) refl;
-      unmarked = unless_none _ _ first.0;
-      good = and_make _ _ (ap (is_between 1 most_options) (sym counts) ∙ unless_none _ _ first.1) options.good;
-    }
+    ap (λ z. joined bar z ++ mark_text (has_mark t))
+    (options_read i ts (flat_map_none (option_faults i) (map option_draft ts) (append_none _ _ e).1))
+    ∙ ap (λ z. z ++ mark_text (has_mark t)) (join_with_byte-slice_split bar (without_mark t))
+    ∙ marked_text t (has_mark t) refl
 
 -- The steps.
 
@@ -157,37 +109,18 @@ step_reads n i t e =
 abbrev drafts_of : List (List ℕ) → List (Option StepDraft)
 drafts_of ts = map (λ t. Some (step_draft t)) ts
 
--- the steps that they mean
-abbrev steps_of : List (List ℕ) → List StepPlan
-steps_of ts = filter_map (option_map step_of) (drafts_of ts)
+-- steps without a fault are spelled by their texts
+steps_read : (n i : ℕ) (ts : List (List ℕ)) → AllByRecursion (λ x. step_faults n x ≡ []) (enumerate_from i (drafts_of ts))
+    → map step_text (steps_of (drafts_of ts)) ≡ ts
+steps_read n i [] e = refl
+steps_read n i (t ∷ ts) e =
+    ap (λ z. z ∷ map step_text (steps_of (drafts_of ts))) (step_reads n i t e.0) ∙ ap (λ z. t ∷ z) (steps_read n (i + 1) ts e.1)
 
--- what is read of steps that have no fault
-record ReadsSteps (ts : List (List ℕ)) : Type 0 where
-  pub spelled : map step_text (steps_of ts) ≡ ts
-  pub unmarked : is_last_unmarked (steps_of ts) ≡ true
-  pub good : list_all is_step (steps_of ts) ≡ true
-
--- the step whose number is that of the last has no mark
-last_unmarked : (t : List ℕ) (ts : List (List ℕ)) (n i : ℕ) → i + length (t ∷ ts) ≡ n + 1
-    → not (has_mark t && i == n) ≡ true → is_last_unmarked (steps_of ts) ≡ true
-    → is_last_unmarked (steps_of (t ∷ ts)) ≡ true
-last_unmarked t [] n i l e h =
-    let same : i ≡ n = omega arith in not_left (has_mark t) (i == n) (eq-eqb i n same) e
-last_unmarked t (u ∷ ts) n i l e h = h
-
--- the steps from one of them on, to the last of so many
-steps_read : (n i : ℕ) (ts : List (List ℕ)) → i + length ts ≡ n + 1
-    → AllByRecursion (λ x. step_faults n x ≡ []) (enumerate_from i (drafts_of ts)) → ReadsSteps ts
-unfolding wants_in
-steps_read n i [] l e = record { spelled = refl; unmarked = refl; good = refl }
-steps_read n i (t ∷ ts) l e =
-    let here = step_reads n i t e.0 in
-    let later = steps_read n (i + 1) ts (omega arith) e.1 in
-    record {
-      spelled = ap (λ z. z ∷ map step_text (steps_of ts)) here.spelled ∙ ap (λ z. t ∷ z) later.spelled;
-      unmarked = last_unmarked t ts n i l here.unmarked later.unmarked;
-      good = and_make _ _ here.good later.good;
-    }
+-- their first nights are read as nights
+steps_nights : (ts : List (List ℕ)) → AllByRecursion HasNights (drafts_of ts)
+steps_nights ts =
+    all_images HasNights (λ t. Some (step_draft t))
+    (λ t. all_images HasNight option_draft (λ u. option_night (parts slash u)) (parts bar (without_mark t))) ts
 
 -- The tries.
 
@@ -219,30 +152,19 @@ tries_read t e =
 
 -- The line.
 
--- there are as many steps as texts
-count_steps : (ts : List (List ℕ)) → length (steps_of ts) ≡ length ts
-count_steps [] = refl
-count_steps (t ∷ ts) = ap (λ z. suc z) (count_steps ts)
-
 -- a line without a fault is the line of the plan that its draft means
 whole_line : (t : List ℕ) → faults (Some (line_draft t)) ≡ [] → IsPlanLine t (plan_of (Some (line_draft t)))
 whole_line t e =
     let last = append_none _ _ e in
-    let first = append_none _ _ last.0 in
     let k = length t - 2 in
     let ts = parts semicolon (take k t) in
     let n = length (drafts_of ts) in
-    let steps = steps_read n 1 ts (let h = length-map ts (λ t. Some (step_draft t)) in omega arith)
-    (flat_map_none (step_faults n) (enumerate_from 1 (drafts_of ts)) last.1) in
-    let tries = tries_read (drop k t) (and_both _ _ (unless_none _ _ first.0)).0 in
-    let counts : length (drafts_of ts) ≡ length (steps_of ts) =
-    length-map ts (λ t. Some (step_draft t)) ∙ sym (count_steps ts) in
-    let many : is_between 1 most_steps (length (steps_of ts)) ≡ true =
-    ap (is_between 1 most_steps) (sym counts) ∙ unless_none _ _ first.1 in
+    let steps = steps_read n 1 ts (flat_map_none (step_faults n) (enumerate_from 1 (drafts_of ts)) last.1) in
+    let tries = tries_read (drop k t) (and_both _ _ (unless_none _ _ (append_none _ _ last.0).0)).0 in
     record {
-      keeps_limits = and_make _ _ (and_make _ _ (and_make _ _ many steps.good) steps.unmarked) (le-leb _ most_tries tries.few);
+      keeps_limits = draft_keeps (line_draft t) (steps_nights ts) e;
       spelled = sym (
-          ap (λ z. joined semicolon z ++ tries_text (number_or_none (tries_in (drop k t)))) steps.spelled
+          ap (λ z. joined semicolon z ++ tries_text (number_or_none (tries_in (drop k t)))) steps
           ∙ ap (λ z. z ++ tries_text (number_or_none (tries_in (drop k t)))) (join_with_byte-slice_split semicolon (take k t))
           ∙ ap (λ z. take k t ++ z) tries.spelled
           ∙ take-append-drop k t);

@@ -1,9 +1,13 @@
--- What the fields of a plan say of its steps. For the readers of a plan and its copy.
-use Rattle.std.proofs.Common.{◌≡◌, ℕ, zero, suc, ◌-◌, ◌≤◌, List, map, length, refl, sym, ap, ◌∙◌, arith, get_or, Some, option_map}
-use Rattle.std.proofs.lemmas.List.{length-map}
+-- What the fields of a plan say of its steps. For the readers of a plan, its copy, and the check of its steps.
+use Rattle.std.proofs.Common.{◌≡◌, ℕ, zero, suc, ◌+◌, ◌-◌, ◌<◌, ◌≤◌, true, List, [], ◌∷◌, map, length, take, refl, sym, ap, ◌∙◌, arith, get_or, Some, option_map}
+use Rattle.std.specs.List.{list_all}
+use Rattle.std.proofs.lemmas.List.{length-map, get_or-map}
+use Rattle.std.proofs.lemmas.List.Folds.{list_all-append}
 use Rattle.std.proofs.lemmas.Option.{slice_get_read, slice_get-map}
 use Rattle.plan.specs.declared.steps.PlanStep.{PlanStep}
-use Rattle.plan.specs.PlanModel.{Planned, step_said, plan_said, numbered, step_count}
+use Rattle.plan.specs.PlanModel.{Planned, step_said, plan_said, numbered, step_count, is_step}
+use Rattle.allotment.proofs.TestLemmas.{and_make}
+use Rattle.plan.proofs.PrintLemmas.{mapped_more}
 
 -- the element at an index is the one with the next number, counted from 1
 pub numbered_read : {X : Type 0} (xs : List X) (i : ℕ) (x : X)
@@ -24,3 +28,17 @@ step_read items tries (suc i) plan x said low high e =
     ap (λ z. numbered z (suc i)) (sym steps)
     ∙ slice_get-map step_said items i
     ∙ ap (option_map step_said) (numbered_read items (suc i) x low many e)
+
+-- what the step at an index says
+pub said_at : (items : List PlanStep) (k : ℕ) (x : PlanStep) → k < length items → x ≡ get_or items k x
+    → step_said x ≡ get_or (map step_said items) k (step_said x)
+said_at items k x l e = ap step_said e ∙ sym (get_or-map step_said items k x (step_said x) l)
+
+-- one more step keeps the limits, like those before it
+pub limits_more : (items : List PlanStep) (k : ℕ) (x : PlanStep) → k < length items → x ≡ get_or items k x
+    → list_all is_step (map step_said (take k items)) ≡ true → is_step (step_said x) ≡ true
+    → list_all is_step (map step_said (take (k + 1) items)) ≡ true
+limits_more items k x l e so_far here =
+    ap (list_all is_step) (mapped_more step_said items k x l e)
+    ∙ list_all-append is_step (map step_said (take k items)) (step_said x ∷ [])
+    ∙ and_make _ _ so_far (and_make _ _ here refl)

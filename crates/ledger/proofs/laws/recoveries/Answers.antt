@@ -1,8 +1,7 @@
 -- Two recovered ledgers have the same turns, the same compensations and the same steps. One exists, journey by journey,
 -- since each step leaves fewer.
-use Rattle.ledger.proofs.Recoverable.{recovered-exists}
 use Rattle.ledger.proofs.Recovering.{recovered-unique}
-use Rattle.ledger.proofs.UnderWay.{recovery-goes_on}
+use Rattle.ledger.proofs.UnderWay.{recovered-exists, recovery-goes_on}
 use Rattle.ledger.proofs.laws.recoveries.Goals as goal
 
 pub returns : goal.returns

@@ -2,19 +2,19 @@ use Rattle.std.proofs.Common.{◌≡◌, ◌+◌, ◌<◌, ◌∷◌, [], map, l
 use Rattle.std.proofs.lemmas.List.{map-append}
 use Rattle.std.proofs.lemmas.Result.{err_from_is_err_and}
 use Rattle.plan.specs.PlanModel.{step_said}
-use Rattle.plan.specs.JsonLevels.{steps_of_json, views}
-use Rattle.plan.proofs.EachLemmas.{each, behind, each_more, each_fails, each_ends}
+use Rattle.serde_json.specs.View.{view}
+use Rattle.plan.specs.JsonLevels.{step_of_json, steps_of_json, views}
+use Rattle.plan.proofs.EachLemmas.{each, behind, json_steps_whole, each_more, each_fails, each_ends}
 use Rattle.plan.proofs.LevelLemmas.{IfBad-weaker}
-use Rattle.plan.proofs.JsonEachLemmas.{value_step, value_step-is, steps_whole}
 use Rattle.plan.proofs.json.steps_of.Goals as goal
 
 -- nothing was read yet
 pub loop-value-init : goal.loop-value-init
 loop-value-init c = record {
   number = omega arith;
-  whole = ap (λ z. behind (map step_said z) (each (value_step (length c.args.values.now)) 1 c.args.values.now))
+  whole = ap (λ z. behind (map step_said z) (each (λ i v. step_of_json (length c.args.values.now) i (view v)) 1 c.args.values.now))
       c.in_ok-steps.ensures.items
-      ∙ steps_whole (length c.args.values.now) c.args.values.now;
+      ∙ json_steps_whole (length c.args.values.now) c.args.values.now;
 }
 
 -- the step has a fault, and none before it has
@@ -29,8 +29,8 @@ returns-in_err-read-clause-refused c =
     let p = err_from_is_err_and c.from_residual-in_err-read.result c.from_residual-in_err-read.ensures.1 in
     rw (p.1, p.2)
     (IfBad-weaker c.in_err-read.field-0.0 _ _
-    (λ bad same. each_fails (value_step n) i k vs v (map step_said c.loop-value.steps.items) bad (steps_of_json n (views vs))
-    within c.value-item.is (value_step-is n i v ∙ same) c.loop-value.invariant.whole)
+    (λ bad same. each_fails (λ m w. step_of_json n m (view w)) i k vs v (map step_said c.loop-value.steps.items) bad (steps_of_json n (views vs))
+    within c.value-item.is same c.loop-value.invariant.whole)
     c.in_err-read.ensures.refused)
 
 -- one more step was read
@@ -45,10 +45,10 @@ loop-value-preserved c =
     let done = map step_said c.loop-value.steps.items in
     record {
       number = omega (arith, c.loop-value.invariant.number);
-      whole = ap (λ z. behind z (each (value_step n) (i + 1) (drop (k + 1) vs)))
+      whole = ap (λ z. behind z (each (λ m w. step_of_json n m (view w)) (i + 1) (drop (k + 1) vs)))
           (ap (map step_said) c.in_ok-push.ensures.items ∙ map-append step_said c.loop-value.steps.items (c.in_ok-read.read ∷ []))
-          ∙ each_more (value_step n) i k vs v done (step_said c.in_ok-read.read) (steps_of_json n (views vs))
-          within c.value-item.is (value_step-is n i v ∙ c.in_ok-read.ensures.read) c.loop-value.invariant.whole (k + 1) refl;
+          ∙ each_more (λ m w. step_of_json n m (view w)) i k vs v done (step_said c.in_ok-read.read) (steps_of_json n (views vs))
+          within c.value-item.is c.in_ok-read.ensures.read c.loop-value.invariant.whole (k + 1) refl;
     }
 
 -- each step was read
@@ -58,5 +58,5 @@ returns-clause-read c =
     let n = length vs in
     let k = c.loop-value.value-index in
     let end : k ≡ n = omega (arith, c.loop-value-test.false) in
-    each_ends (value_step n) c.loop-value.number k vs (map step_said c.loop-value.steps.items) (steps_of_json n (views vs)) end
+    each_ends (λ m w. step_of_json n m (view w)) c.loop-value.number k vs (map step_said c.loop-value.steps.items) (steps_of_json n (views vs)) end
     c.loop-value.invariant.whole

@@ -1,4 +1,4 @@
-use Rattle.std.proofs.Common.{◌≡◌, true, length, sym, ap, ◌∙◌, arith}
+use Rattle.std.proofs.Common.{◌≡◌, not, ◌&&◌, ◌==◌, length, sym, ap, ◌∙◌, arith}
 use Rattle.std.proofs.lemmas.Result.{err_from_is_err_and}
 use Rattle.std.specs.List.{list_all}
 use Rattle.allotment.proofs.TestLemmas.{and_make}
@@ -6,7 +6,7 @@ use Rattle.allotment.specs.Limits.{is_between, is_want}
 use Rattle.plan.specs.Limits.{most_options}
 use Rattle.plan.specs.PlanModel.{step_said}
 use Rattle.plan.specs.Levels.{step_limits}
-use Rattle.plan.proofs.LevelLemmas.{limits_count}
+use Rattle.plan.proofs.LevelLemmas.{limits_pass}
 use Rattle.plan.proofs.KeptLemmas.{kept_refused, kept_within}
 use Rattle.plan.proofs.limits.check_step.Goals as goal
 
@@ -14,20 +14,17 @@ use Rattle.plan.proofs.limits.check_step.Goals as goal
 pub returns-in_err-check_limits-clause-refused : goal.returns-in_err-check_limits-clause-refused
 returns-in_err-check_limits-clause-refused c =
     let s = step_said c.args.step.now in
-    let good : list_all is_want s.options ≡ true =
-    ap (list_all is_want) (sym c.as_slice.ensures.value) ∙ c.know_limits.ensures.limits in
     let many : c.len.result ≡ length s.options = omega (arith, c.len.ensures) in
     let p = err_from_is_err_and c.from_residual.result c.from_residual.ensures.1 in
     rw (p.1, p.2)
-    (kept_refused c.args.last c.args.number s _ good
+    (kept_refused c.args.last c.args.number s _
     (c.in_err-check_limits.ensures.limits ∙ ap (step_limits c.args.last c.args.number s.is_marked) many))
 
 -- both are kept
 pub returns-clause-kept : goal.returns-clause-kept
 returns-clause-kept c =
     let s = step_said c.args.step.now in
-    let good : list_all is_want s.options ≡ true =
-    ap (list_all is_want) (sym c.as_slice.ensures.value) ∙ c.know_limits.ensures.limits in
+    let good = ap (list_all is_want) (sym c.as_slice.ensures.value) ∙ c.know_limits.ensures.limits in
     let many : c.len.result ≡ length s.options = omega (arith, c.len.ensures) in
     kept_within c.args.last c.args.number s good
     (c.in_ok-check_limits.ensures.limits ∙ ap (step_limits c.args.last c.args.number s.is_marked) many)
@@ -36,8 +33,8 @@ returns-clause-kept c =
 pub returns-clause-limits : goal.returns-clause-limits
 returns-clause-limits c =
     let s = step_said c.args.step.now in
-    let good : list_all is_want s.options ≡ true =
-    ap (list_all is_want) (sym c.as_slice.ensures.value) ∙ c.know_limits.ensures.limits in
+    let good = ap (list_all is_want) (sym c.as_slice.ensures.value) ∙ c.know_limits.ensures.limits in
     let many : c.len.result ≡ length s.options = omega (arith, c.len.ensures) in
-    let limits = c.in_ok-check_limits.ensures.limits ∙ ap (step_limits c.args.last c.args.number s.is_marked) many in
-    and_make _ _ (limits_count _ (is_between 1 most_options (length s.options)) c.args.number limits) good
+    let pass = limits_pass (not (s.is_marked && c.args.number == c.args.last)) (is_between 1 most_options c.len.result)
+    c.args.number c.in_ok-check_limits.ensures.limits in
+    and_make _ _ (ap (is_between 1 most_options) (sym many) ∙ pass.1) good

@@ -5,7 +5,8 @@ use Rattle.plan.specs.PlanModel.{step_said}
 use Rattle.plan.specs.Levels.{step_kept, steps_kept}
 use Rattle.plan.proofs.EachLemmas.{each, behind, each_more, each_fails}
 use Rattle.plan.proofs.KeptLemmas.{kept_whole}
-use Rattle.plan.proofs.MadeLemmas.{said_at, said_more, limits_more}
+use Rattle.plan.proofs.PrintLemmas.{mapped_more}
+use Rattle.plan.proofs.StepLemmas.{said_at, limits_more}
 use Rattle.plan.proofs.limits.check_steps.Goals as goal
 
 -- no step was checked yet
@@ -42,7 +43,7 @@ loop-step-preserved c =
       number = omega (arith, c.loop-step.invariant.number);
       limits = limits_more items k x within c.step-item.is c.loop-step.invariant.limits c.in_ok-check_step.ensures.limits;
       whole = ap (λ z. behind z (each (step_kept (length items)) (c.loop-step.number + 1) (drop (k + 1) (map step_said items))))
-          (said_more items k x within c.step-item.is)
+          (mapped_more step_said items k x within c.step-item.is)
           ∙ each_more (step_kept (length items)) c.loop-step.number k (map step_said items) (step_said x)
           (map step_said (take k items)) (step_said x) (steps_kept (length items) (map step_said items))
           said (said_at items k x within c.step-item.is) c.in_ok-check_step.ensures.kept c.loop-step.invariant.whole

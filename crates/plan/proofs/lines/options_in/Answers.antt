@@ -4,14 +4,14 @@ use Rattle.std.proofs.lemmas.Iterator.Splits.{YieldsList-from_str_split}
 use Rattle.std.proofs.lemmas.List.{length_push}
 use Rattle.std.proofs.lemmas.Result.{err_from_is_err_and}
 use Rattle.allotment.specs.Texts.{parts, bar}
-use Rattle.plan.specs.Levels.{options_in}
-use Rattle.plan.proofs.EachLemmas.{each, behind, option_at, option_at-is, options_whole, each_more, each_fails, each_ends}
+use Rattle.plan.specs.Levels.{option_in, options_in}
+use Rattle.plan.proofs.EachLemmas.{each, behind, options_whole, each_more, each_fails, each_ends}
 use Rattle.plan.proofs.lines.options_in.Goals as goal
 
 -- nothing was read yet
 pub loop-part-init : goal.loop-part-init
 loop-part-init c =
-    ap (λ z. behind z (each (option_at c.args.step) 0 (parts bar c.args.text.now))) c.in_ok-options.ensures.items
+    ap (λ z. behind z (each (λ i. option_in c.args.step) 0 (parts bar c.args.text.now))) c.in_ok-options.ensures.items
     ∙ options_whole c.args.step c.args.text.now
 
 -- the option has a fault, and none before it has
@@ -23,9 +23,9 @@ returns-in_err-want-clause-refused c =
     let turn = YieldsList-turn road c.loop-part.yielded _ c.loop-part.yielded_by _ _ c.in-Some.part c.in-Some.is c.next.ensures.steps in
     let p = err_from_is_err_and c.from_residual-in_err-want.result c.from_residual-in_err-want.ensures.1 in
     rw (p.1, p.2)
-    (each_fails (option_at c.args.step) (length c.loop-part.yielded) (length c.loop-part.yielded) (parts bar c.args.text.now)
+    (each_fails (λ i. option_in c.args.step) (length c.loop-part.yielded) (length c.loop-part.yielded) (parts bar c.args.text.now)
     c.in-Some.part.now c.loop-part.options.items _ (options_in c.args.step c.args.text.now) turn.0 turn.1
-    (option_at-is c.args.step (length c.loop-part.yielded) c.in-Some.part.now ∙ sym c.in_err-want.ensures.want)
+    (sym c.in_err-want.ensures.want)
     c.loop-part.invariant)
 
 -- one more option was read
@@ -39,12 +39,12 @@ loop-part-preserved c =
     let ts = parts bar c.args.text.now in
     let next = length (c.loop-part.yielded ++ c.in-Some.part ∷ []) in
     let number : next ≡ k + 1 = length_push c.loop-part.yielded c.in-Some.part in
-    let more = each_more (option_at c.args.step) k k ts
+    let more = each_more (λ i. option_in c.args.step) k k ts
     c.in-Some.part.now c.loop-part.options.items c.in_ok-want.want (options_in c.args.step c.args.text.now) turn.0 turn.1
-    (option_at-is c.args.step k c.in-Some.part.now ∙ sym c.in_ok-want.ensures.want)
+    (sym c.in_ok-want.ensures.want)
     c.loop-part.invariant next number in
-    ap (λ z. behind z (each (option_at c.args.step) next (drop next ts))) c.in_ok-push.ensures.items
-    ∙ ap (λ z. behind (c.loop-part.options.items ++ c.in_ok-want.want ∷ []) (each (option_at c.args.step) z (drop next ts))) number
+    ap (λ z. behind z (each (λ i. option_in c.args.step) next (drop next ts))) c.in_ok-push.ensures.items
+    ∙ ap (λ z. behind (c.loop-part.options.items ++ c.in_ok-want.want ∷ []) (each (λ i. option_in c.args.step) z (drop next ts))) number
     ∙ more
 
 -- each option was read
@@ -54,5 +54,5 @@ returns-clause-read c =
     (YieldsList-from_str_split 124 c.args.text.now (lit< tt)
     c.split-part-items.ensures.text c.split-part-items.ensures.has_more c.split-part-items.ensures.pattern) in
     let end = YieldsList-end road c.loop-part.yielded _ c.loop-part.yielded_by _ _ c.in-None.is c.next.ensures.steps in
-    each_ends (option_at c.args.step) (length c.loop-part.yielded) (length c.loop-part.yielded) (parts bar c.args.text.now)
+    each_ends (λ i. option_in c.args.step) (length c.loop-part.yielded) (length c.loop-part.yielded) (parts bar c.args.text.now)
     c.loop-part.options.items (options_in c.args.step c.args.text.now) end.1 c.loop-part.invariant

@@ -1,6 +1,6 @@
 use Rattle.std.proofs.Common.{◌≡◌, ◌<◌, ◌≤◌, ◌⊎◌, inl, inr, [], ◌∷◌, ◌++◌, map, length, take, sym, ap, ◌∙◌, arith, string_bytes}
 use Rattle.allotment.specs.Texts.{joined, want_text, bar}
-use Rattle.plan.proofs.PrintLemmas.{printed_more, texts_more, texts_many}
+use Rattle.plan.proofs.PrintLemmas.{printed_more, mapped_more, texts_many}
 use Rattle.plan.proofs.printing.push_options.Goals as goal
 use Rattle.plan.proofs.printing.push_options.Goals.{then-i-gt0+in_ok-push_str, else-i-gt0}
 
@@ -24,4 +24,4 @@ loop-i-preserved c =
     ] in
     printed_more bar (string_bytes c.args.line.now) before now (string_bytes c.push_want.new.line) ts (want_text x)
     c.loop-i.invariant between c.in_ok-push_want.ensures.want
-    ∙ ap (λ z. string_bytes c.args.line.now ++ joined bar z) (sym (texts_more want_text xs k x within c.index-options-i.is))
+    ∙ ap (λ z. string_bytes c.args.line.now ++ joined bar z) (sym (mapped_more want_text xs k x within c.index-options-i.is))

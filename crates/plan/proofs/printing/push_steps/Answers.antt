@@ -3,8 +3,7 @@ use Rattle.std.proofs.lemmas.List.{length-map, map-append}
 use Rattle.allotment.specs.Texts.{joined, semicolon}
 use Rattle.plan.specs.PlanModel.{step_said}
 use Rattle.plan.specs.PlanLine.{step_text}
-use Rattle.plan.proofs.MadeLemmas.{said_more}
-use Rattle.plan.proofs.PrintLemmas.{printed_more}
+use Rattle.plan.proofs.PrintLemmas.{printed_more, mapped_more}
 use Rattle.plan.proofs.printing.push_steps.Goals as goal
 use Rattle.plan.proofs.printing.push_steps.Goals.{then-i-gt0+in_ok-push_str, else-i-gt0}
 
@@ -30,4 +29,4 @@ loop-i-preserved c =
     printed_more semicolon (string_bytes c.args.line.now) before now (string_bytes c.push_step.new.line) ts (step_text (step_said x))
     c.loop-i.invariant between c.in_ok-push_step.ensures.step
     ∙ ap (λ z. string_bytes c.args.line.now ++ joined semicolon z)
-    (sym (ap (map step_text) (said_more xs k x within c.index-steps-i.is) ∙ map-append step_text said (step_said x ∷ [])))
+    (sym (ap (map step_text) (mapped_more step_said xs k x within c.index-steps-i.is) ∙ map-append step_text said (step_said x ∷ [])))

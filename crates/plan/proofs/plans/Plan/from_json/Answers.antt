@@ -5,7 +5,8 @@ use Rattle.plan.specs.Limits.{most_steps}
 use Rattle.plan.specs.PlanModel.{plan_said}
 use Rattle.plan.specs.PlanJson.{plan_in_json}
 use Rattle.plan.proofs.LevelLemmas.{IfBad-weaker}
-use Rattle.plan.proofs.JsonPlanLemmas.{plan_unshaped, plan_no_tries, plan_miscounted, plan_by_steps, json_fault_step}
+use Rattle.plan.proofs.LineLemmas.{json_unshaped, json_no_tries, json_miscounted, json_by_steps}
+use Rattle.plan.proofs.FaultLemmas.{json_fault_step}
 use Rattle.plan.proofs.JsonKeptLemmas.{json_keeps_limits}
 use Rattle.plan.proofs.plans.Plan.from_json.Goals as goal
 use Rattle.plan.proofs.plans.Plan.from_json.Goals.{then-last-eq0-via-then-last-eq0, then-last-eq0-via-else-last-eq0+then-last-gt-MOST_STEPS}
@@ -13,12 +14,12 @@ use Rattle.plan.proofs.plans.Plan.from_json.Goals.{then-last-eq0-via-then-last-e
 -- it has not the shape of a plan
 pub returns-in_default-clause-refused : goal.returns-in_default-clause-refused
 returns-in_default-clause-refused c =
-    plan_unshaped (view c.args.value.now) c.in_default.ensures.steps ∙ ap Err (sym c.bad.ensures.bad)
+    json_unshaped (view c.args.value.now) c.in_default.ensures.steps ∙ ap Err (sym c.bad.ensures.bad)
 
 -- it has no tries
 pub returns-in_default-plan_tries-clause-refused : goal.returns-in_default-plan_tries-clause-refused
 returns-in_default-plan_tries-clause-refused c =
-    plan_no_tries (view c.args.value.now) c.in-Some.values.now c.in-Some.ensures.steps c.in_default-plan_tries.ensures.tries
+    json_no_tries (view c.args.value.now) c.in-Some.values.now c.in-Some.ensures.steps c.in_default-plan_tries.ensures.tries
     ∙ ap Err (sym c.bad-in_default-plan_tries.ensures.bad)
 
 -- it has no step, or more than a plan may
@@ -29,7 +30,7 @@ returns-then-last-eq0-clause-refused c =
       | then-last-eq0-via-then-last-eq0 w ↦ inl (omega (arith, w.if-last-eq0.true))
       | then-last-eq0-via-else-last-eq0+then-last-gt-MOST_STEPS w ↦ inr (omega (arith, w.if-last-gt-MOST_STEPS.true))
     ] in
-    plan_miscounted (view c.args.value.now) c.in-Some.values.now c.in-Some-plan_tries.tries c.in-Some.ensures.steps
+    json_miscounted (view c.args.value.now) c.in-Some.values.now c.in-Some-plan_tries.tries c.in-Some.ensures.steps
     c.in-Some-plan_tries.ensures.tries c.in-Some-plan_tries.ensures.few many
     ∙ ap Err (sym c.bad-then-last-eq0.ensures.bad)
 
@@ -39,8 +40,8 @@ returns-in_err-steps-clause-refused c =
     let p = err_from_is_err_and c.from_residual.result c.from_residual.ensures.1 in
     rw (p.1, p.2)
     (IfBad-weaker c.in_err-steps.field-0.0 _ _
-    (λ bad same. plan_by_steps (view c.args.value.now) c.in-Some.values.now c.in-Some-plan_tries.tries (Err bad)
-    c.in-Some.ensures.steps c.in-Some-plan_tries.ensures.tries c.in-Some-plan_tries.ensures.few
+    (λ bad same. json_by_steps (view c.args.value.now) c.in-Some.values.now c.in-Some-plan_tries.tries
+    c.in-Some.ensures.steps c.in-Some-plan_tries.ensures.tries c.in-Some-plan_tries.ensures.few (Err bad)
     (omega (arith, c.if-last-eq0.false)) (omega (arith, c.if-last-gt-MOST_STEPS.false)) same)
     c.in_err-steps.ensures.refused)
 
@@ -49,25 +50,21 @@ pub returns-in_err-steps-clause-step : goal.returns-in_err-steps-clause-step
 returns-in_err-steps-clause-step c =
     let p = err_from_is_err_and c.from_residual.result c.from_residual.ensures.1 in
     rw (p.1, p.2)
-    (IfBad-weaker c.in_err-steps.field-0.0 _ _
-    (λ bad same. json_fault_step (view c.args.value.now) bad
-    (plan_by_steps (view c.args.value.now) c.in-Some.values.now c.in-Some-plan_tries.tries (Err bad)
-    c.in-Some.ensures.steps c.in-Some-plan_tries.ensures.tries c.in-Some-plan_tries.ensures.few
-    (omega (arith, c.if-last-eq0.false)) (omega (arith, c.if-last-gt-MOST_STEPS.false)) same))
-    c.in_err-steps.ensures.refused)
+    (IfBad-weaker c.in_err-steps.field-0.0 _ _ (λ bad same. json_fault_step (view c.args.value.now) bad same)
+    (rw (p.1, p.2) at (returns-in_err-steps-clause-refused c)))
 
 -- what is read keeps the limits
 pub invariant_of-result : goal.invariant_of-result
 invariant_of-result c =
     let read : plan_in_json (view c.args.value.now) ≡ Ok (plan_said c.in_ok-steps.steps.items c.in-Some-plan_tries.tries) =
-    plan_by_steps (view c.args.value.now) c.in-Some.values.now c.in-Some-plan_tries.tries _
-    c.in-Some.ensures.steps c.in-Some-plan_tries.ensures.tries c.in-Some-plan_tries.ensures.few
+    json_by_steps (view c.args.value.now) c.in-Some.values.now c.in-Some-plan_tries.tries
+    c.in-Some.ensures.steps c.in-Some-plan_tries.ensures.tries c.in-Some-plan_tries.ensures.few _
     (omega (arith, c.if-last-eq0.false)) (omega (arith, c.if-last-gt-MOST_STEPS.false)) c.in_ok-steps.ensures.read in
     json_keeps_limits (view c.args.value.now) _ read
 
 -- the plan is the one that is read
 pub returns-clause-read : goal.returns-clause-read
 returns-clause-read c =
-    plan_by_steps (view c.args.value.now) c.in-Some.values.now c.in-Some-plan_tries.tries _
-    c.in-Some.ensures.steps c.in-Some-plan_tries.ensures.tries c.in-Some-plan_tries.ensures.few
+    json_by_steps (view c.args.value.now) c.in-Some.values.now c.in-Some-plan_tries.tries
+    c.in-Some.ensures.steps c.in-Some-plan_tries.ensures.tries c.in-Some-plan_tries.ensures.few _
     (omega (arith, c.if-last-eq0.false)) (omega (arith, c.if-last-gt-MOST_STEPS.false)) c.in_ok-steps.ensures.read

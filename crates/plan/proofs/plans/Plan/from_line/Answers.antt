@@ -26,8 +26,8 @@ returns-in_err-steps-clause-refused c =
     let p = err_from_is_err_and c.from_residual.result c.from_residual.ensures.1 in
     rw (p.1, p.2)
     (IfBad-weaker c.in_err-steps.field-0.0 _ _
-    (λ bad same. line_by_steps c.args.text.now c.in-Some.front.now c.in-Some.tries c.count_steps-count.result (Err bad)
-    c.in-Some.ensures.rest c.in-Some.ensures.tries c.count_steps-count.ensures.count c.if-count-gt-MOST_STEPS.false same)
+    (λ bad same. line_by_steps c.args.text.now c.in-Some.front.now c.in-Some.tries c.count_steps-count.result
+    c.in-Some.ensures.rest c.in-Some.ensures.tries c.count_steps-count.ensures.count (Err bad) c.if-count-gt-MOST_STEPS.false same)
     c.in_err-steps.ensures.refused)
 
 -- the fault of a step names a step up to the last
@@ -35,33 +35,25 @@ pub returns-in_err-steps-clause-step : goal.returns-in_err-steps-clause-step
 returns-in_err-steps-clause-step c =
     let p = err_from_is_err_and c.from_residual.result c.from_residual.ensures.1 in
     rw (p.1, p.2)
-    (IfBad-weaker c.in_err-steps.field-0.0 _ _
-    (λ bad same. fault_step c.args.text.now bad
-    (line_by_steps c.args.text.now c.in-Some.front.now c.in-Some.tries c.count_steps-count.result (Err bad)
-    c.in-Some.ensures.rest c.in-Some.ensures.tries c.count_steps-count.ensures.count c.if-count-gt-MOST_STEPS.false same))
-    c.in_err-steps.ensures.refused)
+    (IfBad-weaker c.in_err-steps.field-0.0 _ _ (λ bad same. fault_step c.args.text.now bad same)
+    (rw (p.1, p.2) at (returns-in_err-steps-clause-refused c)))
 
 -- what is read keeps the limits
 pub invariant_of-result : goal.invariant_of-result
 invariant_of-result c =
     let read : plan_in c.args.text.now ≡ Ok (plan_said c.in_ok-steps.steps.items c.in-Some.tries) =
-    line_by_steps c.args.text.now c.in-Some.front.now c.in-Some.tries c.count_steps-count.result _
-    c.in-Some.ensures.rest c.in-Some.ensures.tries c.count_steps-count.ensures.count c.if-count-gt-MOST_STEPS.false
+    line_by_steps c.args.text.now c.in-Some.front.now c.in-Some.tries c.count_steps-count.result
+    c.in-Some.ensures.rest c.in-Some.ensures.tries c.count_steps-count.ensures.count _ c.if-count-gt-MOST_STEPS.false
     c.in_ok-steps.ensures.read in
     (read_is_spelled c.args.text.now _ read).keeps_limits
 
 -- the plan is the one that is read
 pub returns-clause-read : goal.returns-clause-read
 returns-clause-read c =
-    line_by_steps c.args.text.now c.in-Some.front.now c.in-Some.tries c.count_steps-count.result _
-    c.in-Some.ensures.rest c.in-Some.ensures.tries c.count_steps-count.ensures.count c.if-count-gt-MOST_STEPS.false
+    line_by_steps c.args.text.now c.in-Some.front.now c.in-Some.tries c.count_steps-count.result
+    c.in-Some.ensures.rest c.in-Some.ensures.tries c.count_steps-count.ensures.count _ c.if-count-gt-MOST_STEPS.false
     c.in_ok-steps.ensures.read
 
 -- the text that is read is the line of the plan
 pub returns-clause-spelled : goal.returns-clause-spelled
-returns-clause-spelled c =
-    let read : plan_in c.args.text.now ≡ Ok (plan_said c.in_ok-steps.steps.items c.in-Some.tries) =
-    line_by_steps c.args.text.now c.in-Some.front.now c.in-Some.tries c.count_steps-count.result _
-    c.in-Some.ensures.rest c.in-Some.ensures.tries c.count_steps-count.ensures.count c.if-count-gt-MOST_STEPS.false
-    c.in_ok-steps.ensures.read in
-    read_is_spelled c.args.text.now _ read
+returns-clause-spelled c = read_is_spelled c.args.text.now _ (returns-clause-read c)
