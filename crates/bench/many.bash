@@ -96,6 +96,20 @@ measure_many() (
   awk '{ print $1, $2, $4, $6 }' times | table_of_many desk-processor-µs -
 )
 
+# Requests of an agent beside reports of 10^5 cells at the administrator's socket: the longest wait, in the median of nine reports, and
+# the most that it is to be; the middle wait, that of the same request alone, the time of a report, and how many bytes it has.
+measure_beside() (
+  command -v python3 >/dev/null || {
+    say "python3 is absent, so http beside a report is skipped"
+    exit 0
+  }
+  works_in_memory
+  "$desk" run cells.db </dev/null && "$bench" load cells.db 50 >loaded || exit 1
+  echo "beside-a-report-of-10^5-cells longest-ms at-most middle-ms alone-ms report-ms bytes"
+  read -r longest others <<<"$(python3 "$top/crates/bench/beside.py" "$desk" cells.db 9)"
+  echo "unfinished $longest 50 $others"
+)
+
 # the desk as it serves until it is stopped, over the file many.db
 desk_for_long() { exec "$desk" serve many.db --port "$1"; }
 

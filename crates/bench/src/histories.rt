@@ -1,4 +1,5 @@
 //! How long it takes to read a journey and its history from an opened desk.
+use report_rows::start_items;
 use saga_core::RowSource;
 use sqlite::{Alter, Connection};
 use std::alloc::Global;
@@ -38,7 +39,8 @@ fn count_items<S: Alter>(alloc: Global, opened: &mut Opened<S>, journey: u64) ->
         Ok(Some(_)) => {}
         _ => return Err(fault()),
     }
-    let Ok(mut rows) = opened.item_rows(journey) else {
+    let version = opened.version();
+    let Ok(mut rows) = start_items(opened.connection(), version, journey) else {
         return Err(fault());
     };
     for count in 0..u32::MAX {

@@ -6,6 +6,7 @@
 //! Few functions here own a store in a file; the others are generic in the store, or in the book over it.
 #![tactic(auto)]
 
+mod asking;
 mod indexes;
 mod listening;
 mod loads;

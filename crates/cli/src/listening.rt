@@ -12,10 +12,11 @@ use commands::Fault;
 use desk_files::{close_after, connect};
 use desk_jobs::{note_recovered, ready_over};
 use http_pages::HtmlPage;
-use http_sockets::{Limits, PATIENCE, Sockets, log_opening, serve_sockets};
+use http_sockets::{Limits, LogForm, PATIENCE, Sockets, log_opening, serve_sockets};
 use program_ends::{End, Ended, ProgramFault, end_of_listening};
 use protocols::ServeFault;
 use recovery::Ready;
+use report_kinds::Reporting;
 use saga_core::Book;
 use sqlite::{Alter, Connection};
 use std::alloc::Global;
@@ -36,8 +37,8 @@ pub(crate) struct Served<'a> {
     pub house: Option<&'a str>,
     /// Whether the page for browsers is served at the port.
     pub page: bool,
-    /// Whether the log is written, on the standard error of the host.
-    pub log: bool,
+    /// How the log is written on the standard error of the host, if it is.
+    pub log: Option<LogForm>,
     /// Whether HTTP is read as libraries, proxies and pools speak it.
     pub wide: bool,
 }
@@ -96,8 +97,8 @@ fn serve_over<'a, S: Alter + Drop, O: Write, N: Write>(
     match ready_over(alloc, conn) {
         Ok((desk, made)) => {
             note_recovered(alloc, made, notes);
-            if served.log {
-                log_opening(rt, alloc, made);
+            if let Some(form) = served.log {
+                log_opening(rt, alloc, form, made);
             }
             serve_desk(rt, alloc, served, desk, out)
         }
@@ -166,8 +167,10 @@ fn has_socket(rt: &HostRuntime, house: Option<&str>) -> bool {
 
 /// The sockets, with the way of reading HTTP, the log and the page that are asked for.
 fn equipped<'a>(sockets: Sockets<'a>, served: Served<'a>) -> Result<Sockets<'a>, ProgramFault> {
-    let sockets = with_log(widened(sockets, served.wide), served.log)?;
-    with_page(sockets, served.page)
+    with_page(
+        with_log(widened(sockets, served.wide), served.log),
+        served.page,
+    )
 }
 
 /// The sockets, which read HTTP as libraries, proxies and pools speak it if that is asked for.
@@ -193,18 +196,17 @@ fn with_page(sockets: Sockets<'_>, page: bool) -> Result<Sockets<'_>, ProgramFau
     Ok(sockets)
 }
 
-/// The sockets, which write the log if that is asked for.
-fn with_log(sockets: Sockets<'_>, log: bool) -> Result<Sockets<'_>, ProgramFault> {
+/// The sockets, which write the log in this form if that is asked for.
+fn with_log(sockets: Sockets<'_>, log: Option<LogForm>) -> Sockets<'_> {
     let mut sockets = sockets;
-    if log && sockets.log().is_err() {
-        sockets.end();
-        return Err(ProgramFault::Memory);
+    if let Some(form) = log {
+        sockets.log(form);
     }
-    Ok(sockets)
+    sockets
 }
 
 /// Serves the sockets over a recovered book, and reports first that connections to the port are accepted.
-fn listen<B: Book, O: Write>(
+fn listen<B: Reporting, O: Write>(
     alloc: Global,
     port: u16,
     sockets: &mut Sockets<'_>,
@@ -225,7 +227,7 @@ fn listen<B: Book, O: Write>(
 }
 
 /// Serves the sockets over a recovered book.
-fn serve_all<B: Book>(
+fn serve_all<B: Reporting>(
     alloc: Global,
     sockets: &mut Sockets<'_>,
     book: &mut Ready<B>,

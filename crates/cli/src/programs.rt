@@ -14,15 +14,14 @@ use crate::indexes::index_file;
 use crate::listening::{Served, serve_file};
 use crate::loads::load_file;
 use crate::migrations::migrate_file;
-use crate::telling::{history_file, report_file};
-use command_line::{Job, version_line};
+use crate::telling::tell_report;
+use command_line::{Call, Job, LogForm as Form, version_line};
 use commands::Refusal;
 use desk_files::{close_after, connect};
 use desk_jobs::{recover_over, run_over};
-use month_reports::MonthReport;
+use http_sockets::LogForm;
 use program_ends::{End, Ended, ProgramFault};
-use report_jobs::Report;
-use reports::JourneyReport;
+use report_words::report_of;
 use std::alloc::Global;
 use std::io::{Read, Write, sink};
 use streams::send;
@@ -34,23 +33,23 @@ use streams::send;
 pub fn perform<R: Read, O: Write, E: Write>(
     rt: &HostRuntime,
     alloc: Global,
-    job: Job,
+    call: Call,
     reader: &mut R,
     out: &mut O,
     err: &mut E,
 ) -> u8
     ensures status { result ≤ 1 }
-    ensures read { result ≡ 0 → ReadsFor job (R.remaining reader.old) (R.remaining reader.new) }
-    ensures told { result ≡ 0 → TellsOf job (O.contents out.old) (O.contents out.new) }
+    ensures read { result ≡ 0 → ReadsFor call.job (R.remaining reader.old) (R.remaining reader.new) }
+    ensures told { result ≡ 0 → TellsOf call.job (O.contents out.old) (O.contents out.new) }
 
     ensures quiet { result ≡ 0 → Keeps (E.contents err.old) (E.contents err.new) }
     ensures err { TellsNoneOrFault (E.contents err.old) (E.contents err.new) }
 
-    ensures bad_id { HasBadId job →
+    ensures bad_id { HasBadId call.job →
         (result ≡ 1) × WroteFront (O.contents out.old) (O.contents out.new)
         (ended (refusal_line Refusal.BadBody)) }
 {
-    let ended = carry_out(rt, alloc, job, reader, out, &mut sink());
+    let ended = carry_out(rt, alloc, call, reader, out, &mut sink());
     ended.end.tell(alloc, out, err)
 }
 
@@ -60,45 +59,45 @@ pub fn perform<R: Read, O: Write, E: Write>(
 pub fn perform_explained<R: Read, O: Write, E: Write>(
     rt: &HostRuntime,
     alloc: Global,
-    job: Job,
+    call: Call,
     reader: &mut R,
     out: &mut O,
     err: &mut E,
 ) -> u8
     ensures status { result ≤ 1 }
-    ensures read { result ≡ 0 → ReadsFor job (R.remaining reader.old) (R.remaining reader.new) }
-    ensures told { result ≡ 0 → TellsOf job (O.contents out.old) (O.contents out.new) }
+    ensures read { result ≡ 0 → ReadsFor call.job (R.remaining reader.old) (R.remaining reader.new) }
+    ensures told { result ≡ 0 → TellsOf call.job (O.contents out.old) (O.contents out.new) }
 
     ensures err { TellsExplained (E.contents err.old) (E.contents err.new) }
 
-    ensures bad_id { HasBadId job →
+    ensures bad_id { HasBadId call.job →
         (result ≡ 1) × WroteFront (O.contents out.old) (O.contents out.new)
         (ended (refusal_line Refusal.BadBody)) }
 {
-    let ended = carry_out(rt, alloc, job, reader, out, err);
+    let ended = carry_out(rt, alloc, call, reader, out, err);
     ended.explain(alloc, out, err)
 }
 
 /// Does a job, and returns its end.
-#[tactic(auto, using(crate::proofs::NoteLemmas::first_alone, crate::proofs::NoteLemmas::none_noted))]
+#[tactic(auto, using(crate::proofs::NoteLemmas::first_alone, crate::proofs::NoteLemmas::none_noted, crate::proofs::ReportLemmas::bad_report))]
 fn carry_out<R: Read, O: Write, N: Write>(
     rt: &HostRuntime,
     alloc: Global,
-    job: Job,
+    call: Call,
     reader: &mut R,
     out: &mut O,
     notes: &mut N,
 ) -> Ended
     ensures job { EndsJob result.end }
     ensures read { IfDone result.end
-        (ReadsFor job (R.remaining reader.old) (R.remaining reader.new)) }
-    ensures told { IfDone result.end (TellsOf job (O.contents out.old) (O.contents out.new)) }
+        (ReadsFor call.job (R.remaining reader.old) (R.remaining reader.new)) }
+    ensures told { IfDone result.end (TellsOf call.job (O.contents out.old) (O.contents out.new)) }
     ensures notes { MayNoteAll (N.contents notes.old) (N.contents notes.new) }
 
-    ensures bad_id { HasBadId job → result.end ≡ End.Refused Refusal.BadBody }
-    ensures untold { HasBadId job → Keeps (O.contents out.old) (O.contents out.new) }
+    ensures bad_id { HasBadId call.job → result.end ≡ End.Refused Refusal.BadBody }
+    ensures untold { HasBadId call.job → Keeps (O.contents out.old) (O.contents out.new) }
 {
-    match job {
+    match &call.job {
         Job::Run { file } => run_file(rt, alloc, file.as_str(), reader, out, notes),
         Job::Serve {
             file,
@@ -110,12 +109,12 @@ fn carry_out<R: Read, O: Write, N: Write>(
             wide,
         } => {
             let served = Served {
-                port,
-                connections,
+                port: *port,
+                connections: *connections,
                 house: house.as_ref().map(|path| path.as_str()),
-                page,
-                log,
-                wide,
+                page: *page,
+                log: form_of(*log),
+                wide: *wide,
             };
             serve_file(rt, alloc, file.as_str(), served, out, notes)
         }
@@ -124,76 +123,30 @@ fn carry_out<R: Read, O: Write, N: Write>(
             let (file, csv, batch) = (file.as_str(), csv.as_str(), batch.as_str());
             load_file(rt, alloc, file, csv, batch, reader, out, notes)
         }
-        Job::Stock {
-            file,
-            filter,
-            format,
-        } => {
-            let report = Report::Stock { filter, format };
-            report_file(rt, alloc, file.as_str(), &report, out)
-        }
-        Job::Summary {
-            file,
-            filter,
-            format,
-        } => {
-            let months = MonthReport::Summary(format);
-            let report = Report::Months { months, filter };
-            report_file(rt, alloc, file.as_str(), &report, out)
-        }
-        Job::Calendar { file, filter } => {
-            let months = MonthReport::Calendar;
-            let report = Report::Months { months, filter };
-            report_file(rt, alloc, file.as_str(), &report, out)
-        }
-        Job::Holders { file, cell, format } => {
-            let report = Report::Holders { cell, format };
-            report_file(rt, alloc, file.as_str(), &report, out)
-        }
-        Job::Holdings {
-            file,
-            filter,
-            format,
-        } => {
-            let report = Report::Holdings { filter, format };
-            report_file(rt, alloc, file.as_str(), &report, out)
-        }
-        Job::Unfinished {
-            file,
-            filter,
-            format,
-        } => {
-            let name = JourneyReport::Unfinished;
-            let report = Report::Journeys {
-                name,
-                filter,
-                format,
-            };
-            report_file(rt, alloc, file.as_str(), &report, out)
-        }
-        Job::Journeys {
-            file,
-            filter,
-            format,
-        } => {
-            let name = JourneyReport::Journeys;
-            let report = Report::Journeys {
-                name,
-                filter,
-                format,
-            };
-            report_file(rt, alloc, file.as_str(), &report, out)
-        }
-        Job::History { file, id, format } => {
-            history_file(rt, alloc, file.as_str(), id.as_str(), format, out)
-        }
-        Job::Why { file, id, format } => {
-            let report = Report::Why { id, format };
-            report_file(rt, alloc, file.as_str(), &report, out)
+        Job::Stock { file, .. }
+        | Job::Calendar { file, .. }
+        | Job::Summary { file, .. }
+        | Job::Holders { file, .. }
+        | Job::Holdings { file, .. }
+        | Job::Unfinished { file, .. }
+        | Job::Journeys { file, .. }
+        | Job::History { file, .. }
+        | Job::Why { file, .. } => {
+            let report = report_of(&call.job);
+            tell_report(rt, alloc, file.as_str(), &call.socket, report, out)
         }
         Job::Migrate { file } => migrate_file(rt, alloc, file.as_str(), out),
         Job::Index { file } => index_file(rt, alloc, file.as_str(), out),
         Job::Version => Ended::from(tell_version(out)),
+    }
+}
+
+/// How the log is written, if it is asked for.
+fn form_of(log: Option<Form>) -> Option<LogForm> {
+    match log {
+        Some(Form::Plain) => Some(LogForm::Plain),
+        Some(Form::Timed) => Some(LogForm::Timed),
+        None => None,
     }
 }
 

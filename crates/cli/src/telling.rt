@@ -1,42 +1,45 @@
-//! Reports of the desk over a file, which is opened without recovery.
+//! Reports of the desk over a file, which is opened without recovery, or of one that serves.
 ghost use Rattle.std.specs.Prelude.{◌≡◌, None};
 ghost use Rattle.std.specs.Io.KnownBytes.{Keeps};
 ghost use Rattle.desk_sql.specs.Calls.{Idle};
-ghost use Rattle.desk_lines.specs.Lines.{journey_in as journey_of};
 ghost use Rattle.program_ends.specs.Ends.{EndsJob};
 
+use crate::asking::asked_report;
+use command_line::Socket;
 use commands::Refusal;
 use desk_files::{FileConnection, NewLog, close_after, connect_there};
-use desk_lines::journey_in;
 use program_ends::{End, Ended, ProgramFault};
-use report_jobs::{Report, report_over};
-use reports::Format;
+use report_jobs::report_over;
+use report_kinds::Report;
 use sqlite::{Alter, Connection};
 use std::alloc::Global;
 use std::io::{BufWriter, Write};
 
-/// Prints the history of the journey that a word names. A word that names none is refused before the file is opened.
-pub(crate) fn history_file<O: Write>(
+/// Prints a report of the desk over a file, or of the one that serves at a socket in its place. Words that ask for none are
+/// refused before the file is opened and before the desk is asked.
+pub(crate) fn tell_report<O: Write>(
     rt: &HostRuntime,
     alloc: Global,
     file: &str,
-    id: &str,
-    format: Format,
+    socket: &Option<Socket>,
+    report: Option<Report>,
     out: &mut O,
 ) -> Ended
     ensures job { EndsJob result.end }
-    ensures bad_id { journey_of id.now ≡ None → result.end ≡ End.Refused Refusal.BadBody }
-    ensures untold { journey_of id.now ≡ None →
-        Keeps (O.contents out.old) (O.contents out.new) }
+    ensures none { report ≡ None → result.end ≡ End.Refused Refusal.BadBody }
+    ensures untold { report ≡ None → Keeps (O.contents out.old) (O.contents out.new) }
 {
-    let Some(id) = journey_in(id) else {
+    let Some(report) = report else {
         return Ended::from(End::Refused(Refusal::BadBody));
     };
-    report_file(rt, alloc, file, &Report::History { id, format }, out)
+    match socket {
+        Some(socket) => asked_report(rt, alloc, socket, out),
+        None => report_file(rt, alloc, file, &report, out),
+    }
 }
 
 /// Prints a report of the desk over a file.
-pub(crate) fn report_file<O: Write>(
+fn report_file<O: Write>(
     rt: &HostRuntime,
     alloc: Global,
     file: &str,

@@ -1,2 +1,4 @@
+pub mod AskingLemmas
 pub mod SubcommandLemmas
+pub mod TimingLemmas
 pub mod ValueLemmas

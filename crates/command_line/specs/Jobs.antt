@@ -1,11 +1,11 @@
 -- The jobs of the words of the command line. The first word names the subcommand, and the other words are read by
 -- clap's rules for that subcommand.
-use Rattle.std.specs.Prelude.{◌≡◌, ◌||◌, ◌⊎◌, ⊤, Bool, true, false, is_none, is_some, bytes_eq, if◌then◌else◌, List, [], ◌∷◌, codes, Option, None, Some, option_map, Result, Ok, Err}
+use Rattle.std.specs.Prelude.{◌≡◌, ◌||◌, ◌&&◌, ◌⊎◌, ⊤, Bool, true, false, is_none, is_some, bytes_eq, if◌then◌else◌, List, [], ◌∷◌, codes, Option, None, Some, option_map, Result, Ok, Err}
 use Rattle.std.specs.Option.{option_map_or}
 use Rattle.std.specs.String.{string_bytes}
 use Rattle.clap.specs.Words.{App, Text, first_of, matches_of}
 use Rattle.command_line.specs.Filters.{HasCells, HasJourneys, asks_for_cells, cell_asked, has_bad_cells, has_bad_holders, has_bad_journeys, journey_asked, phases_in, unfinished_in}
-use Rattle.command_line.specs.Subcommands.{app_for, is_refused_by, name_of, subcommand_in}
+use Rattle.command_line.specs.Subcommands.{app_for, is_refused_by, is_report, name_of, subcommand_in}
 use Rattle.command_line.specs.Values.{NamesFile, calendar_in, connections_in, format_in, house_in, is_malformed, log_in, most_connections, page_in, port_in, stock_format_in, wide_in}
 use Rattle.command_line.specs.declared.jobs.Job.{Job}
 use Rattle.command_line.specs.declared.jobs.Job.TheVariants.{Run, Serve, Recover, Load, Stock, Calendar, Summary, Holders, Holdings, Unfinished, Journeys, History, Why, Migrate, Index, Version}
@@ -130,9 +130,15 @@ has_bad_value sub.History value = is_none (format_in value)
 has_bad_value sub.Why value = is_none (journey_asked value) || is_none (format_in value)
 has_bad_value _ value = false
 
--- the words after a subcommand are refused: by clap, or for a value that spells nothing
+-- the words of a report name a socket beside its file
+abbrev pub has_socket : Subcommand → (Text → Option Text) → Bool
+has_socket s value = is_report s && is_some (value (codes "PATH"))
+
+-- the words after a subcommand are refused: by clap, for a socket beside a file, or for a value that spells nothing
 abbrev pub refuses : Subcommand → List Text → Bool
-refuses s words = is_refused_by (app_for s) words || has_bad_value s (value_in (app_for s) words)
+refuses s words =
+    let value = value_in (app_for s) words in
+    is_refused_by (app_for s) words || (has_socket s value || has_bad_value s value)
 
 -- the words are refused: there is none, or the first word neither asks for the version nor names a subcommand that
 -- takes the others

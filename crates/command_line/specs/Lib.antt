@@ -1,6 +1,9 @@
 pub mod Explaining
 pub mod Subcommands
+pub mod Timing
 pub mod Filters
 pub mod Values
 pub mod Jobs
+pub mod Asking
+pub mod Calls
 pub mod Version

@@ -29,6 +29,16 @@ name_of Why = codes "why"
 name_of Migrate = codes "migrate"
 name_of Index = codes "index"
 
+-- the subcommand prints a report
+abbrev pub is_report : Subcommand → Bool
+is_report Run = false
+is_report Serve = false
+is_report Recover = false
+is_report Load = false
+is_report Migrate = false
+is_report Index = false
+is_report _ = true
+
 -- the subcommand that a word names
 abbrev pub subcommand_in : Text → Option Subcommand
 subcommand_in word =
@@ -89,6 +99,10 @@ wide_flag = record (flagged (codes "WIDE")) { long = Some (codes "wide") }
 abbrev pub calendar_flag : Rule
 calendar_flag = record (flagged (codes "CALENDAR")) { long = Some (codes "calendar") }
 
+-- the path of the socket of a desk that serves follows `--at`
+abbrev pub at_path : Rule
+at_path = record (optional (codes "PATH")) { long = Some (codes "at") }
+
 -- the format of a report follows `--format`
 abbrev pub report_format : Rule
 report_format = record (optional (codes "FORMAT")) { long = Some (codes "format") }
@@ -110,17 +124,17 @@ abbrev pub cell_rules : List Rule
 cell_rules =
     named_by (codes "kind") (optional (codes "KIND")) ∷ named_by (codes "supplier") (optional (codes "SUPPLIER"))
     ∷ named_by (codes "product") (optional (codes "PRODUCT")) ∷ named_by (codes "from") (optional (codes "FROM"))
-    ∷ named_by (codes "to") (optional (codes "TO")) ∷ report_format ∷ []
+    ∷ named_by (codes "to") (optional (codes "TO")) ∷ report_format ∷ at_path ∷ []
 
 -- the journeys that are asked for: their agent and state
 abbrev pub journey_rules : List Rule
 journey_rules =
     named_by (codes "agent") (optional (codes "AGENT")) ∷ named_by (codes "state") (optional (codes "STATE"))
-    ∷ report_format ∷ []
+    ∷ report_format ∷ at_path ∷ []
 
--- one required value, and a format
+-- one required value, a format and a socket
 abbrev pub one_rules : Text → List Rule
-one_rules id = needed id ∷ report_format ∷ []
+one_rules id = needed id ∷ report_format ∷ at_path ∷ []
 
 -- the values that a subcommand reads, in their order
 abbrev pub rules_for : Subcommand → List Rule

@@ -4,6 +4,8 @@ use Rattle.std.specs.Option.{option_and_then, option_map_or}
 use Rattle.allotment.specs.Texts.{number_from}
 use Rattle.clap.specs.Words.{Text, first_value, found_of}
 use Rattle.clap.specs.declared.parser.ArgMatches.{ArgMatches}
+use Rattle.command_line.specs.declared.jobs.LogForm.{LogForm}
+use Rattle.command_line.specs.declared.jobs.LogForm.TheVariants.{Plain}
 use Rattle.reports.specs.declared.formats.Format.{Format}
 use Rattle.reports.specs.declared.formats.Format.TheVariants as format
 
@@ -50,9 +52,9 @@ is_set value = option_map_or (λ word. bytes_eq word (codes "true")) value false
 abbrev pub page_in : (Text → Option Text) → Bool
 page_in value = is_set (value (codes "PAGE"))
 
--- whether the log is asked for, by its name
-abbrev pub log_in : (Text → Option Text) → Bool
-log_in value = is_set (value (codes "LOG"))
+-- how the log is written, if it is asked for, by its name
+abbrev pub log_in : (Text → Option Text) → Option LogForm
+log_in value = if is_set (value (codes "LOG")) then Some Plain else None
 
 -- whether HTTP is read as libraries and proxies speak it, by its name
 abbrev pub wide_in : (Text → Option Text) → Bool

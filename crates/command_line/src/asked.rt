@@ -5,9 +5,10 @@ ghost use Rattle.allotment.specs.Nights.{night_in};
 ghost use Rattle.allotment.specs.Texts.{kind_of_word};
 ghost use Rattle.filters.specs.JourneyFilters.{state_named};
 ghost use Rattle.command_line.specs.Filters.{agent_named, asks_for_cells, cell_asked, code_named, has_bad_cells, has_bad_journeys, journey_asked, phases_in, spelled, unfinished_in, unfinished_named, unfinished_state, HasCells, HasJourneys};
-ghost use Rattle.command_line.specs.Jobs.{IsUsage};
+ghost use Rattle.command_line.specs.Jobs.{has_socket, IsUsage};
 
 use crate::jobs::JobFault;
+use crate::subcommands::Subcommand;
 use allotment::{Cell, Code, Kind, Night};
 use clap::ArgMatches;
 use commands::{Agent, MOST_EVENTS, number_between};
@@ -105,9 +106,24 @@ pub(crate) fn no_cells_in(alloc: Global, matches: &ArgMatches) -> Result<(), Job
     ensures usage { IsUsage result → asks_for_cells (values_read matches.now) ≡ true }
 {
     match cells_option(matches) {
-        Some(option) => Err(no_option(alloc, option)),
+        Some(option) => Err(no_option(alloc, option, "[CELL]")),
         None => Ok(()),
     }
+}
+
+/// Refuses a socket beside the file of a report.
+pub(crate) fn no_socket_in(
+    alloc: Global,
+    subcommand: Subcommand,
+    matches: &ArgMatches,
+) -> Result<(), JobFault>
+    ensures taken { IsOk result → has_socket subcommand (values_read matches.now) ≡ false }
+    ensures usage { IsUsage result → has_socket subcommand (values_read matches.now) ≡ true }
+{
+    if subcommand.is_report() && has_value(matches, "PATH") {
+        return Err(no_option(alloc, "--at <PATH>", "<FILE>"));
+    }
+    Ok(())
 }
 
 /// The number of the one journey that is asked for. The precondition says that there is a value.
@@ -268,10 +284,10 @@ fn no_value(alloc: Global, word: &str, option: &str, allowed: &str) -> JobFault 
     }
 }
 
-/// The error of an option that asks for cells, beside one cell.
-fn no_option(alloc: Global, option: &str) -> JobFault {
+/// The error of an option beside a value with which it cannot be used.
+fn no_option(alloc: Global, option: &str, value: &str) -> JobFault {
     let text = format!(in alloc;
-        "error: the argument '{option}' cannot be used with '[CELL]'\n\nFor more information, try '--help'.\n"
+        "error: the argument '{option}' cannot be used with '{value}'\n\nFor more information, try '--help'.\n"
     );
     match text {
         Ok(text) => JobFault::Usage(text),

@@ -12,7 +12,7 @@ use crate::asked::{
 use crate::jobs::{Job, JobFault};
 use crate::subcommands::Subcommand;
 use crate::values::{
-    format_in, is_given, number_if_given, number_of, text_in, value_if_given, value_of,
+    format_in, is_given, log_in, number_if_given, number_of, text_in, value_if_given, value_of,
 };
 use clap::ArgMatches;
 use std::alloc::Global;
@@ -70,7 +70,7 @@ fn serve_in(alloc: Global, file: String, matches: &ArgMatches) -> Result<Job, Jo
     let connections = number_if_given(alloc, matches, "N", "--connections", MOST_CONNECTIONS)?;
     let house = value_if_given(alloc, matches, "PATH")?;
     let page = is_given(matches, "PAGE");
-    let log = is_given(matches, "LOG");
+    let log = log_in(matches);
     let wide = is_given(matches, "WIDE");
     Ok(Job::Serve {
         file,

@@ -25,8 +25,8 @@ pub enum Job {
         house: Option<String>,
         /// Whether it serves the page for browsers too.
         page: bool,
-        /// Whether it writes its log on standard error.
-        log: bool,
+        /// How it writes its log on standard error, if it does.
+        log: Option<LogForm>,
         /// Whether it reads HTTP as libraries, proxies and pools speak it.
         wide: bool,
     },
@@ -104,6 +104,15 @@ pub enum Job {
     },
     /// Print the version of the program.
     Version,
+}
+
+/// How the lines of the log of a desk that serves begin.
+#[derive(Clone, Copy, Debug, PartialEq, Eq)]
+pub enum LogForm {
+    /// Without a time.
+    Plain,
+    /// With their times.
+    Timed,
 }
 
 /// Why the words have no job.

@@ -1,21 +1,24 @@
 //! The jobs of the words of the command line, by the rules of `clap`.
 //!
-//! `job` returns the job of the words, or why they have none. `program_version` and `version_line` return the version
-//! of the program. `call_of` takes off the word that asks for an explanation of faults, which stands before those of the job.
+//! `call_of` returns what the program was called with, or why the words are refused: the job over a file, the socket of the desk
+//! that is asked for a report in its place, and whether a fault is to be explained. `report_job` returns the job of the words of
+//! a report without a file. `program_version` and `version_line` return the version of the program.
 #![tactic(auto)]
 
 mod asked;
-mod explaining;
+mod asking;
+mod calls;
 mod help;
 mod job_values;
 mod jobs;
 mod subcommand_words;
 mod subcommands;
+mod timing;
 mod values;
 mod version;
 mod words;
 
-pub use explaining::{Call, call_of};
-pub use jobs::{Job, JobFault};
+pub use asking::{Socket, report_job};
+pub use calls::{Call, call_of};
+pub use jobs::{Job, JobFault, LogForm};
 pub use version::{program_version, version_line};
-pub use words::job;

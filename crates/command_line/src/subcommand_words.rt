@@ -31,7 +31,11 @@ pub(crate) static SERVE: [Word<'static>; 6] = [
     ),
     Word::After("PATH", "house", "Also listen on this Unix socket"),
     Word::Flag("PAGE", "page", "Also serve the page for browsers, at /"),
-    Word::Flag("LOG", "log", "Log each request on standard error"),
+    Word::Flag(
+        "LOG",
+        "log",
+        "Log each request on standard error; --log=time: with times",
+    ),
     Word::Flag(
         "WIDE",
         "wide",
@@ -46,7 +50,7 @@ pub(crate) static LOAD: [Word<'static>; 2] = [
 ];
 
 /// The values of `stock`, after the file.
-pub(crate) static STOCK: [Word<'static>; 7] = [
+pub(crate) static STOCK: [Word<'static>; 8] = [
     Word::Flag(
         "CALENDAR",
         "calendar",
@@ -58,13 +62,14 @@ pub(crate) static STOCK: [Word<'static>; 7] = [
     FROM,
     TO,
     FORMAT,
+    AT,
 ];
 
 /// The values of `summary`, after the file.
-pub(crate) static SUMMARY: [Word<'static>; 6] = [KIND, SUPPLIER, PRODUCT, FROM, TO, FORMAT];
+pub(crate) static SUMMARY: [Word<'static>; 7] = [KIND, SUPPLIER, PRODUCT, FROM, TO, FORMAT, AT];
 
 /// The values of `holders`, after the file.
-pub(crate) static HOLDERS: [Word<'static>; 7] = [
+pub(crate) static HOLDERS: [Word<'static>; 8] = [
     Word::Extra(
         "CELL",
         "A cell, as R/INN/DBL/2030-06-01, in place of the options",
@@ -75,17 +80,19 @@ pub(crate) static HOLDERS: [Word<'static>; 7] = [
     FROM,
     TO,
     FORMAT,
+    AT,
 ];
 
 /// The values of `unfinished`, after the file.
-pub(crate) static UNFINISHED: [Word<'static>; 3] = [
+pub(crate) static UNFINISHED: [Word<'static>; 4] = [
     AGENT,
     Word::After("STATE", "state", "Show those in a state: run or back"),
     FORMAT,
+    AT,
 ];
 
 /// The values of `journeys`, after the file.
-pub(crate) static JOURNEYS: [Word<'static>; 3] = [
+pub(crate) static JOURNEYS: [Word<'static>; 4] = [
     AGENT,
     Word::After(
         "STATE",
@@ -93,12 +100,14 @@ pub(crate) static JOURNEYS: [Word<'static>; 3] = [
         "Show those in a state: run, back, ended or undone",
     ),
     FORMAT,
+    AT,
 ];
 
 /// The values of `history` and of `why`, after the file.
-pub(crate) static JOURNEY: [Word<'static>; 2] = [
+pub(crate) static JOURNEY: [Word<'static>; 3] = [
     Word::Needed("ID", "The number of the journey"),
     FORMAT,
+    AT,
 ];
 
 const KIND: Word<'static> = Word::After(
@@ -116,6 +125,12 @@ const FROM: Word<'static> = Word::After("FROM", "from", "Show nights from a day 
 const TO: Word<'static> = Word::After("TO", "to", "Show nights to a day");
 
 const AGENT: Word<'static> = Word::After("AGENT", "agent", "Show those of an agent");
+
+const AT: Word<'static> = Word::After(
+    "PATH",
+    "at",
+    "Ask the desk at this Unix socket, and read no FILE",
+);
 
 const FORMAT: Word<'static> = Word::After("FORMAT", "format", "text (the default), json or csv");
 

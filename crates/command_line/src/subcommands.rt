@@ -1,7 +1,7 @@
 //! The subcommands of the program: their words, and the values that each of them reads.
 ghost use Rattle.std.specs.Prelude.{◌≡◌, [], ◌∷◌, false, map, codes, All, IfOk, IfSome};
 ghost use Rattle.clap.specs.Words.{app_of, args_of, groups_of};
-ghost use Rattle.command_line.specs.Subcommands.{app_for, bare_app, has_globals, name_of, needed, needed_for, negates_needs, rule_said, rules_for, subcommand_in, Requires};
+ghost use Rattle.command_line.specs.Subcommands.{app_for, bare_app, has_globals, is_report, name_of, needed, needed_for, negates_needs, rule_said, rules_for, subcommand_in, Requires};
 
 use crate::subcommand_words::{
     HOLDERS, JOURNEY, JOURNEYS, LOAD, SERVE, STOCK, SUMMARY, UNFINISHED, Word, value, with_words,
@@ -142,6 +142,27 @@ impl Subcommand {
             | Subcommand::Why
             | Subcommand::Migrate
             | Subcommand::Index => "The database file, which must exist",
+        }
+    }
+
+    /// Whether the subcommand prints a report.
+    pub(crate) fn is_report(self) -> bool
+        ensures report { result ≡ is_report self }
+    {
+        match self {
+            Subcommand::Stock
+            | Subcommand::Summary
+            | Subcommand::Holders
+            | Subcommand::Unfinished
+            | Subcommand::Journeys
+            | Subcommand::History
+            | Subcommand::Why => true,
+            Subcommand::Run
+            | Subcommand::Serve
+            | Subcommand::Recover
+            | Subcommand::Load
+            | Subcommand::Migrate
+            | Subcommand::Index => false,
         }
     }
 

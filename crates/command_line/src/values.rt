@@ -3,9 +3,9 @@ ghost use Rattle.std.specs.Prelude.{◌≡◌, ◌≤◌, None, false, true, opt
 ghost use Rattle.std.specs.String.{string_bytes};
 ghost use Rattle.allotment.specs.Texts.{number_from};
 ghost use Rattle.command_line.specs.Jobs.{IsUsage};
-ghost use Rattle.command_line.specs.Values.{format_named, format_of, is_malformed, is_set, number_named, text_format_in, values_read};
+ghost use Rattle.command_line.specs.Values.{format_named, format_of, is_malformed, is_set, log_in, number_named, text_format_in, values_read};
 
-use crate::jobs::JobFault;
+use crate::jobs::{JobFault, LogForm};
 use clap::ArgMatches;
 use commands::number_between;
 use reports::Format;
@@ -42,6 +42,17 @@ pub(crate) fn is_given(matches: &ArgMatches, id: &str) -> bool
     match matches.get_str(id) {
         Some(word) => word == "true",
         None => false,
+    }
+}
+
+/// How the log is written, if it is asked for.
+pub(crate) fn log_in(matches: &ArgMatches) -> Option<LogForm>
+    ensures log { result ≡ log_in (values_read matches.now) }
+{
+    if is_given(matches, "LOG") {
+        Some(LogForm::Plain)
+    } else {
+        None
     }
 }
 

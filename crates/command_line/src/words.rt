@@ -9,6 +9,7 @@ ghost use Rattle.command_line.specs.Explaining.{ShowsText, usage_with_place};
 ghost use Rattle.command_line.specs.Jobs.{are_refused, names_version, refuses, IsJob, IsJobOf, IsText, IsUsage};
 ghost use Rattle.command_line.specs.Subcommands.{app_for, is_refused_by, needed_for};
 
+use crate::asked::no_socket_in;
 use crate::job_values::job_in;
 use crate::jobs::{Job, JobFault};
 use crate::subcommands::Subcommand;
@@ -21,8 +22,8 @@ use std::alloc::{AllocError, Global};
 /// How `clap` begins where the word that asks for an explanation stands after a subcommand.
 const MISPLACED: &str = "error: unexpected argument '--explain' found\n";
 
-/// The job of these words, which follow the program's name. Errors are the text of a usage, and out of memory.
-pub fn job(alloc: Global, words: Vec<String>) -> Result<Job, JobFault>
+/// The job of these words, which follow the program's name, over a file. Errors are the text of a usage, and out of memory.
+pub(crate) fn job(alloc: Global, words: Vec<String>) -> Result<Job, JobFault>
     ensures job { IfOk result (IsJob (map string_bytes words.items)) }
 
     ensures taken { IsOk result → are_refused (map string_bytes words.items) ≡ false }
@@ -54,6 +55,7 @@ fn job_of(alloc: Global, subcommand: Subcommand, words: &[String]) -> Result<Job
     ensures usage { IsUsage result → refuses subcommand (map string_bytes words.now) ≡ true }
 {
     let matches = matches_in(alloc, subcommand, words)?;
+    no_socket_in(alloc, subcommand, &matches)?;
     job_in(alloc, subcommand, &matches)
 }
 

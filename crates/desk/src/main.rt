@@ -5,7 +5,7 @@
 #![tactic(auto)]
 
 use cli::{perform, perform_explained};
-use command_line::{Job, call_of, job};
+use command_line::{Call, Job, call_of};
 use program_ends::{End, ProgramFault, end_of_arguments};
 use progress::Watched;
 use std::alloc::Global;
@@ -39,29 +39,25 @@ fn is_watched(rt: &HostRuntime, job: &Job) -> bool {
     is_silent && rt.stderr().is_terminal() && !rt.stdin().is_terminal()
 }
 
-/// Does a job over the standard streams, and returns the exit status.
-fn carry_out(rt: &HostRuntime, alloc: Global, job: Job, explains: bool) -> u8 {
-    let terminal = is_watched(rt, &job).then(|| rt.stderr());
+/// Does the job of a call over the standard streams, and returns the exit status.
+fn carry_out(rt: &HostRuntime, alloc: Global, call: Call) -> u8 {
+    let terminal = is_watched(rt, &call.job).then(|| rt.stderr());
     let mut input = Watched::new(rt, rt.stdin(), terminal);
     let (mut out, mut err) = (rt.stdout(), rt.stderr());
-    if explains {
-        perform_explained(rt, alloc, job, &mut input, &mut out, &mut err)
+    if call.explains || rt.stderr().is_terminal() {
+        perform_explained(rt, alloc, call, &mut input, &mut out, &mut err)
     } else {
-        perform(rt, alloc, job, &mut input, &mut out, &mut err)
+        perform(rt, alloc, call, &mut input, &mut out, &mut err)
     }
 }
 
 fn main(rt: HostRuntime) -> ExitCode {
     let alloc = rt.alloc();
     let status = match words(&rt) {
-        Ok(words) => {
-            let call = call_of(words);
-            let explains = call.explains || rt.stderr().is_terminal();
-            match job(alloc, call.words) {
-                Ok(job) => carry_out(&rt, alloc, job, explains),
-                Err(fault) => End::from(fault).tell(alloc, &mut rt.stdout(), &mut rt.stderr()),
-            }
-        }
+        Ok(words) => match call_of(alloc, words) {
+            Ok(call) => carry_out(&rt, alloc, call),
+            Err(fault) => End::from(fault).tell(alloc, &mut rt.stdout(), &mut rt.stderr()),
+        },
         Err(end) => end.tell(alloc, &mut rt.stdout(), &mut rt.stderr()),
     };
     ExitCode::from(status)

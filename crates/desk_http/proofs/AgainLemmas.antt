@@ -16,7 +16,7 @@ use Rattle.http_messages.specs.Heads.{is_method, parts_of}
 use Rattle.http_messages.specs.Messages.{Message, NoHead, Asks}
 use Rattle.http_pages.specs.Pages.{page_text, reply_page}
 use Rattle.http_pages.specs.declared.routes.Denied.{Denied}
-use Rattle.desk_http.specs.Demands.{Demand, Carry, SeeJourney, SeePlan, SeeWhy, SeeBegun, SeeUnfinished, SeeMine, SeeStock, SeeHealth, SeeAgent, SeePage, Stop, demand_of}
+use Rattle.desk_http.specs.Demands.{Demand, Carry, SeeJourney, SeePlan, SeeWhy, SeeBegun, SeeUnfinished, SeeMine, SeeStock, SeeHealth, SeeMetrics, SeeAgent, SeePage, SeeReport, Stop, demand_of}
 use Rattle.desk_http.specs.declared.doors.Door.{Door}
 use Rattle.desk_http.specs.Hosts.{refusal_at}
 use Rattle.desk_http.specs.Laws.{AnswersAgain, MakesEvent, later}
@@ -120,8 +120,10 @@ carry_of None (Ok (SeeUnfinished asker)) c = λ is. cc
 carry_of None (Ok (SeeMine asker after)) c = λ is. cc
 carry_of None (Ok SeeStock) c = λ is. cc
 carry_of None (Ok SeeHealth) c = λ is. cc
+carry_of None (Ok SeeMetrics) c = λ is. cc
 carry_of None (Ok (SeeAgent asker)) c = λ is. cc
 carry_of None (Ok (SeePage html)) c = λ is. cc
+carry_of None (Ok (SeeReport report)) c = λ is. cc
 carry_of None (Ok Stop) c = λ is. cc
 carry_of None (Err denied) c = λ is. cc
 

@@ -9,6 +9,7 @@ use Rattle.http_messages.specs.declared.requests.Message.TheVariants as taken
 use Rattle.http_messages.specs.declared.requests.Request.{Request}
 use Rattle.commands.specs.declared.replies.Refusal.{Refusal}
 use Rattle.commands.specs.declared.replies.Refusal.TheVariants.{BadHead}
+use Rattle.http_log.specs.declared.counting.Metrics.{Metrics}
 use Rattle.http_pages.specs.Pages.{Paged, denied_page, page_said, page_text, refused_page}
 use Rattle.http_pages.specs.declared.routes.Denied.{Denied}
 use Rattle.http_pages.specs.declared.answers.Page as shown
@@ -16,6 +17,7 @@ use Rattle.desk_http.specs.Answering.{Answers, Tells}
 use Rattle.desk_http.specs.Demands.{asks_to_stop, demand_of}
 use Rattle.desk_http.specs.Hosts.{refusal_at}
 use Rattle.desk_http.specs.Pages.{SaysUnless, closes, command_unless, state_by, stops}
+use Rattle.desk_http.specs.Monitored.{AsksForMetrics, GetsCounted, ShowsCounted}
 use Rattle.desk_http.specs.declared.answering.Answer.{Answer}
 use Rattle.desk_http.specs.declared.doors.Door.{Door}
 use Rattle.desk_http.specs.declared.doors.Door.TheVariants.{Port, House, Page}
@@ -142,3 +144,40 @@ pub page_stops : (door : Door) (message : Message) (result : Result Answer Serve
     → IfOk result (λ answer. (m : sent.Message) → IsTaken message m → answer.stops ≡ stops door m)
 page_stops door message (Ok answer) c is as_said = λ m taken. is ∙ as_said m taken
 page_stops door message (Err fault) c is as_said = tt
+
+-- What a monitor reads.
+
+-- bytes that are no head ask for no metrics
+pub no_head_counted : (counted : Metrics) (door : Door) (message : Message) (result : Result Answer ServeFault)
+    → ((m : sent.Message) → IsTaken message m → IsTaken taken.NoHead m)
+    → IfOk result (λ answer. (m : sent.Message) → IsTaken message m → GetsCounted counted door m answer.bytes.items)
+no_head_counted counted door message (Err fault) as_taken = tt
+no_head_counted counted door message (Ok answer) as_taken = λ m is. by_message m (as_taken m is)
+  where
+    by_message : (m : sent.Message) → IsTaken taken.NoHead m → GetsCounted counted door m answer.bytes.items
+    by_message sent.NoHead is = tt
+    by_message (sent.Asks h body) is = absurd is
+
+-- a request that asks for metrics gets the page of what was counted
+pub request_counted : (counted : Metrics) (door : Door) (message : Message) (r : Request) (why : Option Refusal) (result : Result Answer ServeFault)
+    (page : shown.Page) (closing : Bool) → ((m : sent.Message) → IsTaken message m → IsTaken (taken.Asks r) m)
+    → IsRefusedAt door r why → closing ≡ (is_some why || r.closes) → LaidOut result (page_said page) r.is_head closing
+    → ((parts : Parts) (body : List ℕ) → IsRequest r parts body → why ≡ None → AsksForMetrics (demand_of door parts body)
+    → ShowsCounted counted (page_said page))
+    → IfOk result (λ answer. (m : sent.Message) → IsTaken message m → GetsCounted counted door m answer.bytes.items)
+request_counted counted door message r why (Err fault) page closing as_taken refused ends out shows = tt
+request_counted counted door message r why (Ok answer) page closing as_taken refused ends out shows = λ m is. by_message m (as_taken m is)
+  where
+    by_message : (m : sent.Message) → IsTaken (taken.Asks r) m → GetsCounted counted door m answer.bytes.items
+    by_message sent.NoHead is = absurd is
+    by_message (sent.Asks h body) is = λ none asks.
+        let parts = parts_of h in
+        let at : why ≡ refusal_at door parts = refused parts body is in
+        let closes_as : closing ≡ (is_some (refusal_at door parts) || asks_to_close parts) =
+        ends ∙ ap (λ w. is_some w || r.closes) at ∙ ap (λ c. is_some (refusal_at door parts) || c) is.closes in
+        record {
+          page = page_said page;
+          shows = shows parts body is (at ∙ none) asks;
+          text = out.bytes ∙ ap (λ head. page_text head closing (page_said page)) is.is_head
+              ∙ ap (λ c. page_text (is_method (codes "HEAD") parts) c (page_said page)) closes_as;
+        }

@@ -17,7 +17,9 @@ use Rattle.http_pages.specs.declared.routes.Verb.TheVariants.{Get}
 use Rattle.http_pages.specs.declared.routes.Route.{Route}
 use Rattle.http_pages.specs.declared.routes.Route.TheVariants.{LoadBatch, Begin, Step, Abort, Save, ShowJourney, ShowPlan, ShowWhy, ShowBegun, ShowUnfinished, ShowStock, ShowMine, ShowHealth, ShowAgent}
 use Rattle.allotment_csv.specs.Files.{batch_of}
-use Rattle.desk_http.specs.Demands.{Demand, Carry, SeePage, Sender, Stop, admitted_by, admitted_of_house, agents_demand, asked_by, asked_by_nobody, asked_if, asked_of_house, asks_for_page, asks_to_stop, bare, begin_by, carried, carried_by, demand_of, demanded, denied_by, house_demand, load_of, page_demand, sender_of, text_of, value_in}
+use Rattle.desk_http.specs.Demands.{Demand, Carry, SeePage, Sender, Stop, admitted_by, admitted_of_house, agents_demand, asked_by, asked_by_nobody, asked_if, asked_of_house, asks_for_metrics, asks_for_page, asks_to_stop, bare, begin_by, carried, carried_by, demand_of, demanded, denied_by, house_demand, load_of, page_demand, sender_of, text_of, value_in}
+use Rattle.report_words.specs.Targets.{asks_for_report, report_asked}
+use Rattle.desk_http.proofs.DemandLemmas.{house_if, report_commands_nothing}
 use Rattle.commands.specs.Request as asks
 use Rattle.desk_http.specs.Hosts.{refusal_at}
 use Rattle.desk_http.specs.Laws.{HasShortAsk}
@@ -106,7 +108,7 @@ agents_text parts body = by_route (admitted_by parts)
     by_route (Err denied) = λ asked ask is. cc
 
 house_text : (parts : Parts) (body : List ℕ) → IsOfText (text_in parts body) (house_demand parts body)
-house_text parts body = by_stop (asks_to_stop parts)
+house_text parts body = by_test (asks_to_stop parts) (asks_for_metrics parts) (asks_for_report parts.target)
   where
     by_route : (r : Result Route Denied) → IsOfText (text_in parts body) (asked_of_house r parts body)
     by_route (Ok route) =
@@ -114,10 +116,12 @@ house_text parts body = by_stop (asks_to_stop parts)
         (demanded_text route (sender_of who.House parts body))
     by_route (Err denied) = λ asked ask is. cc
 
-    by_stop : (stops : Bool)
-        → IsOfText (text_in parts body) (if stops then Ok Stop else asked_of_house (admitted_of_house parts) parts body)
-    by_stop true = λ asked ask is. cc
-    by_stop false = by_route (admitted_of_house parts)
+    by_test : (stops metrics reports : Bool) → IsOfText (text_in parts body) (house_if stops metrics reports parts body)
+    by_test true metrics reports = λ asked ask is. cc
+    by_test false true reports = λ asked ask is. cc
+    by_test false false true = λ asked ask is.
+        absurd (report_commands_nothing (is_method (codes "GET") parts) (report_asked parts.target) asked (Some ask) is)
+    by_test false false false = by_route (admitted_of_house parts)
 
 -- at each door
 demand_text : (door : Door) (parts : Parts) (body : List ℕ) → IsOfText (text_in parts body) (demand_of door parts body)

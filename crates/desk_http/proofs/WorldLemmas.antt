@@ -28,7 +28,7 @@ use Rattle.saga_core.specs.Runs as runs
 use Rattle.saga_core.specs.Runs.{Asks}
 use Rattle.saga_core.specs.Worlds.{KeepLimits, StandsAtEnd, EndsAmong}
 use Rattle.saga_core.proofs.WorldLemmas.{KeepLimits-append, ends-with, ends-after, ends-cut}
-use Rattle.desk_http.specs.Demands.{Carry, SeePage, Sender, Stop, admitted_by, admitted_of_house, agents_demand, asked_by, asked_by_nobody, asked_if, asks_for_page, asked_of_house, asks_to_stop, bare, begin_by, begin_of, carried, carried_by, demand_of, demanded, denied_by, load_of, sender_of, value_in}
+use Rattle.desk_http.specs.Demands.{Carry, SeePage, Sender, Stop, admitted_by, admitted_of_house, agents_demand, asked_by, asked_by_nobody, asked_if, asks_for_metrics, asks_for_page, asked_of_house, asks_to_stop, bare, begin_by, begin_of, carried, carried_by, demand_of, demanded, denied_by, load_of, sender_of, value_in}
 use Rattle.desk_http.specs.Hosts.{refusal_at}
 use Rattle.desk_http.specs.declared.doors.Asker.{Asker}
 use Rattle.desk_http.specs.declared.doors.Asker.TheVariants as who
@@ -40,7 +40,9 @@ use Rattle.desk_http.specs.Serving.{Answered, Leaves, ServesAll, ServesSome}
 use Rattle.desk_http.specs.Worlds.{asks_by, asks_in, EndsAmongMessages, EndsWithMessages, GoesOnAmongMessages, GoesOnWithMessages}
 use Rattle.protocols.specs.declared.faults.ServeFault.{ServeFault}
 use Rattle.protocols.specs.declared.faults.ServeFault.TheVariants.{Memory, Read, Store, Write}
+use Rattle.report_words.specs.Targets.{asks_for_report, report_asked}
 use Rattle.desk_http.proofs.AgainLemmas.{carry_of}
+use Rattle.desk_http.proofs.DemandLemmas.{house_if, report_commands_nothing}
 use Rattle.desk_http.proofs.ServeLemmas.{after_more}
 
 -- Limits.
@@ -133,12 +135,15 @@ house_within (Err denied) parts body c = λ same. cc
 house_within (Ok route) parts body c = demanded_within route (sender_of who.House parts body) c
 
 -- those at the house's door
-at_house_within : (unnamed stop : Bool) (parts : Parts) (body : List ℕ) (c : Command)
-    → (if unnamed then (if stop then Ok Stop else asked_of_house (admitted_of_house parts) parts body) else agents_demand parts body)
-    ≡ Ok (Carry c.0 c.1) → IsTrue (is_request c.0)
-at_house_within true true parts body c = λ same. cc
-at_house_within true false parts body c = house_within (admitted_of_house parts) parts body c
-at_house_within false stop parts body c = asked_within (admitted_by parts) parts body c
+at_house_within : (unnamed stop metrics report : Bool) (parts : Parts) (body : List ℕ) (c : Command)
+    → (if unnamed then house_if stop metrics report parts body else agents_demand parts body) ≡ Ok (Carry c.0 c.1)
+    → IsTrue (is_request c.0)
+at_house_within true true metrics report parts body c = λ same. cc
+at_house_within true false true report parts body c = λ same. cc
+at_house_within true false false true parts body c = λ same.
+    absurd (report_commands_nothing (is_method (codes "GET") parts) (report_asked parts.target) c.0 c.1 same)
+at_house_within true false false false parts body c = house_within (admitted_of_house parts) parts body c
+at_house_within false stop metrics report parts body c = asked_within (admitted_by parts) parts body c
 
 -- those at the door with a page
 at_page_within : (wanted got : Bool) (page : HtmlPage) (parts : Parts) (body : List ℕ) (c : Command)
@@ -152,7 +157,8 @@ demand_within : (door : Door) (parts : Parts) (body : List ℕ) (c : Command)
     → demand_of door parts body ≡ Ok (Carry c.0 c.1) → IsTrue (is_request c.0)
 demand_within Port parts body c = asked_within (admitted_by parts) parts body c
 demand_within (Page site) parts body c = at_page_within (asks_for_page parts) (is_method (codes "GET") parts) site.page parts body c
-demand_within House parts body c = at_house_within (is_unnamed parts) (asks_to_stop parts) parts body c
+demand_within House parts body c =
+    at_house_within (is_unnamed parts) (asks_to_stop parts) (asks_for_metrics parts) (asks_for_report parts.target) parts body c
 
 -- the command of a message keeps the limits
 pub limits_of : (door : Door) (m : Message) (c : Command) → command_in door m ≡ Some c → IsTrue (is_request c.0)

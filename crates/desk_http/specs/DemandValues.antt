@@ -11,7 +11,7 @@ use Rattle.http_pages.specs.declared.routes.Denied.{Denied}
 use Rattle.desk_http.specs.Demands as sent
 pub use Rattle.desk_http.specs.Demands.{denied_by}
 use Rattle.desk_http.specs.declared.demands.Demand.{Demand}
-use Rattle.desk_http.specs.declared.demands.Demand.TheVariants.{Carry, SeeJourney, SeePlan, SeeWhy, SeeBegun, SeeUnfinished, SeeMine, SeeStock, SeeHealth, SeeAgent, SeePage, Stop}
+use Rattle.desk_http.specs.declared.demands.Demand.TheVariants.{Carry, SeeJourney, SeePlan, SeeWhy, SeeBegun, SeeUnfinished, SeeMine, SeeStock, SeeHealth, SeeMetrics, SeeAgent, SeePage, SeeReport, Stop}
 use Rattle.desk_http.specs.declared.demands.Unmet.{Unmet}
 use Rattle.desk_http.specs.declared.demands.Unmet.TheVariants.{Refused, Memory}
 use Rattle.desk_http.specs.declared.demands.Sender.{Sender}
@@ -40,8 +40,10 @@ demand_said (SeeUnfinished asker) = sent.SeeUnfinished asker
 demand_said (SeeMine asker after) = sent.SeeMine asker after
 demand_said SeeStock = sent.SeeStock
 demand_said SeeHealth = sent.SeeHealth
+demand_said SeeMetrics = sent.SeeMetrics
 demand_said (SeeAgent asker) = sent.SeeAgent asker
 demand_said (SeePage page) = sent.SeePage page
+demand_said (SeeReport report) = sent.SeeReport report
 demand_said Stop = sent.Stop
 
 -- the value is the command of this request, or the refusal of it, or out of memory

@@ -24,6 +24,8 @@ use Rattle.http_pages.specs.declared.answers.HtmlPage.{HtmlPage}
 use Rattle.http_pages.specs.declared.routes.Route.{Route}
 use Rattle.http_pages.specs.declared.routes.Route.TheVariants.{LoadBatch, Begin, Step, Abort, Save, ShowJourney, ShowPlan, ShowWhy, ShowBegun, ShowUnfinished, ShowStock, ShowMine, ShowHealth, ShowAgent}
 use Rattle.http_pages.specs.declared.routes.Verb.TheVariants.{Get}
+use Rattle.report_kinds.specs.declared.report.Report.{Report}
+use Rattle.report_words.specs.Targets.{asks_for_report, report_asked}
 use Rattle.desk_http.specs.declared.doors.Asker.{Asker}
 use Rattle.desk_http.specs.declared.doors.Asker.TheVariants as who
 use Rattle.desk_http.specs.declared.doors.Door.{Door}
@@ -58,8 +60,8 @@ bare (byte ∷ later) asked = Err refusal.BadBody
 
 -- The demand of a request.
 
--- a command to execute, of an agent under a key or of the house; a view for whoever asks, or for anybody; or that the
--- desk stops
+-- a command to execute, of an agent under a key or of the house; a view for whoever asks, or for anybody; a report; or
+-- that the desk stops
 pub data Demand : Type 0 where
   Carry : (asked : Request) (ask : Option Asked) → Demand
   SeeJourney : (asker : Asker) (id : ℕ) → Demand
@@ -70,8 +72,10 @@ pub data Demand : Type 0 where
   SeeMine : (asker : Asker) (after : ℕ) → Demand
   SeeStock : Demand
   SeeHealth : Demand
+  SeeMetrics : Demand
   SeeAgent : (asker : Asker) → Demand
   SeePage : (page : HtmlPage) → Demand
+  SeeReport : (report : Report) → Demand
   Stop : Demand
 
 -- who sends a request, its key, its target and its body
@@ -158,6 +162,10 @@ agents_demand parts body = asked_if (admitted_by parts) parts body
 abbrev pub asks_to_stop : Parts → Bool
 asks_to_stop parts = is_method (codes "POST") parts && bytes_eq parts.target (codes "/stop")
 
+-- it asks for what a monitor reads
+abbrev pub asks_for_metrics : Parts → Bool
+asks_for_metrics parts = is_method (codes "GET") parts && bytes_eq parts.target (codes "/metrics")
+
 -- the demand of the house on a route that was admitted
 abbrev pub asked_of_house : Result Route Denied → Parts → List ℕ → Result Demand Denied
 asked_of_house (Ok route) parts body = denied_by (demanded route (sender_of who.House parts body))
@@ -168,10 +176,24 @@ abbrev pub admitted_of_house : Parts → Result Route Denied
 admitted_of_house parts =
     admitted (route_of parts.method parts.target) true true (is_method (codes "POST") parts)
 
+-- the report that is asked for; words that ask for none are malformed
+abbrev pub asked_report : Option Report → Result Demand Denied
+asked_report (Some report) = Ok (SeeReport report)
+asked_report None = Err (plain refusal.BadBody)
+
+-- the demand of a request for a report, which has the method GET
+abbrev pub report_demand : Parts → Result Demand Denied
+report_demand parts =
+    if is_method (codes "GET") parts then asked_report (report_asked parts.target)
+    else Err (record { refusal = refusal.WrongMethod; allow = Some Get })
+
 -- the demand of a request of the house, or the first thing that is wrong with it
 abbrev pub house_demand : Parts → List ℕ → Result Demand Denied
 house_demand parts body =
-    if asks_to_stop parts then Ok Stop else asked_of_house (admitted_of_house parts) parts body
+    if asks_to_stop parts then Ok Stop
+    else if asks_for_metrics parts then Ok SeeMetrics
+    else if asks_for_report parts.target then report_demand parts
+    else asked_of_house (admitted_of_house parts) parts body
 
 -- At the door with a page.
 

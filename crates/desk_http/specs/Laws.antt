@@ -1,14 +1,18 @@
--- Idempotence of a message that made an event, how long the text of an ask is, and for whom a command is carried out.
-use Rattle.std.specs.Prelude.{◌≡◌, ⊤, ◌≤◌, ◌+◌, ℕ, List, [], ◌∷◌, length, Option, None, Some, is_some, IsTrue}
+-- Idempotence of a message that made an event, how long the text of an ask is, for whom a command is carried out, and who is
+-- shown reports.
+use Rattle.std.specs.Prelude.{◌≡◌, ⊤, ◌≤◌, ◌+◌, ℕ, Bool, true, false, Result, Ok, List, [], ◌∷◌, length, Option, None, Some, is_some, IsTrue}
 use Rattle.commands.specs.Asks.{Asked}
 use Rattle.commands.specs.Limits.{most_bytes}
 use Rattle.commands.specs.Request.{Request}
 use Rattle.ledger.specs.Answer.{State, outcome}
 use Rattle.ledger.specs.World.{Moment, after}
-use Rattle.http_messages.specs.Heads.{meant_agents, most_head_bytes, parts_of}
+use Rattle.http_messages.specs.Heads.{Parts, is_unnamed, meant_agents, most_head_bytes, parts_of}
 use Rattle.http_messages.specs.Messages.{Message, NoHead, Asks, BeginsWith}
+use Rattle.http_pages.specs.declared.routes.Denied.{Denied}
+use Rattle.desk_http.specs.Demands.{Demand, SeeMetrics, SeeReport, demand_of}
 use Rattle.desk_http.specs.Pages.{IsPage, command_in, state_after}
 use Rattle.desk_http.specs.declared.doors.Door.{Door}
+use Rattle.desk_http.specs.declared.doors.Door.TheVariants.{House}
 
 -- the message makes an agent's command, which makes an event
 pub record MakesEvent (door : Door) (s : State) (m : Message) : Type 0 where
@@ -59,3 +63,15 @@ IsForWhomIsMeant door (Asks h body) =
 -- so it is of each message, at each door
 abbrev pub CommandsAreForWhomIsMeant : Type 0
 CommandsAreForWhomIsMeant = (door : Door) (m : Message) → IsForWhomIsMeant door m
+
+-- the demand is for what the house alone is shown: a report, or what a monitor reads
+abbrev pub is_for_house : Result Demand Denied → Bool
+is_for_house (Ok (SeeReport report)) = true
+is_for_house (Ok SeeMetrics) = true
+is_for_house _ = false
+
+-- so it is asked for at the house's own door alone, by a request that names nobody
+abbrev pub ReportsAreForTheHouse : Type 0
+ReportsAreForTheHouse =
+    (door : Door) (parts : Parts) (body : List ℕ) → is_for_house (demand_of door parts body) ≡ true
+    → (door ≡ House) × (is_unnamed parts ≡ true)

@@ -3,6 +3,7 @@ pub mod PlanTexts
 pub mod Demands
 pub mod DemandValues
 pub mod Pages
+pub mod Monitored
 pub mod Answering
 pub mod Serving
 pub mod Worlds

@@ -20,12 +20,15 @@ use Rattle.http_pages.specs.Bodies.{agent_data, brief_data, health_data, journey
 use Rattle.http_pages.specs.declared.bodies.Owners.TheVariants.{Hidden, Shown}
 use Rattle.serde_json.specs.Data.{Data}
 use Rattle.plan.specs.PlanData.{plan_data}
-use Rattle.http_pages.specs.Pages.{Paged, browsed_page, denied_page, page_text, refused_page, reply_page, report_page, value_page}
+use Rattle.http_pages.specs.Pages.{Paged, browsed_page, denied_page, monitored_page, page_text, refused_page, reply_page, report_page, value_page}
 use Rattle.http_pages.specs.declared.routes.Denied.{Denied}
+use Rattle.http_log.specs.MetricsText.{metrics_text}
+use Rattle.http_log.specs.declared.counting.Metrics.{Metrics}
 use Rattle.outlooks.specs.Layouts.{why_data}
 use Rattle.outlooks.specs.Outlooks.{begun_as, nights_ahead, outlook_of}
+use Rattle.report_kinds.specs.Texts.{OfReport}
 use Rattle.reports.specs.Layouts.{stock_report}
-use Rattle.desk_http.specs.Demands.{Demand, Carry, SeeJourney, SeePlan, SeeWhy, SeeBegun, SeeUnfinished, SeeMine, SeeStock, SeeHealth, SeeAgent, SeePage, Stop, asks_to_stop, demand_of}
+use Rattle.desk_http.specs.Demands.{Demand, Carry, SeeJourney, SeePlan, SeeWhy, SeeBegun, SeeUnfinished, SeeMine, SeeStock, SeeHealth, SeeMetrics, SeeAgent, SeePage, SeeReport, Stop, asks_to_stop, demand_of}
 use Rattle.desk_http.specs.Hosts.{refusal_at}
 use Rattle.desk_http.specs.declared.doors.Asker.{Asker}
 use Rattle.desk_http.specs.declared.doors.Asker.TheVariants as who
@@ -121,6 +124,16 @@ pub record ShowsStock (l : List Event) (page : Paged) : Type 0 where
   pub are : IsStock l rows
   pub shown : page ≡ report_page (stock_report rows)
 
+-- the page of a report by its text; without one, that there is no such journey
+abbrev pub told_page : Option (List ℕ) → Paged
+told_page (Some text) = report_page text
+told_page None = refused_page NoJourney
+
+-- the page shows what the desk has, and what somebody counted
+pub record ShowsMetrics (l : List Event) (page : Paged) : Type 0 where
+  pub counted : Metrics
+  pub shown : page ≡ monitored_page (metrics_text (counts_of l) counted)
+
 -- Pages.
 
 -- the page reports the outcome of a demand, or the denial
@@ -137,8 +150,10 @@ Says s (Ok (SeeMine asker after)) page =
     page ≡ value_page (mine_shown asker (mine_of s.ledger asker after))
 Says s (Ok SeeStock) page = ShowsStock s.ledger page
 Says s (Ok SeeHealth) page = page ≡ value_page (health_data (counts_of s.ledger))
+Says s (Ok SeeMetrics) page = ShowsMetrics s.ledger page
 Says s (Ok (SeeAgent asker)) page = page ≡ value_page (agent_data (owner_of asker))
 Says s (Ok (SeePage html)) page = page ≡ browsed_page html.text.now html.policy.now
+Says s (Ok (SeeReport report)) page = OfReport report s.ledger (λ text. page ≡ told_page text)
 Says s (Ok Stop) page = page ≡ value_page stopping_data
 
 -- a head that is refused gets that refusal, and any other head gets the outcome of its demand
@@ -187,8 +202,10 @@ command_by (Ok (SeeUnfinished asker)) = None
 command_by (Ok (SeeMine asker after)) = None
 command_by (Ok SeeStock) = None
 command_by (Ok SeeHealth) = None
+command_by (Ok SeeMetrics) = None
 command_by (Ok (SeeAgent asker)) = None
 command_by (Ok (SeePage html)) = None
+command_by (Ok (SeeReport report)) = None
 command_by (Ok Stop) = None
 command_by (Err denied) = None
 

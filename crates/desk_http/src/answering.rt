@@ -1,5 +1,5 @@
 //! The page of a message.
-ghost use Rattle.std.specs.Prelude.{◌≡◌, ◌&&◌, ◌||◌, not, ℕ, List, is_some, IfErr, IfOk};
+ghost use Rattle.std.specs.Prelude.{◌≡◌, ◌&&◌, ◌||◌, not, ℕ, List, None, is_some, IfErr, IfOk};
 ghost use Rattle.ledger.specs.Answer.{State};
 ghost use Rattle.saga_core.specs.Calls.{Serves};
 ghost use Rattle.http_messages.specs.Requests.{IsRequest, IsTaken};
@@ -10,21 +10,27 @@ ghost use Rattle.desk_http.specs.Answering.{Answers, Meets, Tells};
 ghost use Rattle.desk_http.specs.DemandValues.{demand_said};
 ghost use Rattle.http_messages.specs.declared.requests.Message.TheVariants as taken;
 ghost use Rattle.desk_http.specs.Hosts.{refusal_at};
+ghost use Rattle.desk_http.specs.Demands.{demand_of};
 ghost use Rattle.desk_http.specs.Pages.{closes, stops};
+ghost use Rattle.desk_http.specs.Monitored.{AsksForMetrics, GetsCounted, ShowsCounted};
 
 use crate::begun::see_begun;
 use crate::demands::{Demand, Unmet, asks_to_stop, demand_in};
 use crate::doors::{Door, refusal_at};
 use crate::mine::see_mine;
-use crate::showing::{see_agent, see_health, see_journey, see_plan, see_stock, see_unfinished};
+use crate::showing::{
+    see_agent, see_health, see_journey, see_metrics, see_plan, see_report, see_stock,
+    see_unfinished,
+};
 use crate::whys::see_why;
 use commands::Refusal;
+use http_log::Metrics;
 use http_messages::{Message, Request};
 use http_pages::{
     Body, Page, Paths, denied_page, page_bytes, refused_page, reply_page, shown_page, stopping_body,
 };
 use protocols::ServeFault;
-use saga_core::Book;
+use report_kinds::Reporting;
 use std::alloc::Global;
 
 /// The bytes of a page, and whether the connection ends after it.
@@ -63,14 +69,16 @@ impl Answer {
     }
 }
 
-/// Answers a message that came in at a door: carries out what it asks for, and lays out its page.
+/// Answers a message that came in at a door: carries out what it asks for, and lays out its page. What was counted is shown
+/// where it asks for that.
 ///
 /// Out of memory, it was carried out or not, and has no page.
-pub fn answer_to<B: Book>(
+pub fn answer_to<B: Reporting>(
     alloc: Global,
     paths: &Paths,
     door: Door,
     message: &Message,
+    metrics: &Metrics,
     book: &mut B,
 ) -> Result<Answer, ServeFault>
     ensures answer { B.is_sound book.new → (s : State) → B.stands book.old s →
@@ -80,6 +88,8 @@ pub fn answer_to<B: Book>(
         answer.closes ≡ closes door m) }
     ensures stops { IfOk result (λ answer. (m : sent.Message) → IsTaken message.now m →
         answer.stops ≡ stops door m) }
+    ensures counted { IfOk result (λ answer. (m : sent.Message) → IsTaken message.now m →
+        GetsCounted metrics.now door m answer.bytes.items) }
 
     ensures serves { Serves B.is_sound B.leaves B.has_failed book.old book.new
         ServeFault.Store result }
@@ -91,7 +101,7 @@ pub fn answer_to<B: Book>(
         }
         Message::Asks(request) => {
             let refusal = refusal_at(alloc, door, request)?;
-            let page = page_of(alloc, paths, door, refusal, request, book)?;
+            let page = page_of(alloc, paths, door, refusal, request, metrics, book)?;
             Answer::new(
                 alloc,
                 &page,
@@ -140,18 +150,22 @@ fn is_stop(unnamed: bool, asked: bool, refused: bool) -> bool
 }
 
 /// The page of a request at a door, whose head is refused, or is not.
-fn page_of<B: Book>(
+fn page_of<B: Reporting>(
     alloc: Global,
     paths: &Paths,
     door: Door,
     refusal: Option<Refusal>,
     request: &Request,
+    metrics: &Metrics,
     book: &mut B,
 ) -> Result<Page, ServeFault>
     ensures page { B.is_sound book.new → (s : State) → B.stands book.old s →
         (parts : Parts) → (body : List ℕ) → IsRequest request.now parts body →
         refusal ≡ refusal_at door parts →
         Tells (B.stands book.new) (B.leaves book.new) s door parts body result }
+    ensures counted { (parts : Parts) → (body : List ℕ) → IsRequest request.now parts body →
+        refusal ≡ None → AsksForMetrics (demand_of door parts body) →
+        IfOk result (λ page. ShowsCounted metrics.now (page_said page)) }
 
     ensures serves { Serves B.is_sound B.leaves B.has_failed book.old book.new
         ServeFault.Store result }
@@ -160,16 +174,23 @@ fn page_of<B: Book>(
         return Ok(refused_page(alloc, why)?);
     }
     match demand_in(alloc, paths, door, request) {
-        Ok(demand) => meet(alloc, &demand, book),
+        Ok(demand) => meet(alloc, &demand, metrics, book),
         Err(Unmet::Refused(denied)) => Ok(denied_page(alloc, &denied)?),
         Err(Unmet::Memory) => Err(ServeFault::Memory),
     }
 }
 
 /// The page that reports the outcome of a demand.
-fn meet<B: Book>(alloc: Global, demand: &Demand, book: &mut B) -> Result<Page, ServeFault>
+fn meet<B: Reporting>(
+    alloc: Global,
+    demand: &Demand,
+    metrics: &Metrics,
+    book: &mut B,
+) -> Result<Page, ServeFault>
     ensures page { B.is_sound book.new → (s : State) → B.stands book.old s →
         Meets (B.stands book.new) (B.leaves book.new) s (demand_said demand.now) result }
+    ensures counted { demand.now ≡ Demand.SeeMetrics →
+        IfOk result (λ page. ShowsCounted metrics.now (page_said page)) }
 
     ensures serves { Serves B.is_sound B.leaves B.has_failed book.old book.new
         ServeFault.Store result }
@@ -187,8 +208,10 @@ fn meet<B: Book>(alloc: Global, demand: &Demand, book: &mut B) -> Result<Page, S
         Demand::SeeMine(asker, after) => see_mine(alloc, book, asker, *after),
         Demand::SeeStock => see_stock(alloc, book),
         Demand::SeeHealth => see_health(alloc, book),
+        Demand::SeeMetrics => see_metrics(alloc, metrics, book),
         Demand::SeeAgent(asker) => Ok(see_agent(alloc, asker)?),
         Demand::SeePage(page) => Ok(shown_page(Body::Html(*page))),
+        Demand::SeeReport(report) => see_report(alloc, book, report),
         Demand::Stop => Ok(shown_page(Body::Json(stopping_body(alloc)?))),
     }
 }

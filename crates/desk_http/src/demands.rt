@@ -1,19 +1,22 @@
 //! Who sends a request, with its target and body, and the demand of the request on the desk.
 
-ghost use Rattle.std.specs.Prelude.{◌≡◌, List, ℕ, IfOk, Ok};
+ghost use Rattle.std.specs.Prelude.{◌≡◌, List, ℕ, IfOk, Ok, codes};
 ghost use Rattle.http_messages.specs.Requests.{IsRequest};
-ghost use Rattle.http_messages.specs.Heads.{Parts};
+ghost use Rattle.http_messages.specs.Heads.{Parts, is_method};
 ghost use Rattle.http_pages.specs.Admitting.{plain};
-ghost use Rattle.desk_http.specs.Demands.{admitted_of_house, agents_demand, asked_by_nobody, asked_of_house, asks_for_page, asks_to_stop, demand_of, demanded, house_demand, page_demand, carried, text_of};
+ghost use Rattle.desk_http.specs.Demands.{admitted_of_house, agents_demand, asked_by_nobody, asked_of_house, asked_report, asks_for_metrics, asks_for_page, asks_to_stop, demand_of, demanded, house_demand, page_demand, report_demand, carried, text_of};
 ghost use Rattle.desk_http.specs.DemandValues.{Demands, denied_by, sender_said};
 ghost use Rattle.desk_http.specs.declared.demands.Unmet.TheVariants.{Memory, Refused};
 ghost use Rattle.commands.specs.Orders.{request_of};
+ghost use Rattle.report_words.specs.Targets.{asks_for_report, report_asked};
 
 use crate::doors::{Asker, Door, Site};
 use crate::showing::{bare, begin, load};
 use commands::{Ask, Command, Key, Refusal};
 use http_messages::Request;
 use http_pages::{Denied, HtmlPage, Paths, Route, Verb, admit};
+use report_kinds::Report;
+use report_words::{asks_for_report, report_asked};
 use std::alloc::{AllocError, Global};
 
 /// The demand of a request with which nothing is wrong.
@@ -37,10 +40,14 @@ pub(crate) enum Demand {
     SeeStock,
     /// Show how many events and journeys there are.
     SeeHealth,
+    /// Show what a monitor reads.
+    SeeMetrics,
     /// Show who asks.
     SeeAgent(Asker),
     /// Show the page for browsers.
     SeePage(HtmlPage),
+    /// Show a report, to the house.
+    SeeReport(Report),
     /// Stop the desk.
     Stop,
 }
@@ -155,11 +162,59 @@ fn house_demand(alloc: Global, paths: &Paths, request: &Request) -> Result<Deman
     if asks_to_stop(request) {
         return Ok(Demand::Stop);
     }
+    if asks_for_metrics(request) {
+        return Ok(Demand::SeeMetrics);
+    }
+    if is_for_report(request) {
+        return report_demand(alloc, request);
+    }
     asked_of_house(alloc, paths, request)
 }
 
-/// What the house asks for by a request that is not for a stop, or the first thing that is wrong with it, in this order:
-/// path, method, the parts of the path, the body.
+/// Whether a request asks for a report, whichever it is.
+fn is_for_report(request: &Request) -> bool
+    ensures report { (parts : Parts) → (body : List ℕ) → IsRequest request.now parts body →
+        result ≡ asks_for_report parts.target }
+{
+    asks_for_report(&request.target)
+}
+
+/// The demand of a request of the house for a report, or that its method is another.
+fn report_demand(alloc: Global, request: &Request) -> Result<Demand, Unmet>
+    ensures demand { (parts : Parts) → (body : List ℕ) → IsRequest request.now parts body →
+        Demands (report_demand parts) result }
+{
+    if is_get(request) {
+        return asked_report(alloc, request);
+    }
+    Err(Unmet::from(Denied {
+        refusal: Refusal::WrongMethod,
+        allow: Some(Verb::Get),
+    }))
+}
+
+/// Whether the method of a request is GET.
+fn is_get(request: &Request) -> bool
+    ensures get { (parts : Parts) → (body : List ℕ) → IsRequest request.now parts body →
+        result ≡ is_method (codes "GET") parts }
+{
+    request.method.as_slice() == b"GET".as_slice()
+}
+
+/// The demand of a request for the report that its target asks for, or that it asks for none.
+fn asked_report(alloc: Global, request: &Request) -> Result<Demand, Unmet>
+    ensures demand { (parts : Parts) → (body : List ℕ) → IsRequest request.now parts body →
+        Demands (asked_report (report_asked parts.target)) result }
+{
+    let found = report_asked(alloc, &request.target)?;
+    match found {
+        Some(report) => Ok(Demand::SeeReport(report)),
+        None => Err(Unmet::from(Refusal::BadBody)),
+    }
+}
+
+/// What the house asks for by a request for something that agents ask for too, or the first thing that is wrong with it, in this
+/// order: path, method, the parts of the path, the body.
 fn asked_of_house(alloc: Global, paths: &Paths, request: &Request) -> Result<Demand, Unmet>
     ensures demand { (parts : Parts) → (body : List ℕ) → IsRequest request.now parts body →
         Demands (asked_of_house (admitted_of_house parts) parts body) result }
@@ -174,6 +229,15 @@ fn asked_of_house(alloc: Global, paths: &Paths, request: &Request) -> Result<Dem
         body: &request.body,
     };
     demand_by(alloc, route, &sender)
+}
+
+/// Whether a request asks for what a monitor reads.
+fn asks_for_metrics(request: &Request) -> bool
+    ensures metrics { (parts : Parts) → (body : List ℕ) → IsRequest request.now parts body →
+        result ≡ asks_for_metrics parts }
+{
+    request.method.as_slice() == b"GET".as_slice()
+        && request.target.as_slice() == b"/metrics".as_slice()
 }
 
 /// Whether a request asks the desk to stop.

@@ -1,5 +1,6 @@
-//! Idempotence of a message that made an event, how long the text of an ask is, and for whom a command is carried out.
-ghost use Rattle.desk_http.specs.Laws.{ActOnce, AsksAreShort, CommandsAreForWhomIsMeant};
+//! Idempotence of a message that made an event, how long the text of an ask is, for whom a command is carried out, and who is
+//! shown reports.
+ghost use Rattle.desk_http.specs.Laws.{ActOnce, AsksAreShort, CommandsAreForWhomIsMeant, ReportsAreForTheHouse};
 
 /// A request that made an event is idempotent under its key: when the same request is retried, it gets the same page
 /// and makes no second event, whatever came between.
@@ -16,4 +17,9 @@ pub fn asks_are_short()
 /// never for the house.
 pub fn commands_are_for_whom_is_meant()
     ensures law { CommandsAreForWhomIsMeant }
+{}
+
+/// A report, and what a monitor reads, is shown to the house alone: at its own door, to a request that names nobody.
+pub fn reports_are_for_the_house()
+    ensures law { ReportsAreForTheHouse }
 {}

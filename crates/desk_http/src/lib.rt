@@ -22,6 +22,9 @@ mod whys;
 
 pub use answering::{Answer, answer_to};
 pub use doors::{Door, Site};
-pub use law_examples::{step_has_a_short_ask, step_is_for_whom_it_is_meant, step_is_retried};
-pub use laws::{again, asks_are_short, commands_are_for_whom_is_meant};
+pub use law_examples::{
+    nobody_reads_metrics_at_the_port, step_has_a_short_ask, step_is_for_whom_it_is_meant,
+    step_is_retried,
+};
+pub use laws::{again, asks_are_short, commands_are_for_whom_is_meant, reports_are_for_the_house};
 pub use protocols::ServeFault;

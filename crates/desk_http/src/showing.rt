@@ -4,10 +4,12 @@ ghost use Rattle.commands.specs.Orders.{request_of};
 ghost use Rattle.desk_http.specs.Answering.{Shows};
 ghost use Rattle.desk_http.specs.DemandValues.{AsksFor, ReadsAs};
 ghost use Rattle.desk_http.specs.Demands.{bare, begin_by, load_of, value_in};
-ghost use Rattle.desk_http.specs.Pages.{journey_page, owner_of, plan_page, own_journey, own_unfinished, unfinished_shown, ShowsStock};
+ghost use Rattle.desk_http.specs.Pages.{journey_page, owner_of, plan_page, own_journey, own_unfinished, told_page, unfinished_shown, ShowsMetrics, ShowsStock};
+ghost use Rattle.desk_http.specs.Monitored.{ShowsCounted};
 ghost use Rattle.http_pages.specs.Bodies.{agent_data, health_data};
 ghost use Rattle.http_pages.specs.Pages.{page_said, value_page};
 ghost use Rattle.ledger.specs.Answer.{State};
+ghost use Rattle.report_kinds.specs.Texts.{OfReport};
 ghost use Rattle.saga_core.specs.Calls.{Serves};
 ghost use Rattle.saga_core.specs.Views.{counts_of};
 ghost use Rattle.serde_json.specs.Read.{read};
@@ -20,12 +22,14 @@ use crate::doors::Asker;
 use crate::plan_texts::plan_in;
 use allotment_csv::{CsvFault, read_batch};
 use commands::{Command, Name, Refusal};
+use http_log::{Metrics, metrics_text};
 use http_pages::{
     Body, Owners, Page, agent_body, health_body, journey_body, plan_body, refused_page, shown_page,
     unfinished_body,
 };
 use plan::{Plan, PlanFault, json_is_read_back};
 use protocols::ServeFault;
+use report_kinds::{Report, Reporting};
 use reports::{Format, stock_text};
 use saga_core::{Book, Brief, Listed, Record};
 use serde_json::Value;
@@ -156,6 +160,26 @@ pub(crate) fn see_stock<B: Book>(alloc: Global, book: &mut B) -> Result<Page, Se
     }
 }
 
+/// The page of a report. That of a journey that does not exist is refused.
+pub(crate) fn see_report<B: Reporting>(
+    alloc: Global,
+    book: &mut B,
+    report: &Report,
+) -> Result<Page, ServeFault>
+    ensures page { B.is_sound book.new → (s : State) → B.stands book.old s →
+        Shows (B.stands book.new) (B.leaves book.new) s (λ page.
+        OfReport report.now s.ledger (λ text. page_said page ≡ told_page text)) result }
+
+    ensures serves { Serves B.is_sound B.leaves B.has_failed book.old book.new
+        ServeFault.Store result }
+{
+    let found = book.report(report)?;
+    match found {
+        Some(text) => Ok(shown_page(Body::Text(text))),
+        None => Ok(refused_page(alloc, &Refusal::NoJourney)?),
+    }
+}
+
 /// The page of how many events, journeys and unfinished journeys there are.
 pub(crate) fn see_health<B: Book>(alloc: Global, book: &mut B) -> Result<Page, ServeFault>
     ensures page { B.is_sound book.new → (s : State) → B.stands book.old s →
@@ -168,6 +192,25 @@ pub(crate) fn see_health<B: Book>(alloc: Global, book: &mut B) -> Result<Page, S
     let counts = book.counts()?;
     let body = health_body(alloc, counts)?;
     Ok(shown_page(Body::Json(body)))
+}
+
+/// The page of how many events, journeys and unfinished journeys there are, and of what was counted.
+pub(crate) fn see_metrics<B: Book>(
+    alloc: Global,
+    metrics: &Metrics,
+    book: &mut B,
+) -> Result<Page, ServeFault>
+    ensures page { B.is_sound book.new → (s : State) → B.stands book.old s →
+        Shows (B.stands book.new) (B.leaves book.new) s
+        (λ page. ShowsMetrics s.ledger (page_said page)) result }
+    ensures counted { IfOk result (λ page. ShowsCounted metrics.now (page_said page)) }
+
+    ensures serves { Serves B.is_sound B.leaves B.has_failed book.old book.new
+        ServeFault.Store result }
+{
+    let counts = book.counts()?;
+    let body = metrics_text(alloc, counts, metrics)?;
+    Ok(shown_page(Body::Metrics(body)))
 }
 
 /// The page of who asks: an agent, or the house as the agent whose journeys are its own. The only fault is out of memory.

@@ -11,7 +11,10 @@ shown and counted. Standard input is not read.
 
 With --calendar, prints in place of these a heading, a line for each month of
 a product with a mark for each night that says how full it is, and 'months N'.
-The calendar is a text: with --format json or csv it is wrong usage.";
+The calendar is a text: with --format json or csv it is wrong usage.
+
+With --at PATH in place of FILE, asks the desk that serves with --house PATH
+for the report, and prints what it answers.";
 
 /// The forms of `stock`, its exit statuses, and an example.
 pub const STOCK_NOTES: &str = "\
@@ -63,7 +66,10 @@ Prints a heading, a line for each month of a product, in the order of the
 stock, and 'months N'. A line has how many nights of the month have an
 allotment, and the sums of their allotted, held and free places. With options,
 only cells that have each of the values named are counted. Standard input is
-not read.";
+not read.
+
+With --at PATH in place of FILE, asks the desk that serves with --house PATH
+for the report, and prints what it answers.";
 
 /// The forms of `summary`, its exit statuses, and an example.
 pub const SUMMARY_NOTES: &str = "\
@@ -116,7 +122,10 @@ kind, supplier, product, journey and step, with the agent and the state of the
 journey. With options, only cells that have each of the values named count.
 
 A step holds the places that it took until it is compensated, also after its
-journey has ended. Standard input is not read.";
+journey has ended. Standard input is not read.
+
+With --at PATH in place of FILE, asks the desk that serves with --house PATH
+for the report, and prints what it answers.";
 
 /// The forms of `holders`, its exit statuses, and an example.
 pub const HOLDERS_NOTES: &str = "\

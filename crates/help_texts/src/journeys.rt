@@ -7,7 +7,10 @@ Print the journeys that have not ended
 Opens the database FILE without recovering it, and changes no row of it.
 Prints a line for each journey that has neither ended nor is undone, with its
 number, agent and state, and 'unfinished N'. With options, only journeys of
-the agent and in the state are shown and counted. Standard input is not read.";
+the agent and in the state are shown and counted. Standard input is not read.
+
+With --at PATH in place of FILE, asks the desk that serves with --house PATH
+for the report, and prints what it answers.";
 
 /// The forms of `unfinished`, its exit statuses, and an example.
 pub const UNFINISHED_NOTES: &str = "\
@@ -42,7 +45,10 @@ Print all journeys, ended ones too
 Opens the database FILE without recovering it, and changes no row of it.
 Prints a line for each journey, by rising number, with its number, agent and
 state, and 'journeys N'. With options, only journeys of the agent and in the
-state are shown and counted. Standard input is not read.";
+state are shown and counted. Standard input is not read.
+
+With --at PATH in place of FILE, asks the desk that serves with --house PATH
+for the report, and prints what it answers.";
 
 /// The forms of `journeys`, its exit statuses, and an example.
 pub const JOURNEYS_NOTES: &str = "\
@@ -78,7 +84,10 @@ Print what happened to a journey, oldest first
 
 Opens the database FILE without recovering it, and changes no row of it.
 Prints four lines: the journey's number and agent, its plan, its items, and
-its state. Standard input is not read.";
+its state. Standard input is not read.
+
+With --at PATH in place of FILE, asks the desk that serves with --house PATH
+for the report, and prints what it answers.";
 
 /// The forms of `history`, its exit statuses, and an example.
 pub const HISTORY_NOTES: &str = "\
@@ -126,7 +135,10 @@ Print why a journey stands where it does
 Opens the database FILE without recovering it, and changes no row of it.
 Prints the journey's number and agent, its state, its next item with its want,
 a line for each night of the want with its free places, and the item that a
-step would make now. No step is taken. Standard input is not read.";
+step would make now. No step is taken. Standard input is not read.
+
+With --at PATH in place of FILE, asks the desk that serves with --house PATH
+for the report, and prints what it answers.";
 
 /// The forms of `why`, its exit statuses, and an example.
 pub const WHY_NOTES: &str = "\

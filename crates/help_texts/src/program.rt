@@ -17,7 +17,8 @@ Faults:
   24 Read        The input could not be read
   25 Write       The output could not be written
   26 File        A file is absent or cannot be read
-  27 Net         The port or the path could not be listened on
+  27 Net         The port or the path could not be listened on; or no desk
+                 answered at the path of --at
   With '--explain' before the command, or where standard error is a terminal,
   a second line says why, if that is known, and what to do.
 

@@ -69,7 +69,8 @@ agent works. A request to the port must then name 127.0.0.1, localhost or
 
 With --log, standard error has a line for each request, one for each
 connection that ended, and one for what the opening recovered. Without it
-nothing but a fault is written there.
+nothing but a fault is written there. With --log=time each line begins with
+its time.
 
 With --wide, HTTP is read as libraries and proxies speak it: HTTP/1.0, a
 body in chunks, a POST without a body, HEAD, OPTIONS and 'Expect:
@@ -96,6 +97,7 @@ Requests:
   GET /health                The numbers of events, journeys and unfinished
                              journeys
   GET /                      With --page, the page for browsers
+  GET /metrics               At the socket of --house: counts, for Prometheus
   POST /stop                 At the socket of --house: the desk stops
 
 Fields:

@@ -9,10 +9,9 @@ use Rattle.ledger.specs.World.{Moment, after, IsWorld}
 use Rattle.saga_core.specs.Chains.{reopened}
 use Rattle.saga_core.specs.Worlds.{StandsAtEnd}
 use Rattle.recovery.specs.Recovers.{HasOneRecovery}
-use Rattle.sql_model.specs.Standing.{IsDesk}
 use Rattle.histories.specs.Openings.{Input, IsUnserved, recovered}
 use Rattle.histories.specs.Chains.{StandsAs}
-use Rattle.histories.specs.Following.{EachMayReopen, HasComeUp, HasNotComeUp, LeavesAnswered, LeavesOpened, StandsAnswered, StandsOpened, StandsStill}
+use Rattle.histories.specs.Following.{EachMayReopen, HasComeUp, HasNotComeUp, LeavesAnswered, LeavesOpened, StandsAnswered, StandsOpened}
 use Rattle.histories.specs.Stages.{LeavesRecovering, Stood}
 use Rattle.histories.proofs.OpeningLemmas.{answering_leads, answering_opens, recovering_leads}
 use Rattle.histories.proofs.StageLemmas.{not_begun}
@@ -46,12 +45,6 @@ module _ (law : EachMayReopen) where
     not_opened clean stays w world stood =
         not_begun_after (state g new).may_leave w world
         (λ db may. stands_found g new (after start w) clean (stays (after start w) stood) db may)
-
-    -- the connection stands for what it stood for, and so does whatever may be found
-    pub stands_still : HasCleanDisk (state g new)
-        → ((s : State) → IsDesk s → Stood (state g old) s → Stood (state g new) s) → StandsStill g old new
-    stands_still clean stays w world stood db may =
-        stands_found g new (after start w) clean (stays (after start w) (law w world).desk stood) db may
 
     -- it was not recovered, and answered nobody
     pub leaves_unanswered : (held : Option (List ℕ)) (input : Input) → IsUnserved input → HasNotComeUp g old new

@@ -43,8 +43,3 @@ pub of_lines : (known : Option (List ℕ)) (P : Input → Type 0) → IfSome kno
     → IfSome (option_map Lines known) P
 of_lines None P holds = tt
 of_lines (Some bytes) P holds = holds
-
-pub as_lines : (known : Option (List ℕ)) (P : Input → Type 0) → IfSome (option_map Lines known) P
-    → IfSome known (λ bytes. P (Lines bytes))
-as_lines None P holds = tt
-as_lines (Some bytes) P holds = holds

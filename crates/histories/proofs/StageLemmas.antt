@@ -181,12 +181,6 @@ pub not_asked : (held : Option (List ℕ)) (stands : State → Type 0) (w : List
 not_asked held stands w finds input come none here means db may =
     unasked held held stands w input [] (StandsAs db) come none here (Appends-nil held) (means db may)
 
-pub no_lines_asked : (held : Option (List ℕ)) (stands : State → Type 0) (w : List Moment) (finds : Trees → Type 0)
-    (bytes : List ℕ) → StandsAtEnd stands w → ((db : Trees) → finds db → StandsAs db (after start w))
-    → LeavesAnswering finds held held w (Lines bytes)
-no_lines_asked held stands w finds bytes =
-    not_asked held stands w finds (Lines bytes) ([], lines bytes, refl, refl) ([], lines bytes, refl, refl, refl)
-
 pub no_messages_asked : (held : Option (List ℕ)) (stands : State → Type 0) (w : List Moment) (finds : Trees → Type 0)
     (bytes : List ℕ) → StandsAtEnd stands w → ((db : Trees) → finds db → StandsAs db (after start w))
     → LeavesAnswering finds held held w (Messages bytes)

@@ -13,10 +13,11 @@ use Rattle.desk_lines.specs.Serving as of_lines
 use Rattle.desk_lines.specs.Worlds as by_line
 use Rattle.http_messages.specs.Messages.{Message, BeginsWith, BeginsWithAll}
 use Rattle.http_messages.proofs.MessageLemmas.{one_message}
-use Rattle.desk_http.specs.Pages.{ArePages, IsPage, command_in, state_after, state_after_all}
+use Rattle.desk_http.specs.Pages.{IsPage, command_in, state_after, state_after_all}
 use Rattle.desk_http.specs.Serving as of_messages
 use Rattle.desk_http.specs.declared.doors.Door.TheVariants.{Port}
 use Rattle.desk_http.specs.Worlds as by_message
+use Rattle.desk_http.proofs.ServeLemmas.{begins_more, pages_more, concat_more}
 use Rattle.http_ways.specs.Ways.{Said, Says}
 use Rattle.http_conversations.specs.Exchanges.{Exchange}
 use Rattle.http_live.specs.Worlds.{AreDone, HasPage, Heard, asks_of}
@@ -142,31 +143,12 @@ messages-append (m ∷ ms) ns =
     ap (λ l. by_message.asks_by (command_in Port m) ++ l) (messages-append ms ns)
     ∙ sym (append_assoc (by_message.asks_by (command_in Port m)) (by_message.asks_in ms) (by_message.asks_in ns))
 
--- messages, and one more
-begins-more : (input stream rest : List ℕ) (ms : List Message) (m : Message)
-    → BeginsWithAll input ms stream → BeginsWith stream m rest → BeginsWithAll input (ms ++ m ∷ []) rest
-begins-more input stream rest [] m all next = (rest, subst (λ bytes. BeginsWith bytes m rest) (sym all) next, refl)
-begins-more input stream rest (first ∷ ms) m all next =
-    (all.0, all.1, begins-more all.0 stream rest ms m all.2 next)
-
--- their pages, and one more
-pages-more : (s : State) (ms : List Message) (m : Message) (ps : List (List ℕ)) (p : List ℕ)
-    → ArePages s ms ps → IsPage Port (state_after_all s ms) m p → ArePages s (ms ++ m ∷ []) (ps ++ p ∷ [])
-pages-more s [] m [] p are page = (page, refl)
-pages-more s [] m (q ∷ ps) p are page = cc
-pages-more s (first ∷ ms) m [] p are page = absurd are
-pages-more s (first ∷ ms) m (q ∷ ps) p are page = (are.0, pages-more (state_after Port s first) ms m ps p are.1 page)
-
-concat-more : (ps : List (List ℕ)) (p : List ℕ) → concat (ps ++ p ∷ []) ≡ concat ps ++ p
-concat-more [] p = append-nil p
-concat-more (q ∷ ps) p = ap (λ rest. q ++ rest) (concat-more ps p) ∙ sym (append_assoc q (concat ps) p)
-
 -- what messages ask for, and the next one, if there is one
 pub messages_come : (s : State) (bytes rest : List ℕ) (ms next : List Message) → BeginsWithAll bytes ms rest
     → by_message.ComesNext rest next → AsksFor s (Messages bytes) (by_message.asks_in (ms ++ next))
 messages_come s bytes rest ms [] begins comes = (ms, rest, begins, ap by_message.asks_in (append-nil ms))
 messages_come s bytes rest ms (m ∷ []) begins comes =
-    (ms ++ m ∷ [], comes.0, begins-more bytes rest comes.0 ms m begins comes.1, refl)
+    (ms ++ m ∷ [], comes.0, begins_more bytes rest comes.0 ms m begins comes.1, refl)
 messages_come s bytes rest ms (m ∷ n ∷ later) begins comes = absurd comes
 
 -- the pages of the first messages
@@ -216,10 +198,10 @@ module _ (x : Scene) (s : State) (bytes rest : List ℕ) (ms : List Message) (pa
     is_told = pages_told s bytes (ms ++ m ∷ []) after (pages ++ page ∷ []) (concat pages ++ take part page)
         (drop part page) carried []
         (record {
-          begins = begins-more bytes rest after ms m answered.begins next;
-          are = pages-more s ms m pages page answered.are is;
+          begins = begins_more bytes rest after ms m answered.begins next;
+          are = pages_more s ms m pages page answered.are is;
         })
-        (concat-more pages page ∙ cut (concat pages) page part) (no_others carried _ done);
+        (concat_more pages page ∙ cut (concat pages) page part) (no_others carried _ done);
   }
 
   -- the next message, of which there is one

@@ -11,11 +11,12 @@ ghost use Rattle.std.specs.Prelude.{◌≡◌, ◌≢◌, ◌+◌, ◌<◌, ◌�
 use crate::talk::Talk;
 use commands::{Fault, MOST_BYTES};
 use desk_http::Door;
+use http_log::Metrics;
 use http_messages::LONGEST_HEAD;
 use http_pages::Paths;
 use http_ways::{Arrived, Way};
 use protocols::ServeFault;
-use saga_core::Book;
+use report_kinds::Reporting;
 use std::alloc::{AllocError, Global};
 use std::io::{self, Read, Write};
 
@@ -74,15 +75,16 @@ impl Conversation {
     }
 
     /// Answers the first message that waits, unless a page waits or the conversation is over, and reports whether it did. By
-    /// the wide way the page has the date of this second since 1970, if the clock was read. The message is shown, as it was
-    /// read, also where its page is lost.
+    /// the wide way the page has the date of this second since 1970, if the clock was read. What was counted is shown where the
+    /// message asks for that. The message is shown, as it was read, also where its page is lost.
     ///
     /// Out of memory, the message was carried out or not, and its page is lost. Then, and where the store failed, the
     /// conversation has failed.
-    pub fn answer<B: Book>(
+    pub fn answer<B: Reporting>(
         &mut self,
         paths: &Paths,
         second: Option<u64>,
+        metrics: &Metrics,
         seen: &mut Option<Arrived>,
         book: &mut B,
     ) -> Result<bool, Fault>
@@ -99,7 +101,7 @@ impl Conversation {
         ensures serves { Serves B.is_sound B.leaves B.has_failed book.old book.new
             Fault.Store result }
     {
-        self.talk.answer(paths, second, seen, book)
+        self.talk.answer(paths, second, metrics, seen, book)
     }
 
     /// Gives `100 Continue` where it is due, and reports whether it was: no page waits, the head of the next message asks for

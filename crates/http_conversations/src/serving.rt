@@ -13,11 +13,12 @@ ghost use Rattle.http_conversations.specs.Serving.{AwaitsNext, FindsNext, HandsO
 
 use crate::conversation::{Conversation, MOST_READ, Stage};
 use desk_http::Door;
+use http_log::Metrics;
 use http_pages::Paths;
 use http_ways::Way;
 use protocols::ServeFault;
 use recovery::Ready;
-use saga_core::Book;
+use report_kinds::Reporting;
 use std::alloc::Global;
 use std::io::{ErrorKind, Read, Write};
 
@@ -33,7 +34,7 @@ pub struct Served {
 ///
 /// Each page is written and flushed before the next message is read, and nothing is read while a whole message is
 /// buffered. A message that the end of the input cuts off gets no page.
-pub fn serve<R: Read, W: Write, B: Book>(
+pub fn serve<R: Read, W: Write, B: Reporting>(
     alloc: Global,
     reader: &mut R,
     writer: &mut W,
@@ -64,7 +65,7 @@ pub fn serve<R: Read, W: Write, B: Book>(
 }
 
 /// Does the same over any book.
-fn serve_book<R: Read, W: Write, B: Book>(
+fn serve_book<R: Read, W: Write, B: Reporting>(
     alloc: Global,
     reader: &mut R,
     writer: &mut W,
@@ -88,7 +89,7 @@ fn serve_book<R: Read, W: Write, B: Book>(
 }
 
 /// Does the same by way of a buffer.
-fn serve_messages<R: Read, W: Write, B: Book>(
+fn serve_messages<R: Read, W: Write, B: Reporting>(
     alloc: Global,
     paths: &Paths,
     buffer: &mut [u8],
@@ -133,7 +134,7 @@ fn is_open(conversation: &Conversation) -> bool
 }
 
 /// Answers the next message, for which it reads as often as is needed. Returns `false` if the input has ended.
-fn answer_next<R: Read, B: Book>(
+fn answer_next<R: Read, B: Reporting>(
     paths: &Paths,
     conversation: &mut Conversation,
     buffer: &mut [u8],
@@ -151,9 +152,9 @@ fn answer_next<R: Read, B: Book>(
     ensures serves { Serves B.is_sound B.leaves B.has_failed book.old book.new
         ServeFault.Store result }
 {
-    let mut seen = None;
+    let (metrics, mut seen) = (Metrics::new(), None);
     for _ in 0..u64::MAX {
-        match conversation.answer(paths, None, &mut seen, book) {
+        match conversation.answer(paths, None, &metrics, &mut seen, book) {
             Ok(true) => return Ok(true),
             Ok(false) => {
                 let count = read_more(conversation, buffer, reader)?;

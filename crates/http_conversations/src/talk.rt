@@ -11,11 +11,12 @@ ghost use Rattle.http_conversations.specs.Talks.{history_of};
 use crate::conversation::Stage;
 use commands::Fault;
 use desk_http::{Answer, Door};
+use http_log::Metrics;
 use http_pages::Paths;
 use http_server::Log;
 use http_ways::{Arrived, Way, answer_by, first_by, go_on_by, go_on_text};
 use protocols::ServeFault;
-use saga_core::Book;
+use report_kinds::Reporting;
 use std::alloc::{AllocError, Global};
 use std::io::{self, Read, Write};
 
@@ -101,10 +102,11 @@ impl Talk {
     }
 
     /// Answers the first message that waits, if it is its turn, where the clock shows this second, and shows it.
-    pub(crate) fn answer<B: Book>(
+    pub(crate) fn answer<B: Reporting>(
         &mut self,
         paths: &Paths,
         second: Option<u64>,
+        metrics: &Metrics,
         seen: &mut Option<Arrived>,
         book: &mut B,
     ) -> Result<bool, Fault>
@@ -123,7 +125,7 @@ impl Talk {
         }
         match first_by(self.alloc, self.way, &self.waiting) {
             Ok(Some((arrived, count))) => {
-                let answered = self.answer_first(paths, second, &arrived, count, book);
+                let answered = self.answer_first(paths, second, metrics, &arrived, count, book);
                 *seen = Some(arrived);
                 answered
             }
@@ -136,10 +138,11 @@ impl Talk {
     }
 
     /// Answers the message that has so many bytes.
-    fn answer_first<B: Book>(
+    fn answer_first<B: Reporting>(
         &mut self,
         paths: &Paths,
         second: Option<u64>,
+        metrics: &Metrics,
         arrived: &Arrived,
         count: usize,
         book: &mut B,
@@ -155,7 +158,7 @@ impl Talk {
         ensures serves { Serves B.is_sound B.leaves B.has_failed book.old book.new
             Fault.Store result }
     {
-        match answer_by(self.alloc, paths, self.door, second, arrived, book) {
+        match answer_by(self.alloc, paths, self.door, second, arrived, metrics, book) {
             Ok(answer) => {
                 self.keep(count, answer);
                 Ok(true)

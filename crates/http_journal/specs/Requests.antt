@@ -1,5 +1,5 @@
 -- What the line of a request says of it.
-use Rattle.std.specs.Prelude.{ℕ, List, [], bytes_eq, codes, if◌then◌else◌, Option, None, option_and_then, option_map}
+use Rattle.std.specs.Prelude.{ℕ, Bool, false, List, [], bytes_eq, codes, if◌then◌else◌, Option, None, option_and_then, option_map}
 use Rattle.http_messages.specs.declared.requests.Message.{Message}
 use Rattle.http_messages.specs.declared.requests.Message.TheVariants.{NoHead, Asks}
 use Rattle.http_messages.specs.declared.requests.Request.{Request}
@@ -31,8 +31,15 @@ text_of of (Asks request) = of request
 abbrev pub both : Option (List ℕ) → Option (List ℕ) → Option (List ℕ × List ℕ)
 both agent key = option_and_then (λ a. option_map (λ k. (a, k)) key) agent
 
--- under which agent and key a message asks for something to be carried out, if it does: it is a POST
+-- a request, and a message, asks for something to be carried out: it is a POST
+abbrev pub is_post_of : Request → Bool
+is_post_of request = bytes_eq request.method.items (codes "POST")
+
+abbrev pub is_post : Message → Bool
+is_post NoHead = false
+is_post (Asks request) = is_post_of request
+
+-- under which agent and key a message asks for something to be carried out, if it does
 abbrev pub ask_of : Message → Option (List ℕ × List ℕ)
 ask_of NoHead = None
-ask_of (Asks request) =
-    if bytes_eq request.method.items (codes "POST") then both request.agent request.key else None
+ask_of (Asks request) = if is_post_of request then both request.agent request.key else None

@@ -1,13 +1,17 @@
-//! Which lines of the log are written, and when.
-ghost use Rattle.std.specs.Prelude.{IfSome, IsTrue};
+//! What is counted of connections and requests, and which lines of the log are written, and when.
+ghost use Rattle.std.specs.Prelude.{◌≡◌, ◌<◌, IfSome, IsSomeAnd, IsTrue, vec_len};
 ghost use Rattle.std.specs.List.{list_all};
 ghost use Rattle.std.specs.String.{string_bytes};
+ghost use Rattle.http_log.specs.Counted.{with_connection};
 ghost use Rattle.http_log.specs.Shown.{is_printable};
+ghost use Rattle.http_log.specs.Times.{IsTimedLine};
+ghost use Rattle.http_journal.specs.Ends.{counted_end};
 
+use crate::clocks::{micros_between, millis_now};
 use crate::known::Known;
-use crate::texts::{ask_of, asked_by, refusal_in, status_in};
+use crate::texts::{ask_of, asked_by, is_post, refusal_in, status_in};
 use http_live::Standing;
-use http_log::{Peer, Recent, Why, opened_line, request_line};
+use http_log::{Asked, LogForm, Metrics, Peer, Recent, Why, opened_line, request_line, timed_line};
 use http_messages::Message;
 use http_ways::Arrived;
 use log::info;
@@ -15,25 +19,61 @@ use std::alloc::{AllocError, Global};
 use std::time::Instant;
 
 /// Writes how many events an opening recovered, on standard error.
-pub fn log_opening(rt: &HostRuntime, alloc: Global, recovered: u64) {
+pub fn log_opening(rt: &HostRuntime, alloc: Global, form: LogForm, recovered: u64) {
     if let Ok(line) = opened_line(alloc, recovered) {
-        info!(rt; target: "desk", "{line}");
+        write_line(rt, alloc, form, line);
     }
 }
 
-/// The log. What it cannot write is left out.
+/// Writes a line. It has printable bytes of ASCII alone, so that one line is one record.
+fn write_line(rt: &HostRuntime, alloc: Global, form: LogForm, line: String)
+    requires printable { IsTrue (list_all is_printable (string_bytes line)) }
+{
+    let now = match form {
+        LogForm::Plain => None,
+        LogForm::Timed => millis_now(rt),
+    };
+    match with_time(alloc, now, line.as_str()) {
+        None => info!(rt; target: "desk", "{line}"),
+        Some(text) => {
+            let _ = eprintln!(rt; "{text}");
+        }
+    }
+}
+
+/// The line with its time, where there is one; nothing without a time, or where memory runs out.
+fn with_time(alloc: Global, now: Option<u64>, line: &str) -> Option<String>
+    ensures timed { IfSome result (λ text.
+        IsSomeAnd now (λ millis. IsTimedLine millis line.now (string_bytes text))) }
+{
+    match now {
+        None => None,
+        Some(millis) => match timed_line(alloc, millis, line) {
+            Ok(text) => text,
+            Err(_) => None,
+        },
+    }
+}
+
+/// The counts, and the log, if one is written. What the log cannot write is left out.
 #[derive(Drop)]
 pub struct Journal<'a> {
     rt: &'a HostRuntime,
     alloc: Global,
+    /// How the lines of the log begin, if it is written.
+    form: Option<LogForm>,
+    /// What was counted.
+    pub metrics: Metrics,
     /// How many connections came.
     came: u64,
     recent: Recent,
     pub(crate) seats: Vec<Known>,
+    /// When this turn began, if the clock was read.
+    began: Option<Instant>,
 }
 
 impl<'a> Journal<'a> {
-    /// The log of so many seats, at which nobody is.
+    /// So many seats, at which nobody is. No log is written.
     pub fn new(
         rt: &'a HostRuntime,
         alloc: Global,
@@ -46,28 +86,44 @@ impl<'a> Journal<'a> {
         Ok(Journal {
             rt,
             alloc,
+            form: None,
+            metrics: Metrics::new(),
             came: 0,
             recent: Recent::new(alloc),
             seats,
+            began: None,
         })
     }
 
+    /// The log is written from now on, and its lines begin so.
+    pub fn log(&mut self, form: LogForm)
+        ensures counted { self.new.metrics ≡ self.old.metrics }
+    {
+        self.form = Some(form);
+    }
+
     /// A connection takes a seat by a door. Which was there before is displaced. Out of memory, the line of that is left out.
-    pub fn comes(&mut self, at: usize, is_house: bool) -> Result<(), AllocError> {
+    pub fn comes(&mut self, at: usize, is_house: bool) -> Result<(), AllocError>
+        ensures counted { at < vec_len self.old.seats → self.new.metrics
+            ≡ with_connection (counted_end self.old.seats.items at Why.Displaced self.old.metrics) }
+    {
         let displaced = self.ends(at, Why::Displaced);
         self.came = self.came.saturating_add(1);
         let peer = Peer {
             number: self.came,
             is_house,
         };
-        if at < self.seats.len() {
-            self.seats[at] = Known::of(peer);
-        }
+        let Some(known) = self.seats.get_mut(at) else {
+            return displaced;
+        };
+        *known = Known::of(peer);
+        self.metrics.comes();
         displaced
     }
 
-    /// A message, or part of one, waits at a seat to be answered, or does not. Nothing is written.
+    /// A turn of a seat begins, at which a message, or part of one, waits to be answered, or does not. Nothing is written.
     pub fn sees_received(&mut self, at: usize, has_part: bool) {
+        self.began = Instant::now(self.rt).ok();
         if let Some(known) = self.seats.get_mut(at) {
             known.has_part = has_part;
         }
@@ -146,32 +202,45 @@ impl<'a> Journal<'a> {
         known.requests = known.requests.saturating_add(1);
         let (peer, millis) = (known.peer, known.millis_since_read(now));
         let is_accepted = status == b"200".as_slice();
+        self.metrics.answers(status);
+        if is_accepted && is_post(&arrived.message) {
+            self.metrics.carries(micros_between(self.began, now));
+        }
         let again = is_accepted && self.is_again(&arrived.message);
         let refused = if is_accepted {
             b"".as_slice()
         } else {
             refusal_in(page)
         };
-        let asked = asked_by(arrived, status, refused, again, millis);
-        let line = request_line(self.alloc, peer, &asked)?;
-        self.write(Some(line));
+        self.write_request(peer, &asked_by(arrived, status, refused, again, millis))?;
         Ok(true)
     }
 
     /// Whether the page of a message that was accepted was a kept one: that of a request under a key, which was accepted before.
+    /// Where no log is written, nothing is remembered.
     fn is_again(&mut self, message: &Message) -> bool {
         match ask_of(message) {
-            Some((agent, key)) => self.recent.put(agent, key).unwrap_or(false),
-            None => false,
+            Some((agent, key)) if self.form.is_some() => {
+                self.recent.put(agent, key).unwrap_or(false)
+            }
+            _ => false,
         }
     }
 
     /// The connection of a seat ended, if one was here. Out of memory, its line is left out.
-    pub fn ends(&mut self, at: usize, why: Why) -> Result<(), AllocError> {
-        if at >= self.seats.len() {
+    pub fn ends(&mut self, at: usize, why: Why) -> Result<(), AllocError>
+        ensures counted { self.new.metrics
+            ≡ counted_end self.old.seats.items at why self.old.metrics }
+        ensures seats { vec_len self.new.seats ≡ vec_len self.old.seats }
+    {
+        let Some(known) = self.seats.get_mut(at) else {
+            return Ok(());
+        };
+        if !known.is_here {
             return Ok(());
         }
-        let line = self.seats[at].end(self.alloc, why)?;
+        self.metrics.ends(why);
+        let line = known.end(self.alloc, why)?;
         self.write(line);
         Ok(())
     }
@@ -183,13 +252,22 @@ impl<'a> Journal<'a> {
         }
     }
 
-    /// Writes a line, if there is one. It has printable bytes of ASCII alone, so that one line is one record.
+    /// Writes the line of a message of a peer, if a log is written.
+    fn write_request(&self, peer: Peer, asked: &Asked<'_>) -> Result<(), AllocError> {
+        if self.form.is_some() {
+            let line = request_line(self.alloc, peer, asked)?;
+            self.write(Some(line));
+        }
+        Ok(())
+    }
+
+    /// Writes a line, if there is one, and a log is written.
     fn write(&self, line: Option<String>)
         requires printable { IfSome line
             (λ text. IsTrue (list_all is_printable (string_bytes text))) }
     {
-        if let Some(line) = line {
-            info!(self.rt; target: "desk", "{line}");
+        if let (Some(form), Some(line)) = (self.form, line) {
+            write_line(self.rt, self.alloc, form, line);
         }
     }
 }

@@ -4,6 +4,7 @@ ghost use Rattle.std.specs.List.{list_all};
 ghost use Rattle.std.specs.String.{string_bytes};
 ghost use Rattle.http_log.specs.Shown.{is_printable};
 
+use crate::clocks::micros_between;
 use http_log::{Peer, Why, ended_line};
 use std::alloc::{AllocError, Global};
 use std::time::Instant;
@@ -70,12 +71,7 @@ impl Known {
 
     /// How many milliseconds it is since it was read; 0 where the clock was not.
     pub(crate) fn millis_since_read(&self, now: Option<Instant>) -> u64 {
-        match (self.read_at, now) {
-            (Some(read_at), Some(now)) => {
-                u64::try_from(now.duration_since(read_at).as_millis()).unwrap_or(u64::MAX)
-            }
-            _ => 0,
-        }
+        micros_between(self.read_at, now) / 1000
     }
 
     /// The connection ended so. Returns its line, if one was here. The only fault is out of memory.

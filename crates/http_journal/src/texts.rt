@@ -1,6 +1,6 @@
 //! What the line of a request says, from its message and its page.
 ghost use Rattle.std.specs.Prelude.{◌≡◌, [], unwrap_or};
-ghost use Rattle.http_journal.specs.Requests.{ask_of, both, method_by, method_of, text_of};
+ghost use Rattle.http_journal.specs.Requests.{ask_of, both, is_post, is_post_of, method_by, method_of, text_of};
 
 use commands::{Agent, Key};
 use http_log::Asked;
@@ -40,13 +40,30 @@ pub(crate) fn ask_of(message: &Message) -> Option<(Agent, Key)>
     match message {
         Message::NoHead => None,
         Message::Asks(request) => {
-            if request.method.as_slice() == b"POST".as_slice() {
+            if is_post_of(request) {
                 both(request.agent, request.key)
             } else {
                 None
             }
         }
     }
+}
+
+/// Whether a message asks for something to be carried out.
+pub(crate) fn is_post(message: &Message) -> bool
+    ensures post { result ≡ is_post message.now }
+{
+    match message {
+        Message::NoHead => false,
+        Message::Asks(request) => is_post_of(request),
+    }
+}
+
+/// Whether a request asks for something to be carried out.
+fn is_post_of(request: &Request) -> bool
+    ensures post { result ≡ is_post_of request.now }
+{
+    request.method.as_slice() == b"POST".as_slice()
 }
 
 /// An agent and a key, where there are both.

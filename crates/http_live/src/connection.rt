@@ -11,10 +11,11 @@ use crate::seats::Standing;
 use commands::Fault;
 use desk_http::Door;
 use http_conversations::{Conversation, MOST_READ, Stage};
+use http_log::Metrics;
 use http_pages::Paths;
 use http_server::Log;
 use http_ways::{Arrived, Way};
-use saga_core::Book;
+use report_kinds::Reporting;
 use std::alloc::Global;
 use std::io::{self, ErrorKind, Read, Write};
 
@@ -85,10 +86,11 @@ impl<R: Read + Drop, W: Write + Drop> Connection<R, W> {
 
     /// A turn: what waits is handed out, or else one message is answered and shown, or else more is read. The clock shows this
     /// second, if it was read.
-    pub(crate) fn serve<B: Book>(
+    pub(crate) fn serve<B: Reporting>(
         &mut self,
         paths: &Paths,
         second: Option<u64>,
+        metrics: &Metrics,
         buffer: &mut [u8],
         seen: &mut Option<Arrived>,
         book: &mut B,
@@ -105,7 +107,7 @@ impl<R: Read + Drop, W: Write + Drop> Connection<R, W> {
         if self.conversation.wants_write() {
             return Ok(self.push(buffer));
         }
-        match self.answer(paths, second, seen, book) {
+        match self.answer(paths, second, metrics, seen, book) {
             Ok(true) => Ok(self.answered()),
             Ok(false) => Ok(self.go_on(buffer)),
             Err(Fault::Memory) => Ok(Standing::Over),
@@ -151,10 +153,11 @@ impl<R: Read + Drop, W: Write + Drop> Connection<R, W> {
     }
 
     /// Answers the first message that waits, if it is its turn.
-    fn answer<B: Book>(
+    fn answer<B: Reporting>(
         &mut self,
         paths: &Paths,
         second: Option<u64>,
+        metrics: &Metrics,
         seen: &mut Option<Arrived>,
         book: &mut B,
     ) -> Result<bool, Fault>
@@ -167,7 +170,7 @@ impl<R: Read + Drop, W: Write + Drop> Connection<R, W> {
         ensures serves { Serves B.is_sound B.leaves B.has_failed book.old book.new
             Fault.Store result }
     {
-        self.conversation.answer(paths, second, seen, book)
+        self.conversation.answer(paths, second, metrics, seen, book)
     }
 
     /// Reads once.

@@ -11,10 +11,11 @@ use crate::connection::Connection;
 use commands::Fault;
 use desk_http::Door;
 use http_conversations::MOST_READ;
+use http_log::Metrics;
 use http_pages::Paths;
 use http_server::Log;
 use http_ways::{Arrived, Way};
-use saga_core::Book;
+use report_kinds::Reporting;
 use std::alloc::{AllocError, Global};
 use std::io::{Read, Write};
 
@@ -101,10 +102,11 @@ impl<R: Read + Drop, W: Write + Drop> Seat<R, W> {
 
     /// A turn of the connection, if there is one, where the clock shows this second. The message that was answered is shown.
     /// One that is over ends.
-    pub(crate) fn serve<B: Book>(
+    pub(crate) fn serve<B: Reporting>(
         &mut self,
         paths: &Paths,
         second: Option<u64>,
+        metrics: &Metrics,
         buffer: &mut [u8],
         seen: &mut Option<Arrived>,
         book: &mut B,
@@ -121,7 +123,7 @@ impl<R: Read + Drop, W: Write + Drop> Seat<R, W> {
         let Some(connection) = &mut self.connection else {
             return Ok(Standing::Over);
         };
-        let standing = connection.serve(paths, second, buffer, seen, book)?;
+        let standing = connection.serve(paths, second, metrics, buffer, seen, book)?;
         if standing == Standing::Over {
             self.clear();
         }

@@ -15,10 +15,11 @@ use crate::seats::{Seat, Standing};
 use commands::Fault;
 use desk_http::Door;
 use http_conversations::MOST_READ;
+use http_log::Metrics;
 use http_pages::Paths;
 use http_ways::{Arrived, Way};
 use recovery::Ready;
-use saga_core::Book;
+use report_kinds::Reporting;
 use std::alloc::Global;
 use std::io::{Read, Write};
 
@@ -26,7 +27,7 @@ use std::io::{Read, Write};
 /// fails. Where the house asks, no further message is answered; its page waits.
 ///
 /// Out of memory, no turn was taken.
-pub fn serve_many<T: Turns, B: Book>(
+pub fn serve_many<T: Turns, B: Reporting>(
     alloc: Global,
     seats: &mut [Seat<T::Reader, T::Writer>],
     turns: &mut T,
@@ -53,7 +54,7 @@ pub fn serve_many<T: Turns, B: Book>(
 }
 
 /// The same over any book, by way of a buffer.
-fn serve_turns<T: Turns, B: Book>(
+fn serve_turns<T: Turns, B: Reporting>(
     alloc: Global,
     paths: &Paths,
     seats: &mut [Seat<T::Reader, T::Writer>],
@@ -81,7 +82,7 @@ fn serve_turns<T: Turns, B: Book>(
 }
 
 /// Takes the next turn, and reports whether serving ends with it.
-fn take_turn<T: Turns, B: Book>(
+fn take_turn<T: Turns, B: Reporting>(
     alloc: Global,
     paths: &Paths,
     seats: &mut [Seat<T::Reader, T::Writer>],
@@ -108,7 +109,8 @@ fn take_turn<T: Turns, B: Book>(
                 show_received(seats, turns, at);
                 let mut seen = None;
                 let second = turns.second();
-                let standing = seats[at].serve(paths, second, buffer, &mut seen, book)?;
+                let metrics = turns.metrics();
+                let standing = seats[at].serve(paths, second, &metrics, buffer, &mut seen, book)?;
                 show_page(seats, turns, at, standing, seen.as_ref());
                 turns.hear(at, standing);
                 return Ok(ending_after(standing));
@@ -252,6 +254,11 @@ pub trait Turns {
     /// What the clock shows, in seconds since 1970, if it can be read. Pages by the wide way have its date.
     fn second(&mut self) -> Option<u64> {
         None
+    }
+
+    /// What was counted, for who asks for it.
+    fn metrics(&self) -> Metrics {
+        Metrics::new()
     }
 
     /// Sees whether a message, or part of one, waits at a seat to be answered in its turn, which comes next. Nothing depends on

@@ -1,2 +1,3 @@
 pub mod PrintableLemmas
 pub mod RecentLemmas
+pub mod MetricsLemmas

@@ -27,7 +27,7 @@ pub enum Why {
 
 impl Why {
     /// The word of the log.
-    pub(crate) fn word(self) -> &'static str
+    pub fn word(self) -> &'static str
         ensures word { result.now ≡ why_word self }
     {
         match self {

@@ -10,7 +10,7 @@ use Rattle.http_pages.specs.Bodies.{refusal_data, reply_data}
 use Rattle.http_pages.specs.Statuses.{status_code, status_of, phrase}
 use Rattle.http_pages.specs.Verbs.{verb_text}
 use Rattle.http_pages.specs.declared.answers.Body.{Body}
-use Rattle.http_pages.specs.declared.answers.Body.TheVariants.{Json, Text, Html}
+use Rattle.http_pages.specs.declared.answers.Body.TheVariants.{Json, Text, Html, Metrics}
 use Rattle.http_pages.specs.declared.answers.Page.{Page}
 use Rattle.http_pages.specs.declared.heads.Status.{Status}
 use Rattle.http_pages.specs.declared.heads.Status.TheVariants.{Fine}
@@ -18,11 +18,12 @@ use Rattle.http_pages.specs.declared.routes.Verb.{Verb}
 
 -- What a page says.
 
--- what a body is: a JSON value, a report, or a page for browsers with its policy for content
+-- what a body is: a JSON value, a report, a page for browsers with its policy for content, or what a monitor reads
 pub data Media : Type 0 where
   Value : Media
   Report : Media
   Browsed : (policy : List ℕ) → Media
+  Monitored : Media
 
 -- a status, the method that is allowed where another was asked, and a body
 pub record Paged : Type 0 where
@@ -36,12 +37,14 @@ abbrev pub body_bytes : Body → List ℕ
 body_bytes (Json text) = string_bytes text
 body_bytes (Text bytes) = bytes.items
 body_bytes (Html html) = html.text.now
+body_bytes (Metrics text) = string_bytes text
 
 -- what a body is
 abbrev pub media_of : Body → Media
 media_of (Json text) = Value
 media_of (Text bytes) = Report
 media_of (Html html) = Browsed html.policy.now
+media_of (Metrics text) = Monitored
 
 -- the page that shows this body
 abbrev pub shown_page : Body → Paged
@@ -72,6 +75,10 @@ report_page text = record { status = Fine; allow = None; media = Report; body = 
 -- the page for browsers, with its policy for content
 abbrev pub browsed_page : (text policy : List ℕ) → Paged
 browsed_page text policy = record { status = Fine; allow = None; media = Browsed policy; body = text }
+
+-- the page that a monitor reads
+abbrev pub monitored_page : List ℕ → Paged
+monitored_page text = record { status = Fine; allow = None; media = Monitored; body = text }
 
 -- the page of a refusal, with the method that is allowed where another was asked
 abbrev pub denied_page : Refusal → Option Verb → Paged
@@ -104,12 +111,14 @@ abbrev pub media_type : Media → List ℕ
 media_type Value = codes "application/json"
 media_type Report = codes "text/plain"
 media_type (Browsed policy) = codes "text/html; charset=utf-8"
+media_type Monitored = codes "text/plain; version=0.0.4"
 
 -- the line with the policy for content of a page for browsers
 abbrev pub policy_line : Media → List ℕ
 policy_line Value = []
 policy_line Report = []
 policy_line (Browsed policy) = line (codes "Content-Security-Policy: " ++ policy)
+policy_line Monitored = []
 
 -- the line that reports which method is allowed, where another was asked
 abbrev pub allow_line : Option Verb → List ℕ

@@ -18,6 +18,8 @@ pub enum Body {
     Text(Vec<u8>),
     /// A page for browsers.
     Html(HtmlPage),
+    /// What a monitor reads (the text format of Prometheus, version 0.0.4).
+    Metrics(String),
 }
 
 /// A page for browsers.
@@ -46,6 +48,7 @@ pub(crate) fn bytes_of(body: &Body) -> &[u8]
         Body::Json(text) => text.as_bytes(),
         Body::Text(bytes) => bytes,
         Body::Html(html) => html.text.as_bytes(),
+        Body::Metrics(text) => text.as_bytes(),
     }
 }
 
@@ -57,10 +60,12 @@ pub(crate) fn media_type_of(body: &Body) -> &'static str
         Body::Json(_) => "application/json",
         Body::Text(_) => "text/plain",
         Body::Html(_) => "text/html; charset=utf-8",
+        Body::Metrics(_) => "text/plain; version=0.0.4",
     }
 }
 
-/// The page with status 200 of this body: a JSON value in its compact text, a report, or a page for browsers.
+/// The page with status 200 of this body: a JSON value in its compact text, a report, a page for browsers, or what a monitor
+/// reads.
 pub fn shown_page(body: Body) -> Page
     ensures page { page_said result ≡ shown_page body }
 {

@@ -62,7 +62,7 @@ fn policy_line(alloc: Global, body: &Body) -> Result<String, AllocError>
     ensures line { IfOk result (λ line. string_bytes line ≡ policy_line (media_of body.now)) }
 {
     match body {
-        Body::Json(_) | Body::Text(_) => Ok(String::new(alloc)),
+        Body::Json(_) | Body::Text(_) | Body::Metrics(_) => Ok(String::new(alloc)),
         Body::Html(html) => {
             let policy = html.policy;
             format!(in alloc; "Content-Security-Policy: {policy}\r\n")

@@ -14,5 +14,6 @@ mod serving;
 mod sockets;
 
 pub use http_journal::log_opening;
+pub use http_log::LogForm;
 pub use serving::{Limits, PATIENCE, serve_sockets};
 pub use sockets::Sockets;

@@ -9,7 +9,7 @@ use crate::sockets::Sockets;
 use commands::Fault;
 use http_live::{Ending, Seat, empty_seats, finish_many, serve_many};
 use recovery::Ready;
-use saga_core::Book;
+use report_kinds::Reporting;
 use std::alloc::Global;
 use std::io::{Read, Write};
 
@@ -27,7 +27,7 @@ pub struct Limits {
 
 /// Serves the sockets until their limits end it, the house asks the desk to stop, or the store fails. Where the house asks,
 /// the pages that wait go out, for at most five seconds. Out of memory, nobody was served.
-pub fn serve_sockets<B: Book>(
+pub fn serve_sockets<B: Reporting>(
     alloc: Global,
     sockets: &mut Sockets<'_>,
     book: &mut Ready<B>,

@@ -9,7 +9,7 @@ use crate::serving::Limits;
 use desk_http::{Door, Site};
 use http_journal::Journal;
 use http_live::{SEATS, Standing, Turn, Turns};
-use http_log::Why;
+use http_log::{LogForm, Metrics, Why};
 use http_pages::HtmlPage;
 use http_ways::{Arrived, Way};
 use mio::{Events, Poll, Token};
@@ -65,8 +65,8 @@ pub struct Sockets<'a> {
     leaving: VecDeque<usize>,
     /// Whether the system has failed to report what happens.
     has_failed: bool,
-    /// The log, if one is written.
-    journal: Option<Journal<'a>>,
+    /// What is counted, and the log, if one is written.
+    journal: Journal<'a>,
 }
 
 impl<'a> Sockets<'a> {
@@ -94,6 +94,7 @@ impl<'a> Sockets<'a> {
         let round = VecDeque::with_capacity(alloc, SEATS)?;
         let next = VecDeque::with_capacity(alloc, SEATS)?;
         let leaving = VecDeque::with_capacity(alloc, SEATS)?;
+        let journal = Journal::new(rt, alloc, SEATS)?;
         let clock = Instant::now(rt)?;
         let listeners = Listeners::bind(rt, alloc, poll.registry(), port, path)?;
         Ok(Sockets {
@@ -115,25 +116,23 @@ impl<'a> Sockets<'a> {
             next,
             leaving,
             has_failed: false,
-            journal: None,
+            journal,
         })
     }
 
-    /// Writes a line on standard error for each request and for each connection that ended, from now on. Nothing else changes.
-    pub fn log(&mut self) -> Result<(), AllocError>
+    /// Writes a line on standard error for each request and for each connection that ended, from now on, in this form. Nothing
+    /// else changes.
+    pub fn log(&mut self, form: LogForm)
         ensures page { page_at_port self.new ≡ page_at_port self.old }
         ensures way { way_to_come self.new ≡ way_to_come self.old }
         ensures limits { KeepsLimits self.old self.new }
     {
-        self.journal = Some(Journal::new(self.rt, self.alloc, SEATS)?);
-        Ok(())
+        self.journal.log(form);
     }
 
-    /// Notes in the log, if one is written, why the connection of a seat ended.
+    /// Notes why the connection of a seat ended.
     fn note_end(&mut self, at: usize, why: Why) {
-        if let Some(journal) = &mut self.journal {
-            let _ = journal.ends(at, why);
-        }
+        let _ = self.journal.ends(at, why);
     }
 
     /// The port that is listened on: where 0 was asked for, the system chose it.
@@ -184,16 +183,9 @@ impl<'a> Sockets<'a> {
     /// Ends all connections, listens no more, and removes the file of the Unix socket.
     pub fn end(self) {
         let mut sockets = self;
-        sockets.note_ends();
+        sockets.journal.ends_all();
         let rt = sockets.rt;
         sockets.listeners.end(rt);
-    }
-
-    /// Notes in the log, if one is written, that all connections end.
-    fn note_ends(&mut self) {
-        if let Some(journal) = &mut self.journal {
-            journal.ends_all();
-        }
     }
 
     /// The next turn of this round.
@@ -265,9 +257,7 @@ impl<'a> Sockets<'a> {
         let door = socket.door(self.page);
         let (reader, writer) = ends_of(&socket, self.way)?;
         self.places.take(at, socket, self.tick);
-        if let Some(journal) = &mut self.journal {
-            let _ = journal.comes(at, matches!(door, Door::House));
-        }
+        let _ = self.journal.comes(at, matches!(door, Door::House));
         Ok(Turn::Comes(at, door, self.way, reader, writer))
     }
 
@@ -357,10 +347,12 @@ impl Turns for Sockets<'_> {
         }
     }
 
+    fn metrics(&self) -> Metrics {
+        self.journal.metrics
+    }
+
     fn see_received(&mut self, at: usize, has_part: bool) {
-        if let Some(journal) = &mut self.journal {
-            journal.sees_received(at, has_part);
-        }
+        self.journal.sees_received(at, has_part);
     }
 
     fn see_page(
@@ -371,9 +363,7 @@ impl Turns for Sockets<'_> {
         page: &[u8],
         closes: bool,
     ) {
-        if let Some(journal) = &mut self.journal {
-            let _ = journal.sees_page(at, standing, seen, page, closes);
-        }
+        let _ = self.journal.sees_page(at, standing, seen, page, closes);
     }
 
     fn hear(&mut self, at: usize, standing: Standing) {

@@ -19,13 +19,14 @@ use crate::lines::wide_page;
 use crate::showing::{Shown, shown_for};
 use commands::MOST_BYTES;
 use desk_http::{Answer, Door, answer_to};
+use http_log::Metrics;
 use http_messages::{
     AskedKind, Denial, LONGEST_HEAD, Message, WideMessage, WideRequest, first_message,
     first_wide_message, go_on_is_due,
 };
 use http_pages::Paths;
 use protocols::ServeFault;
-use saga_core::Book;
+use report_kinds::Reporting;
 use std::alloc::{AllocError, Global};
 
 /// How messages are read, and how pages are laid out.
@@ -179,12 +180,13 @@ fn unread(bytes: &[u8], layout: Layout) -> (Arrived, usize)
 /// the date of this second since 1970, if the clock was read.
 ///
 /// Out of memory, it was carried out or not, and has no page.
-pub fn answer_by<B: Book>(
+pub fn answer_by<B: Reporting>(
     alloc: Global,
     paths: &Paths,
     door: Door,
     second: Option<u64>,
     arrived: &Arrived,
+    metrics: &Metrics,
     book: &mut B,
 ) -> Result<Answer, ServeFault>
     ensures answer { B.is_sound book.new → (s : State) → B.stands book.old s →
@@ -198,7 +200,7 @@ pub fn answer_by<B: Book>(
     ensures serves { Serves B.is_sound B.leaves B.has_failed book.old book.new
         ServeFault.Store result }
 {
-    match answer_to(alloc, paths, door, &arrived.message, book) {
+    match answer_to(alloc, paths, door, &arrived.message, metrics, book) {
         Ok(answer) => lay_out(alloc, paths, door, second, arrived, answer),
         Err(fault) => Err(fault),
     }

@@ -3,7 +3,7 @@ use Rattle.std.proofs.Common.{◌≡◌, ℕ, zero, suc, ◌+◌, ◌-◌, ◌<�
 use Rattle.std.specs.Prelude.{unwrap_or}
 use Rattle.std.specs.List.{list_any, list_all}
 use Rattle.std.specs.BTreeMap as tree
-use Rattle.std.proofs.lemmas.Bool.{and_parts, le-leb, ne_eqb}
+use Rattle.std.proofs.lemmas.Bool.{and_parts, and_right, or_parts, not-true, le-leb, ne_eqb}
 use Rattle.allotment.specs.Want.{Wanted}
 use Rattle.allotment.specs.Cells.{is_cell, cell_at, cells_of, numbers_from}
 use Rattle.allotment.specs.declared.cells.Cell.{Cell}
@@ -16,23 +16,20 @@ use Rattle.memory_book.specs.declared.stock.Stock.{Stock}
 
 -- Places of cells.
 
+-- a function of what is found, where one thing is tried before the others
+pub map-found : {X Y : Type 0} (f : X → Y) (b : Bool) (x : X) (o : Option X)
+    → option_map f (cond b (Some x) o) ≡ cond b (Some (f x)) (option_map f o)
+map-found f true x o = refl
+map-found f false x o = refl
+
 -- what is written at a key is found there, and other keys keep what they had
 pub stock_at-put : (old new : Stock) (k : Cell) (held : Held)
     → tree.Updates cell_key_cmp old.places new.places (key_of k) (Some held)
     → (x : Cell)
     → stock_at new x ≡ (if is_cell x k then Some (places_said held) else stock_at old x)
 stock_at-put old new k held updates x =
-    ap (option_map places_said) (updates.0 (key_of x))
-    ∙ ap (λ b. option_map places_said
-    (cond b (Some held) (tree.get cell_key_cmp old.places (key_of x))))
-    (is_eq-cells k x ∙ is_cell-swap k x)
-    ∙ mapped (is_cell x k)
-  where
-    mapped : (b : Bool)
-        → option_map places_said (cond b (Some held) (tree.get cell_key_cmp old.places (key_of x)))
-        ≡ (if b then Some (places_said held) else stock_at old x)
-    mapped true = refl
-    mapped false = refl
+    ap (option_map places_said) (updates.0 (key_of x)) ∙ map-found places_said _ held _
+    ∙ ap (λ b. cond b (Some (places_said held)) (stock_at old x)) (is_eq-cells k x ∙ is_cell-swap k x)
 
 -- Cells that change one by one.
 
@@ -47,53 +44,38 @@ abbrev pub changed : (ℕ → Places → Places) → ℕ → List Cell → (Cell
 changed change n cells places x =
     option_map (change (if list_any (is_cell x) cells then n else 0)) (places x)
 
--- not true is false
-not_true : (b : Bool) → not b ≡ true → b ≡ false
-not_true true e = sym e
-not_true false e = refl
-
--- the first cell is not among the others
-pub apart-first : (k : Cell) (cells : List Cell) → are_apart (k ∷ cells) ≡ true
-    → list_any (is_cell k) cells ≡ false
-apart-first k cells apart =
-    not_true _ (and_parts (not (list_any (is_cell k) cells)) (are_apart cells) apart).0
-
--- no cell occurs twice among the others
-pub apart-rest : (k : Cell) (cells : List Cell) → are_apart (k ∷ cells) ≡ true
-    → are_apart cells ≡ true
-apart-rest k cells apart =
-    (and_parts (not (list_any (is_cell k) cells)) (are_apart cells) apart).1
+-- the first cell is not among the others, none of which occurs twice
+pub apart-parts : (k : Cell) (cells : List Cell) → are_apart (k ∷ cells) ≡ true
+    → (list_any (is_cell k) cells ≡ false) × (are_apart cells ≡ true)
+apart-parts k cells apart =
+    let both = and_parts (not (list_any (is_cell k) cells)) (are_apart cells) apart in
+    (not-true _ both.0, both.1)
 
 -- after the first cell has changed, the others are still to change: the first cell does not change again, and its
 -- change left the others the same
 pub changed-step : (change : ℕ → Places → Places) → ((p : Places) → change 0 p ≡ p)
     → (n : ℕ) (k : Cell) (cells : List Cell) (old new : Cell → Option Places)
-    → are_apart (k ∷ cells) ≡ true
+    → list_any (is_cell k) cells ≡ false
     → ((x : Cell) → new x ≡ (if is_cell x k then option_map (change n) (old k) else old x))
     → (x : Cell) → changed change n cells new x ≡ changed change n (k ∷ cells) old x
-changed-step change none n k cells old new apart one x = go (is_cell x k) refl
+changed-step change none n k cells old new apart one x =
+    ap (option_map (change (if list_any (is_cell x) cells then n else 0))) (one x)
+    ∙ go (is_cell x k) refl
   where
     same : (o : Option Places) → option_map (change 0) o ≡ o
     same None = refl
     same (Some p) = ap (λ q. Some q) (none p)
 
     go : (b : Bool) → is_cell x k ≡ b
-        → changed change n cells new x ≡ changed change n (k ∷ cells) old x
+        → option_map (change (if list_any (is_cell x) cells then n else 0))
+        (if b then option_map (change n) (old k) else old x)
+        ≡ option_map (change (if b || list_any (is_cell x) cells then n else 0)) (old x)
     go true e =
         let is : x ≡ k = is_cell-same x k e in
-        let later : list_any (is_cell x) cells ≡ false =
-        ap (λ y. list_any (is_cell y) cells) is ∙ apart-first k cells apart in
-        ap (λ b. option_map (change (if b then n else 0)) (new x)) later
-        ∙ same (new x) ∙ one x
-        ∙ ap (λ b. if b then option_map (change n) (old k) else old x) e
-        ∙ ap (λ y. option_map (change n) (old y)) (sym is)
-        ∙ ap (λ b. option_map (change (if b || list_any (is_cell x) cells then n else 0)) (old x))
-        (sym e)
-    go false e =
-        ap (option_map (change (if list_any (is_cell x) cells then n else 0)))
-        (one x ∙ ap (λ b. if b then option_map (change n) (old k) else old x) e)
-        ∙ ap (λ b. option_map (change (if b || list_any (is_cell x) cells then n else 0)) (old x))
-        (sym e)
+        ap (λ b. option_map (change (if b then n else 0)) (option_map (change n) (old k)))
+        (ap (λ y. list_any (is_cell y) cells) is ∙ apart)
+        ∙ same (option_map (change n) (old k)) ∙ ap (λ y. option_map (change n) (old y)) (sym is)
+    go false e = refl
 
 -- so many places of a cell are free
 abbrev pub has_free_at : (Cell → Option Places) → ℕ → Cell → Bool
@@ -109,29 +91,16 @@ pub free-step : (change : Places → Places) (n : ℕ) (k : Cell) (cells : List 
 free-step change n k [] old new one apart free = refl
 free-step change n k (x ∷ cells) old new one apart free =
     let both = and_parts (has_free_at old n x) (list_all (has_free_at old n) cells) free in
-    let first : is_cell k x ≡ false = or_first (is_cell k x) _ apart in
-    let rest : list_any (is_cell k) cells ≡ false = or_rest (is_cell k x) _ apart in
+    let others = or_parts (is_cell k x) (list_any (is_cell k) cells) apart in
     let kept : new x ≡ old x =
-    one x ∙ ap (λ b. if b then option_map change (old k) else old x) (is_cell-swap x k ∙ first) in
+    one x
+    ∙ ap (λ b. if b then option_map change (old k) else old x) (is_cell-swap x k ∙ others.0) in
     ap (λ (o : Option Places). unwrap_or (option_map (λ (p : Places). nat_le n p.free) o) false
     && list_all (has_free_at new n) cells) kept
     ∙ ap (λ b. b && list_all (has_free_at new n) cells) both.0
-    ∙ free-step change n k cells old new one rest both.1
-  where
-    or_first : (a b : Bool) → (a || b) ≡ false → a ≡ false
-    or_first true b e = e
-    or_first false b e = refl
-
-    or_rest : (a b : Bool) → (a || b) ≡ false → b ≡ false
-    or_rest true b e = cc
-    or_rest false b e = e
+    ∙ free-step change n k cells old new one others.1 both.1
 
 -- The cells of a want.
-
--- a test that fails makes the whole fail
-and_false : (a b : Bool) → b ≡ false → (a && b) ≡ false
-and_false true b e = e
-and_false false b e = refl
 
 -- the cell of a night is not among those of later nights
 later_nights : (want : Wanted) (a b n : ℕ) → a < b
@@ -140,7 +109,7 @@ later_nights want a b zero less = refl
 later_nights want a b (suc n) less =
     let other : (a == b) ≡ false = ne_eqb a b (λ e. omega arith) in
     ap (λ t. t || list_any (is_cell (cell_at want a)) (map (cell_at want) (numbers_from (suc b) n)))
-    (and_false _ (a == b) other)
+    (and_right _ (a == b) other)
     ∙ later_nights want a (suc b) n (omega arith)
 
 -- the cells of n nights are distinct

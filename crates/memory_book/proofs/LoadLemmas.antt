@@ -1,9 +1,10 @@
 -- How a load changes a book in memory. For `MemBook::load`.
-use Rattle.std.proofs.Common.{◌≡◌, ℕ, suc, ◌+◌, ◌-◌, ◌<◌, ◌≤◌, Bool, true, false, cond, List, [], ◌∷◌, ◌++◌, length, map, refl, ap, sym, ◌∙◌, subst, arith, ◌&&◌, not, bytes_eq, nat_le, nat_lt, if◌then◌else◌, slice_get, find, filter_map, position, Option, Some, None, option_map, IfSome, IsTrue}
+use Rattle.std.proofs.Common.{◌≡◌, ℕ, suc, ◌+◌, ◌-◌, ◌<◌, Bool, true, false, cond, List, [], ◌∷◌, ◌++◌, length, map, refl, ap, sym, ◌∙◌, subst, arith, ◌&&◌, not, bytes_eq, nat_le, nat_lt, if◌then◌else◌, slice_get, find, filter_map, position, Option, Some, None, option_map}
 use Rattle.std.specs.Prelude.{unwrap_or}
-use Rattle.std.specs.List.{list_all, cons_option, position_or_len}
+use Rattle.std.specs.List.{list_all, cons_option, position_from}
 use Rattle.std.specs.Cmp.Lexicographic.{nat_list_eq_equiv}
-use Rattle.std.proofs.lemmas.Bool.{ltb-false}
+use Rattle.std.proofs.lemmas.Iterator.Adapters.{position_from-zero}
+use Rattle.std.proofs.lemmas.Option.{same_Some}
 use Rattle.std.proofs.lemmas.Bool.Decides.{nat_tests}
 use Rattle.allotment.specs.declared.cells.Cell.{Cell}
 use Rattle.allotment.specs.declared.cells.Row.{Row}
@@ -11,24 +12,21 @@ use Rattle.commands.specs.Asks.{Asked}
 use Rattle.commands.specs.BatchData.{Batched}
 use Rattle.commands.specs.declared.replies.Reply.{Reply}
 use Rattle.commands.specs.Request as request
-use Rattle.commands.specs.declared.replies.Refusal.TheVariants.{BelowHeld, BatchDiffers, Limit}
-use Rattle.commands.specs.declared.replies.Reply.TheVariants as reply
-use Rattle.ledger.specs.Answer.{State, answer, asker, kept_after, limited, most_events, state_with}
+use Rattle.commands.specs.declared.replies.Refusal.TheVariants.{BatchDiffers}
+use Rattle.ledger.specs.Answer.{State, answer, asker, limited, most_events}
 use Rattle.ledger.specs.Replies.{Answer, answer_known, answer_load, answer_new, are_same_rows, loaded, refused}
 use Rattle.ledger.proofs.Answers.{IsAllowedEvent, answer-allowed}
-use Rattle.ledger.specs.Ledger.{Event, Loaded, Began, Did, batches_named, rows_if_named, allotment, held, is_not_below_held, is_allowed, is_batch, IsLegal}
-use Rattle.ledger.proofs.Growing.{IsLegal-append}
+use Rattle.ledger.specs.Ledger.{Event, Loaded, Began, Did, batches_named, allotment, held, is_not_below_held, is_batch, IsLegal}
 use Rattle.ledger_transitions.specs.JourneyChanges.{newer}
 use Rattle.ledger_transitions.proofs.Allotments.{allotment-loaded_last}
-use Rattle.ledger_transitions.proofs.Events.{length-more, journeys-loaded, history-loaded}
+use Rattle.ledger_transitions.proofs.Events.{journeys-loaded, history-loaded}
 use Rattle.ledger_transitions.proofs.Places.{held-loaded, held_within, held_none}
 use Rattle.saga_core.specs.Views.{Places, places_of}
-use Rattle.memory_book.specs.MemoryAnswers.{kept_in, AreKeptAlike}
 use Rattle.memory_book.specs.MemoryStock.{stock_at, is_below_in, with_allotment, set_to, last_row, LoadsRows}
-use Rattle.memory_book.specs.Memory.{begun_as, Tells, batch_of, loads, StandsFor, IsCarriedOut, IsDue}
+use Rattle.memory_book.specs.Memory.{begun_as, Tells, loads, StandsFor, IsCarriedOut}
 use Rattle.memory_book.specs.declared.stock.Stock.{Stock}
 use Rattle.memory_book.specs.declared.mem_book.MemBook.{MemBook}
-use Rattle.memory_book.proofs.GrowthLemmas.{places_left, kept_after-alike, loads-loaded, limited-room, limited-full, carried_out-refused}
+use Rattle.memory_book.proofs.GrowthLemmas.{Grows, places_left, places_of-parts, limited-room, stands-grown}
 
 -- Known batches.
 
@@ -36,88 +34,51 @@ use Rattle.memory_book.proofs.GrowthLemmas.{places_left, kept_after-alike, loads
 abbrev pub rows_of_named : List ℕ → Batched → Option (List Row)
 rows_of_named name b = if bytes_eq name b.name then Some b.rows else None
 
--- one more event is one more batch, if it loads one
-step-named : (name : List ℕ) (e : Event) (rest : List (List Row)) (bs : List Batched)
-    → rest ≡ filter_map (rows_of_named name) bs
-    → cons_option (rows_if_named name e) rest
-    ≡ filter_map (rows_of_named name) (cons_option (batch_of e) bs)
-step-named name (Loaded other rows) rest bs is =
-    ap (cons_option (if bytes_eq name other then Some rows else None)) is
-step-named name (Began agent plan) rest bs is = is
-step-named name (Did j x) rest bs is = is
-
 -- the batches of a name in the ledger are those of its loads
 batches_named-loads : (l : List Event) (name : List ℕ)
     → batches_named l name ≡ filter_map (rows_of_named name) (loads l)
 batches_named-loads [] name = refl
-batches_named-loads (e ∷ l) name =
-    step-named name e (batches_named l name) (loads l) (batches_named-loads l name)
+batches_named-loads (Loaded other rows ∷ l) name =
+    ap (cons_option (if bytes_eq name other then Some rows else None)) (batches_named-loads l name)
+batches_named-loads (Began agent plan ∷ l) name = batches_named-loads l name
+batches_named-loads (Did j x ∷ l) name = batches_named-loads l name
 
 -- the batch has this name
 abbrev pub has_name : List ℕ → Batched → Bool
 has_name name b = bytes_eq b.name name
 
--- where no batch of this name is found, there are no rows of that name
-named-none : (name : List ℕ) (bs : List Batched) → find (has_name name) bs ≡ None
-    → filter_map (rows_of_named name) bs ≡ []
-named-none name [] none = refl
-named-none name (b ∷ bs) none =
-    go (bytes_eq b.name name) refl none (λ rest. named-none name bs rest)
+-- where a batch of this name is found first, its rows are the first of that name
+named-first : (name : List ℕ) (bs : List Batched)
+    → option_map (λ (b : Batched). b.rows) (find (has_name name) bs)
+    ≡ slice_get (filter_map (rows_of_named name) bs) 0
+named-first name [] = refl
+named-first name (b ∷ bs) =
+    go (bytes_eq b.name name) (named-first name bs)
+    ∙ ap (λ v. slice_get (cons_option (if v then Some b.rows else None)
+    (filter_map (rows_of_named name) bs)) 0) (nat_list_eq_equiv.symm b.name name)
   where
-    go : (v : Bool) → bytes_eq b.name name ≡ v
-        → cond v (Some b) (find (has_name name) bs) ≡ None
-        → (find (has_name name) bs ≡ None → filter_map (rows_of_named name) bs ≡ [])
-        → filter_map (rows_of_named name) (b ∷ bs) ≡ []
-    go true e none more = cc
-    go false e none more =
-        ap (λ v. cons_option (if v then Some b.rows else None) (filter_map (rows_of_named name) bs))
-        (nat_list_eq_equiv.symm name b.name ∙ e)
-        ∙ more none
+    go : (v : Bool)
+        → option_map (λ (x : Batched). x.rows) (find (has_name name) bs)
+        ≡ slice_get (filter_map (rows_of_named name) bs) 0
+        → option_map (λ (x : Batched). x.rows) (cond v (Some b) (find (has_name name) bs))
+        ≡ slice_get (cons_option (if v then Some b.rows else None)
+        (filter_map (rows_of_named name) bs)) 0
+    go true later = refl
+    go false later = later
 
--- where a batch of this name is found, its rows are the first
-named-some : (name : List ℕ) (bs : List Batched) (b : Batched) → find (has_name name) bs ≡ Some b
-    → (rest : List (List Row)) × (filter_map (rows_of_named name) bs ≡ b.rows ∷ rest)
-named-some name [] b found = cc
-named-some name (a ∷ bs) b found =
-    go (bytes_eq a.name name) refl found (λ rest. named-some name bs b rest)
-  where
-    go : (v : Bool) → bytes_eq a.name name ≡ v
-        → cond v (Some a) (find (has_name name) bs) ≡ Some b
-        → (find (has_name name) bs ≡ Some b
-        → (rest : List (List Row)) × (filter_map (rows_of_named name) bs ≡ b.rows ∷ rest))
-        → (rest : List (List Row)) × (filter_map (rows_of_named name) (a ∷ bs) ≡ b.rows ∷ rest)
-    go true e found more =
-        let is : a ≡ b = cc in (
-          filter_map (rows_of_named name) bs,
-          ap (λ v. cons_option (if v then Some a.rows else None)
-              (filter_map (rows_of_named name) bs)) (nat_list_eq_equiv.symm name a.name ∙ e)
-              ∙ ap (λ (x : Batched). x.rows ∷ filter_map (rows_of_named name) bs) is,
-        )
-    go false e found more =
-        let later = more found in (
-          later.0,
-          ap (λ v. cons_option (if v then Some a.rows else None)
-              (filter_map (rows_of_named name) bs)) (nat_list_eq_equiv.symm name a.name ∙ e)
-              ∙ later.1,
-        )
+-- so the book finds the first rows of that name in the ledger
+pub named-kept : (m : MemBook) (s : State) → StandsFor m s → (name : List ℕ) (o : Option Batched)
+    → o ≡ find (has_name name) m.batches.items
+    → slice_get (batches_named s.ledger name) 0 ≡ option_map (λ (b : Batched). b.rows) o
+named-kept m s here name o is =
+    ap (λ bs. slice_get bs 0)
+    (batches_named-loads s.ledger name ∙ ap (filter_map (rows_of_named name)) (sym here.batches))
+    ∙ sym (named-first name m.batches.items) ∙ ap (option_map (λ (b : Batched). b.rows)) (sym is)
 
--- where the book finds no batch of a name, the ledger has none
-pub known-none : (m : MemBook) (s : State) → StandsFor m s → (name : List ℕ)
-    → find (has_name name) m.batches.items ≡ None → batches_named s.ledger name ≡ []
-known-none m s here name none =
-    batches_named-loads s.ledger name ∙ ap (filter_map (rows_of_named name)) (sym here.batches)
-    ∙ named-none name m.batches.items none
-
--- where the book finds a batch of a name, the ledger has its rows first
-pub known-some : (m : MemBook) (s : State) → StandsFor m s → (name : List ℕ) (b : Batched)
-    → find (has_name name) m.batches.items ≡ Some b
-    → (rest : List (List Row)) × (batches_named s.ledger name ≡ b.rows ∷ rest)
-known-some m s here name b found =
-    let more = named-some name m.batches.items b found in (
-      more.0,
-      batches_named-loads s.ledger name ∙ ap (filter_map (rows_of_named name)) (sym here.batches)
-          ∙ more.1,
-    )
+-- a list without a first element is empty
+pub none_first : (bs : List (List Row)) → slice_get bs 0 ≡ None → bs ≡ []
+none_first [] none = refl
+none_first (b ∷ bs) none = cc
 
 -- Rows below what is held.
 
@@ -146,29 +107,21 @@ first_below-held m s here rows =
     (λ i r. below_by s.ledger m.stock here.legal here.stock r i)
 
 -- where no element passes, each fails
-none_passes : {X : Type 0} (test : X → Bool) (xs : List X)
-    → length xs ≤ position_or_len test xs → list_all (λ x. not (test x)) xs ≡ true
-none_passes test [] past = refl
-none_passes test (x ∷ xs) past =
-    go (test x) refl past (λ rest. none_passes test xs rest)
+none_passes : {X : Type 0} (test : X → Bool) (i : ℕ) (xs : List X)
+    → position_from test i xs ≡ None → list_all (λ x. not (test x)) xs ≡ true
+none_passes test i [] none = refl
+none_passes test i (x ∷ xs) none = go (test x) none (none_passes test (i + 1) xs)
   where
-    go : (v : Bool) → test x ≡ v → suc (length xs) ≤ cond (not v) (1 + position_or_len test xs) 0
-        → (length xs ≤ position_or_len test xs → list_all (λ y. not (test y)) xs ≡ true)
-        → list_all (λ y. not (test y)) (x ∷ xs) ≡ true
-    go true e past more = absurd (omega arith)
-    go false e past more =
-        ap (λ v. not v && list_all (λ y. not (test y)) xs) e ∙ more (omega arith)
+    go : (v : Bool) → cond v (Some i) (position_from test (i + 1) xs) ≡ None
+        → (position_from test (i + 1) xs ≡ None → list_all (λ y. not (test y)) xs ≡ true)
+        → (not v && list_all (λ y. not (test y)) xs) ≡ true
+    go true none later = cc
+    go false none later = later none
 
 -- where no position is found, each element fails
-pub none_at : {X : Type 0} (test : X → Bool) (xs : List X) → position test xs ≡ None
+pub none_at : {X : Type 0} (test : X → Bool) (xs : List X) → None ≡ position test xs
     → list_all (λ x. not (test x)) xs ≡ true
-none_at test xs none = go (nat_lt (position_or_len test xs) (length xs)) refl none
-  where
-    go : (v : Bool) → nat_lt (position_or_len test xs) (length xs) ≡ v
-        → cond v (Some (position_or_len test xs)) None ≡ None
-        → list_all (λ x. not (test x)) xs ≡ true
-    go true e none = cc
-    go false e none = none_passes test xs (ltb-false _ _ e)
+none_at test xs none = none_passes test 0 xs (sym (none ∙ position_from-zero test xs))
 
 -- Places.
 
@@ -198,9 +151,8 @@ pub stock-loaded : (s : List Event) (name : List ℕ) (rows : List Row) → IsLe
     → (x : Cell) → stock_at new x ≡ places_of (s ++ Loaded name rows ∷ []) x
 stock-loaded s name rows legal old new here changed x =
     changed x ∙ go (last_row rows x)
-    ∙ ap (option_map (places_left (held s x))) (sym (allotment-loaded_last s name rows x))
-    ∙ ap (λ h. option_map (places_left h) (allotment (s ++ Loaded name rows ∷ []) x))
-    (sym (held-loaded s name rows x))
+    ∙ places_of-parts (s ++ Loaded name rows ∷ []) x _ _ (held-loaded s name rows x)
+    (allotment-loaded_last s name rows x)
   where
     go : (o : Option Row)
         → unwrap_or (option_map (λ (r : Row). Some (set_to old x r.places)) o) (stock_at old x)
@@ -209,49 +161,23 @@ stock-loaded s name rows legal old new here changed x =
     go None = here x
     go (Some r) = ap (λ p. Some p) (set_left s old x r.places legal (here x))
 
--- The book.
-
--- the batch was loaded in the book, and its reply is kept
-pub record LoadsIn (m n : MemBook) (ask : Option Asked) (b : Batched) : Type 0 where
-  pub journeys : n.journeys.items ≡ m.journeys.items
-  pub stock : LoadsRows m.stock n.stock b.rows
-  pub batches : n.batches.items ≡ m.batches.items ++ b ∷ []
-  pub kept : AreKeptAlike (kept_in n.answers)
-      (kept_after (kept_in m.answers) ask (loaded b.name b.rows))
-  pub events : n.events ≡ m.events + 1
-
--- the book then represents the ledger with that load
-pub stands-loaded : (m n : MemBook) (s : State) (ask : Option Asked) (b : Batched) → StandsFor m s
-    → IsTrue (is_allowed s.ledger (Loaded b.name b.rows)) → LoadsIn m n ask b
-    → StandsFor n (state_with s ask (loaded b.name b.rows) (Some (Loaded b.name b.rows)))
-stands-loaded m n s ask b here may k = record {
-  begun =
-      ap (map begun_as) k.journeys ∙ here.begun ∙ sym (journeys-loaded s.ledger b.name b.rows);
-  told = λ i j at.
-      subst (Tells j) (sym (history-loaded s.ledger b.name b.rows (suc i)))
-      (here.told i j (ap (λ js. slice_get js i) (sym k.journeys) ∙ at));
-  stock = stock-loaded s.ledger b.name b.rows here.legal m.stock n.stock here.stock k.stock;
-  batches =
-      k.batches ∙ ap (λ bs. bs ++ b ∷ []) here.batches ∙ sym (loads-loaded s.ledger b.name b.rows);
-  kept = λ agent key.
-      k.kept agent key
-      ∙ kept_after-alike (kept_in m.answers) s.kept here.kept ask (loaded b.name b.rows) agent key;
-  events =
-      k.events ∙ ap (λ i. i + 1) here.events
-      ∙ sym (length-more s.ledger (Loaded b.name b.rows));
-  legal = IsLegal-append s.ledger (Loaded b.name b.rows) here.legal may;
-}
-
 -- Answers.
+
+-- a batch is answered by the first rows of its name
+load-known : (l : List Event) (name : List ℕ) (rows known : List Row) (bs : List (List Row))
+    → slice_get bs 0 ≡ Some known → answer_load l name rows bs ≡ answer_known name rows known
+load-known l name rows known [] is = cc
+load-known l name rows known (b ∷ bs) is = ap (answer_known name rows) (same_Some b known is)
 
 -- the answer to a batch whose name is known
 pub carried_out-known : (m : MemBook) (s : State) (ask : Option Asked) (name : List ℕ)
-    (rows known : List Row) (rest : List (List Row)) (r : Reply) → StandsFor m s
-    → batches_named s.ledger name ≡ known ∷ rest → r ≡ (answer_known name rows known).reply
+    (rows known : List Row) (r : Reply) → StandsFor m s
+    → slice_get (batches_named s.ledger name) 0 ≡ Some known
+    → r ≡ (answer_known name rows known).reply
     → IsCarriedOut m s ask (answer s.ledger (asker ask) (request.Load name rows)) r
-carried_out-known m s ask name rows known rest r here is replied =
+carried_out-known m s ask name rows known r here is replied =
     subst (λ (a : Answer). IsCarriedOut m s ask a r)
-    (sym (ap (λ bs. limited s.ledger (answer_load s.ledger name rows bs)) is))
+    (sym (ap (limited s.ledger) (load-known s.ledger name rows known (batches_named s.ledger name) is)))
     (go (are_same_rows rows known) replied)
   where
     go : (v : Bool)
@@ -262,63 +188,41 @@ carried_out-known m s ask name rows known rest r here is replied =
     go true replied = record { replied = replied; stands = here }
     go false replied = record { replied = replied; stands = here }
 
--- the answer to a batch with a new name, by the first row below what is held
-pub answer-new : (s : State) (who : Option (List ℕ)) (name : List ℕ) (rows : List Row)
-    (o : Option ℕ) → batches_named s.ledger name ≡ []
-    → position (λ r. not (is_not_below_held s.ledger r)) rows ≡ o
+-- the answer to a batch with a new name, by the first row that the stock has below what is held
+pub answer-new : (m : MemBook) (s : State) (who : Option (List ℕ)) (name : List ℕ)
+    (rows : List Row) (o : Option ℕ) → StandsFor m s → batches_named s.ledger name ≡ []
+    → o ≡ position (is_below_in m.stock) rows
     → answer s.ledger who (request.Load name rows) ≡ limited s.ledger (answer_new name rows o)
-answer-new s who name rows o none first =
+answer-new m s who name rows o here none first =
     ap (λ bs. limited s.ledger (answer_load s.ledger name rows bs)) none
-    ∙ ap (λ p. limited s.ledger (answer_new name rows p)) first
+    ∙ ap (λ p. limited s.ledger (answer_new name rows p))
+    (sym (first ∙ first_below-held m s here rows))
 
--- where there is such a row, the load is refused
-pub carried_out-below : (m : MemBook) (s : State) (ask : Option Asked) (name : List ℕ)
-    (rows : List Row) (i : ℕ) (r : Reply) → StandsFor m s
-    → batches_named s.ledger name ≡ [] → Some i ≡ position (is_below_in m.stock) rows
-    → r ≡ reply.Refused (BelowHeld (i + 1))
-    → IsCarriedOut m s ask (answer s.ledger (asker ask) (request.Load name rows)) r
-carried_out-below m s ask name rows i r here none first is =
-    carried_out-refused m s ask (answer s.ledger (asker ask) (request.Load name rows))
-    (BelowHeld (i + 1)) here
-    (answer-new s (asker ask) name rows (Some i) none
-    (sym (first ∙ first_below-held m s here rows))) r is
-
--- where there is none, the rules allow the load
-pub due : (m : MemBook) (s : State) (ask : Option Asked) (name : List ℕ) (rows : List Row)
-    → StandsFor m s → is_batch name rows ≡ true
-    → batches_named s.ledger name ≡ [] → None ≡ position (is_below_in m.stock) rows
-    → IsDue s.ledger (asker ask) name rows (answer s.ledger (asker ask) (request.Load name rows))
-due m s ask name rows here good none first = record {
-  answered =
-      answer-new s (asker ask) name rows None none (sym (first ∙ first_below-held m s here rows));
-  allowed =
-      go (answer s.ledger (asker ask) (request.Load name rows)).event
-      (answer-allowed s.ledger (asker ask) (request.Load name rows) good);
-}
-  where
-    go : (o : Option Event) → IsAllowedEvent s.ledger o → IfSome o (λ e. IsTrue (is_allowed s.ledger e))
-    go None may = tt
-    go (Some e) may = may
+-- the batch was loaded in the book, and its reply is kept
+pub record LoadsIn (m n : MemBook) (ask : Option Asked) (b : Batched) : Type 0 where
+  pub journeys : n.journeys.items ≡ m.journeys.items
+  pub stock : LoadsRows m.stock n.stock b.rows
+  pub parts : Grows m n ask (loaded b.name b.rows) (Loaded b.name b.rows)
 
 -- the load is answered where the ledger has room
-pub carried_out-loaded : (m n : MemBook) (s : State) (ask : Option Asked) (b : Batched)
-    (a : Answer) (r : Reply) → StandsFor m s → m.events < most_events
-    → IsDue s.ledger (asker ask) b.name b.rows a → LoadsIn m n ask b
-    → r ≡ loaded b.name b.rows → IsCarriedOut n s ask a r
-carried_out-loaded m n s ask b a r here room d k is =
+pub carried_out-loaded : (m n : MemBook) (s : State) (ask : Option Asked) (b : Batched) (r : Reply)
+    → StandsFor m s → m.events < most_events → is_batch b.name b.rows ≡ true
+    → answer s.ledger (asker ask) (request.Load b.name b.rows)
+    ≡ limited s.ledger (answer_new b.name b.rows None)
+    → LoadsIn m n ask b → r ≡ loaded b.name b.rows
+    → IsCarriedOut n s ask (answer s.ledger (asker ask) (request.Load b.name b.rows)) r
+carried_out-loaded m n s ask b r here room good due k is =
+    let event = Loaded b.name b.rows in
     let small : length s.ledger < most_events = omega (arith, here.events) in
-    let told : a ≡ answer_new b.name b.rows None =
-    d.answered ∙ limited-room s.ledger (answer_new b.name b.rows None) small in
-    let may : IsTrue (is_allowed s.ledger (Loaded b.name b.rows)) =
-    subst (λ (x : Answer). IfSome x.event (λ e. IsTrue (is_allowed s.ledger e))) told d.allowed in
-    subst (λ (x : Answer). IsCarriedOut n s ask x r) (sym told)
-    (record { replied = is; stands = stands-loaded m n s ask b here may k })
-
--- the load is refused where the ledger has no room
-pub carried_out-no_room : (m : MemBook) (s : State) (ask : Option Asked) (name : List ℕ)
-    (rows : List Row) (a : Answer) (r : Reply) → StandsFor m s → most_events ≤ m.events
-    → IsDue s.ledger (asker ask) name rows a → r ≡ reply.Refused Limit → IsCarriedOut m s ask a r
-carried_out-no_room m s ask name rows a r here full d is =
-    carried_out-refused m s ask a Limit here
-    (d.answered ∙ limited-full s.ledger (answer_new name rows None) refl (omega (arith, here.events)))
-    r is
+    let told = due ∙ limited-room s.ledger (answer_new b.name b.rows None) small in
+    let may = subst (λ (a : Answer). IsAllowedEvent s.ledger a.event) told
+    (answer-allowed s.ledger (asker ask) (request.Load b.name b.rows) good) in
+    subst (λ (a : Answer). IsCarriedOut n s ask a r) (sym told)
+    (record {
+      replied = is;
+      stands = stands-grown m n s ask (loaded b.name b.rows) event here may k.parts
+          (ap (map begun_as) k.journeys ∙ here.begun ∙ sym (journeys-loaded s.ledger b.name b.rows))
+          (λ i j at. subst (Tells j) (sym (history-loaded s.ledger b.name b.rows (suc i)))
+          (here.told i j (ap (λ js. slice_get js i) (sym k.journeys) ∙ at)))
+          (stock-loaded s.ledger b.name b.rows here.legal m.stock n.stock here.stock k.stock);
+    })

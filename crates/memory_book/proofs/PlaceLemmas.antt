@@ -1,5 +1,7 @@
 -- The elements of a list to which one was appended, or of which one was replaced. For a book in memory.
 use Rattle.std.proofs.Common.{◌≡◌, ℕ, zero, suc, ◌⊎◌, inl, inr, List, [], ◌∷◌, ◌++◌, length, map, refl, ap, sym, ◌∙◌, arith, slice_get, slice_set, Some}
+use Rattle.std.proofs.Math.Seq.{map-set_same}
+use Rattle.std.proofs.lemmas.Option.{get_or_from_slice_get}
 
 -- an element of a list with one appended is one of the others or the last
 pub place_of-push : {X : Type 0} (xs : List X) (x : X) (i : ℕ) (y : X)
@@ -29,7 +31,5 @@ place_of-set (z ∷ xs) (suc p) x (suc i) y e = elim (place_of-set xs p x i y e)
 -- a function has the same values on the list, where it has the same value on the element that was replaced
 pub map-set : {X Y : Type 0} (f : X → Y) (xs : List X) (p : ℕ) (x y : X)
     → slice_get xs p ≡ Some y → f x ≡ f y → map f (slice_set xs p x) ≡ map f xs
-map-set f [] p x y at same = cc
-map-set f (z ∷ xs) zero x y at same =
-    let is : z ≡ y = cc in ap (λ v. v ∷ map f xs) (same ∙ ap f (sym is))
-map-set f (z ∷ xs) (suc p) x y at same = ap (λ vs. f z ∷ vs) (map-set f xs p x y at same)
+map-set f xs p x y at same =
+    map-set_same f xs p x y (same ∙ ap f (sym (get_or_from_slice_get xs p y y at)))

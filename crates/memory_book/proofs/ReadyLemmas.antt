@@ -1,13 +1,13 @@
 -- Which items a journey in a book in memory may make, and the journey after one. For the moves of the book.
-use Rattle.std.proofs.Common.{◌≡◌, ℕ, zero, suc, ◌+◌, ◌-◌, ◌<◌, ◌≤◌, ◌⊎◌, inl, inr, Bool, true, false, List, [], ◌∷◌, ◌++◌, length, get_or, map, refl, ap, sym, ◌∙◌, subst, arith, ltb-true, ◌&&◌, not, nat_lt, slice_get, slice_set, if◌then◌else◌, Some, Ok, Err, IfOk, IsTrue}
-use Rattle.std.proofs.lemmas.Option.{slice_get-get_or}
+use Rattle.std.proofs.Common.{◌≡◌, ℕ, zero, suc, ◌+◌, ◌-◌, ◌<◌, ◌≤◌, Bool, true, false, List, [], ◌∷◌, length, get_or, map, refl, ap, sym, ◌∙◌, subst, arith, ltb-true, ◌&&◌, not, nat_lt, slice_get, slice_set, if◌then◌else◌, Some, Result, Ok, Err, IfOk, IsTrue}
 use Rattle.std.specs.FinSet as set
+use Rattle.std.specs.declared.alloc.AllocError.{AllocError}
+use Rattle.std.proofs.lemmas.Option.{slice_get_read}
 use Rattle.std.specs.Ordering.{nat_cmp}
 use Rattle.plan.specs.Limits.{most_steps}
 use Rattle.plan.specs.PlanModel.{Planned, step_count, option_count}
 use Rattle.savepoints.specs.Marks.{is_taken_in}
 use Rattle.savepoints.specs.Rules as rules
-use Rattle.savepoints.specs.declared.turns.Turn as turns
 use Rattle.commands.specs.declared.items.Cursor.{Cursor}
 use Rattle.commands.specs.declared.items.Item.{Item}
 use Rattle.commands.specs.declared.items.Item.TheVariants.{Transaction, Compensation, Turn, Save}
@@ -17,25 +17,24 @@ use Rattle.commands.specs.declared.replies.Refusal.TheVariants.{Finished, NoSave
 use Rattle.ledger.specs.History.{is_finished, is_going_back, is_running}
 use Rattle.ledger.specs.Ledger as l
 use Rattle.ledger.specs.Ledger.{history}
-use Rattle.ledger.specs.Answer.{State}
-use Rattle.ledger_transitions.specs.JourneyChanges.{cursor_after}
-use Rattle.ledger_transitions.specs.Cursors.{cursor_of}
 use Rattle.saga_core.specs.Cursors.{IsWithin}
 use Rattle.memory_book.specs.MemoryAnswers.{kept_in, AreKeptAlike}
-use Rattle.memory_book.specs.MemoryJourneys.{IsPlaced, IsNext, taken_after, stands_after}
+use Rattle.memory_book.specs.MemoryJourneys.{IsPlaced, IsNext}
 use Rattle.memory_book.specs.MemoryNext.{save_said}
-use Rattle.memory_book.specs.MemoryStock.{stock_at, IsInPlan}
-use Rattle.memory_book.specs.Memory.{begun_as, Tells, StandsFor, IsSameJourney}
+use Rattle.memory_book.specs.MemoryStock.{IsInPlan, fits_where_taken}
+use Rattle.memory_book.specs.Memory.{begun_as, TellEach, KeepsBook, IsReady, IsSameJourney, MayBeMade}
 use Rattle.memory_book.specs.declared.journeys.Journey.{Journey}
 use Rattle.memory_book.specs.declared.mem_book.MemBook.{MemBook}
-use Rattle.memory_book.proofs.PlaceLemmas.{place_of-set, map-set}
-use Rattle.memory_book.proofs.TellLemmas.{MakesOne}
+use Rattle.memory_book.proofs.GrowthLemmas.{TellEach-set, keeps_book}
+use Rattle.memory_book.proofs.PlaceLemmas.{map-set}
+use Rattle.memory_book.proofs.TellLemmas.{tells-same}
 
 -- Items that may be made.
 
 -- a save-point is taken between the first step and the last
 pub save_said-next : (plan : Planned) (c : Cursor) (marks : set.FinSet nat_cmp) (taken : List ℕ)
-    → IsPlaced plan c taken → step_count plan ≤ most_steps → IfOk (save_said plan c marks) (IsNext plan c)
+    → IsPlaced plan c taken → step_count plan ≤ most_steps
+    → IfOk (save_said plan c marks) (IsNext plan c)
 save_said-next plan c marks taken placed few =
     go c.phase refl (nat_lt 0 c.pos) refl
     (rules.is_save_point plan (is_taken_in marks) c.pos c.pos)
@@ -94,69 +93,49 @@ next_within plan cursor taken (Save p) placed next = tt
 -- After an item.
 
 -- there is a journey at each place
-pub a_journey : (ks : List Journey) (i : ℕ) → i < length ks → (k : Journey) × (slice_get ks i ≡ Some k)
+pub a_journey : (ks : List Journey) (i : ℕ) → i < length ks
+    → (k : Journey) × (slice_get ks i ≡ Some k)
 a_journey [] i within = absurd (omega arith)
 a_journey (k ∷ ks) zero within = (k, refl)
 a_journey (k ∷ ks) (suc i) within = a_journey ks i (omega arith)
 
--- an item that is made after capacity was reserved is made of the journey as it was
-pub makes-after : (old kept new : Journey) (x : Item) → IsSameJourney old kept → MakesOne kept new x
-    → MakesOne old new x
-makes-after old kept new x same made = record {
-  begun = made.begun ∙ same.begun;
-  items = made.items ∙ ap (λ xs. xs ++ x ∷ []) same.items;
-  cursor =
-      made.cursor ∙ ap (λ (b : l.Journey). cursor_after b.plan kept.cursor x) same.begun
-      ∙ ap (λ c. cursor_after old.plan c x) same.cursor;
-  taken = made.taken ∙ ap (taken_after x) same.taken;
-  marks = λ q.
-      made.marks q
-      ∙ ap (λ ms. stands_after x new.cursor.pos (is_taken_in ms) q) same.marks;
+-- two journeys are the same, except for their capacity, if these parts are the same
+pub same_by : (old new : Journey) → begun_as new ≡ begun_as old → new.items.items ≡ old.items.items
+    → new.cursor ≡ old.cursor → new.marks ≡ old.marks → new.taken.items ≡ old.taken.items
+    → IsSameJourney old new
+same_by old new begun items cursor marks taken = record {
+  begun = begun;
+  items = items;
+  cursor = cursor;
+  marks = marks;
+  taken = taken;
 }
 
--- what is kept of the same journey agrees with the same history
-tells-same : (old new : Journey) (h : List Item) → IsSameJourney old new → Tells old h → Tells new h
-tells-same old new h same told = record {
-  items = same.items ∙ told.items;
-  cursor =
-      same.cursor ∙ told.cursor
-      ∙ ap (λ (b : l.Journey). cursor_of b.plan h) (sym same.begun);
-  marks = same.marks ∙ told.marks;
-  taken = same.taken ∙ told.taken;
-}
+-- an item that may be made at a place may be made there after capacity was reserved
+pub ready-same : (m : MemBook) (place : ℕ) (old kept : Journey) (x : Item)
+    → place < length m.journeys.items → old ≡ get_or m.journeys.items place old
+    → begun_as kept ≡ begun_as old → kept.cursor ≡ old.cursor
+    → MayBeMade m place (Ok x) → IsReady m kept x
+ready-same m place old kept x within read begun cursor may =
+    let ready = may old (slice_get_read m.journeys.items _ place old refl within read) in
+    record {
+      next = subst (λ (b : l.Journey). IsNext b.plan kept.cursor x) (sym begun)
+          (subst (λ c. IsNext old.plan c x) (sym cursor) ready.next);
+      fits = subst (λ (b : l.Journey). IsTrue (fits_where_taken m.stock b.plan x)) (sym begun)
+          ready.fits;
+    }
 
--- a book in which one journey has more capacity represents the same state
-pub stands-reserved : (m n : MemBook) (place : ℕ) (old new : Journey)
-    → slice_get m.journeys.items place ≡ Some old
-    → n.journeys.items ≡ slice_set m.journeys.items place new → IsSameJourney old new
+-- at a fault the book is kept, if a journey has more capacity and the same replies are kept
+pub keeps-reserved : {T : Type 0} (m n : MemBook) (r : Result T AllocError) (place : ℕ)
+    (old kept : Journey) → place < length m.journeys.items → old ≡ get_or m.journeys.items place old
+    → n.journeys.items ≡ slice_set m.journeys.items place kept → IsSameJourney old kept
     → n.stock ≡ m.stock → n.batches.items ≡ m.batches.items
-    → AreKeptAlike (kept_in n.answers) (kept_in m.answers) → n.events ≡ m.events
-    → (s : State) → StandsFor m s → StandsFor n s
-stands-reserved m n place old new at written same stock batches kept events s here = record {
-  begun =
-      ap (map begun_as) written ∙ map-set begun_as m.journeys.items place new old at same.begun
-      ∙ here.begun;
-  told = λ i k there. told i k (place_of-set m.journeys.items place new i k
-      (ap (λ js. slice_get js i) (sym written) ∙ there));
-  stock = λ x. ap (λ st. stock_at st x) stock ∙ here.stock x;
-  batches = batches ∙ here.batches;
-  kept = λ agent key. kept agent key ∙ here.kept agent key;
-  events = events ∙ here.events;
-  legal = here.legal;
-}
-  where
-    told : (i : ℕ) (k : Journey)
-        → ((i ≡ place) × (k ≡ new))
-        ⊎ ((i ≡ place → ⊥) × (slice_get m.journeys.items i ≡ Some k))
-        → Tells k (history s.ledger (suc i))
-    told i k (inl is) =
-        subst (λ (j : ℕ). Tells k (history s.ledger (suc j))) (sym is.0)
-        (subst (λ (j : Journey). Tells j (history s.ledger (suc place))) (sym is.1)
-        (tells-same old new (history s.ledger (suc place)) same (here.told place old at)))
-    told i k (inr other) = here.told i k other.1
-
--- two reads of one place give the same journey
-pub same_item : (ks : List Journey) (place : ℕ) (a k : Journey) → place < length ks
-    → a ≡ get_or ks place a → slice_get ks place ≡ Some k → a ≡ k
-same_item ks place a k within is at =
-    let both : Some a ≡ Some k = ap Some is ∙ sym (slice_get-get_or ks place a within) ∙ at in cc
+    → AreKeptAlike (kept_in n.answers) (kept_in m.answers) → n.events ≡ m.events → KeepsBook m n r
+keeps-reserved m n r place old kept within read written same =
+    let ks = m.journeys.items in
+    let at = slice_get_read ks _ place old refl within read in
+    keeps_book m n r
+    (ap (map begun_as) written ∙ map-set begun_as ks place kept old at same.begun)
+    (λ l each. subst (λ js. TellEach js l) (sym written)
+    (TellEach-set ks place kept l l each
+    (tells-same old kept (history l (suc place)) same (each place old at)) (λ i other. refl)))

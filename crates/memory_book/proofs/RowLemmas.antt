@@ -1,7 +1,7 @@
 -- Rows of batches, and the list of all cells. For the stock of a book in memory.
-use Rattle.std.proofs.Common.{◌≡◌, ℕ, Bool, true, false, cond, List, [], ◌∷◌, ◌++◌, map, refl, ap, sym, ◌∙◌, append-nil, ◌==◌, ◌&&◌, if◌then◌else◌, find, filter_map, filter, Option, Some, option_map}
+use Rattle.std.proofs.Common.{◌≡◌, ℕ, Bool, true, false, cond, List, [], ◌∷◌, ◌++◌, map, refl, ap, sym, ◌∙◌, append-nil, ◌==◌, ◌&&◌, if◌then◌else◌, filter_map, filter, Option, Some, option_map}
 use Rattle.std.specs.Prelude.{unwrap_or}
-use Rattle.std.specs.List.{list_all, cons_option, AllByRecursion}
+use Rattle.std.specs.List.{list_all, AllByRecursion}
 use Rattle.std.specs.List.Sorted.{IsStrictlySortedBy}
 use Rattle.std.specs.Map.{lookup, keys_of}
 use Rattle.std.specs.BTreeMap as tree
@@ -23,7 +23,7 @@ use Rattle.saga_core.specs.Views.{Places, places_said, places_of, places_at, pla
 use Rattle.memory_book.specs.MemoryStock.{cell_key_cmp, stock_at, set_to, last_row}
 use Rattle.commands.specs.declared.batches.CellKey.{CellKey}
 use Rattle.memory_book.specs.declared.stock.Stock.{Stock}
-use Rattle.memory_book.proofs.CellLemmas.{key_of, is_eq-cells}
+use Rattle.memory_book.proofs.CellLemmas.{key_of, is_eq-cells, map-found}
 
 -- Rows.
 
@@ -34,9 +34,7 @@ pub same_rows : (test : Row → Row → Bool)
 same_rows test each [] [] = refl
 same_rows test each [] (s ∷ ss) = refl
 same_rows test each (r ∷ rs) [] = refl
-same_rows test each (r ∷ rs) (s ∷ ss) =
-    ap (λ b. b && pointwise test rs ss) (each r s)
-    ∙ ap (λ b. (is_cell r.cell s.cell && (r.places == s.places)) && b) (same_rows test each rs ss)
+same_rows test each (r ∷ rs) (s ∷ ss) = λ i. each r s i && same_rows test each rs ss i
 
 -- Nights.
 
@@ -44,21 +42,11 @@ same_rows test each (r ∷ rs) (s ∷ ss) =
 abbrev pub shown_at : (Cell → Option Places) → Cell → Option (ℕ × Places)
 shown_at places x = option_map (at_night x) (places x)
 
--- the values of a list depend on the values of its elements only
-filter_map-same : {X Y : Type 0} (f g : X → Option Y) → ((x : X) → f x ≡ g x) → (xs : List X)
-    → filter_map f xs ≡ filter_map g xs
-filter_map-same f g same [] = refl
-filter_map-same f g same (x ∷ xs) =
-    ap (λ o. cons_option o (filter_map f xs)) (same x)
-    ∙ ap (cons_option (g x)) (filter_map-same f g same xs)
-
 -- a stock that has the places of a ledger shows its nights
 pub places_shown-stock : (l : List Event) (stock : Stock) (w : Wanted)
     → ((x : Cell) → stock_at stock x ≡ places_of l x)
     → filter_map (shown_at (stock_at stock)) (cells_of w) ≡ places_shown l w
-places_shown-stock l stock w here =
-    filter_map-same (shown_at (stock_at stock)) (λ x. option_map (at_night x) (places_of l x))
-    (λ x. ap (option_map (at_night x)) (here x)) (cells_of w)
+places_shown-stock l stock w here = λ i. filter_map (shown_at (λ x. here x i)) (cells_of w)
 
 -- All cells.
 
@@ -72,22 +60,9 @@ places_at-rows : (es : List (CellKey × Held)) (x : Cell)
     ≡ option_map places_said (lookup (is_at (cell_key_cmp (key_of x))) es)
 places_at-rows [] x = refl
 places_at-rows (e ∷ es) x =
-    go (is_cell x e.0.cell) (is_cell x e.0.cell) refl (places_at-rows es x)
-    ∙ ap (λ b. option_map places_said
-    (cond b (Some e.1) (lookup (is_at (cell_key_cmp (key_of x))) es)))
-    (sym (is_eq-cells x e.0.cell))
-  where
-    go : (b c : Bool) → b ≡ c
-        → places_at (map row_of es) x
-        ≡ option_map places_said (lookup (is_at (cell_key_cmp (key_of x))) es)
-        → option_map (λ (r : Cell × Held). places_said r.1)
-        (cond b (Some (row_of e)) (find (λ (r : Cell × Held). is_cell x r.0) (map row_of es)))
-        ≡ option_map places_said
-        (cond c (Some e.1) (lookup (is_at (cell_key_cmp (key_of x))) es))
-    go true true same rest = refl
-    go false false same rest = rest
-    go true false same rest = cc
-    go false true same rest = cc
+    map-found (λ (r : Cell × Held). places_said r.1) (is_cell x e.0.cell) (row_of e) _
+    ∙ (λ i. cond (sym (is_eq-cells x e.0.cell) i) (Some (places_said e.1)) (places_at-rows es x i))
+    ∙ sym (map-found places_said _ e.1 _)
 
 -- a key below all these keys is a cell before all their cells
 before_all : (k : CellKey) (es : List (CellKey × Held))
@@ -156,15 +131,9 @@ loaded_at-push stock rs r x p is =
     (stock_at stock x)) (sym (last_row-push rs r x))
   where
     go : (b : Bool) → is_cell x r.cell ≡ b
-        → (if is_cell x r.cell then Some p else loaded_at stock rs x)
+        → (if b then Some p else loaded_at stock rs x)
         ≡ unwrap_or (option_map (λ (q : Row). Some (set_to stock x q.places))
-        (if is_cell x r.cell then Some r else last_row rs x)) (stock_at stock x)
+        (if b then Some r else last_row rs x)) (stock_at stock x)
     go true e =
-        ap (λ b. if b then Some p else loaded_at stock rs x) e
-        ∙ ap (λ q. Some q) (is ∙ ap (λ y. set_to stock y r.places) (sym (is_cell-same x r.cell e)))
-        ∙ ap (λ b. unwrap_or (option_map (λ (q : Row). Some (set_to stock x q.places))
-        (if b then Some r else last_row rs x)) (stock_at stock x)) (sym e)
-    go false e =
-        ap (λ b. if b then Some p else loaded_at stock rs x) e
-        ∙ ap (λ b. unwrap_or (option_map (λ (q : Row). Some (set_to stock x q.places))
-        (if b then Some r else last_row rs x)) (stock_at stock x)) (sym e)
+        ap (λ q. Some q) (is ∙ ap (λ y. set_to stock y r.places) (sym (is_cell-same x r.cell e)))
+    go false e = refl

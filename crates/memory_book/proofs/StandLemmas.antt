@@ -1,14 +1,10 @@
 -- What a book in memory shows, by the state that it represents. For the reads of the book.
-use Rattle.std.proofs.Common.{◌≡◌, ℕ, zero, suc, ◌<◌, ◌⊎◌, inl, inr, List, [], length, refl, ap, sym, ◌∙◌, arith, slice_get, option_map, Some, None}
-use Rattle.std.specs.FinSet as set
-use Rattle.std.specs.Ordering.{nat_cmp}
+use Rattle.std.proofs.Common.{◌≡◌, ℕ, zero, suc, ◌<◌, ◌⊎◌, inl, inr, [], length, refl, ap, sym, ◌∙◌, arith, slice_get, option_map, Some, None}
 use Rattle.std.proofs.lemmas.Option.{slice_get-map, slice_get_past}
-use Rattle.plan.specs.PlanModel.{Planned}
-use Rattle.commands.specs.declared.items.Cursor.{Cursor}
 use Rattle.ledger.specs.Answer.{State}
 use Rattle.ledger.specs.Ledger.{journey_at, history}
 use Rattle.ledger_transitions.proofs.Events.{history-none}
-use Rattle.saga_core.specs.Views.{cursor_of, record_of, record_of_journey}
+use Rattle.saga_core.specs.Views.{record_of, record_of_journey}
 use Rattle.memory_book.specs.Memory.{begun_as, StandsFor}
 use Rattle.saga_core.specs.declared.records.Record.{Record}
 use Rattle.memory_book.specs.declared.journeys.Journey.{Journey}
@@ -44,11 +40,6 @@ pub history-kept : (m : MemBook) (s : State) → StandsFor m s → (id place : �
 history-kept m s here id place k at is =
     (here.told place k at).items ∙ ap (history s.ledger) (sym is)
 
--- a record of these parts
-abbrev pub record_made : List ℕ → Planned → Cursor → set.FinSet nat_cmp → Record
-record_made agent plan cursor marks =
-    record { agent = agent; plan = plan; cursor = cursor; marks = marks }
-
 -- what is kept of a journey is what the ledger shows of it
 pub record_of-kept : (m : MemBook) (s : State) → StandsFor m s → (id place : ℕ) (k : Journey)
     → slice_get m.journeys.items place ≡ Some k → id ≡ suc place
@@ -57,10 +48,12 @@ pub record_of-kept : (m : MemBook) (s : State) → StandsFor m s → (id place :
 record_of-kept m s here id place k at is r agent plan cursor marks =
     let told = here.told place k at in
     let made : r ≡ record_of_journey (history s.ledger (suc place)) (begun_as k) =
-    ap (λ a. record_made a r.plan r.cursor r.marks) agent
-    ∙ ap (λ p. record_made k.agent p r.cursor r.marks) plan
-    ∙ ap (λ c. record_made k.agent k.plan c r.marks) (cursor ∙ told.cursor)
-    ∙ ap (record_made k.agent k.plan (cursor_of k.plan (history s.ledger (suc place)))) (marks ∙ told.marks) in
+    λ i. record {
+      agent = agent i;
+      plan = plan i;
+      cursor = (cursor ∙ told.cursor) i;
+      marks = (marks ∙ told.marks) i;
+    } in
     ap Some made
     ∙ ap (option_map (record_of_journey (history s.ledger (suc place))))
     (sym (journey_at-kept m s here place k at))

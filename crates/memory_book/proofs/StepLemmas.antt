@@ -1,6 +1,7 @@
 -- The result of a journey's move in a book in memory is what the rules answer. For steps, turns and save-points.
-use Rattle.std.proofs.Common.{◌≡◌, ℕ, suc, ◌-◌, ◌<◌, Bool, true, false, List, [], ◌∷◌, length, map, refl, ap, sym, ◌∙◌, subst, arith, nat_le, slice_get, slice_index, Option, Some, None, option_map, Result}
+use Rattle.std.proofs.Common.{◌≡◌, ℕ, suc, ◌-◌, ◌<◌, Bool, true, false, List, [], ◌∷◌, length, get_or, map, refl, ap, sym, ◌∙◌, subst, arith, nat_le, slice_get, slice_index, Option, Some, None, option_map, Result}
 use Rattle.std.specs.Prelude.{unwrap_or}
+use Rattle.std.proofs.lemmas.Option.{same_Some, slice_get_read}
 use Rattle.allotment.specs.Want.{Wanted}
 use Rattle.allotment.specs.declared.cells.Cell.{Cell}
 use Rattle.plan.specs.PlanModel.{Planned}
@@ -12,9 +13,9 @@ use Rattle.commands.specs.declared.items.Item.TheVariants as item
 use Rattle.commands.specs.declared.items.Phase.{Phase}
 use Rattle.commands.specs.declared.items.Phase.TheVariants.{Run, Back, Ended, Undone}
 use Rattle.commands.specs.declared.replies.Refusal.{Refusal}
-use Rattle.commands.specs.declared.replies.Refusal.TheVariants.{NoSavePoint, NoSave}
+use Rattle.commands.specs.declared.replies.Refusal.TheVariants.{NoSavePoint}
 use Rattle.ledger.specs.Answer.{State}
-use Rattle.ledger.specs.Replies.{answer_move, seen_journey, step_choices, save_choices}
+use Rattle.ledger.specs.Replies.{Answer, answer_move, seen_journey, step_choices}
 use Rattle.ledger.specs.Ledger as l
 use Rattle.ledger.specs.Ledger.{journey_at, history, allotment, held, fits, has_free}
 use Rattle.ledger.specs.History.{net, last_of, position_of, refusals, phase, is_finished}
@@ -28,15 +29,11 @@ use Rattle.ledger_transitions.proofs.Positions.{last_standing, back_above}
 use Rattle.ledger_transitions.proofs.Taken.{refused_target_by-marks}
 use Rattle.saga_core.specs.Views.{Places}
 use Rattle.memory_book.specs.MemoryStock.{has_free_in, fits_in_stock, fits_some}
-use Rattle.memory_book.specs.MemoryNext.{turn_said, save_said, step_said}
+use Rattle.memory_book.specs.MemoryNext.{step_said}
 use Rattle.saga_core.specs.Rulings.{Fits}
-use Rattle.saga_core.proofs.RulingLemmas.{save_ruled}
 use Rattle.std.specs.FinSet as set
 use Rattle.std.specs.Ordering.{nat_cmp}
-use Rattle.savepoints.specs.declared.turns.Turn.{Turn}
-use Rattle.commands.specs.declared.items.Cause.{Cause}
-use Rattle.ledger.specs.Ledger.{IsLegal}
-use Rattle.memory_book.specs.Memory.{begun_as, Tells, StandsFor, IsSeenAt}
+use Rattle.memory_book.specs.Memory.{begun_as, Tells, StandsFor, IsSeenAt, IsMove}
 use Rattle.memory_book.proofs.StandLemmas.{journey_at-kept}
 use Rattle.memory_book.specs.declared.journeys.Journey.{Journey}
 use Rattle.memory_book.specs.declared.mem_book.MemBook.{MemBook}
@@ -114,90 +111,60 @@ pub fits_some-stock : (m : MemBook) (s : State) → StandsFor m s → (o : Optio
 fits_some-stock m s here None = refl
 fits_some-stock m s here (Some w) = fits-stock m s here w
 
--- the journey that the asker sees, by what is kept of it
-record IsTold (m : MemBook) (who : Option (List ℕ)) (s : State) (id place : ℕ) (k : Journey) : Type 0 where
-  pub at : journey_at s.ledger (suc place) ≡ Some (begun_as k)
-  pub seen : seen_journey s.ledger who id ≡ Some (begun_as k)
-  pub told : Tells k (history s.ledger (suc place))
+-- two reads of one place give the same journey
+pub same_item : (ks : List Journey) (place : ℕ) (a k : Journey) → place < length ks
+    → a ≡ get_or ks place a → slice_get ks place ≡ Some k → a ≡ k
+same_item ks place a k within is at =
+    same_Some a k (sym (slice_get_read ks (length ks) place a refl within is) ∙ at)
 
--- this holds where the asker sees the journey
-told-seen : (m : MemBook) (who : Option (List ℕ)) (s : State) (id place : ℕ) (k : Journey)
-    → StandsFor m s → IsSeenAt m who id place → slice_get m.journeys.items place ≡ Some k
-    → IsTold m who s id place k
-told-seen m who s id place k here is at =
-    let there = journey_at-kept m s here place k at in
-    record {
-      at = there;
-      seen =
-          ap (seen_journey s.ledger who) is.number
-          ∙ seen s.ledger who (suc place) (begun_as k) there (is.seen k at);
-      told = here.told place k at;
-    }
-
--- the ruling on what is kept of a journey, as `said` rules, is the answer of the rules if that on its history is
-pub seen-move : (m : MemBook) (who : Option (List ℕ)) (s : State) (id place : ℕ) (k : Journey) (next : Result Item Refusal)
-    (choices : Planned → List Item → List Item) (otherwise : Refusal) (said : Cursor → set.FinSet nat_cmp → List ℕ → Result Item Refusal)
-    → StandsFor m s → IsSeenAt m who id place → slice_get m.journeys.items place ≡ Some k → next ≡ said k.cursor k.marks k.taken.items
+-- the ruling on what is kept of the journey at a place is what the rules answer to who sees it
+pub seen-move : (m : MemBook) (who : Option (List ℕ)) (s : State) (id place : ℕ) (k : Journey)
+    (next : Result Item Refusal) (choices : Planned → List Item → List Item) (otherwise : Refusal)
+    (said : Planned → Cursor → set.FinSet nat_cmp → List ℕ → Result Item Refusal)
+    → StandsFor m s → IsSeenAt m who id place → k ≡ get_or m.journeys.items place k
+    → next ≡ said k.plan k.cursor k.marks k.taken.items
     → (journey_at s.ledger (suc place) ≡ Some (begun_as k) → Tells k (history s.ledger (suc place))
     → Fits (suc place) k.plan (cursor_of k.plan (history s.ledger (suc place)))
     (answer_move s.ledger (suc place) choices otherwise (Some (begun_as k)))
-    (said (cursor_of k.plan (history s.ledger (suc place))) (marks_of (history s.ledger (suc place)))
+    (said k.plan (cursor_of k.plan (history s.ledger (suc place)))
+    (marks_of (history s.ledger (suc place)))
     (map (λ (t : ℕ × ℕ). t.1) (net (history s.ledger (suc place))))))
-    → Fits (suc place) k.plan k.cursor (answer_move s.ledger id choices otherwise (seen_journey s.ledger who id)) next
-seen-move m who s id place k next choices otherwise said here is at kept ruled =
-    let t = told-seen m who s id place k here is at in
+    → IsMove m place (answer_move s.ledger id choices otherwise (seen_journey s.ledger who id)) next
+seen-move m who s id place k next choices otherwise said here is read kept ruled other there =
+    let at = slice_get_read m.journeys.items _ place k refl is.within read in
+    let told = here.told place k at in
+    let begun = journey_at-kept m s here place k at in
     let h : List Item = history s.ledger (suc place) in
-    let rules_say = answer_move s.ledger (suc place) choices otherwise (Some (begun_as k)) in
-    let answered : answer_move s.ledger id choices otherwise (seen_journey s.ledger who id) ≡ rules_say =
-    ap (λ o. answer_move s.ledger id choices otherwise o) t.seen
-    ∙ ap (λ j. answer_move s.ledger j choices otherwise (Some (begun_as k))) is.number in
-    let made : next ≡ said (cursor_of k.plan h) (marks_of h) (map (λ (u : ℕ × ℕ). u.1) (net h)) =
-    kept ∙ ap (λ c. said c k.marks k.taken.items) t.told.cursor
-    ∙ ap (λ ms. said (cursor_of k.plan h) ms k.taken.items) t.told.marks
-    ∙ ap (λ ts. said (cursor_of k.plan h) (marks_of h) ts) t.told.taken in
-    subst (λ (c : Cursor). Fits (suc place) k.plan c (answer_move s.ledger id choices otherwise (seen_journey s.ledger who id)) next)
-    (sym t.told.cursor)
-    (subst (λ a. Fits (suc place) k.plan (cursor_of k.plan h) a next) (sym answered)
-    (subst (Fits (suc place) k.plan (cursor_of k.plan h) rules_say) (sym made) (ruled t.at t.told)))
+    let answered : answer_move s.ledger id choices otherwise (seen_journey s.ledger who id)
+    ≡ answer_move s.ledger (suc place) choices otherwise (Some (begun_as k)) =
+    ap (λ j. answer_move s.ledger j choices otherwise (seen_journey s.ledger who j)) is.number
+    ∙ ap (answer_move s.ledger (suc place) choices otherwise)
+    (seen s.ledger who (suc place) (begun_as k) begun (is.seen k at)) in
+    let made : next
+    ≡ said k.plan (cursor_of k.plan h) (marks_of h) (map (λ (u : ℕ × ℕ). u.1) (net h)) =
+    kept ∙ (λ i. said k.plan (told.cursor i) (told.marks i) (told.taken i)) in
+    subst (λ (o : Journey). Fits (suc place) o.plan o.cursor
+    (answer_move s.ledger id choices otherwise (seen_journey s.ledger who id)) next)
+    (same_item m.journeys.items place k other is.within read there)
+    (subst (λ (f : Cursor × Answer × Result Item Refusal). Fits (suc place) k.plan f.0 f.1 f.2)
+    (λ i. (sym told.cursor i, sym answered i, sym made i)) (ruled begun told))
 
 -- a step
 pub step-move : (m : MemBook) (who : Option (List ℕ)) (s : State) (id place : ℕ) (k : Journey)
     (next : Result Item Refusal) (fit : Bool) → StandsFor m s → IsSeenAt m who id place
-    → slice_get m.journeys.items place ≡ Some k
+    → k ≡ get_or m.journeys.items place k
     → next ≡ step_said k.plan k.cursor k.marks k.taken.items fit
-    → (k.cursor.phase ≡ Run
-    → fit ≡ fits_some m.stock (rules.next_want k.plan k.cursor.pos k.cursor.used))
-    → Fits (suc place) k.plan k.cursor
+    → ((o : Journey) → slice_get m.journeys.items place ≡ Some o → o.cursor.phase ≡ Run
+    → fit ≡ fits_some m.stock (rules.next_want o.plan o.cursor.pos o.cursor.used))
+    → IsMove m place
     (answer_move s.ledger id step_choices NoSavePoint (seen_journey s.ledger who id)) next
-step-move m who s id place k next fit here is at said tests =
-    seen-move m who s id place k next step_choices NoSavePoint (λ c ms ts. step_said k.plan c ms ts fit) here is at said
+step-move m who s id place k next fit here is read said tests =
+    seen-move m who s id place k next step_choices NoSavePoint
+    (λ p c ms ts. step_said p c ms ts fit) here is read said
     (λ there told.
     let h : List Item = history s.ledger (suc place) in
     step-by_phase m s here (suc place) (begun_as k) there (phase k.plan h) refl fit
-    (λ run. tests (ap (λ (c : Cursor). c.phase) told.cursor ∙ run)
+    (λ run. tests k (slice_get_read m.journeys.items _ place k refl is.within read)
+    (ap (λ (c : Cursor). c.phase) told.cursor ∙ run)
     ∙ ap (λ (c : Cursor). fits_some m.stock (rules.next_want k.plan c.pos c.used)) told.cursor
     ∙ fits_some-stock m s here (rules.next_want k.plan (position_of h) (refusals h))))
-
--- a turn for which the ruling is the answer of the rules
-pub turn-move : (m : MemBook) (who : Option (List ℕ)) (s : State) (id place : ℕ) (k : Journey) (next : Result Item Refusal)
-    (choices : Planned → List Item → List Item) (why : Turn) (cause : Cause)
-    → StandsFor m s → IsSeenAt m who id place → slice_get m.journeys.items place ≡ Some k
-    → next ≡ turn_said k.plan k.cursor k.marks why cause
-    → (IsLegal s.ledger → journey_at s.ledger (suc place) ≡ Some (begun_as k)
-    → Fits (suc place) k.plan (cursor_of k.plan (history s.ledger (suc place)))
-    (answer_move s.ledger (suc place) choices NoSavePoint (Some (begun_as k)))
-    (turn_said k.plan (cursor_of k.plan (history s.ledger (suc place))) (marks_of (history s.ledger (suc place))) why cause))
-    → Fits (suc place) k.plan k.cursor (answer_move s.ledger id choices NoSavePoint (seen_journey s.ledger who id)) next
-turn-move m who s id place k next choices why cause here is at said ruled =
-    seen-move m who s id place k next choices NoSavePoint (λ c ms ts. turn_said k.plan c ms why cause) here is at said
-    (λ there told. ruled here.legal there)
-
--- taking a save-point
-pub save-move : (m : MemBook) (who : Option (List ℕ)) (s : State) (id place : ℕ) (k : Journey)
-    (next : Result Item Refusal) → StandsFor m s → IsSeenAt m who id place
-    → slice_get m.journeys.items place ≡ Some k → next ≡ save_said k.plan k.cursor k.marks
-    → Fits (suc place) k.plan k.cursor
-    (answer_move s.ledger id save_choices NoSave (seen_journey s.ledger who id)) next
-save-move m who s id place k next here is at said =
-    seen-move m who s id place k next save_choices NoSave (λ c ms ts. save_said k.plan c ms) here is at said
-    (λ there told. save_ruled s.ledger here.legal (suc place) (begun_as k) there)

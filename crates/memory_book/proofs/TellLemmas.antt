@@ -1,8 +1,9 @@
 -- What is kept of a journey agrees with its history after one more item. For the moves of a book in memory.
-use Rattle.std.proofs.Common.{◌≡◌, ℕ, suc, ◌-◌, Bool, List, [], ◌∷◌, ◌++◌, length, map, take, refl, ap, sym, ◌∙◌, arith, ◌==◌, ◌&&◌, ◌||◌, nat_le, IsTrue}
+use Rattle.std.proofs.Common.{◌≡◌, ℕ, ◌-◌, Bool, List, [], ◌∷◌, ◌++◌, length, map, take, ap, sym, ◌∙◌, arith, ◌==◌, ◌&&◌, ◌||◌, nat_le, IsTrue}
 use Rattle.std.specs.FinSet as set
 use Rattle.std.specs.Ordering.{nat_cmp}
-use Rattle.std.proofs.lemmas.List.{map-append}
+use Rattle.std.proofs.lemmas.List.{length-append, map-append}
+use Rattle.std.proofs.Math.Seq.{take-append_seam}
 use Rattle.plan.specs.PlanModel.{Planned}
 use Rattle.savepoints.specs.Marks.{is_taken_in, same_marks}
 use Rattle.commands.specs.declared.items.Cursor.{Cursor}
@@ -17,7 +18,7 @@ use Rattle.ledger_transitions.proofs.Histories.{Follows}
 use Rattle.ledger_transitions.proofs.Items.{cursor_of-more, net-compensation}
 use Rattle.ledger_transitions.proofs.Taken.{marks_of-save, marks_of-compensation, marks_of-transaction, marks_of-turn}
 use Rattle.memory_book.specs.MemoryJourneys.{taken_after, stands_after}
-use Rattle.memory_book.specs.Memory.{begun_as, Tells}
+use Rattle.memory_book.specs.Memory.{begun_as, Tells, IsSameJourney}
 use Rattle.memory_book.specs.declared.journeys.Journey.{Journey}
 
 -- the option of a step that stands
@@ -26,11 +27,9 @@ option_of t = t.1
 
 -- a list with one appended is the list again without its last element
 take-push : (xs : List ℕ) (x : ℕ) → take (length (xs ++ x ∷ []) - 1) (xs ++ x ∷ []) ≡ xs
-take-push [] x = refl
-take-push (y ∷ []) x = refl
-take-push (y ∷ z ∷ xs) x =
-    let n : length (y ∷ z ∷ xs ++ x ∷ []) - 1 ≡ suc (length (z ∷ xs ++ x ∷ []) - 1) = omega arith in
-    ap (λ k. take k (y ∷ z ∷ xs ++ x ∷ [])) n ∙ ap (λ k. y ∷ k) (take-push (z ∷ xs) x)
+take-push xs x =
+    let n : length (xs ++ x ∷ []) - 1 ≡ length xs = omega (arith, length-append xs (x ∷ [])) in
+    ap (λ k. take k (xs ++ x ∷ [])) n ∙ take-append_seam xs (x ∷ [])
 
 -- the options of the steps that stand, after one more item
 pub taken-more : (plan : Planned) (h : List Item) (may_fit : Bool) (x : Item) (taken : List ℕ)
@@ -96,3 +95,13 @@ tells-more old new x h may_fit told made f may =
           (ap (λ (c : Cursor). c.pos) cursor) made.marks;
       taken = made.taken ∙ taken-more old.plan h may_fit x old.taken.items f may told.taken;
     }
+
+-- what is kept of the same journey agrees with the same history
+pub tells-same : (old new : Journey) (h : List Item) → IsSameJourney old new → Tells old h
+    → Tells new h
+tells-same old new h same told = record {
+  items = same.items ∙ told.items;
+  cursor = same.cursor ∙ told.cursor ∙ ap (λ (b : l.Journey). cursor_of b.plan h) (sym same.begun);
+  marks = same.marks ∙ told.marks;
+  taken = same.taken ∙ told.taken;
+}

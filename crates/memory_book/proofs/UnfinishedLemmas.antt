@@ -1,12 +1,12 @@
 -- The first journey that is not finished, the first of an agent, and how many are unfinished, by what is kept of each.
 -- For `first_unfinished`, `first_owned` and `counts` of `MemBook`.
-use Rattle.std.proofs.Common.{◌≡◌, ℕ, suc, ◌+◌, ◌<◌, Bool, true, false, cond, ◌⊎◌, List, [], ◌∷◌, length, get_or, drop, ◌++◌, append_assoc, refl, ap, sym, ◌∙◌, arith, not, slice_get, filter, filter_map, find, Some, None, option_map}
+use Rattle.std.proofs.Common.{◌≡◌, ℕ, suc, ◌+◌, ◌<◌, Bool, true, false, cond, ◌⊎◌, List, [], ◌∷◌, length, get_or, drop, refl, ap, sym, ◌∙◌, arith, not, slice_get, filter, filter_map, find, Some, None, option_map}
 use Rattle.std.proofs.lemmas.List.{at_drop_more}
 use Rattle.std.specs.List.{cons_option}
 use Rattle.allotment.specs.Cells.{numbers_from}
 use Rattle.ledger.specs.Answer.{State}
 use Rattle.ledger.specs.History.{is_finished}
-use Rattle.ledger.specs.Ledger.{Event, history, journeys, numbers}
+use Rattle.ledger.specs.Ledger.{Event, history, numbers}
 use Rattle.saga_core.specs.Views.{brief_of, brief_of_journey, counts_of, first_owned, first_unfinished, is_owned_above, is_unfinished_above, unfinished_of}
 use Rattle.memory_book.specs.Memory.{is_unfinished, StandsFor}
 use Rattle.saga_core.specs.declared.records.Brief.{Brief}
@@ -33,10 +33,8 @@ briefs-each : (l : List Event) (ks : List Journey) (first : ℕ)
     → filter_map (brief_of l) (numbers_from first (length ks)) ≡ briefs_from first ks
 briefs-each l [] first each = refl
 briefs-each l (k ∷ ks) first each =
-    ap (λ o. cons_option o (filter_map (brief_of l) (numbers_from (suc first) (length ks))))
-    (each 0 k refl first (omega arith))
-    ∙ ap (λ bs. brief_at first k ∷ bs)
-    (briefs-each l ks (suc first) (λ i x at j e. each (suc i) x at j (omega arith)))
+    let later = briefs-each l ks (suc first) (λ i x at j e. each (suc i) x at j (omega arith)) in
+    λ i. cons_option (each 0 k refl first (omega arith) i) (later i)
 
 -- what is kept of a journey is the summary that the ledger shows
 pub brief_of-kept : (m : MemBook) (s : State) → StandsFor m s → (i : ℕ) (k : Journey)
@@ -83,34 +81,37 @@ unfinished-kept m s here =
     ap (filter (is_unfinished_above 0)) (briefs-kept m s here)
     ∙ all_above (λ (b : Brief). not (is_finished b.cursor.phase)) 0 (briefs_of s.ledger) (rises s.ledger)
 
+-- the journey of a summary is unfinished
+abbrev pub runs : Brief → Bool
+runs b = not (is_finished b.cursor.phase)
+
 -- as many summaries are of unfinished journeys as journeys are unfinished
 length-unfinished : (j : ℕ) (ks : List Journey)
-    → length (filter is_unfinished ks) ≡ length (filter (λ (b : Brief). not (is_finished b.cursor.phase)) (briefs_from j ks))
+    → length (filter is_unfinished ks) ≡ length (filter runs (briefs_from j ks))
 length-unfinished j [] = refl
 length-unfinished j (k ∷ ks) = go (is_unfinished k) (length-unfinished (suc j) ks)
   where
     go : (v : Bool)
-        → length (filter is_unfinished ks)
-        ≡ length (filter (λ (b : Brief). not (is_finished b.cursor.phase)) (briefs_from (suc j) ks))
+        → length (filter is_unfinished ks) ≡ length (filter runs (briefs_from (suc j) ks))
         → length (cond v (k ∷ filter is_unfinished ks) (filter is_unfinished ks))
-        ≡ length (cond v (brief_at j k ∷ filter (λ (b : Brief). not (is_finished b.cursor.phase)) (briefs_from (suc j) ks))
-        (filter (λ (b : Brief). not (is_finished b.cursor.phase)) (briefs_from (suc j) ks)))
-    go true more = ap suc more
-    go false more = more
-
-abbrev made : ℕ → ℕ → ℕ → Counts
-made events journeys unfinished = record { events = events; journeys = journeys; unfinished = unfinished }
+        ≡ length (cond v (brief_at j k ∷ filter runs (briefs_from (suc j) ks))
+        (filter runs (briefs_from (suc j) ks)))
+    go true later = ap suc later
+    go false later = later
 
 -- the numbers that are kept are those of the ledger
 pub counts-kept : (m : MemBook) (s : State) (counts : Counts) → StandsFor m s → counts.events ≡ m.events
     → counts.journeys ≡ length m.journeys.items → counts.unfinished ≡ length (filter is_unfinished m.journeys.items)
     → counts ≡ counts_of s.ledger
 counts-kept m s counts here events journeys_are unfinished =
-    ap (λ n. made n counts.journeys counts.unfinished) (events ∙ here.events)
-    ∙ ap (λ n. made (length s.ledger) n counts.unfinished) (journeys_are ∙ length-begun m s here)
-    ∙ ap (made (length s.ledger) (length (journeys s.ledger)))
-    (unfinished ∙ length-unfinished 1 m.journeys.items
-    ∙ ap (λ bs. length (filter (λ (b : Brief). not (is_finished b.cursor.phase)) bs)) (briefs-kept m s here))
+    let open_ones : counts.unfinished ≡ length (unfinished_of s.ledger) =
+    unfinished ∙ length-unfinished 1 m.journeys.items
+    ∙ ap (λ bs. length (filter runs bs)) (briefs-kept m s here) in
+    λ i. record {
+      events = (events ∙ here.events) i;
+      journeys = (journeys_are ∙ length-begun m s here) i;
+      unfinished = open_ones i;
+    }
 
 -- One journey after another.
 
@@ -118,44 +119,21 @@ counts-kept m s counts here events journeys_are unfinished =
 pub brief_is : (b : Brief) (j : ℕ) (k : Journey) → b.id ≡ j → b.agent ≡ k.agent
     → b.cursor ≡ k.cursor → b ≡ brief_at j k
 brief_is b j k number agent cursor =
-    ap (λ n. record { id = n; agent = b.agent; cursor = b.cursor }) number
-    ∙ ap (λ a. record { id = j; agent = a; cursor = b.cursor }) agent
-    ∙ ap (λ c. record { id = j; agent = k.agent; cursor = c }) cursor
+    λ i. record { id = number i; agent = agent i; cursor = cursor i }
 
--- from a place on, the first that passes is the journey there or the first after it
-pub found_from : (test : Brief → Bool) (ks : List Journey) (place : ℕ) (k : Journey)
-    → place < length ks → k ≡ get_or ks place k
-    → find test (briefs_from (suc place) (drop place ks))
-    ≡ cond (test (brief_at (suc place) k)) (Some (brief_at (suc place) k))
-    (find test (briefs_from (suc (place + 1)) (drop (place + 1) ks)))
-found_from test ks place k within is =
+-- the summaries of the journeys after this place
+abbrev pub briefs_after : List Journey → ℕ → List Brief
+briefs_after ks place = briefs_from (suc (place + 1)) (drop (place + 1) ks)
+
+-- from a place on, the summaries are that of the journey there, and those after it
+pub briefs_on : {X : Type 0} (f : List Brief → X) (ks : List Journey) (place : ℕ) (k : Journey)
+    (b : Brief) → place < length ks → k ≡ get_or ks place k
+    → b.id ≡ place + 1 → b.agent ≡ k.agent → b.cursor ≡ k.cursor
+    → f (briefs_from (suc place) (drop place ks)) ≡ f (b ∷ briefs_after ks place)
+briefs_on f ks place k b within is number agent cursor =
     let next : suc place ≡ place + 1 = omega arith in
-    at_drop_more (λ js. find test (briefs_from (suc place) js)) ks place k within
-    ∙ ap (λ j. find test (briefs_from (suc place) (j ∷ drop (place + 1) ks))) (sym is)
-    ∙ ap (λ n. cond (test (brief_at (suc place) k)) (Some (brief_at (suc place) k))
-    (find test (briefs_from (suc n) (drop (place + 1) ks)))) next
-
--- from a place on, those that pass are the journey there, if it does, and those after it
-pub passed_from : (test : Brief → Bool) (ks : List Journey) (place : ℕ) (k : Journey)
-    → place < length ks → k ≡ get_or ks place k
-    → filter test (briefs_from (suc place) (drop place ks))
-    ≡ cond (test (brief_at (suc place) k)) (brief_at (suc place) k ∷ filter test (briefs_from (suc (place + 1)) (drop (place + 1) ks)))
-    (filter test (briefs_from (suc (place + 1)) (drop (place + 1) ks)))
-passed_from test ks place k within is =
-    let next : suc place ≡ place + 1 = omega arith in
-    at_drop_more (λ js. filter test (briefs_from (suc place) js)) ks place k within
-    ∙ ap (λ j. filter test (briefs_from (suc place) (j ∷ drop (place + 1) ks))) (sym is)
-    ∙ ap (λ n. cond (test (brief_at (suc place) k)) (brief_at (suc place) k ∷ filter test (briefs_from (suc n) (drop (place + 1) ks)))
-    (filter test (briefs_from (suc n) (drop (place + 1) ks)))) next
-
--- the journeys that were taken, with one more that passes, or without one that does not
-pub passed_with : (test : Brief → Bool) (taken now later more all : List Brief) (b : Brief) → later ≡ cond (test b) (b ∷ more) more
-    → taken ++ later ≡ all → test b ≡ true → now ≡ taken ++ b ∷ [] → now ++ more ≡ all
-passed_with test taken now later more all b is so_far passes grown =
-    ap (λ bs. bs ++ more) grown ∙ append_assoc taken (b ∷ []) more
-    ∙ ap (λ bs. taken ++ bs) (sym (is ∙ ap (λ v. cond v (b ∷ more) more) passes)) ∙ so_far
-
-pub passed_without : (test : Brief → Bool) (taken now later more all : List Brief) (b : Brief) → later ≡ cond (test b) (b ∷ more) more
-    → taken ++ later ≡ all → test b ≡ false → now ≡ taken → now ++ more ≡ all
-passed_without test taken now later more all b is so_far fails same =
-    ap (λ bs. bs ++ more) same ∙ ap (λ bs. taken ++ bs) (sym (is ∙ ap (λ v. cond v (b ∷ more) more) fails)) ∙ so_far
+    at_drop_more (λ js. f (briefs_from (suc place) js)) ks place k within
+    ∙ ap (λ j. f (briefs_from (suc place) (j ∷ drop (place + 1) ks))) (sym is)
+    ∙ ap (λ n. f (brief_at n k ∷ briefs_from (suc n) (drop (place + 1) ks))) next
+    ∙ ap (λ c. f (c ∷ briefs_after ks place))
+    (sym (brief_is b (place + 1) k number agent cursor))

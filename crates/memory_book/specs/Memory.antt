@@ -1,20 +1,19 @@
 -- What a book in memory represents, part by part.
-use Rattle.std.specs.Prelude.{◌≡◌, ℕ, suc, ◌<◌, Bool, not, List, vec_len, vec_capacity, length, map, filter_map, slice_get, Option, Some, None, Result, MatchResult, IfOk, OnErr, IfSome, IsTrue}
+use Rattle.std.specs.Prelude.{◌≡◌, ℕ, suc, ◌<◌, Bool, not, List, vec_len, vec_capacity, length, map, filter_map, slice_get, Option, Some, None, Result, MatchResult, IfOk, OnErr, IsTrue}
 use Rattle.std.specs.declared.alloc.AllocError.{AllocError}
 use Rattle.allotment.specs.declared.cells.Cell.{Cell}
-use Rattle.allotment.specs.declared.cells.Row.{Row}
 use Rattle.commands.specs.BatchData.{Batched}
 use Rattle.commands.specs.declared.items.Item.{Item}
 use Rattle.commands.specs.Asks.{Asked}
 use Rattle.commands.specs.Request.{Request}
 use Rattle.commands.specs.declared.replies.Refusal.{Refusal}
 use Rattle.commands.specs.declared.replies.Reply.{Reply}
-use Rattle.ledger.specs.Answer.{State, answer, asker, carried_out, limited}
-use Rattle.ledger.specs.Replies.{Answer, answer_new, refused, sees, seen_journey}
+use Rattle.ledger.specs.Answer.{State, answer, asker, carried_out}
+use Rattle.ledger.specs.Replies.{Answer, refused, sees, seen_journey}
 use Rattle.ledger_transitions.specs.Answers.{moves}
 use Rattle.ledger.specs.History.{net, is_finished}
 use Rattle.ledger.specs.Ledger as l
-use Rattle.ledger.specs.Ledger.{Event, Loaded, IsLegal, history, journeys, is_allowed}
+use Rattle.ledger.specs.Ledger.{Event, Loaded, IsLegal, history, journeys}
 use Rattle.saga_core.specs.Views.{cursor_of, marks_of, places_of}
 use Rattle.memory_book.specs.MemoryStock.{stock_at, fits_where_taken}
 use Rattle.memory_book.specs.MemoryAnswers.{kept_in, AreKeptAlike}
@@ -119,9 +118,3 @@ pub record IsReady (m : MemBook) (k : Journey) (x : Item) : Type 0 where
 abbrev pub MayBeMade : MemBook → ℕ → Result Item Refusal → Type 0
 MayBeMade m place next =
     (k : Journey) → slice_get m.journeys.items place ≡ Some k → IfOk next (IsReady m k)
-
--- if the ledger has room the answer is this load, and otherwise a refusal
-pub record IsDue (l : List Event) (who : Option (List ℕ)) (name : List ℕ) (rows : List Row)
-    (a : Answer) : Type 0 where
-  pub answered : a ≡ limited l (answer_new name rows None)
-  pub allowed : IfSome a.event (λ e. IsTrue (is_allowed l e))

@@ -1,6 +1,7 @@
 //! The book in memory: its parts, and the commands that it answers.
 mod loading;
 mod moving;
+mod reporting;
 
 use crate::answers::Answers;
 use crate::journeys::Journey;

@@ -1,4 +1,5 @@
 //! Which messages are read from streams, however they arrive.
+mod asks;
 mod hosts;
 mod interruptions;
 mod texts;

@@ -1,2 +1,3 @@
 mod log_lines;
+mod metrics;
 mod terminals;

@@ -45,6 +45,8 @@ cause_line cause.BadName = codes "The name of a batch is 1 to 24 of a-z, 0-9 and
 cause_line cause.PortInUse = codes "The port is in use. End the program that listens there, or take another port.\n"
 cause_line cause.AddressInUse = codes "The port or the path of --house is in use. End the program that listens there.\n"
 cause_line cause.NoSocket = codes "A folder or another file is at the path of --house, or there with .new. Take another.\n"
+cause_line cause.NoDesk = codes "No desk serves at the path of --at. Start one with --house, or name its file.\n"
+cause_line cause.NoAnswer = codes "No whole report came from the path of --at. Ask again; an older desk has none.\n"
 
 -- the cause that an end alone shows: the version before the newest or another one, or a fault of an allotment file
 abbrev pub cause_of_version : ℕ → Cause

@@ -47,6 +47,10 @@ pub enum Cause {
     AddressInUse,
     /// Another file, or a folder, stands at the path of the house's socket.
     NoSocket,
+    /// Nobody listens at the path at which a desk is asked.
+    NoDesk,
+    /// What listens there sent no whole report.
+    NoAnswer,
 }
 
 impl Cause {
@@ -119,6 +123,12 @@ impl Cause {
             }
             Cause::NoSocket => {
                 "A folder or another file is at the path of --house, or there with .new. Take another.\n"
+            }
+            Cause::NoDesk => {
+                "No desk serves at the path of --at. Start one with --house, or name its file.\n"
+            }
+            Cause::NoAnswer => {
+                "No whole report came from the path of --at. Ask again; an older desk has none.\n"
             }
         }
     }

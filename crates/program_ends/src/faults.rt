@@ -24,7 +24,7 @@ pub enum ProgramFault {
     Write,
     /// A file is absent or cannot be read.
     File,
-    /// A port cannot be listened on.
+    /// A port cannot be listened on, or a desk cannot be asked.
     Net,
 }
 

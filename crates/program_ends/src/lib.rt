@@ -1,13 +1,14 @@
 //! How the program `desk` ends: its faults, its exit statuses, and what it prints at its end.
 //!
 //! `End::tell` prints an end and returns its exit status. A refusal goes to standard output; a `ProgramFault`, and the
-//! usage, go to standard error. `end_of_arguments` is the end where the words of the command line cannot be read, and
-//! `end_of_listening` where the sockets cannot be listened on.
+//! usage, go to standard error. `end_of_arguments` is the end where the words of the command line cannot be read,
+//! `end_of_listening` where the sockets cannot be listened on, and `end_of_connecting` where a desk cannot be asked.
 //!
 //! A `Cause` says why, as far as that is known, and what to do. `Ended::explain` prints its line after that of the end.
 #![tactic(auto)]
 
 mod arguments;
+mod asking;
 mod causes;
 mod ended;
 mod ends;
@@ -15,6 +16,7 @@ mod faults;
 mod listening;
 
 pub use arguments::end_of_arguments;
+pub use asking::end_of_connecting;
 pub use causes::Cause;
 pub use ended::Ended;
 pub use ends::End;

@@ -9,9 +9,10 @@ use Rattle.commands.specs.declared.items.Phase.TheVariants.{Run, Back, Ended, Un
 use Rattle.ledger.specs.History.{is_open, is_compensation}
 use Rattle.ledger.specs.Ledger.{Event, Did, history, is_in, is_item_allowed, phase_of, IsLegal}
 use Rattle.ledger.specs.Recovery.{journey_of, are_items, is_forward}
+use Rattle.ledger.proofs.Growing.{AreAllowedAfter-join}
 use Rattle.ledger.proofs.Deciding.{each_open_has_one}
 use Rattle.ledger.proofs.Phases.{passing}
-use Rattle.ledger.proofs.Recoverable.{AreAllowedAfter-join, back-stage}
+use Rattle.ledger.proofs.Recoverable.{back-stage}
 use Rattle.recovery.specs.Passes.{goes_on, makes, Carry}
 use Rattle.recovery.specs.declared.passes.Pass.{Pass}
 use Rattle.recovery.specs.declared.passes.Pass.TheVariants as pass

@@ -18,9 +18,8 @@ use Rattle.ledger.specs.Ledger.{Event, Loaded, Began, Did, Journey, journey_at, 
 use Rattle.ledger.specs.Recovery.{stops, last_save_of, are_items, is_forward, IsRecovered}
 use Rattle.ledger.specs.World.{events_of}
 use Rattle.ledger.proofs.Deciding.{each_open_has_one, no_finished_goes_on}
-use Rattle.ledger.proofs.Growing.{is_item_allowed-may_do, is_item_allowed-none}
+use Rattle.ledger.proofs.Growing.{is_item_allowed-may_do, is_item_allowed-none, AreAllowedAfter-join}
 use Rattle.ledger.proofs.Phases.{passing}
-use Rattle.ledger.proofs.Recoverable.{AreAllowedAfter-join}
 use Rattle.ledger.proofs.Recovering.{AreAllowedAfter-split}
 use Rattle.saga_core.specs.Runs.{state_after}
 use Rattle.saga_core.specs.Worlds.{dones, KeepLimits}

@@ -7,8 +7,8 @@ use Rattle.ledger.specs.Answer.{State, most_events}
 use Rattle.ledger.specs.Laws.{IsRecoverable}
 use Rattle.ledger.specs.Ledger.{Event, IsLegal}
 use Rattle.ledger.specs.Recovery.{stops, IsRecovered}
-use Rattle.ledger.proofs.Recoverable.{recovered-exists}
 use Rattle.ledger.proofs.Recovering.{recovered-unique}
+use Rattle.ledger.proofs.UnderWay.{recovered-exists}
 use Rattle.recovery.specs.Growing.{room_of}
 use Rattle.recovery.specs.Recovers.{IsRecovery, HasOneRecovery}
 use Rattle.recovery.proofs.RecoverLemmas.{recovery-within}

@@ -7,8 +7,8 @@ use Rattle.commands.specs.declared.items.Item.{Item}
 use Rattle.commands.specs.declared.items.Phase.{Phase}
 use Rattle.ledger.specs.Ledger.{Event, is_in, AreAllowedAfter}
 use Rattle.ledger.specs.Recovery.{journey_of, is_by_number, are_items, HasReached}
+use Rattle.ledger.proofs.Growing.{AreAllowedAfter-join}
 use Rattle.ledger.proofs.Phases.{is_in-later}
-use Rattle.ledger.proofs.Recoverable.{AreAllowedAfter-join}
 
 -- what is up to a number is up to each higher one
 up_to-higher : (a b : ℕ) (p : List Event) → a ≤ b

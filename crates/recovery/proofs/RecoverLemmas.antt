@@ -6,9 +6,8 @@ use Rattle.ledger.specs.History.{is_open}
 use Rattle.ledger.specs.Laws.{IsRecoverable}
 use Rattle.ledger.specs.Ledger.{Event, IsLegal}
 use Rattle.ledger.specs.Recovery.{stops, has_none, IsRecovered, turning, going_back, going_on, BeginsRecovered, bound}
-use Rattle.ledger.proofs.Recoverable.{recovered-exists}
 use Rattle.ledger.proofs.Recovering.{recovered-unique}
-use Rattle.ledger.proofs.UnderWay.{recovery-goes_on}
+use Rattle.ledger.proofs.UnderWay.{recovered-exists, recovery-goes_on}
 use Rattle.recovery.specs.Growing.{room_of}
 use Rattle.recovery.specs.Passes.{AreFirstStops, IsUnderWay, IsThrough}
 use Rattle.recovery.specs.Recovers.{AreRecovery, AreBeginning}

@@ -3,6 +3,7 @@ ghost use Rattle.std.specs.Prelude.{◌≡◌};
 
 use allotment::{Cell, Held, Night, Want};
 use commands::{Agent, Ask, Command, Fault, Item, Key, Reply};
+use report_kinds::{Report, Reporting};
 use saga_core::{Book, Brief, Counts, Record, Trace};
 use std::marker::Model;
 
@@ -93,5 +94,11 @@ impl<B: Book> Book for Ready<B> {
 
     fn unfinished(&mut self) -> Result<Vec<Brief>, Fault> {
         self.book.unfinished()
+    }
+}
+
+impl<B: Reporting> Reporting for Ready<B> {
+    fn report(&mut self, report: &Report) -> Result<Option<Vec<u8>>, Fault> {
+        self.book.report(report)
     }
 }

@@ -6,7 +6,6 @@ use Rattle.sqlite.specs.State.{HasCleanDisk}
 use Rattle.commands.specs.declared.replies.Refusal.{Refusal}
 use Rattle.desk_sql.specs.declared.versions.Version.{Version}
 use Rattle.ledger.specs.Answer.{State}
-use Rattle.saga_core.specs.Views.{record_of}
 use Rattle.reports.specs.declared.faults.ReportFault.{ReportFault}
 use Rattle.reports.specs.declared.faults.ReportFault.TheVariants as report
 use Rattle.tables.specs.Keeping.{StoodFor}
@@ -18,11 +17,10 @@ use Rattle.program_ends.specs.declared.ends.End.{End}
 use Rattle.program_ends.specs.declared.ends.End.TheVariants as finish
 use Rattle.program_ends.specs.declared.faults.ProgramFault.{ProgramFault}
 use Rattle.openings.specs.Ends.{end_of_open}
-use Rattle.report_jobs.specs.Jobs.{EndsReport, RefusesAbsent, RefusesToShow, Reports}
-use Rattle.report_jobs.specs.Reporting.{IsFaultOfReport}
-use Rattle.report_jobs.specs.declared.report_kinds.Report.{Report}
-use Rattle.report_jobs.specs.declared.report_kinds.Report.TheVariants as shown
-use Rattle.report_jobs.proofs.ReportLemmas.{reported_fault, reported_none}
+use Rattle.report_jobs.specs.Jobs.{EndsReport, RefusesAbsent, RefusesToShow}
+use Rattle.report_jobs.specs.Reporting.{IsFaultOfReport, Reports}
+use Rattle.report_kinds.specs.declared.report.Report.{Report}
+use Rattle.report_jobs.proofs.ReportLemmas.{failed_report}
 
 -- a fault of a report that was begun is one of a report
 pub begun_fault : (f : ReportFault) → IsFaultOfReport (fault_of_report f)
@@ -62,16 +60,6 @@ module _ {S : Type 0} (g : Ghosts S) (old new : Held S) where
       → EndsReport (RefusesToShow g old new asked) e
   ends_unopened asked fault e is tells =
       subst (EndsReport (RefusesToShow g old new asked)) (sym is) (refused_opening asked fault tells)
-
--- a fault, where nothing was written
-failed_report : (held : Option (List ℕ)) (asked : Report) (f : ProgramFault) (s : State) → Reports held held asked (finish.Fault f) s
-failed_report held (shown.Stock filter format) f s = λ rows stock. reported_none held _ (finish.Fault f) tt
-failed_report held (shown.Journeys name filter format) f s = reported_none held _ (finish.Fault f) tt
-failed_report held (shown.Holders cell format) f s = reported_none held _ (finish.Fault f) tt
-failed_report held (shown.Holdings filter format) f s = λ rows stock. reported_none held _ (finish.Fault f) tt
-failed_report held (shown.Months months filter) f s = λ rows stock. reported_none held _ (finish.Fault f) tt
-failed_report held (shown.History id format) f s = reported_fault held _ (record_of s.ledger id) f
-failed_report held (shown.Why id format) f s = λ rows stock. reported_fault held _ (record_of s.ledger id) f
 
 -- the opening failed, of a connection that stood for a state
 pub unopened_report : {S : Type 0} (g : Ghosts S) (old new : Held S) (held : Option (List ℕ)) (asked : Report) (fault : OpenFault)

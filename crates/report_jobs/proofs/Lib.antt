@@ -1,5 +1,3 @@
-pub mod EndLemmas
 pub mod ReportLemmas
-pub mod StockLemmas
-pub mod WhyLemmas
+pub mod EndLemmas
 pub mod ShowLemmas

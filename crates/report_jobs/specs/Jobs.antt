@@ -1,5 +1,5 @@
 -- What the job of a report promises: what it writes, how it ends, and what it leaves of its connection.
-use Rattle.std.specs.Prelude.{◌⊎◌, ℕ, List, Option}
+use Rattle.std.specs.Prelude.{◌⊎◌}
 use Rattle.sqlite.specs.Store.{Ghosts}
 use Rattle.sqlite.specs.Held.{Held, state}
 use Rattle.sqlite.specs.State.{HasCleanDisk}
@@ -11,26 +11,13 @@ use Rattle.openings.specs.Connections.{RepresentsIn, StillRepresents}
 use Rattle.program_ends.specs.Ends.{EndsJob, IfFault, IfRefused}
 use Rattle.program_ends.specs.declared.ends.End.{End}
 use Rattle.sql_model.specs.Keeping.{WasClean}
-use Rattle.report_jobs.specs.Reporting.{IsFaultOfReport, IsNoJourney, RefusesVersion, ReportsHistory, ReportsHolders, ReportsHoldings, ReportsJourneys, ReportsMonths, ReportsStock}
-use Rattle.report_jobs.specs.Whys.{ReportsWhy}
-use Rattle.report_jobs.specs.declared.report_kinds.Report.{Report}
-use Rattle.report_jobs.specs.declared.report_kinds.Report.TheVariants as report
-
--- what each report writes of a desk, and how it ends
-abbrev pub Reports : Option (List ℕ) → Option (List ℕ) → Report → End → State → Type 0
-Reports held holds (report.Stock f format) e s = ReportsStock held holds format f e s
-Reports held holds (report.Journeys name f format) e s = ReportsJourneys held holds name format f e s
-Reports held holds (report.Holders x format) e s = ReportsHolders held holds format x e s
-Reports held holds (report.Holdings f format) e s = ReportsHoldings held holds format f e s
-Reports held holds (report.Months months f) e s = ReportsMonths held holds months f e s
-Reports held holds (report.History id format) e s = ReportsHistory held holds format id e s
-Reports held holds (report.Why id format) e s = ReportsWhy held holds format id e s
+use Rattle.report_kinds.specs.Texts.{IsOfJourney}
+use Rattle.report_kinds.specs.declared.report.Report.{Report}
+use Rattle.report_jobs.specs.Reporting.{IsFaultOfReport, IsNoJourney, RefusesVersion}
 
 -- a report of one journey is refused where there is none of its number, and no other report
 abbrev pub RefusesAbsent : Report → Refusal → Type 0
-RefusesAbsent (report.History id format) = IsNoJourney
-RefusesAbsent (report.Why id format) = IsNoJourney
-RefusesAbsent _ = λ _. ⊥
+RefusesAbsent report why = IsOfJourney report × IsNoJourney why
 
 -- the end of a report: all was done, a fault of a report, or a refusal for such a reason
 pub record EndsReport (MayRefuse : Refusal → Type 0) (e : End) : Type 0 where

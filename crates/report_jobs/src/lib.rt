@@ -5,15 +5,8 @@
 //!
 //! Words: a connection *represents* a state where an opening finds that state in it; a store without tables represents
 //! a new desk.
-#![tactic(auto, using(desk_sql::proofs::Quieting::quiet_alone, desk_sql::proofs::Quieting::quiet_twice, crate::proofs::EndLemmas::ends_any, crate::proofs::ReportLemmas::wrote_none))]
+#![tactic(auto, using(desk_sql::proofs::Quieting::quiet_alone, desk_sql::proofs::Quieting::quiet_twice, crate::proofs::EndLemmas::ends_any))]
 
-mod asked_reports;
-mod holding;
-mod month_reporting;
-mod plain_reports;
-mod report_kinds;
 mod reporting;
-mod whys;
 
-pub use report_kinds::Report;
 pub use reporting::{report_over, tell_report};

@@ -5,4 +5,7 @@ pub mod HeldRows
 pub mod HandedHolders
 pub mod HandedRows
 pub mod NightOrder
+pub mod NightlyStock
+pub mod ToldHoldings
 pub mod HandedHoldings
+pub mod HoldingValues

@@ -3,3 +3,4 @@ pub mod HoldersLeft
 pub mod Stopping
 pub mod States
 pub mod HoldingsLeft
+pub mod ItemsLeft

@@ -18,3 +18,4 @@ pub mod ReadStock
 pub mod ChoiceLemmas
 pub mod OptionReasons
 pub mod TakenItems
+pub mod NextItems

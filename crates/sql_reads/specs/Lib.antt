@@ -9,3 +9,4 @@ pub mod PlanRows
 pub mod Reading
 pub mod Reads
 pub mod ItemSearch
+pub mod ItemTexts

@@ -15,6 +15,7 @@ use crate::item_search::Sought;
 use crate::plan_rows::plan_told;
 use crate::telling::{brief_of, marks_told, nights_told, record_of, stand_of};
 use crate::traces::read_items;
+use crate::{next_item, next_old_item};
 use allotment::{Held, Night, Want};
 use commands::{Agent, Cursor, Fault, Item};
 use desk_sql::{
@@ -24,7 +25,6 @@ use desk_sql::{
 use plan::Plan;
 use saga_core::{Brief, Record};
 use savepoints::Marks;
-use sql_items::{next_item, next_old_item};
 use sql_model::fault_of;
 use sqlite::{Alter, Connection, Error};
 use std::alloc::Global;

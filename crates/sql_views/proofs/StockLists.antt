@@ -19,7 +19,7 @@ use Rattle.sql_model.specs.Keeping.{WasClean}
 use Rattle.sql_model.proofs.Quieting.{quiet_clean, quiet_up}
 use Rattle.sql_model.proofs.Staying.{fails_twice}
 use Rattle.sql_reads.specs.GoodRows.{IsGoodStock}
-use Rattle.sql_reads.specs.RemainingRows.{StaysUnder, stays_alone, stays_twice}
+use Rattle.sql_reads.specs.RemainingRows.{StaysUnder, stays_twice}
 use Rattle.sql_reads.proofs.GoodStock.{code_text}
 use Rattle.sql_views.proofs.Taken.{Remain}
 
@@ -75,12 +75,6 @@ module _ {S : Type 0} (g : Ghosts S) where
     pub kept : StaysUnder g first now
     pub so_far : HasCleanDisk (state g now.now) → (all : List StockRow) → CellsRest g first.now all
         → Remain (CellsRest g now.now) (map stock_row_of cells) all
-
-  pub none_taken : (first : MutBor (Held S)) (cells : List (Cell × HeldPlaces)) → cells ≡ [] → AreTaken first first cells
-  none_taken first cells none = record {
-    kept = stays_alone first;
-    so_far = λ clean all rests. (all, rests, sym (ap (λ (cs : List (Cell × HeldPlaces)). map stock_row_of cs ++ all) none));
-  }
 
   module _ (first old new : MutBor (Held S)) (cells : List (Cell × HeldPlaces)) (so : AreTaken first old cells)
       (kept : StaysUnder g old new) where

@@ -12,4 +12,6 @@ pub mod RunPuts
 pub mod RunWrites
 pub mod RunLemmas
 pub mod RunWeeks
-pub mod Batches
+pub mod LoadedCells
+pub mod NewRows
+pub mod LoadedWeeks

@@ -26,8 +26,8 @@ use Rattle.desk_sql.specs.Writable.{HasJourney, IsShort, MayAddItem, MayMove, Ma
 use Rattle.desk_sql.specs.declared.journeys.Cursor.{Cursor as CursorRow}
 use Rattle.desk_sql.specs.declared.stock.NightRange.{NightRange}
 use Rattle.sql_model.specs.ExpectedRows.{phase_number}
-use Rattle.sql_loads.specs.Loads.{LacksCell, MayAddCell}
-use Rattle.sql_loads.specs.Weeks.{MayAddWeek}
+use Rattle.sql_writes.specs.CellLoads.{LacksCell, MayAddCell}
+use Rattle.sql_writes.specs.Weeks.{MayAddWeek}
 use Rattle.sql_model.specs.Reading.{IsRangeOf, stock_row_of}
 use Rattle.sql_transitions.specs.Moving.{cursor_written, item_written}
 use Rattle.sql_writes.specs.declared.events.Numbers.{Numbers}

@@ -13,7 +13,7 @@ use Rattle.sql_transitions.proofs.Changing.{once-changed}
 use Rattle.sql_transitions.proofs.Puts.{cells_apart}
 use Rattle.sql_writes.specs.Loads.{MayLoad, put_each, puts_each}
 use Rattle.sql_writes.specs.Permits.{HaveShortCells}
-use Rattle.sql_loads.specs.Weeks.{next_night, nights_from}
+use Rattle.sql_writes.specs.Weeks.{next_night, nights_from}
 use Rattle.sql_writes.specs.Runs.{nights_later, IsLater, IsRun, HasShortTexts, is_until, sets_until, known_until, put_rows, AreNew, adds_each}
 use Rattle.sql_writes.proofs.LoadLemmas.{take-more}
 use Rattle.sql_writes.proofs.RunRows.{nights-more}

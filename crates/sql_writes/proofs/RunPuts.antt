@@ -7,7 +7,7 @@ use Rattle.sqlite_rules.proofs.ListLemmas.{some_from}
 use Rattle.desk_sql.specs.Lists.{changed}
 use Rattle.desk_sql.specs.Rows.{StockRow}
 use Rattle.desk_sql.specs.Stock.{is_cell, with_places, put}
-use Rattle.sql_loads.specs.Weeks.{nights_from}
+use Rattle.sql_writes.specs.Weeks.{nights_from}
 use Rattle.sql_writes.specs.Runs.{is_until, put_rows, AreNew}
 use Rattle.sql_writes.proofs.RunRows.{is_of, AreDistinct, own_cell, one_cell, of_run, nights-length, run_apart, run_places, all_pass, none_pass, known_count}
 

@@ -9,7 +9,7 @@ use Rattle.sqlite_rules.specs.Lists.{Has}
 use Rattle.sqlite_rules.proofs.ListLemmas.{all_has, all_from}
 use Rattle.desk_sql.specs.Rows.{StockRow}
 use Rattle.desk_sql.specs.Stock.{is_cell}
-use Rattle.sql_loads.specs.Weeks.{next_night, nights_from}
+use Rattle.sql_writes.specs.Weeks.{next_night, nights_from}
 use Rattle.sql_writes.specs.Runs.{nights_later, is_until}
 
 -- Rows of one cell.

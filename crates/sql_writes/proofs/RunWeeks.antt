@@ -5,7 +5,7 @@ use Rattle.allotment.specs.declared.cells.Cell.{Cell}
 use Rattle.allotment.specs.declared.places.Held.{Held}
 use Rattle.desk_sql.specs.Rows.{Tables, StockRow}
 use Rattle.desk_sql.specs.Stock.{is_cell}
-use Rattle.sql_loads.specs.Weeks.{next_night, nights_from, week_from}
+use Rattle.sql_writes.specs.Weeks.{next_night, nights_from, week_from}
 use Rattle.sql_model.specs.Reading.{stock_row_of}
 use Rattle.sql_writes.specs.Runs.{IsRun, AreNew, LacksWeek, adds_each}
 use Rattle.sql_writes.proofs.RunLemmas.{map-append}

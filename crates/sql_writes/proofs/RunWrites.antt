@@ -8,7 +8,7 @@ use Rattle.allotment.specs.Cells.{kind_number}
 use Rattle.allotment.specs.declared.cells.Cell.{Cell}
 use Rattle.allotment.specs.declared.places.Held.{Held}
 use Rattle.desk_sql.specs.Rows.{Tables, StockRow}
-use Rattle.sql_loads.specs.Loads.{LacksCell, nights_in, sets_nights}
+use Rattle.sql_writes.specs.CellLoads.{LacksCell, nights_in, sets_nights}
 use Rattle.desk_sql.specs.Stock.{is_cell, is_within}
 use Rattle.desk_sql.specs.Writable.{IsShort, AreShortNights}
 use Rattle.desk_sql.specs.declared.stock.NightRange.{NightRange}

@@ -8,3 +8,5 @@ pub mod Reasons
 pub mod Did
 pub mod Commits
 pub mod Runs
+pub mod CellLoads
+pub mod Weeks

@@ -11,8 +11,8 @@ use Rattle.desk_sql.specs.Lists.{changed}
 use Rattle.desk_sql.specs.Rows.{Tables, StockRow}
 use Rattle.desk_sql.specs.Stock.{is_cell, with_places, put}
 use Rattle.desk_sql.specs.Writable.{IsShort}
-use Rattle.sql_loads.specs.Loads.{LacksCell}
-use Rattle.sql_loads.specs.Weeks.{nights_from, week_from}
+use Rattle.sql_writes.specs.CellLoads.{LacksCell}
+use Rattle.sql_writes.specs.Weeks.{nights_from, week_from}
 use Rattle.sql_model.specs.Reading.{stock_row_of}
 use Rattle.sql_writes.specs.Did.{DidSoFar}
 

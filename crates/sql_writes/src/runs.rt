@@ -7,8 +7,8 @@
 //! Words: a *run* is consecutive nights of one product that get the same places.
 ghost use Rattle.std.specs.Prelude.{◌≡◌, ◌<◌, ◌≤◌, ◌-◌, length, map, take, slice_get, Some, true, ⊤};
 ghost use Rattle.std.specs.List.{AllByRecursion};
-ghost use Rattle.sql_loads.specs.Loads.{CountsRows, LacksCell, adds_cell};
-ghost use Rattle.sql_loads.specs.Weeks.{adds_cells, week_from};
+ghost use Rattle.sql_writes.specs.CellLoads.{CountsRows, LacksCell, adds_cell};
+ghost use Rattle.sql_writes.specs.Weeks.{adds_cells, week_from};
 ghost use Rattle.sql_model.specs.Reading.{stock_row_of};
 ghost use Rattle.sql_writes.specs.Did.{Did, DidIfOpen};
 ghost use Rattle.sql_writes.specs.Loads.{MayLoad, puts_each};
@@ -16,9 +16,9 @@ ghost use Rattle.sql_writes.specs.Permits.{HaveShortCells, MayPutAll};
 ghost use Rattle.sql_writes.specs.Runs.{HasShortTexts, IsLater, IsRun, sets_until, known_until, AreNew, LacksWeek, adds_each};
 
 use crate::loads::{places_of, put_all};
+use crate::{WEEK, insert_cell, insert_week, set_nights};
 use allotment::{Cell, Held, Night};
 use desk_sql::NightRange;
-use sql_loads::{WEEK, insert_cell, insert_week, set_nights};
 use sqlite::{Alter, Error, Transaction};
 
 /// Whether a cell is so many nights after the first one, of the same product, and gets the same places.

@@ -5,4 +5,5 @@ mod faults;
 mod helping;
 mod moves;
 mod opening;
+mod reports;
 mod sources;

@@ -1,5 +1,5 @@
 -- What each call leaves of a book that may act, as the contract of every book says it. For the book over tables.
-use Rattle.std.proofs.Common.{◌≡◌, ◌≤◌, ◌⊎◌, ◌∙◌, ◌+◌, ◌∷◌, inl, inr, true, false, refl, sym, arith, ◌↔◌, Option, Result, Ok, Err, IsErrOf, IsTrue}
+use Rattle.std.proofs.Common.{◌≡◌, ◌≤◌, ◌⊎◌, ◌∙◌, ◌+◌, ◌∷◌, inl, inr, true, false, refl, sym, arith, ◌↔◌, Option, Result, Ok, Err, IfErr, IsErrOf, IsTrue}
 use Rattle.std.specs.Borrow.{Bor}
 use Rattle.std.specs.Option.{option_copied}
 use Rattle.sqlite.specs.Store.{Ghosts}
@@ -10,17 +10,24 @@ use Rattle.commands.specs.Request.{Request}
 use Rattle.commands.specs.declared.replies.Fault.{Fault}
 use Rattle.commands.specs.declared.replies.Fault.TheVariants.{Memory, Store}
 use Rattle.commands.specs.declared.replies.Reply.{Reply}
+use Rattle.desk_sql.specs.Calls.{Quiet}
 use Rattle.desk_sql.specs.Causes.{HasFaulted, IsUp}
 use Rattle.desk_sql.proofs.Rowids.{rowids_fewer}
 use Rattle.ledger.specs.Answer.{State, outcome}
+use Rattle.saga_core.specs.Books.{Keeps, LeavesNoMore}
+use Rattle.saga_core.specs.Calls as calls
+use Rattle.saga_core.specs.Reasons.{MayGoOn}
 use Rattle.saga_core.specs.Runs.{Asks}
 use Rattle.sql_commands.specs.Failing.{RanOutOf, asked_rowids}
 use Rattle.sql_model.specs.Keeping.{WasClean}
 use Rattle.sql_model.specs.Spelling.{IsSpelled}
 use Rattle.sql_model.specs.Staying.{SeesAsBefore, StaysUp}
+use Rattle.sql_model.proofs.Quieting.{quiet_clean, quiet_leaves, quiet_sees, quiet_up}
 use Rattle.sql_model.proofs.Staying.{faulted_earlier, faulted_later, rowids_stay}
+use Rattle.sql_reads.specs.GoodRows.{IsMemory}
+use Rattle.sql_reads.proofs.ReadLemmas.{not_store}
 use Rattle.tables.specs.Acting.{ActsOn, ActsSince, AreShort, HasReasonSince, MayAct, MayActSince, rowids_for}
-use Rattle.tables.specs.BookTerms.{Answers, FailsToAct, KeepsAtMemory, LeavesAtStore, LeavesRowids, MovesOn, StandsBook}
+use Rattle.tables.specs.BookTerms.{Answers, FailsToAct, KeepsAtMemory, LeavesAtStore, LeavesBook, LeavesRowids, MovesOn, StandsBook}
 use Rattle.tables.specs.Reading.{Executes}
 use Rattle.tables.specs.declared.books.TableBook.{TableBook}
 use Rattle.tables.proofs.ActingLemmas.{may_act}
@@ -72,6 +79,58 @@ module _ {S : Type 0} (g : Ghosts S) (old new : TableBook S g) (stays : StaysUp 
       })
     ])
   ]
+
+-- unless the store failed, what stands stands as it stood, and what may go on does
+keeps_answered : {V : Type 0} (stood stands : State → Type 0) (result : Result V Fault) → ((s : State) → stood s → stands s)
+    → Keeps stood stands result
+keeps_answered stood stands (Ok v) same = same
+keeps_answered stood stands (Err Memory) same = same
+keeps_answered stood stands (Err Store) same = tt
+
+goes_on : {V : Type 0} (can : State → Asks → Type 0) (why : State → State → Type 0) (s : State) (asks : Asks) (result : Result V Fault)
+    → ¬ IsErrOf result Store → can s asks → MayGoOn can why s s asks result
+goes_on can why s asks (Ok v) answered may = may
+goes_on can why s asks (Err Memory) answered may = may
+goes_on can why s asks (Err Store) answered may = absurd (answered refl)
+
+-- What a quiet call of its connection leaves of a book, as every read of one says it; `Store` has this reason.
+module _ {S : Type 0} (g : Ghosts S) (reason : TableBook S g → TableBook S g → State → State → Type 0) (old new : TableBook S g)
+    (quiet : Quiet g old.conn new.conn) where
+  -- a crash leaves nothing that it could not have left before
+  leaves_quiet : LeavesNoMore (LeavesBook g old) (LeavesBook g new)
+  leaves_quiet s t left after db may =
+      left (quiet_clean g old.conn new.conn quiet after) db (quiet_leaves g old.conn new.conn quiet after db may)
+
+  -- it had not failed, and answered or ran out of memory
+  pub read_on : {V : Type 0} (result : Result V Fault) → IfErr result IsMemory → old.failed ≡ false → new.failed ≡ false
+      → (HasCleanDisk (state g new.conn) → (s : State) → StandsBook g old s → StandsBook g new s)
+      → calls.Reads (λ b. HasCleanDisk (state g b.conn)) (StandsBook g) (LeavesBook g) (λ b. b.failed) (MayActSince g) reason old new result
+  read_on result memory worked works same = record {
+    same = λ clean. keeps_answered (StandsBook g old) (StandsBook g new) result (same clean);
+    stop = λ clean. leaves_quiet;
+    fails = (λ failed. absurd (not_store result memory failed), λ failed. absurd (let both : true ≡ false = sym failed ∙ works in cc));
+    stays_failed = λ failed. absurd (let both : true ≡ false = sym failed ∙ worked in cc);
+    stays_left = λ failed. leaves_quiet;
+    may_act = λ clean first s asks since. goes_on (MayActSince g first new) (reason first new) s asks result (not_store result memory)
+        (may_still g old new (quiet_up g old.conn new.conn quiet) clean first s asks since (quiet_sees g old.conn new.conn quiet)
+        (quiet_clean g old.conn new.conn quiet) (same clean s));
+    sound = quiet_clean g old.conn new.conn quiet;
+  }
+
+  -- the store failed, now or before
+  pub read_failed : {V : Type 0} → new.failed ≡ true
+      → (HasCleanDisk (state g new.conn) → (first : TableBook S g) (s : State) (asks : Asks) → MayActSince g first old s asks → reason first new s s)
+      → calls.Reads (λ b. HasCleanDisk (state g b.conn)) (StandsBook g) (LeavesBook g) (λ b. b.failed) (MayActSince g) reason old new
+      {T = V} (Err Store)
+  read_failed failed why = record {
+    same = λ clean. tt;
+    stop = λ clean. leaves_quiet;
+    fails = (λ _. failed, λ _. refl);
+    stays_failed = λ _. failed;
+    stays_left = λ _. leaves_quiet;
+    may_act = λ clean first s asks since. why clean first s asks since;
+    sound = quiet_clean g old.conn new.conn quiet;
+  }
 
 -- it failed, for a reason
 pub failed_since : {S : Type 0} (g : Ghosts S) (first old : TableBook S g) (conn : Held S) → StaysUp g old.conn conn → (s : State) (asks : Asks)

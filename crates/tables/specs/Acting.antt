@@ -1,6 +1,5 @@
 -- When a book may act, so that its next commands fail with Store only for a reason, and what each of them leaves of that.
 use Rattle.std.specs.Prelude.{◌⊎◌, ◌+◌, ◌≤◌, ◌<◌, ◌^◌, ⊤, ℕ, [], ◌∷◌, Option, Result, Ok, Err}
-use Rattle.std.proofs.Common.{inl, arith}
 use Rattle.std.specs.Borrow.{Bor}
 use Rattle.std.specs.Option.{option_copied}
 use Rattle.sqlite.specs.Store.{Ghosts}
@@ -74,11 +73,6 @@ module _ {S : Type 0} (g : Ghosts S) (first now : TableBook S g) where
   -- since the first book the disk failed or refused, or the commit that leads from one state to the next ran out of memory
   abbrev pub HasReasonSince : State → State → Type 0
   HasReasonSince s next = HasFaulted (state g first.conn) (state g now.conn) ⊎ RanOutOf g now.conn s next
-
--- a book that may act for asks with short texts may do so since itself
-pub may_act_since_itself : {S : Type 0} (g : Ghosts S) (b : TableBook S g) (s : State) (asks : Asks) → MayAct g b s (rowids_for asks)
-    → AreShort asks → MayActSince g b b s asks
-may_act_since_itself g b s asks may short = record { counts = omega arith; may = inl (may, short) }
 
 module _ {S : Type 0} (g : Ghosts S) (old new : TableBook S g) where
   -- a command leaves the book so that it may act on for later asks, or fails for a reason

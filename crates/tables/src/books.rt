@@ -1,6 +1,7 @@
 //! The book over tables: how it is made of what was opened, and what it leaves.
 mod calls;
 mod looks;
+mod reporting;
 
 ghost use Rattle.std.specs.Prelude.{◌≡◌, false, IfOk, IfErr, IsOk};
 

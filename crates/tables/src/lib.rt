@@ -10,12 +10,10 @@
 mod books;
 mod counting;
 mod faults;
-mod item_rows;
 mod laws;
 mod opening;
 
 pub use books::TableBook;
 pub use faults::OpenFault;
-pub use item_rows::ItemRows;
 pub use laws::new_desk_may_act;
 pub use opening::{Opened, open_from};

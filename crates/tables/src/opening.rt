@@ -48,7 +48,7 @@ impl<S: Alter> Opened<S> {
     }
 
     /// The version of its tables.
-    pub(crate) fn version(&self) -> Version
+    pub fn version(&self) -> Version
         ensures same { result ≡ self.now.version }
     {
         self.version

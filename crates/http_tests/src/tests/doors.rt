@@ -6,6 +6,7 @@ use crate::tests::orders::{
 };
 use crate::tests::talks::{Asked, Page, Talk, put};
 use desk_http::{Door, answer_to};
+use http_log::Metrics;
 use http_messages::first_message;
 use http_pages::Paths;
 use std::alloc::Global;
@@ -48,7 +49,7 @@ pub fn is_answered_at(rt: &impl Abort, alloc: Global, door: Door, talk: &Talk, s
             break;
         };
         left = left.get(count..).unwrap_or(b"");
-        let answer = answer_to(alloc, &paths, door, &message, &mut desk);
+        let answer = answer_to(alloc, &paths, door, &message, &Metrics::new(), &mut desk);
         let answer = answer.expect(rt, "memory");
         told.extend_from_slice(&answer.bytes).expect(rt, "memory");
         if answer.stops {
@@ -81,7 +82,7 @@ const PLAN: Page = (
 
 // what the house asks at its own door, after ann began journey 1 and the house journey 2
 #[rattlefmt::skip]
-static OF_THE_HOUSE: [(&str, Page); 10] = [
+static OF_THE_HOUSE: [(&str, Page); 19] = [
     ("GET /unfinished",         ("200 OK", "", 117, r#"{"unfinished":[{"agent":"ann","journey":1,"pos":0,"state":"run"},{"agent":"desk","journey":2,"pos":0,"state":"run"}]}"#)),
     ("POST /journeys/1/step",   ("200 OK", "", 49,  r#"{"item":"T1.1","journey":1,"pos":1,"state":"run"}"#)),
     ("POST /journeys/1/save",   ("200 OK", "", 47,  r#"{"item":"S1","journey":1,"pos":1,"state":"run"}"#)),
@@ -92,11 +93,20 @@ static OF_THE_HOUSE: [(&str, Page); 10] = [
     ("POST /unfinished",        ONLY_GET),
     ("GET /nowhere",            UNKNOWN_PATH),
     ("GET /stop",               UNKNOWN_PATH),
+    ("POST /metrics",           UNKNOWN_PATH),
+    ("GET /metrics/",           UNKNOWN_PATH),
+    ("POST /reports/stock",     ONLY_GET),
+    ("GET /reports/nowhere",    BAD_BODY),
+    ("GET /reports/",           BAD_BODY),
+    ("GET /reports/history",    BAD_BODY),
+    ("GET /reports/history?x",  BAD_BODY),
+    ("GET /reports/stock?a?b",  BAD_BODY),
+    ("GET /reports",            UNKNOWN_PATH),
 ];
 
 // what agents ask there: as at the port
 #[rattlefmt::skip]
-static OF_AGENTS: [Asked; 10] = [
+static OF_AGENTS: [Asked; 12] = [
     ("GET /unfinished",         "ann", "",   "", ("200 OK", "", 52, r#"{"unfinished":[{"journey":1,"pos":1,"state":"run"}]}"#)),
     ("GET /unfinished",         "bob", "",   "", ("200 OK", "", 17, r#"{"unfinished":[]}"#)),
     ("GET /journeys/1",         "bob", "",   "", NO_JOURNEY),
@@ -107,6 +117,8 @@ static OF_AGENTS: [Asked; 10] = [
     ("POST /journeys/1/step",   "",    "k4", "", NO_AGENT),
     ("POST /journeys/1/save",   "ann", "k1", "", KEY_REUSED),
     ("POST /stop",              "ann", "k5", "", UNKNOWN_PATH),
+    ("GET /metrics",            "ann", "",   "", UNKNOWN_PATH),
+    ("GET /reports/stock",      "ann", "",   "", UNKNOWN_PATH),
 ];
 
 #[test]
@@ -141,7 +153,7 @@ fn at_its_own_door_the_house_sees_and_moves_every_journey(rt: HostRuntime) {
 
 // the same without an agent is refused at the port, where nobody stops the desk
 #[rattlefmt::skip]
-static AT_THE_PORT: [(&str, Page); 7] = [
+static AT_THE_PORT: [(&str, Page); 10] = [
     ("GET /unfinished",         NO_AGENT),
     ("GET /stock",              NO_AGENT),
     ("GET /journeys/1",         NO_AGENT),
@@ -149,6 +161,9 @@ static AT_THE_PORT: [(&str, Page); 7] = [
     ("POST /unfinished",        ONLY_GET),
     ("POST /stop",              UNKNOWN_PATH),
     ("GET /stop",               UNKNOWN_PATH),
+    ("GET /metrics",            UNKNOWN_PATH),
+    ("GET /reports/stock",      UNKNOWN_PATH),
+    ("POST /reports/stock",     UNKNOWN_PATH),
 ];
 
 #[test]
@@ -158,6 +173,66 @@ fn at_the_port_nobody_is_the_house(rt: HostRuntime) {
     begin(&rt, alloc, &mut talk, "ann", "k1", &[BUS], JOURNEY_1);
     go_on_unnamed(&rt, alloc, &mut talk, &AT_THE_PORT);
     is_answered_at(&rt, alloc, Door::Port, &talk, 0);
+}
+
+#[test]
+fn at_its_own_door_a_monitor_reads_what_was_counted(rt: HostRuntime) {
+    let alloc = rt.alloc();
+    let mut desk = new_desk(&rt, alloc);
+    let paths = Paths::new(alloc).expect(&rt, "memory");
+    let asked = b"GET /metrics HTTP/1.1\r\nHost: d\r\n\r\n";
+    let found = first_message(alloc, asked).expect(&rt, "memory");
+    let (message, _) = found.expect(&rt, "a message");
+    let mut metrics = Metrics::new();
+    metrics.comes();
+    let answer = answer_to(alloc, &paths, Door::House, &message, &metrics, &mut desk);
+    let page = answer.expect(&rt, "memory").bytes;
+    let text = str::from_utf8(&page).expect(&rt, "text");
+    assert!(rt;
+        text.starts_with("HTTP/1.1 200 OK\r\nContent-Length: "),
+        "{text}"
+    );
+    let (head, body) = text.split_once("\r\n\r\n").expect(&rt, "a body");
+    assert!(rt;
+        head.ends_with("\r\nContent-Type: text/plain; version=0.0.4"),
+        "{head}"
+    );
+    for line in [
+        "desk_events_total 0",
+        "desk_journeys_total 0",
+        "desk_connections_open 1",
+    ] {
+        assert!(rt; body.lines().any(|it| it == line), "{line}");
+    }
+}
+
+// a report at its own door, and whether the book is asked for it; that in memory makes none
+#[rattlefmt::skip]
+static REPORTS: [(&[u8], bool); 4] = [
+    (b"GET /reports/stock HTTP/1.1\r\nHost: d\r\n\r\n",                      true),
+    (b"GET /reports/history?1&--format=json HTTP/1.1\r\nHost: d\r\n\r\n",   true),
+    (b"GET /reports/history?one HTTP/1.1\r\nHost: d\r\n\r\n",               false),
+    (b"GET /reports/stock HTTP/1.1\r\nHost: d\r\nDesk-Agent: ann\r\n\r\n",  false),
+];
+
+#[test]
+fn at_its_own_door_the_house_asks_the_book_for_reports(rt: HostRuntime) {
+    let alloc = rt.alloc();
+    let mut desk = new_desk(&rt, alloc);
+    let paths = Paths::new(alloc).expect(&rt, "memory");
+    for &(asked, is_asked) in &REPORTS {
+        let found = first_message(alloc, asked).expect(&rt, "memory");
+        let (message, _) = found.expect(&rt, "a message");
+        let answer = answer_to(
+            alloc,
+            &paths,
+            Door::House,
+            &message,
+            &Metrics::new(),
+            &mut desk,
+        );
+        assert!(rt; answer.is_err() == is_asked);
+    }
 }
 
 // nothing is kept for the house: what it sends again is carried out again

@@ -1,7 +1,8 @@
 //! The jobs of the words of the command line.
 use crate::tests::desks::{holds, reads};
-use command_line::{Job, JobFault, job};
+use command_line::{Call, Job, JobFault, LogForm, Socket, call_of};
 use filters::{CellFilter, JourneyFilter, JourneyState, Phases};
+use report_words::target_of;
 use reports::Format;
 use std::alloc::{AllocError, Global};
 use std::test::Fail;
@@ -24,7 +25,7 @@ fn served_text(
     connections: Option<u16>,
     house: Option<String>,
     page: bool,
-    log: bool,
+    log: Option<LogForm>,
     wide: bool,
 ) -> Result<String, AllocError> {
     let count = match connections {
@@ -33,7 +34,11 @@ fn served_text(
     };
     let house = house.as_ref().map_or("-", |path| path.as_str());
     let page = if page { "|page" } else { "" };
-    let log = if log { "|log" } else { "" };
+    let log = match log {
+        None => "",
+        Some(LogForm::Plain) => "|log",
+        Some(LogForm::Timed) => "|log with times",
+    };
     let wide = if wide { "|wide" } else { "" };
     format!(in alloc; "serve|{file}|{port}|{count}|{house}{page}{log}{wide}")
 }
@@ -95,21 +100,19 @@ fn journeys_asked(
     format!(in alloc; "{name}|{file}{}|{agent} {phases}", shown(format))
 }
 
-/// The job of words as a text in the table: the job with its values, or only the usage.
-fn asked(alloc: Global, words: Vec<String>) -> Result<String, AllocError> {
-    match job(alloc, words) {
-        Ok(Job::Run { file }) => format!(in alloc; "run|{file}"),
-        Ok(
-            Job::Serve {
-                file,
-                port,
-                connections,
-                house,
-                page,
-                log,
-                wide,
-            },
-        ) => served_text(
+/// The job of a call over a file as a text in the table: the job with its values.
+fn job_text(alloc: Global, job: Job) -> Result<String, AllocError> {
+    match job {
+        Job::Run { file } => format!(in alloc; "run|{file}"),
+        Job::Serve {
+            file,
+            port,
+            connections,
+            house,
+            page,
+            log,
+            wide,
+        } => served_text(
             alloc,
             file.as_str(),
             port,
@@ -119,58 +122,69 @@ fn asked(alloc: Global, words: Vec<String>) -> Result<String, AllocError> {
             log,
             wide,
         ),
-        Ok(Job::Recover { file }) => format!(in alloc; "recover|{file}"),
-        Ok(Job::Load { file, csv, batch }) => format!(in alloc; "load|{file}|{csv}|{batch}"),
-        Ok(
-            Job::Stock {
-                file,
-                filter,
-                format,
-            },
-        ) => stock_asked(alloc, "stock", file.as_str(), filter, format),
-        Ok(
-            Job::Summary {
-                file,
-                filter,
-                format,
-            },
-        ) => stock_asked(alloc, "summary", file.as_str(), filter, format),
-        Ok(Job::Calendar { file, filter }) => {
+        Job::Recover { file } => format!(in alloc; "recover|{file}"),
+        Job::Load { file, csv, batch } => format!(in alloc; "load|{file}|{csv}|{batch}"),
+        Job::Stock {
+            file,
+            filter,
+            format,
+        } => stock_asked(alloc, "stock", file.as_str(), filter, format),
+        Job::Summary {
+            file,
+            filter,
+            format,
+        } => stock_asked(alloc, "summary", file.as_str(), filter, format),
+        Job::Calendar { file, filter } => {
             stock_asked(alloc, "calendar", file.as_str(), filter, Format::Text)
         }
-        Ok(Job::Holders { file, cell, format }) => format!(in alloc;
+        Job::Holders { file, cell, format } => format!(in alloc;
             "holders|{file}|{cell}{}",
             shown(format)
         ),
-        Ok(
-            Job::Holdings {
-                file,
-                filter,
-                format,
-            },
-        ) => stock_asked(alloc, "holdings", file.as_str(), filter, format),
-        Ok(
-            Job::Unfinished {
-                file,
-                filter,
-                format,
-            },
-        ) => journeys_asked(alloc, "unfinished", file.as_str(), filter, format),
-        Ok(
-            Job::Journeys {
-                file,
-                filter,
-                format,
-            },
-        ) => journeys_asked(alloc, "journeys", file.as_str(), filter, format),
-        Ok(Job::History { file, id, format }) => format!(in alloc;
+        Job::Holdings {
+            file,
+            filter,
+            format,
+        } => stock_asked(alloc, "holdings", file.as_str(), filter, format),
+        Job::Unfinished {
+            file,
+            filter,
+            format,
+        } => journeys_asked(alloc, "unfinished", file.as_str(), filter, format),
+        Job::Journeys {
+            file,
+            filter,
+            format,
+        } => journeys_asked(alloc, "journeys", file.as_str(), filter, format),
+        Job::History { file, id, format } => format!(in alloc;
             "history|{file}|{id}{}",
             shown(format)
         ),
-        Ok(Job::Why { file, id, format }) => format!(in alloc; "why|{file}|{id}{}", shown(format)),
-        Ok(Job::Migrate { file }) => format!(in alloc; "migrate|{file}"),
-        Ok(Job::Index { file }) => format!(in alloc; "index|{file}"),
-        Ok(Job::Version) => String::from_str(alloc, "version"),
+        Job::Why { file, id, format } => format!(in alloc; "why|{file}|{id}{}", shown(format)),
+        Job::Migrate { file } => format!(in alloc; "migrate|{file}"),
+        Job::Index { file } => format!(in alloc; "index|{file}"),
+        Job::Version => String::from_str(alloc, "version"),
+    }
+}
+
+/// What is asked of the desk at a socket as a text in the table: its target, if the words have one.
+fn target_text(alloc: Global, socket: &Socket) -> Result<String, AllocError> {
+    match target_of(alloc, socket.words.as_slice())? {
+        Some(target) => format!(in alloc; "at|{}|{target}", socket.path),
+        None => format!(in alloc; "at|{}|nothing", socket.path),
+    }
+}
+
+/// The call of words as a text in the table: the job, or the socket and what is asked for there, or only the usage.
+fn asked(alloc: Global, words: Vec<String>) -> Result<String, AllocError> {
+    match call_of(alloc, words) {
+        Ok(call) => {
+            let Call { job, socket, .. } = call;
+            match socket {
+                Some(socket) => target_text(alloc, &socket),
+                None => job_text(alloc, job),
+            }
+        }
         Err(JobFault::Usage(usage)) => Ok(usage),
         Err(JobFault::Memory) => Err(AllocError),
     }
@@ -178,7 +192,7 @@ fn asked(alloc: Global, words: Vec<String>) -> Result<String, AllocError> {
 
 // the words, separated by bars, and the job with its values; a bad number of a journey is no usage
 #[rattlefmt::skip]
-const JOBS: [(&str, &str); 77] = [
+const JOBS: [(&str, &str); 97] = [
     ("run|x.db",                    "run|x.db"),
     ("run|a b/x.db",                "run|a b/x.db"),
     ("run|--|-x.db",                "run|-x.db"),
@@ -197,6 +211,11 @@ const JOBS: [(&str, &str); 77] = [
     ("serve|--page|--house|d.sock|--port|8099|x.db",  "serve|x.db|8099|-|d.sock|page"),
     ("serve|x.db|--port|8099|--log",                  "serve|x.db|8099|-|-|log"),
     ("serve|--log|x.db|--house|d|--port|1",           "serve|x.db|1|-|d|log"),
+    ("serve|x.db|--log=time|--port|8099",             "serve|x.db|8099|-|-|log with times"),
+    ("serve|--log=time|x.db|--house|d|--port|1",      "serve|x.db|1|-|d|log with times"),
+    ("serve|--log|--port|1|./--log=time",             "serve|./--log=time|1|-|-|log"),
+    ("serve|--log|--port|1|--|--log=time",            "serve|--log=time|1|-|-|log"),
+    ("run|--|--log=time",           "run|--log=time"),
     ("serve|x.db|--port|8099|--wide",                 "serve|x.db|8099|-|-|wide"),
     ("serve|--wide|--log|x.db|--port|1|--page",       "serve|x.db|1|-|-|page|log|wide"),
     ("recover|x.db",                "recover|x.db"),
@@ -255,6 +274,21 @@ const JOBS: [(&str, &str); 77] = [
     ("journeys|x.db|--state|undone|--format|json", "journeys|x.db|json|- undone"),
     ("journeys|--agent|a234567890123456|x.db|--state|ended", "journeys|x.db|a234567890123456 ended"),
     ("journeys|--|-x.db",           "journeys|-x.db|- all"),
+    ("stock|--at|d.sock",           "at|d.sock|/reports/stock"),
+    ("stock|--calendar|--at=a b/d|--kind|room", "at|a b/d|/reports/stock?--calendar&--kind&room"),
+    ("summary|--at=-d|--to|2030-06-30", "at|-d|/reports/summary?--to&2030-06-30"),
+    ("holders|--at|d|R/INN/DBL/2030-06-01|--format|json", "at|d|/reports/holders?R/INN/DBL/2030-06-01&--format&json"),
+    ("holders|--supplier|INN|--at|d", "at|d|/reports/holders?--supplier&INN"),
+    ("holders|--at|d|--|C/Z/Z/2000-01-01", "at|d|/reports/holders?--&C/Z/Z/2000-01-01"),
+    ("unfinished|--at|d|--state|run", "at|d|/reports/unfinished?--state&run"),
+    ("journeys|--agent|ann|--at|d|--format=csv", "at|d|/reports/journeys?--agent&ann&--format=csv"),
+    ("history|12|--at|d",           "at|d|/reports/history?12"),
+    ("history|--at|d|one",          "at|d|/reports/history?one"),
+    ("history|--at|d|1&2",          "at|d|nothing"),
+    ("history|--at|d|1?2",          "at|d|nothing"),
+    ("why|--at|d|7",                "at|d|/reports/why?7"),
+    ("stock|--|--at",               "stock|--at"),
+    ("run|--|--at",                 "run|--at"),
     ("--version",                   "version"),
     ("-V",                          "version"),
     ("--version|run|x.db",          "version"),
@@ -322,7 +356,7 @@ const REFUSED: [(&str, &str, &str); 46] = [
 
 // the same, of the words of serve
 #[rattlefmt::skip]
-const REFUSED_OF_SERVE: [(&str, &str, &str); 30] = [
+const REFUSED_OF_SERVE: [(&str, &str, &str); 34] = [
     ("port 0",                   "serve|x|--port|0|--connections|1", "error: invalid value '0' for '--port <PORT>': not a number from 1 to 65535\n"),
     ("port 65536",               "serve|x|--port|65536|--connections|1", "error: invalid value '65536' for '--port <PORT>': not a number from 1 to 65535\n"),
     ("a port past every number", "serve|x|--port|18446744073709551617|--connections|1", "error: invalid value '18446744073709551617' for '--port <PORT>'"),
@@ -342,6 +376,10 @@ const REFUSED_OF_SERVE: [(&str, &str, &str); 30] = [
     ("a page with a value",      "serve|x|--port|80|--page=yes", "error: unexpected value 'yes' for '--page' found"),
     ("two houses",               "serve|x|--port|80|--house|a|--house|b", "error: the argument '--house <PATH>' cannot be used multiple times\n"),
     ("a log with a value",       "serve|x|--port|80|--log=yes", "error: unexpected value 'yes' for '--log' found; no more were expected\n"),
+    ("a log with time apart",    "serve|x|--port|80|--log|time", "error: unexpected argument 'time' found\n"),
+    ("a log with two times",     "serve|x|--port|80|--log=time=time", "error: unexpected value 'time=time' for '--log' found; no more were expected\n"),
+    ("two logs, one with times", "serve|x|--port|80|--log=time|--log", "error: the argument '--log' cannot be used multiple times\n"),
+    ("a log of the stock",       "stock|x|--log=time",       "error: unexpected argument '--log' found\n"),
     ("two logs",                 "serve|x|--port|80|--log|--log", "error: the argument '--log' cannot be used multiple times\n"),
     ("wide with a value",        "serve|x|--port|80|--wide=yes", "error: unexpected value 'yes' for '--wide' found; no more were expected\n"),
     ("twice wide",               "serve|x|--port|80|--wide|--wide", "error: the argument '--wide' cannot be used multiple times\n"),
@@ -385,6 +423,30 @@ const REFUSED_OF_ONE: [(&str, &str, &str); 25] = [
     ("help of why",              "why|--help", "Print why a journey stands where it does\n\nOpens the database FILE without recovering it"),
 ];
 
+// the same, of the words that name a socket
+#[rattlefmt::skip]
+const REFUSED_OF_SOCKETS: [(&str, &str, &str); 19] = [
+    ("a file and a socket",      "stock|x|--at|d", "error: unexpected argument 'x' found\n\nUsage: desk stock [OPTIONS] <FILE>\n\nFor more information, try '--help'.\nWith '--at <PATH>' the report reads no <FILE>.\n"),
+    ("a file, a cell and a socket", "holders|x|R/INN/DBL/2030-06-01|--at|d", "error: unexpected argument 'R/INN/DBL/2030-06-01' found\n"),
+    ("a file in place of a cell", "holders|--at|d|x", "error: invalid value 'x' for '<CELL>': not a cell, as R/INN/DBL/2030-06-01\n"),
+    ("a file and a journey",     "history|--at|d|x|1", "error: unexpected argument '1' found\n"),
+    ("no journey",               "why|--at|d", "error: the following required arguments were not provided:\n  <ID>\n\nUsage: desk why <FILE> <ID>\n\nFor more information, try '--help'.\nWith '--at <PATH>' the report reads no <FILE>.\n"),
+    ("no path",                  "stock|--at", "error: a value is required for '--at <PATH>' but none was supplied\n"),
+    ("an option as a path",      "stock|--at|--calendar", "error: a value is required for '--at <PATH>' but none was supplied\n"),
+    ("two sockets",              "stock|--at|a|--at|b", "error: the argument '--at <PATH>' cannot be used with '<FILE>'\n"),
+    ("a file, and a dash",       "stock|x|--at|-", "error: the argument '--at <PATH>' cannot be used with '<FILE>'\n\nFor more information, try '--help'.\n"),
+    ("an unknown kind",          "stock|--at|d|--kind|F", "error: invalid value 'F' for '--kind <KIND>': not flight, room, transfer or cover\n\nFor more information, try '--help'.\nWith '--at <PATH>' the report reads no <FILE>.\n"),
+    ("a part of the option",     "stock|x|--a|d", "error: unexpected argument '--a' found\n"),
+    ("a socket of run",          "run|--at|d", "error: unexpected argument '--at' found\n"),
+    ("a socket of a migration",  "migrate|x|--at|d", "error: unexpected argument '--at' found\n"),
+    ("a socket of an index",     "index|--at|d", "error: unexpected argument '--at' found\n"),
+    ("a socket of load",         "load|--at|d|x.csv|--batch|b", "error: unexpected argument '--at' found\n"),
+    ("a socket of recover",      "recover|--at=d", "error: unexpected argument '--at' found\n"),
+    ("a socket of serve",        "serve|--at|d|--port|80", "error: unexpected argument '--at' found\n"),
+    ("--explain at a socket",    "stock|--at|d|--explain", "error: unexpected argument '--explain' found\n"),
+    ("help at a socket",         "why|--at|d|--help", "Print why a journey stands where it does\n\nOpens the database FILE without recovering it"),
+];
+
 // the same, of the words that ask for cells and journeys
 #[rattlefmt::skip]
 const REFUSED_OF_FILTERS: [(&str, &str, &str); 19] = [
@@ -421,6 +483,15 @@ fn other_words_get_the_usage(rt: HostRuntime) -> Result<(), Fail> {
 #[test]
 fn other_words_of_serve_get_the_usage(rt: HostRuntime) -> Result<(), Fail> {
     for &(case, words, expected) in &REFUSED_OF_SERVE {
+        let found = asked(rt.alloc(), words_of(rt.alloc(), words)?)?;
+        holds(&rt, case, found.as_str().starts_with(expected));
+    }
+    Ok(())
+}
+
+#[test]
+fn other_words_of_sockets_get_the_usage(rt: HostRuntime) -> Result<(), Fail> {
+    for &(case, words, expected) in &REFUSED_OF_SOCKETS {
         let found = asked(rt.alloc(), words_of(rt.alloc(), words)?)?;
         holds(&rt, case, found.as_str().starts_with(expected));
     }

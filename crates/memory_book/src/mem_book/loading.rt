@@ -37,13 +37,13 @@ fn loaded_again(batch: &Batch, known: &Batch) -> Reply
 }
 
 impl MemBook {
-    ghost use Rattle.std.specs.Prelude.{◌≡◌, [], not, find, bytes_eq, IfOk, IsTrue};
+    ghost use Rattle.std.specs.Prelude.{◌≡◌, [], not, find, bytes_eq, None, IfOk, IsTrue};
     ghost use Rattle.std.specs.List.{list_all};
-    ghost use Rattle.ledger.specs.Answer.{State, answer, asker};
-    ghost use Rattle.ledger.specs.Replies.{Answer};
+    ghost use Rattle.ledger.specs.Answer.{State, answer, asker, limited};
+    ghost use Rattle.ledger.specs.Replies.{answer_new};
     ghost use Rattle.ledger.specs.Ledger.{batches_named};
     ghost use Rattle.memory_book.specs.MemoryStock.{is_below_in};
-    ghost use Rattle.memory_book.specs.Memory.{StandsFor, IsCarriedOut, IsDue};
+    ghost use Rattle.memory_book.specs.Memory.{StandsFor, IsCarriedOut};
     ghost use Rattle.std.specs.Option.{option_copied};
     ghost use Rattle.commands.specs.Request as request;
     ghost use Rattle.memory_book.specs.Memory.{CarriesOut, KeepsBook};
@@ -89,9 +89,12 @@ impl MemBook {
             (list_all (λ row. not (is_below_in self.old.stock row)) batch.now.rows) }
 
         ensures answer { (s : State) → StandsFor self.old s →
-            (a : Answer) → IsDue s.ledger (asker (option_copied ask.entry))
-            batch.now.name batch.now.rows a →
-            IfOk result (IsCarriedOut self.new s (option_copied ask.entry) a) }
+            answer s.ledger (asker (option_copied ask.entry))
+            (request.Load batch.now.name batch.now.rows)
+            ≡ limited s.ledger (answer_new batch.now.name batch.now.rows None) →
+            IfOk result (IsCarriedOut self.new s (option_copied ask.entry)
+            (answer s.ledger (asker (option_copied ask.entry))
+            (request.Load batch.now.name batch.now.rows))) }
         ensures memory { KeepsBook self.old self.new result }
     {
         if self.is_full() {

@@ -5,7 +5,7 @@ use crate::tests::old_desks::{IN_A_ROUND, OldJourney, cells, is_unfinished, jour
 use crate::tests::old_files::old_file;
 use allotment::{Cell, Held};
 use memory_files::Session;
-use report_rows::{FoundRows, Progress, start_stock, start_unfinished};
+use report_rows::{FoundRows, Progress, start_items, start_stock, start_unfinished};
 use saga_core::{Brief, RowSource};
 use sqlite::{Alter, Connection};
 use std::alloc::{AllocError, Global};
@@ -70,7 +70,8 @@ fn briefs_in<R: RowSource<Brief>>(alloc: Global, rows: &mut R) -> Result<String,
 /// The items of a journey.
 fn items_of<S: Alter>(alloc: Global, opened: &mut Opened<S>, id: u64) -> Result<String, Fail> {
     let mut text = String::new(alloc);
-    let mut rows = opened.item_rows(id)?;
+    let version = opened.version();
+    let mut rows = start_items(opened.connection(), version, id)?;
     for _ in 0..MOST_ROWS {
         let Some(item) = rows.next_row()? else {
             break;

@@ -1,7 +1,8 @@
 //! The lines of the log, and how the bytes of a peer are shown.
 use commands::{Agent, Key};
 use http_log::{
-    Asked, MOST_RECENT, Peer, Recent, Why, ended_line, opened_line, request_line, shown,
+    Asked, MOST_RECENT, Peer, Recent, Why, ended_line, opened_line, request_line, shown, time_text,
+    timed_line,
 };
 use std::test::Fail;
 
@@ -67,6 +68,49 @@ fn a_request_has_one_line(rt: HostRuntime) -> Result<(), Fail> {
         line.as_str(),
         "request connection=4 door=house agent= method=POST target=/stop\\x0a status=lost key= again=no refused=28 ms=18446744073709551615"
     );
+    Ok(())
+}
+
+// what the row shows, milliseconds since 1970, and the time, or nothing
+#[rattlefmt::skip]
+static TIMES: [(&str, u64, &str); 7] = [
+    ("the first",               0,                   "1970-01-01T00:00:00.000Z"),
+    ("a millisecond",           1,                   "1970-01-01T00:00:00.001Z"),
+    ("whole tenths",            1_000_000_000_500,   "2001-09-09T01:46:40.500Z"),
+    ("a leap day",              1_709_164_800_000,   "2024-02-29T00:00:00.000Z"),
+    ("the end of a day",        1_893_455_999_999,   "2029-12-31T23:59:59.999Z"),
+    ("the last that has one",   253_402_207_200_999, "9999-12-30T22:00:00.999Z"),
+    ("one after it",            253_402_207_201_000, ""),
+];
+
+#[test]
+fn a_time_is_that_of_rfc_3339(rt: HostRuntime) -> Result<(), Fail> {
+    for (case, millis, expected) in &TIMES {
+        let text = time_text(rt.alloc(), *millis)?;
+        assert_eq!(rt;
+            text.as_ref().map_or("", |text| text.as_str()),
+            *expected,
+            "{case}"
+        );
+    }
+    Ok(())
+}
+
+// a line, milliseconds since 1970, and the line with its time, or nothing
+#[rattlefmt::skip]
+static TIMED: [(&str, u64, &str); 4] = [
+    ("opened recovered=3", 1_906_537_267_250,   "2030-06-01T09:41:07.250Z [INFO  desk] opened recovered=3"),
+    ("",                   0,                   "1970-01-01T00:00:00.000Z [INFO  desk] "),
+    ("a",                  253_402_207_200_999, "9999-12-30T22:00:00.999Z [INFO  desk] a"),
+    ("a",                  253_402_207_201_000, ""),
+];
+
+#[test]
+fn a_line_with_its_time_is_the_time_and_the_line(rt: HostRuntime) -> Result<(), Fail> {
+    for (line, millis, expected) in &TIMED {
+        let text = timed_line(rt.alloc(), *millis, line)?;
+        assert_eq!(rt; text.as_ref().map_or("", |text| text.as_str()), *expected);
+    }
     Ok(())
 }
 

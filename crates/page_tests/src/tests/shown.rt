@@ -3,7 +3,7 @@ use super::{AT_ONE, AT_THE_END, goes_out, reads};
 use commands::{Agent, Cursor};
 use http_pages::{Body, HtmlPage, Owners, Page, agent_body, health_body, mine_body, shown_page};
 use saga_core::{Brief, Counts};
-use std::alloc::AllocError;
+use std::alloc::{AllocError, Global};
 
 /// A journey of the agent `desk`.
 fn brief(id: u64, cursor: Cursor) -> Brief {
@@ -47,6 +47,26 @@ fn the_desk_says_who_asks(rt: HostRuntime) {
     let longest = Agent::parse("abcdefghijklm123").expect(&rt, "an agent");
     let expected = r#"{"agent":"abcdefghijklm123"}"#;
     reads(&rt, agent_body(rt.alloc(), longest), expected, 28);
+}
+
+/// What a monitor reads.
+fn monitored(alloc: Global) -> Result<Page, AllocError> {
+    let text = String::from_str(alloc, "desk_events_total 9\n")?;
+    Ok(shown_page(Body::Metrics(text)))
+}
+
+#[test]
+fn what_a_monitor_reads_goes_out_with_the_version_of_its_form(rt: HostRuntime) {
+    let expected =
+        "HTTP/1.1 200 OK\r\nContent-Length: 20\r\nContent-Type: text/plain; version=0.0.4\r\n\r\ndesk_events_total 9\n";
+    goes_out(
+        &rt,
+        rt.alloc(),
+        monitored(rt.alloc()),
+        false,
+        false,
+        expected,
+    );
 }
 
 /// A page for browsers.

@@ -5,7 +5,7 @@ use crate::tests::helping::{book_over, run};
 use allotment::{Cell, Held};
 use commands::{Fault, Item};
 use memory_files::{ClosedFile, Session};
-use report_rows::{FoundRows, Progress, start_stock, start_unfinished};
+use report_rows::{FoundRows, Progress, start_items, start_stock, start_unfinished};
 use saga_core::{Brief, RowSource};
 use sqlite::{Alter, Connection};
 use std::alloc::{AllocError, Global};
@@ -17,7 +17,7 @@ const TWO: &str = "F/AL/A1/2030-06-01/1/1;R/INN/DBL/2030-06-02/1/1!0";
 
 // the first journey ends with the last room, and the second one turns back
 #[rattlefmt::skip]
-static DONE: [(Asked, &str); 7] = [
+pub static DONE: [(Asked, &str); 7] = [
     (Asked::Load("a", &[("R/INN/DBL/2030-06-02", 1), ("F/AL/A1/2030-06-01", 10)]), "loaded a 2"),
     (Asked::Begin(TWO), "journey 1 begun"),
     (Asked::Begin(TWO), "journey 2 begun"),
@@ -121,7 +121,9 @@ fn unfinished_told<S: Alter>(
 fn told<S: Alter>(alloc: Global, opened: &mut Opened<S>, calls: u8) -> Result<[String; 3], Fail> {
     let stock = stock_told(alloc, opened.connection(), calls)?;
     let unfinished = unfinished_told(alloc, opened.connection(), calls)?;
-    let items = handed(alloc, &mut opened.item_rows(2)?, calls)?;
+    let version = opened.version();
+    let mut rows = start_items(opened.connection(), version, 2)?;
+    let items = handed(alloc, &mut rows, calls)?;
     Ok([stock, unfinished, items])
 }
 

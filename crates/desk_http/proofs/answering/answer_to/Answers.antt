@@ -2,7 +2,7 @@
 use Rattle.std.proofs.Common.{subst, false, true}
 use Rattle.std.proofs.lemmas.Result.{err_from_is_err_and}
 use Rattle.http_messages.specs.Requests.{IsTaken}
-use Rattle.desk_http.proofs.AnswerLemmas.{no_head_answered, no_head_closes, no_head_stops, page_closes, page_stops, request_answered, request_closes, request_failed}
+use Rattle.desk_http.proofs.AnswerLemmas.{no_head_answered, no_head_closes, no_head_counted, no_head_stops, page_closes, page_stops, request_answered, request_closes, request_counted, request_failed}
 use Rattle.desk_http.proofs.answering.answer_to.Goals as goal
 
 pub returns-in_err-page-in-Asks-clause-answer : goal.returns-in_err-page-in-Asks-clause-answer
@@ -50,3 +50,16 @@ pub returns-in_ok-page-in-Asks-clause-stops : goal.returns-in_ok-page-in-Asks-cl
 returns-in_ok-page-in-Asks-clause-stops g c =
     page_stops c.args.door c.args.message.now _ c.stops.result c.new-in-Asks.ensures.stops
     (λ m is. c.stops.ensures.stops m (subst (λ taken. IsTaken taken m) c.in-Asks.is is))
+
+-- bytes that are no head ask for no metrics
+pub returns-in_ok-page-in-NoHead-clause-counted : goal.returns-in_ok-page-in-NoHead-clause-counted
+returns-in_ok-page-in-NoHead-clause-counted g c =
+    no_head_counted c.args.metrics.now c.args.door c.args.message.now _ (λ m is. subst (λ taken. IsTaken taken m) c.in-NoHead.is is)
+
+-- a request that asks for them gets what was counted
+pub returns-in_ok-page-in-Asks-clause-counted : goal.returns-in_ok-page-in-Asks-clause-counted
+returns-in_ok-page-in-Asks-clause-counted g c =
+    request_counted c.args.metrics.now c.args.door c.args.message.now c.in-Asks.request c.in_ok-refusal-in-Asks.refusal _ c.in_ok-page-in-Asks.page
+    c.closes.result (λ m is. subst (λ taken. IsTaken taken m) c.in-Asks.is is) c.in_ok-refusal-in-Asks.ensures.refusal c.closes.ensures.closes
+    (record { bytes = c.new-in-Asks.ensures.bytes; closes = c.new-in-Asks.ensures.closes; memory = c.new-in-Asks.ensures.memory })
+    c.in_ok-page-in-Asks.ensures.counted

@@ -33,3 +33,9 @@ returns-in-SeeMine-clause-page g c = λ sound s stood.
     let book = g.B.Book in
     subst (λ demand. Meets (book.stands c.see_mine.new.book) (book.leaves c.see_mine.new.book) s (demand_said demand) c.see_mine.result)
     (sym c.in-SeeMine.is) (c.see_mine.ensures.page sound s stood)
+
+pub returns-in-SeeReport-clause-page : goal.returns-in-SeeReport-clause-page
+returns-in-SeeReport-clause-page g c = λ sound s stood.
+    let book = g.B.Book in
+    subst (λ demand. Meets (book.stands c.see_report.new.book) (book.leaves c.see_report.new.book) s (demand_said demand) c.see_report.result)
+    (sym c.in-SeeReport.is) (c.see_report.ensures.page sound s stood)

@@ -1,8 +1,7 @@
 -- An opening that failed wrote nothing; one that did not found the state that was represented.
 use Rattle.std.proofs.Common.{sym, subst}
 use Rattle.sql_model.proofs.Quieting.{quiet_clean}
-use Rattle.report_jobs.specs.Jobs.{Reports}
-use Rattle.report_jobs.specs.Reporting.{IsDeskIn}
+use Rattle.report_jobs.specs.Reporting.{IsDeskIn, Reports}
 use Rattle.report_jobs.proofs.EndLemmas.{ends_begun, ends_unopened, unopened_report}
 use Rattle.report_jobs.proofs.ShowLemmas.{still_in}
 use Rattle.report_jobs.proofs.reporting.report_over.Goals as goal

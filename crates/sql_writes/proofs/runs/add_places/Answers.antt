@@ -1,7 +1,7 @@
 -- The row of a cell is that of its places.
 use Rattle.std.proofs.Common.{sym, ap, subst, arith, rules}
 use Rattle.desk_sql.specs.Rows.{StockRow}
-use Rattle.sql_loads.specs.Loads.{MayAddCell, adds_cell}
+use Rattle.sql_writes.specs.CellLoads.{MayAddCell, adds_cell}
 use Rattle.sql_writes.proofs.Doing.{did_as, did_fail, numbered, numbered_fails}
 use Rattle.sql_writes.proofs.Permitting.{may_add_cell}
 use Rattle.sql_writes.proofs.runs.add_places.Goals as goal

@@ -1,7 +1,7 @@
 -- The rows are those of the cell's nights.
 use Rattle.std.proofs.Common.{sym, ap, subst, arith, rules}
 use Rattle.desk_sql.specs.Rows.{StockRow}
-use Rattle.sql_loads.specs.Weeks.{MayAddWeek, adds_cells, week_from}
+use Rattle.sql_writes.specs.Weeks.{MayAddWeek, adds_cells, week_from}
 use Rattle.sql_writes.proofs.Doing.{did_as, did_fail, numbered, numbered_fails}
 use Rattle.sql_writes.proofs.Permitting.{may_add_week}
 use Rattle.sql_writes.proofs.runs.add_week.Goals as goal

@@ -12,14 +12,8 @@ returns-clause-kept c agent key =
     let ask = c.in-Some.ask.now in
     kept_in-insert old (record { kept = c.insert.new.self }) c.of.result
     (record { text = c.in_ok-text.text; reply = c.args.reply }) c.in_ok-insert.ensures.updates agent key
-    ∙ ap (λ a. if bytes_eq agent a && bytes_eq key c.of.result.key
-    then Some (record { text = c.in_ok-text.text.items; reply = c.args.reply })
-    else kept_in old agent key) c.of.ensures.agent
-    ∙ ap (λ k. if bytes_eq agent ask.agent && bytes_eq key k
-    then Some (record { text = c.in_ok-text.text.items; reply = c.args.reply })
-    else kept_in old agent key) c.of.ensures.key
-    ∙ ap (λ t. if bytes_eq agent ask.agent && bytes_eq key ask.key
-    then Some (record { text = t; reply = c.args.reply })
-    else kept_in old agent key) (c.in_ok-text.ensures.items ∙ c.text.ensures.text)
+    ∙ (λ i. if bytes_eq agent (c.of.ensures.agent i) && bytes_eq key (c.of.ensures.key i)
+    then Some (record { text = (c.in_ok-text.ensures.items ∙ c.text.ensures.text) i; reply = c.args.reply })
+    else kept_in old agent key)
     ∙ ap (λ o. kept_after (kept_in old) (option_copied o) c.args.reply agent key)
     (sym c.in-Some.is)

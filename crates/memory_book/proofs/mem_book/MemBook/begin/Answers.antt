@@ -1,11 +1,13 @@
-use Rattle.std.proofs.Common.{◌≡◌, ◌+◌, ◌<◌, ◌++◌, ◌∷◌, [], length, refl, ap, sym, ◌∙◌, subst, arith, IsTrue}
+use Rattle.std.proofs.Common.{◌≡◌, ◌+◌, ◌<◌, ◌++◌, ◌∷◌, [], length, refl, ap, sym, ◌∙◌, subst, append-nil, arith, map, IsTrue}
 use Rattle.std.specs.Option.{option_copied}
 use Rattle.plan.specs.PlanModel.{is_plan}
 use Rattle.commands.specs.declared.replies.Reply.TheVariants as reply
 use Rattle.ledger.specs.Answer.{kept_after, most_events}
+use Rattle.ledger.specs.Ledger.{journeys}
+use Rattle.memory_book.specs.Memory.{begun_as, TellEach}
 use Rattle.memory_book.specs.MemoryAnswers.{kept_in}
-use Rattle.memory_book.proofs.BeginLemmas.{owner, carried_out-begun}
-use Rattle.memory_book.proofs.GrowthLemmas.{keeps_book, room_left, stands-same}
+use Rattle.memory_book.proofs.BeginLemmas.{owner, length-begun, carried_out-begun}
+use Rattle.memory_book.proofs.GrowthLemmas.{keeps_book, room_left}
 use Rattle.memory_book.proofs.mem_book.MemBook.begin.Goals as goal
 use Rattle.memory_book.proofs.mem_book.MemBook.begin.Goals.{in-Some, in-None}
 
@@ -14,8 +16,9 @@ pub returns-in_err-keep-clause-memory : goal.returns-in_err-keep-clause-memory
 returns-in_err-keep-clause-memory c =
     let m = c.args.self.now in
     keeps_book m (record m { journeys = c.reserve.new.self; answers = c.keep.new.self }) _
-    (stands-same m (record m { journeys = c.reserve.new.self; answers = c.keep.new.self })
-    c.reserve.ensures.items refl refl c.in_err-keep.ensures.memory refl)
+    (ap (map begun_as) c.reserve.ensures.items)
+    (λ l each. subst (λ js. TellEach js l) (sym c.reserve.ensures.items) each)
+    refl refl c.in_err-keep.ensures.memory refl
 
 -- the journey was begun
 pub returns-clause-answer : goal.returns-clause-answer
@@ -23,6 +26,7 @@ returns-clause-answer c s here =
     let m = c.args.self.now in
     let ask = option_copied c.args.ask in
     let count : c.len.result ≡ length m.journeys.items = omega arith in
+    let numbered : c.len.result ≡ length (journeys s.ledger) = count ∙ length-begun m s here in
     let owned : c.match-ask.agent ≡ owner ask = elim c.match-ask.branch [
       | in-Some w ↦ w.agent-is ∙ w.agent-agent.ensures.agent
           ∙ ap (λ o. owner (option_copied o)) (sym w.in-Some.is)
@@ -44,10 +48,11 @@ returns-clause-answer c s here =
       plan_is = c.new-journey.ensures.plan ∙ c.in_ok-plan.ensures.same;
       told = c.new-journey.ensures.told;
       stock = refl;
-      batches = refl;
-      kept = λ agent key.
-          c.in_ok-keep.ensures.kept agent key
-          ∙ ap (λ i. kept_after (kept_in m.answers) ask (reply.Begun (i + 1)) agent key) count;
-      events = refl;
+      parts = record {
+        batches = sym (append-nil m.batches.items);
+        kept = λ agent key. c.in_ok-keep.ensures.kept agent key
+            ∙ ap (λ i. kept_after (kept_in m.answers) ask (reply.Begun (i + 1)) agent key) numbered;
+        events = refl;
+      };
     })
-    room (ap (λ i. reply.Begun (i + 1)) count)
+    room (ap (λ i. reply.Begun (i + 1)) numbered)

@@ -1,12 +1,12 @@
-use Rattle.std.proofs.Common.{◌≡◌, ◌<◌, ◌≤◌, refl, length, ap, sym, subst, ◌∙◌, arith, suc, is_some, IfOk, MatchResult}
+use Rattle.std.proofs.Common.{◌<◌, ◌≤◌, refl, length, ap, sym, subst, ◌∙◌, arith, suc, is_some, IfOk}
 use Rattle.std.specs.Option.{option_copied}
 use Rattle.commands.specs.declared.replies.Refusal.TheVariants.{Limit}
-use Rattle.ledger.specs.Answer.{asker, answer, answer_within, limited, most_events}
-use Rattle.ledger.specs.Replies.{Answer, refused}
+use Rattle.ledger.specs.Answer.{asker, answer_within, limited, most_events}
+use Rattle.ledger.specs.Replies.{Answer}
 use Rattle.ledger.proofs.Answers.{IsAllowedEvent, answer-allowed}
-use Rattle.ledger_transitions.specs.Answers.{moves}
+use Rattle.saga_core.specs.Rulings.{Fits}
 use Rattle.memory_book.specs.Memory.{IsReady, IsCarriedOut}
-use Rattle.memory_book.proofs.GrowthLemmas.{limited-room, limited-full, carried_out-refused, room_left, no_room}
+use Rattle.memory_book.proofs.GrowthLemmas.{limited-room, limited-full, carried_out-refused, room_left}
 use Rattle.memory_book.proofs.ReadyLemmas.{a_journey}
 use Rattle.memory_book.proofs.mem_book.MemBook.carry_out.Goals as goal
 
@@ -14,33 +14,23 @@ use Rattle.memory_book.proofs.mem_book.MemBook.carry_out.Goals as goal
 pub returns-in-Err-clause-answer : goal.returns-in-Err-clause-answer
 returns-in-Err-clause-answer c s here asked good move =
     let m = c.args.self.now in
-    let who = asker (option_copied c.args.ask) in
+    let said = answer_within s.ledger (asker (option_copied c.args.ask)) asked in
     let k = a_journey m.journeys.items c.args.place c.requires.within in
-    let told : answer_within s.ledger who asked ≡ refused c.in-Err.refusal =
-    subst (λ n. MatchResult n
-    (λ x. answer_within s.ledger who asked ≡ moves (suc c.args.place) k.0.plan k.0.cursor x)
-    (λ why. answer_within s.ledger who asked ≡ refused why)) c.in-Err.is (move k.0 k.1) in
-    carried_out-refused m s (option_copied c.args.ask) (answer s.ledger who asked) c.in-Err.refusal here
-    (ap (limited s.ledger) told) _ refl
+    carried_out-refused m s (option_copied c.args.ask) (limited s.ledger said) c.in-Err.refusal here
+    (ap (limited s.ledger)
+    (subst (Fits (suc c.args.place) k.0.plan k.0.cursor said) c.in-Err.is (move k.0 k.1))) _ refl
 
 -- the ledger is full
 pub returns-then-is_full-clause-answer : goal.returns-then-is_full-clause-answer
 returns-then-is_full-clause-answer c s here asked good move =
     let m = c.args.self.now in
-    let who = asker (option_copied c.args.ask) in
+    let said = answer_within s.ledger (asker (option_copied c.args.ask)) asked in
     let k = a_journey m.journeys.items c.args.place c.requires.within in
-    let told : answer_within s.ledger who asked
-    ≡ moves (suc c.args.place) k.0.plan k.0.cursor c.in-Ok.item =
-    subst (λ n. MatchResult n
-    (λ x. answer_within s.ledger who asked ≡ moves (suc c.args.place) k.0.plan k.0.cursor x)
-    (λ why. answer_within s.ledger who asked ≡ refused why)) c.in-Ok.is (move k.0 k.1) in
-    let most : most_events ≤ m.events =
-    no_room c.is_full.result _ m.events c.is_full.ensures.full c.if-is_full.true in
-    let full : most_events ≤ length s.ledger = omega (arith, here.events) in
-    carried_out-refused m s (option_copied c.args.ask) (answer s.ledger who asked) Limit here
-    (limited-full s.ledger (answer_within s.ledger who asked)
-    (ap (λ (a : Answer). is_some a.event) told) full)
-    _ refl
+    let told = subst (Fits (suc c.args.place) k.0.plan k.0.cursor said) c.in-Ok.is (move k.0 k.1) in
+    let most : most_events ≤ m.events = c.is_full.ensures.full.0 c.if-is_full.true in
+    carried_out-refused m s (option_copied c.args.ask) (limited s.ledger said) Limit here
+    (limited-full s.ledger said (ap (λ (a : Answer). is_some a.event) told)
+    (omega (arith, here.events))) _ refl
 
 -- the journey may make the item
 pub make-requires-clause-next : goal.make-requires-clause-next
@@ -52,20 +42,14 @@ pub returns-else-is_full-clause-answer : goal.returns-else-is_full-clause-answer
 returns-else-is_full-clause-answer c s here asked good move =
     let m = c.args.self.now in
     let ask = option_copied c.args.ask in
-    let who = asker (option_copied c.args.ask) in
+    let said = answer_within s.ledger (asker ask) asked in
     let k = a_journey m.journeys.items c.args.place c.requires.within in
-    let moved : answer_within s.ledger who asked
-    ≡ moves (suc c.args.place) k.0.plan k.0.cursor c.in-Ok.item =
-    subst (λ n. MatchResult n
-    (λ x. answer_within s.ledger who asked ≡ moves (suc c.args.place) k.0.plan k.0.cursor x)
-    (λ why. answer_within s.ledger who asked ≡ refused why)) c.in-Ok.is (move k.0 k.1) in
     let left : m.events < most_events =
     room_left c.is_full.result _ m.events c.is_full.ensures.full c.if-is_full.false in
     let room : length s.ledger < most_events = omega (arith, here.events) in
-    let told : answer s.ledger who asked
-    ≡ moves (suc c.args.place) k.0.plan k.0.cursor c.in-Ok.item =
-    limited-room s.ledger (answer_within s.ledger who asked) room ∙ moved in
+    let told = limited-room s.ledger said room
+    ∙ subst (Fits (suc c.args.place) k.0.plan k.0.cursor said) c.in-Ok.is (move k.0 k.1) in
     let may = subst (λ (a : Answer). IsAllowedEvent s.ledger a.event) told
-    (answer-allowed s.ledger who asked good) in
+    (answer-allowed s.ledger (asker ask) asked good) in
     subst (λ (a : Answer). IfOk c.make.result (IsCarriedOut c.make.new.self s ask a)) (sym told)
     (c.make.ensures.answer s here k.0 k.1 may)

@@ -1,6 +1,7 @@
-use Rattle.std.proofs.Common.{ap, sym, ◌∙◌, find}
+use Rattle.std.proofs.Common.{Some, None, ap, ◌∙◌, find}
 use Rattle.std.specs.Option.{option_copied}
-use Rattle.memory_book.proofs.LoadLemmas.{has_name, known-none, known-some, carried_out-known}
+use Rattle.ledger.specs.Ledger.{batches_named}
+use Rattle.memory_book.proofs.LoadLemmas.{has_name, named-kept, none_first, carried_out-known}
 use Rattle.memory_book.proofs.mem_book.MemBook.load.Goals as goal
 
 -- the name is known
@@ -8,16 +9,17 @@ pub returns-in-Some-clause-answer : goal.returns-in-Some-clause-answer
 returns-in-Some-clause-answer c s here =
     let m = c.args.self.now in
     let batch = c.args.batch.now in
-    let found = known-some m s here batch.name c.in-Some.known.now
-    (sym (c.in-Some.ensures.first ∙ ap (λ n. find (has_name n) m.batches.items) c.name.ensures.name)) in
-    carried_out-known m s (option_copied c.args.ask) batch.name batch.rows
-    c.in-Some.known.now.rows found.0 c.loaded_again.result here found.1 c.loaded_again.ensures.again
+    carried_out-known m s (option_copied c.args.ask) batch.name batch.rows c.in-Some.known.now.rows
+    c.loaded_again.result here
+    (named-kept m s here batch.name (Some c.in-Some.known.now)
+    (c.in-Some.ensures.first ∙ ap (λ n. find (has_name n) m.batches.items) c.name.ensures.name))
+    c.loaded_again.ensures.again
 
 -- the name is new
 pub returns-in-None-clause-answer : goal.returns-in-None-clause-answer
 returns-in-None-clause-answer c s here =
     let m = c.args.self.now in
+    let name = c.args.batch.now.name in
     c.load_new.ensures.answer s here
-    (known-none m s here c.args.batch.now.name
-    (sym (c.in-None.ensures.first
-    ∙ ap (λ n. find (has_name n) m.batches.items) c.name.ensures.name)))
+    (none_first (batches_named s.ledger name) (named-kept m s here name None
+    (c.in-None.ensures.first ∙ ap (λ n. find (has_name n) m.batches.items) c.name.ensures.name)))

@@ -1,19 +1,24 @@
-use Rattle.std.proofs.Common.{◌≡◌, ◌+◌, ◌<◌, ◌++◌, ◌∷◌, [], true, refl, ap, sym, subst, ◌∙◌, not}
+use Rattle.std.proofs.Common.{◌≡◌, ◌+◌, ◌<◌, ◌≤◌, ◌++◌, ◌∷◌, [], true, None, refl, ap, sym, subst, ◌∙◌, arith, not}
 use Rattle.std.specs.List.{list_all}
 use Rattle.std.specs.Option.{option_copied}
+use Rattle.commands.specs.declared.replies.Refusal.TheVariants.{Limit}
 use Rattle.ledger.specs.Answer.{kept_after, most_events}
+use Rattle.ledger.specs.Replies.{answer_new}
 use Rattle.memory_book.specs.MemoryAnswers.{kept_in}
 use Rattle.memory_book.specs.MemoryStock.{is_below_in, LoadsRows}
-use Rattle.memory_book.proofs.GrowthLemmas.{keeps_book, room_left, no_room, stands-same}
-use Rattle.memory_book.proofs.LoadLemmas.{carried_out-loaded, carried_out-no_room}
+use Rattle.memory_book.proofs.GrowthLemmas.{carried_out-refused, keeps_book, limited-full, room_left}
+use Rattle.memory_book.proofs.LoadLemmas.{carried_out-loaded}
 use Rattle.memory_book.proofs.mem_book.MemBook.load_fitting.Goals as goal
 
 -- the ledger is full
 pub returns-then-is_full-clause-answer : goal.returns-then-is_full-clause-answer
-returns-then-is_full-clause-answer c s here a d =
+returns-then-is_full-clause-answer c s here due =
     let m = c.args.self.now in
-    carried_out-no_room m s (option_copied c.args.ask) c.args.batch.now.name c.args.batch.now.rows a _
-    here (no_room c.is_full.result _ m.events c.is_full.ensures.full c.if-is_full.true) d refl
+    let batch = c.args.batch.now in
+    let most : most_events ≤ m.events = c.is_full.ensures.full.0 c.if-is_full.true in
+    carried_out-refused m s (option_copied c.args.ask) _ Limit here
+    (due ∙ limited-full s.ledger (answer_new batch.name batch.rows None) refl
+    (omega (arith, here.events))) _ refl
 
 -- no row is below what is held
 pub loaded-requires : goal.loaded-requires
@@ -28,12 +33,11 @@ pub returns-in_err-keep-clause-memory : goal.returns-in_err-keep-clause-memory
 returns-in_err-keep-clause-memory c =
     let m = c.args.self.now in
     keeps_book m (record m { batches = c.reserve.new.self; answers = c.keep.new.self }) _
-    (stands-same m (record m { batches = c.reserve.new.self; answers = c.keep.new.self })
-    refl refl c.reserve.ensures.items c.in_err-keep.ensures.memory refl)
+    refl (λ l each. each) refl c.reserve.ensures.items c.in_err-keep.ensures.memory refl
 
 -- the batch was loaded
 pub returns-clause-answer : goal.returns-clause-answer
-returns-clause-answer c s here a d =
+returns-clause-answer c s here due =
     let m = c.args.self.now in
     let batch = c.args.batch.now in
     let ask = option_copied c.args.ask in
@@ -46,18 +50,17 @@ returns-clause-answer c s here a d =
       answers = c.keep.new.self;
       events = m.events + 1;
     })
-    s ask batch a _ here room d
+    s ask batch _ here room c.rows.ensures.limits due
     (record {
       journeys = refl;
       stock =
           subst (LoadsRows m.stock c.in_ok-stock.stock) c.rows.ensures.rows c.in_ok-stock.ensures.loaded;
-      batches =
-          c.push_reserved.ensures.items
-          ∙ ap (λ bs. bs ++ c.in_ok-copy.copy ∷ []) c.reserve.ensures.items
-          ∙ ap (λ b. m.batches.items ++ b ∷ []) c.in_ok-copy.ensures.same;
-      kept = λ agent key.
-          c.in_ok-keep.ensures.kept agent key
-          ∙ ap (λ r. kept_after (kept_in m.answers) ask r agent key) c.loaded-2.ensures.loaded;
-      events = refl;
+      parts = record {
+        batches = c.push_reserved.ensures.items
+            ∙ (λ i. c.reserve.ensures.items i ++ c.in_ok-copy.ensures.same i ∷ []);
+        kept = λ agent key. c.in_ok-keep.ensures.kept agent key
+            ∙ ap (λ r. kept_after (kept_in m.answers) ask r agent key) c.loaded-2.ensures.loaded;
+        events = refl;
+      };
     })
     c.loaded-3.ensures.loaded

@@ -1,20 +1,15 @@
-use Rattle.std.proofs.Common.{◌≡◌, ◌+◌, suc, refl, ap, sym, subst, ◌∙◌, Some, IsTrue}
+use Rattle.std.proofs.Common.{◌+◌, suc, refl, ap, sym, subst, ◌∙◌, append-nil}
 use Rattle.std.specs.Option.{option_copied}
 use Rattle.std.specs.Vec.{with_item}
-use Rattle.std.proofs.lemmas.Option.{slice_get-get_or}
-use Rattle.commands.specs.declared.items.Cursor.{Cursor}
-use Rattle.commands.specs.declared.replies.Reply.TheVariants as reply
+use Rattle.std.proofs.lemmas.Option.{slice_get_read}
 use Rattle.ledger.specs.Answer.{kept_after}
-use Rattle.ledger.specs.Ledger as l
-use Rattle.ledger_transitions.specs.JourneyChanges.{cursor_after}
+use Rattle.ledger_transitions.specs.Answers.{moves}
 use Rattle.memory_book.specs.MemoryAnswers.{kept_in}
-use Rattle.memory_book.specs.MemoryJourneys.{IsNext}
-use Rattle.memory_book.specs.MemoryStock.{IsInPlan, fits_where_taken, ChangesFor}
-use Rattle.memory_book.specs.Memory.{IsSameJourney}
+use Rattle.memory_book.specs.Memory.{IsCarriedOut}
 use Rattle.memory_book.specs.declared.journeys.Journey.{Journey}
-use Rattle.memory_book.proofs.GrowthLemmas.{keeps_book}
-use Rattle.memory_book.proofs.MoveLemmas.{carried_out-made}
-use Rattle.memory_book.proofs.ReadyLemmas.{in_plan, makes-after, next_within, same_item, stands-reserved}
+use Rattle.memory_book.proofs.MoveLemmas.{carried_out-made, moved}
+use Rattle.memory_book.proofs.ReadyLemmas.{in_plan, keeps-reserved, next_within, ready-same, same_by}
+use Rattle.memory_book.proofs.StepLemmas.{same_item}
 use Rattle.memory_book.proofs.mem_book.MemBook.make.Goals as goal
 
 -- the item is next for the journey at this place
@@ -22,133 +17,96 @@ pub cursor_after-cursor-requires-clause-within : goal.cursor_after-cursor-requir
 cursor_after-cursor-requires-clause-within c =
     let old = c.index_mut-journey.result.now in
     next_within old.plan old.cursor old.taken.items c.args.item old.placed
-    (c.requires.next old (slice_get-get_or c.args.self.now.journeys.items c.args.place old
-    c.requires.within ∙ ap Some (sym c.index_mut-journey.ensures.value))).next
+    (c.requires.next old (slice_get_read c.args.self.now.journeys.items _ c.args.place old refl
+    c.requires.within c.index_mut-journey.ensures.value)).next
 
 -- no capacity was reserved, and nothing changed
 pub returns-in_err-reserve-clause-memory : goal.returns-in_err-reserve-clause-memory
 returns-in_err-reserve-clause-memory c =
     let m = c.args.self.now in
-    let old = c.index_mut-journey.result.now in
-    let n = record m { journeys = with_item m.journeys c.args.place c.reserve.new.self } in
+    let kept = c.reserve.new.self in
     let same = c.reserve.ensures.same in
-    let kept : IsSameJourney old c.reserve.new.self = record {
-      begun = same.begun;
-      items = same.items;
-      cursor = same.cursor;
-      marks = same.marks;
-      taken = same.taken;
-    } in
-    keeps_book m n _
-    (stands-reserved m n c.args.place old c.reserve.new.self
-    (slice_get-get_or m.journeys.items c.args.place old c.requires.within
-    ∙ ap Some (sym c.index_mut-journey.ensures.value))
-    refl kept refl refl (λ agent key. refl) refl)
+    keeps-reserved m (record m { journeys = with_item m.journeys c.args.place kept }) _
+    c.args.place c.index_mut-journey.result.now kept c.requires.within
+    c.index_mut-journey.ensures.value refl
+    (same_by _ kept same.begun same.items same.cursor same.marks same.taken)
+    refl refl (λ agent key. refl) refl
 
 -- capacity was reserved, and nothing else changed
 pub returns-in_err-keep-clause-memory : goal.returns-in_err-keep-clause-memory
 returns-in_err-keep-clause-memory c =
     let m = c.args.self.now in
-    let old = c.index_mut-journey.result.now in
-    let n = record m {
-      journeys = with_item m.journeys c.args.place c.reserve.new.self;
-      answers = c.keep.new.self;
-    } in
+    let kept = c.reserve.new.self in
     let same = c.reserve.ensures.same in
-    let kept : IsSameJourney old c.reserve.new.self = record {
-      begun = same.begun;
-      items = same.items;
-      cursor = same.cursor;
-      marks = same.marks;
-      taken = same.taken;
-    } in
-    keeps_book m n _
-    (stands-reserved m n c.args.place old c.reserve.new.self
-    (slice_get-get_or m.journeys.items c.args.place old c.requires.within
-    ∙ ap Some (sym c.index_mut-journey.ensures.value))
-    refl kept refl refl c.in_err-keep.ensures.memory refl)
+    let journeys = with_item m.journeys c.args.place kept in
+    keeps-reserved m (record m { journeys = journeys; answers = c.keep.new.self }) _
+    c.args.place c.index_mut-journey.result.now kept c.requires.within
+    c.index_mut-journey.ensures.value refl
+    (same_by _ kept same.begun same.items same.cursor same.marks same.taken)
+    refl refl c.in_err-keep.ensures.memory refl
 
 -- the next item is in the plan
 pub change_stock-requires-clause-in_plan : goal.change_stock-requires-clause-in_plan
 change_stock-requires-clause-in_plan c =
-    let old = c.index_mut-journey.result.now in
-    let at = slice_get-get_or c.args.self.now.journeys.items c.args.place old c.requires.within
-    ∙ ap Some (sym c.index_mut-journey.ensures.value) in
-    subst (λ (b : l.Journey). IsInPlan b.plan c.args.item) (sym c.reserve.ensures.same.begun)
-    (in_plan old.plan old.cursor old.taken.items c.args.item old.placed (c.requires.next old at).next)
+    let kept = c.reserve.new.self in
+    let same = c.reserve.ensures.same in
+    in_plan kept.plan kept.cursor kept.taken.items c.args.item kept.placed
+    (ready-same c.args.self.now c.args.place c.index_mut-journey.result.now kept c.args.item
+    c.requires.within c.index_mut-journey.ensures.value same.begun same.cursor c.requires.next).next
 
 -- what the item takes fits
 pub change_stock-requires-clause-fits : goal.change_stock-requires-clause-fits
 change_stock-requires-clause-fits c =
-    let m = c.args.self.now in
-    let old = c.index_mut-journey.result.now in
-    let at = slice_get-get_or m.journeys.items c.args.place old c.requires.within
-    ∙ ap Some (sym c.index_mut-journey.ensures.value) in
-    subst (λ (b : l.Journey). IsTrue (fits_where_taken m.stock b.plan c.args.item))
-    (sym c.reserve.ensures.same.begun) (c.requires.next old at).fits
+    let same = c.reserve.ensures.same in
+    (ready-same c.args.self.now c.args.place c.index_mut-journey.result.now c.reserve.new.self
+    c.args.item c.requires.within c.index_mut-journey.ensures.value same.begun same.cursor
+    c.requires.next).fits
 
 -- the item is still next
 pub make-requires-clause-next : goal.make-requires-clause-next
 make-requires-clause-next c =
-    let old = c.index_mut-journey.result.now in
-    let kept = c.reserve.new.self in
-    let at = slice_get-get_or c.args.self.now.journeys.items c.args.place old c.requires.within
-    ∙ ap Some (sym c.index_mut-journey.ensures.value) in
-    subst (λ (b : l.Journey). IsNext b.plan kept.cursor c.args.item) (sym c.reserve.ensures.same.begun)
-    (subst (λ k. IsNext old.plan k c.args.item) (sym c.reserve.ensures.same.cursor)
-    (c.requires.next old at).next)
+    let same = c.reserve.ensures.same in
+    (ready-same c.args.self.now c.args.place c.index_mut-journey.result.now c.reserve.new.self
+    c.args.item c.requires.within c.index_mut-journey.ensures.value same.begun same.cursor
+    c.requires.next).next
 
 -- the item was made
 pub returns-clause-answer : goal.returns-clause-answer
-returns-clause-answer c s here k at may =
+returns-clause-answer c s here k there may =
     let m = c.args.self.now in
     let place = c.args.place in
     let x = c.args.item in
     let ask = option_copied c.args.ask in
     let old = c.index_mut-journey.result.now in
-    let kept = c.reserve.new.self in
-    let final = c.make.new.self in
-    let is = same_item m.journeys.items place old k c.requires.within
-    c.index_mut-journey.ensures.value at in
-    let as_was = c.reserve.ensures.same in
-    let from_old : IsSameJourney old kept = record {
-      begun = as_was.begun;
-      items = as_was.items;
-      cursor = as_was.cursor;
-      marks = as_was.marks;
-      taken = as_was.taken;
-    } in
-    let same : IsSameJourney k kept = subst (λ (o : Journey). IsSameJourney o kept) is from_old in
+    let read = c.index_mut-journey.ensures.value in
+    let same = c.reserve.ensures.same in
     let n = record m {
-      journeys = with_item m.journeys place final;
+      journeys = with_item m.journeys place c.make.new.self;
       stock = c.change_stock.new.stock;
       answers = c.keep.new.self;
       events = m.events + 1;
     } in
-    let cursor : c.cursor_after-cursor.result ≡ cursor_after k.plan k.cursor x =
-    c.cursor_after-cursor.ensures.after ∙ ap (λ (o : Journey). cursor_after o.plan o.cursor x) is in
-    carried_out-made m n s ask place k final x c.moved-2.result here may
+    subst (λ (o : Journey). IsCarriedOut n s ask (moves (suc place) o.plan o.cursor x) c.moved-2.result)
+    (same_item m.journeys.items place old k c.requires.within read there)
+    (carried_out-made m n s ask place old c.reserve.new.self c.make.new.self x c.moved-2.result here may
     (record {
-      at = at;
+      at = slice_get_read m.journeys.items _ place old refl c.requires.within read;
       written = refl;
-      made =
-          makes-after k kept final x same
-          (record {
-            begun = c.make.ensures.begun;
-            items = c.make.ensures.items;
-            cursor = c.make.ensures.cursor;
-            taken = c.make.ensures.taken;
-            marks = c.make.ensures.marks;
-          });
-      stock =
-          subst (λ (b : l.Journey). ChangesFor b.plan x m.stock c.change_stock.new.stock) same.begun
-          c.change_stock.ensures.changed;
-      batches = refl;
-      kept = λ agent key.
-          c.in_ok-keep.ensures.kept agent key
-          ∙ ap (λ r. kept_after (kept_in m.answers) ask r agent key)
-          (c.moved.ensures.moved
-          ∙ ap (λ (a : Cursor). reply.Moved (suc place) x a.pos a.phase) cursor);
-      events = refl;
+      same = same_by old c.reserve.new.self same.begun same.items same.cursor same.marks same.taken;
+      made = record {
+        begun = c.make.ensures.begun;
+        items = c.make.ensures.items;
+        cursor = c.make.ensures.cursor;
+        taken = c.make.ensures.taken;
+        marks = c.make.ensures.marks;
+      };
+      stock = c.change_stock.ensures.changed;
+      parts = record {
+        batches = sym (append-nil m.batches.items);
+        kept = λ agent key. c.in_ok-keep.ensures.kept agent key
+            ∙ ap (λ r. kept_after (kept_in m.answers) ask r agent key)
+            (c.moved.ensures.moved ∙ ap (moved place x) c.cursor_after-cursor.ensures.after);
+        events = refl;
+      };
     })
-    (c.moved-2.ensures.moved ∙ ap (λ (a : Cursor). reply.Moved (suc place) x a.pos a.phase) cursor)
+    (c.moved-2.ensures.moved ∙ ap (moved place x) c.cursor_after-cursor.ensures.after))

@@ -1,5 +1,5 @@
-use Rattle.std.proofs.Common.{ap, sym, ◌∙◌, Some}
-use Rattle.std.proofs.lemmas.Option.{slice_get-get_or}
+use Rattle.std.proofs.Common.{refl, sym, ◌∙◌}
+use Rattle.std.proofs.lemmas.Option.{slice_get_read}
 use Rattle.memory_book.proofs.StandLemmas.{history-past, history-kept}
 use Rattle.memory_book.proofs.mem_book.MemBookBook.history.Goals as goal
 
@@ -13,7 +13,7 @@ returns-in-None-clause-items c _ s here =
 pub returns-in-Ok-clause-items : goal.returns-in-Ok-clause-items
 returns-in-Ok-clause-items c _ s here =
     let m = c.args.self.now in
-    let at = slice_get-get_or m.journeys.items c.in-Some.place c.index.result.now
-    c.in-Some.ensures.within ∙ ap Some (sym c.index.ensures) in
+    let at = slice_get_read m.journeys.items _ c.in-Some.place c.index.result.now refl
+    c.in-Some.ensures.within c.index.ensures in
     c.in-Ok.ensures.items ∙ c.deref.ensures.value
     ∙ history-kept m s here c.args.id c.in-Some.place c.index.result.now at c.in-Some.ensures.number

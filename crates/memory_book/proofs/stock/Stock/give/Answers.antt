@@ -1,7 +1,7 @@
-use Rattle.std.proofs.Common.{◌≡◌, true, ◌∷◌, ap, sym, ◌∙◌}
+use Rattle.std.proofs.Common.{◌≡◌, ◌∷◌, ap, sym, ◌∙◌}
 use Rattle.allotment.specs.Cells.{cells_of}
 use Rattle.memory_book.specs.MemoryStock.{stock_at, with_back}
-use Rattle.memory_book.proofs.CellLemmas.{are_apart, apart-rest, changed, changed-step, cells_of-apart, none_back}
+use Rattle.memory_book.proofs.CellLemmas.{are_apart, apart-parts, changed, changed-step, cells_of-apart, none_back}
 use Rattle.memory_book.proofs.stock.Stock.give.Goals as goal
 
 -- all cells of the want are left, and they are distinct
@@ -23,12 +23,11 @@ loop-cell-preserved c =
     let rest = c.next.new.self in
     let old = c.loop-cell.self in
     let is : c.loop-cell.cell-iterator ≡ cell ∷ rest = c.in-Some.ensures.steps in
-    let apart : are_apart (cell ∷ rest) ≡ true =
-    ap are_apart (sym is) ∙ c.loop-cell.invariant.apart in
+    let apart = apart-parts cell rest (ap are_apart (sym is) ∙ c.loop-cell.invariant.apart) in
     record {
-      apart = apart-rest cell rest apart;
+      apart = apart.1;
       changes = λ x.
-          changed-step with_back none_back n cell rest (stock_at old) (stock_at c.give_one.new.self) apart
+          changed-step with_back none_back n cell rest (stock_at old) (stock_at c.give_one.new.self) apart.0
           c.give_one.ensures.given x
           ∙ ap (λ cells. changed with_back n cells (stock_at old) x) (sym is)
           ∙ c.loop-cell.invariant.changes x;

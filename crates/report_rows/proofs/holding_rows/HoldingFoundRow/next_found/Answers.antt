@@ -6,7 +6,7 @@ use Rattle.desk_sql.specs.RemainingRows.{Hands}
 use Rattle.sql_lists.specs.HoldingLists.{HoldingsRest, holding_found}
 use Rattle.sql_model.proofs.Staying.{of_error}
 use Rattle.report_rows.specs.HoldingsLeft.{holding_short, holding_told}
-use Rattle.report_rows.proofs.HandedHoldings.{holding_good, holding_same, holdings_text}
+use Rattle.report_rows.proofs.HoldingValues.{holding_good, holding_same, holdings_text}
 use Rattle.report_rows.proofs.HandedRows.{first_in_form, none_in_form}
 use Rattle.report_rows.proofs.holding_rows.HoldingFoundRow.next_found.Goals as goal
 

@@ -1,24 +1,19 @@
 -- A read leaves a book as a look does, which may then act as before, or has failed for a reason.
-use Rattle.std.proofs.Common.{◌≡◌, ◌∙◌, true, false, rules, subst, sym, Err}
+use Rattle.std.proofs.Common.{◌≡◌, ◌∙◌, true, false, refl, rules, subst, sym, Ok, Err}
 use Rattle.commands.specs.declared.replies.Fault.TheVariants.{Memory, Store}
+use Rattle.desk_sql.proofs.Quieting.{quiet_alone}
 use Rattle.sql_model.specs.Staying.{sees_alone}
-use Rattle.sql_model.proofs.Quieting.{quiet_clean, quiet_leaves, quiet_sees, quiet_up}
+use Rattle.sql_model.proofs.Quieting.{quiet_clean, quiet_sees, quiet_up}
+use Rattle.tables.specs.Acting.{HasReasonSince}
 use Rattle.tables.specs.BookTerms.{KeepsKnowing}
-use Rattle.tables.proofs.SinceLemmas.{failed_since, had_failed, may_still}
+use Rattle.tables.proofs.SinceLemmas.{failed_since, had_failed, read_failed, read_on}
 use Rattle.tables.proofs.books.TableBook.read.Goals as goal
 
 -- the store had failed
 pub returns-then-self-clause-reads : goal.returns-then-self-clause-reads
 returns-then-self-clause-reads g c = record {
-  book = record {
-    same = λ clean. tt;
-    stop = λ clean s t left. left;
-    fails = search rules;
-    stays_failed = λ failed. failed;
-    stays_left = λ failed s t left. left;
-    may_act = λ clean first s asks since. had_failed g.S.Store c.args.self.now first s s asks c.if-self.true since;
-    sound = λ clean. clean;
-  };
+  book = read_failed g.S.Store (HasReasonSince g.S.Store) _ _ (quiet_alone g.S.Store _) c.if-self.true
+      (λ clean first s asks since. had_failed g.S.Store c.args.self.now first s s asks c.if-self.true since);
   sound = λ clean. clean;
   store = λ clean s here spelled up failed. absurd (let both : true ≡ false = sym c.if-self.true ∙ here.working in cc);
   sees = sees_alone g.S.Store c.args.self.now.conn;
@@ -29,17 +24,8 @@ pub returns-in-Ok-clause-reads : goal.returns-in-Ok-clause-reads
 returns-in-Ok-clause-reads g c =
     let look = c.look.ensures.looks in
     record {
-      book = record {
-        same = c.in-Ok.ensures.looks.same;
-        stop = λ clean s t left after db may. left (quiet_clean g.S.Store _ _ look.quiet after) db (quiet_leaves g.S.Store _ _ look.quiet after db may);
-        fails = search rules;
-        stays_failed = search rules;
-        stays_left = λ failed s t left after db may. left (quiet_clean g.S.Store _ _ look.quiet after) db (quiet_leaves g.S.Store _ _ look.quiet after db may);
-        may_act = λ clean first s asks since.
-            may_still g.S.Store c.args.self.now _ (quiet_up g.S.Store _ _ look.quiet) clean first s asks since (quiet_sees g.S.Store _ _ look.quiet) (quiet_clean g.S.Store _ _ look.quiet)
-            (λ here. c.in-Ok.ensures.looks.same clean s here);
-        sound = quiet_clean g.S.Store _ _ look.quiet;
-      };
+      book = read_on g.S.Store (HasReasonSince g.S.Store) _ _ look.quiet (Ok c.in-Ok.shown) tt c.if-self.false (look.failed ∙ c.if-self.false)
+          c.in-Ok.ensures.looks.same;
       sound = quiet_clean g.S.Store _ _ look.quiet;
       store = search rules;
       sees = quiet_sees g.S.Store _ _ look.quiet;
@@ -50,18 +36,9 @@ pub returns-in-Err-Memory-clause-reads : goal.returns-in-Err-Memory-clause-reads
 returns-in-Err-Memory-clause-reads g c =
     let look = c.look.ensures.looks in
     let ran_out : c.look.result ≡ Err Memory = search rules in
-    let kept = subst (λ r. KeepsKnowing g.S.Store c.args.self.now c.look.new.book r) ran_out look.same in
     record {
-      book = record {
-        same = λ clean s here. kept clean s here;
-        stop = λ clean s t left after db may. left (quiet_clean g.S.Store _ _ look.quiet after) db (quiet_leaves g.S.Store _ _ look.quiet after db may);
-        fails = search rules;
-        stays_failed = search rules;
-        stays_left = λ failed s t left after db may. left (quiet_clean g.S.Store _ _ look.quiet after) db (quiet_leaves g.S.Store _ _ look.quiet after db may);
-        may_act = λ clean first s asks since.
-            may_still g.S.Store c.args.self.now _ (quiet_up g.S.Store _ _ look.quiet) clean first s asks since (quiet_sees g.S.Store _ _ look.quiet) (quiet_clean g.S.Store _ _ look.quiet) (λ here. kept clean s here);
-        sound = quiet_clean g.S.Store _ _ look.quiet;
-      };
+      book = read_on g.S.Store (HasReasonSince g.S.Store) _ _ look.quiet (Err Memory) refl c.if-self.false (look.failed ∙ c.if-self.false)
+          (subst (λ r. KeepsKnowing g.S.Store c.args.self.now c.look.new.book r) ran_out look.same);
       sound = quiet_clean g.S.Store _ _ look.quiet;
       store = search rules;
       sees = quiet_sees g.S.Store _ _ look.quiet;
@@ -73,17 +50,9 @@ returns-in-Err-Store-clause-reads g c =
     let look = c.look.ensures.looks in
     let failed : c.look.result ≡ Err Store = search rules in
     record {
-      book = record {
-        same = λ clean. tt;
-        stop = λ clean s t left after db may. left (quiet_clean g.S.Store _ _ look.quiet after) db (quiet_leaves g.S.Store _ _ look.quiet after db may);
-        fails = search rules;
-        stays_failed = search rules;
-        stays_left = λ failed s t left after db may. left (quiet_clean g.S.Store _ _ look.quiet after) db (quiet_leaves g.S.Store _ _ look.quiet after db may);
-        may_act = λ clean first s asks since.
-            failed_since g.S.Store first c.args.self.now c.look.new.book.conn (quiet_up g.S.Store _ _ look.quiet) s asks since
-            (λ here spelled up. look.store clean s here spelled up failed);
-        sound = quiet_clean g.S.Store _ _ look.quiet;
-      };
+      book = read_failed g.S.Store (HasReasonSince g.S.Store) _ _ look.quiet refl (λ clean first s asks since.
+          failed_since g.S.Store first c.args.self.now c.look.new.book.conn (quiet_up g.S.Store _ _ look.quiet) s asks since
+          (λ here spelled up. look.store clean s here spelled up failed));
       sound = quiet_clean g.S.Store _ _ look.quiet;
       store = λ clean s here spelled up store. look.store clean s here spelled up failed;
       sees = quiet_sees g.S.Store _ _ look.quiet;

@@ -1,0 +1,4 @@
+pub mod WriteLemmas
+pub mod StockLemmas
+pub mod WhyLemmas
+pub mod ShowLemmas

@@ -1,0 +1,307 @@
+-- The cells that are asked for, kind after kind, are those that are asked for; and their report in its parts. For `write_stock`
+-- and `write_kinds`.
+use Rattle.std.proofs.Common.{◌≡◌, ℕ, suc, ◌+◌, ◌<◌, ◌≤◌, ◌==◌, ◌&&◌, List, [], ◌∷◌, ◌++◌, filter, cond, length, Bool, true, false, Option, Ordering, Less, Equal, Greater, is_lt, nat_cmp, refl, sym, ap, ap₂, subst, ◌∙◌, arith, append_assoc, eqb-true, codes, nat_le, IsErr, Result, Ok, Err}
+use Rattle.std.specs.List.{AllByRecursion, flat_map}
+use Rattle.std.specs.Ordering.{ordering_then}
+use Rattle.std.specs.Io.KnownBytes.{Appends}
+use Rattle.std.proofs.lemmas.Bool.{and_parts}
+use Rattle.std.proofs.lemmas.Bool.Decides.{nat_tests}
+use Rattle.sqlite_rules.proofs.ListLemmas.{all_from, test_has}
+use Rattle.sqlite_trees.specs.Tree.{IsAscending}
+use Rattle.allotment.specs.Cells.{kind_number}
+use Rattle.allotment.specs.declared.cells.Cell.{Cell}
+use Rattle.allotment.specs.declared.codes.Kind.{Kind}
+use Rattle.allotment.specs.declared.codes.Kind.TheVariants.{Flight, Room, Transfer, Cover}
+use Rattle.allotment.specs.declared.places.Held.{Held as Places}
+use Rattle.filters.specs.CellFilters.{is_cell_asked, is_cell_of, is_kind_asked, is_name_asked, is_night_asked}
+use Rattle.filters.specs.declared.cells.CellFilter.{CellFilter}
+use Rattle.reports.specs.Formats.{last_line, stock_head, stock_in, stock_row}
+use Rattle.reports.specs.declared.formats.Format.{Format}
+use Rattle.reports.proofs.FrontLemmas.{front_after, front_before, front_whole}
+use Rattle.saga_core.specs.Views.{are_in_order, cell_cmp}
+use Rattle.streams.specs.Written.{WroteFront}
+use Rattle.streams.proofs.ByteLemmas.{appends_more}
+use Rattle.reports.specs.declared.faults.ReportFault.{ReportFault}
+use Rattle.report_rows.specs.declared.progress.Progress.{Progress}
+use Rattle.sqlite.specs.Store.{Ghosts}
+use Rattle.sqlite.specs.Held.{Held}
+use Rattle.report_kinds.specs.Texts.{asked_cells}
+use Rattle.report_writers.specs.Writing.{cells_of_kind, ShowsCells, WritesCells}
+use Rattle.report_writers.proofs.ShowLemmas.{shows_as, shows_then}
+
+-- Kinds.
+
+-- the cells of the list are in order of their kinds
+by_kind : (a b : ℕ) (rest : Ordering) → is_lt (ordering_then (nat_cmp a b) rest) ≡ true → a ≤ b
+by_kind a b rest e = go (nat_cmp a b) refl e
+  where
+    go : (o : Ordering) → nat_cmp a b ≡ o → is_lt (ordering_then o rest) ≡ true → a ≤ b
+    go Less f g = grind (arith, nat_tests, f)
+    go Equal f g = grind (arith, nat_tests, f)
+    go Greater f g = absurd (cc)
+
+abbrev key : Cell × Places → ℕ
+key r = kind_number r.0.kind
+
+kinds_rise : (rows : List (Cell × Places)) → are_in_order rows ≡ true → IsAscending (λ (a b : Cell × Places). key a ≤ key b) rows
+kinds_rise [] e = tt
+kinds_rise (r ∷ later) e =
+    let both = and_parts _ _ e in (
+      all_from (λ (s : Cell × Places). key r ≤ key s) later
+          (λ s h. by_kind (key r) (key s) _ (test_has (λ (s : Cell × Places). is_lt (cell_cmp r.0 s.0)) later s both.0 h)),
+      kinds_rise later both.1,
+    )
+
+-- tests that agree on each element keep the same
+filter_same : {X : Type 0} (p q : X → Bool) (xs : List X) → ((x : X) → p x ≡ q x) → filter p xs ≡ filter q xs
+filter_same p q [] same = refl
+filter_same p q (x ∷ xs) same = ap₂ (λ b more. cond b (x ∷ more) more) (same x) (filter_same p q xs same)
+
+and_false : (b : Bool) → (b && false) ≡ false
+and_false true = refl
+and_false false = refl
+
+and_true : (b : Bool) → (b && true) ≡ b
+and_true true = refl
+and_true false = refl
+
+module _ (p : Cell × Places → Bool) where
+  -- those of a kind's number, and those from it on
+  abbrev of_kind : ℕ → Cell × Places → Bool
+  of_kind n r = p r && (key r == n)
+
+  abbrev from : ℕ → Cell × Places → Bool
+  from n r = p r && nat_le n (key r)
+
+  none_of : (n : ℕ) (rows : List (Cell × Places)) → AllByRecursion (λ (r : Cell × Places). n < key r) rows → filter (of_kind n) rows ≡ []
+  none_of n [] all = refl
+  none_of n (r ∷ rows) all =
+      let above : n < key r = all.0 in
+      let no : of_kind n r ≡ false = ap (λ b. p r && b) (let e : (key r == n) ≡ false = grind (arith, nat_tests, above) in e) ∙ and_false (p r) in
+      ap (λ b. cond b (r ∷ filter (of_kind n) rows) (filter (of_kind n) rows)) no ∙ none_of n rows all.1
+
+  all_above : (n : ℕ) (r : Cell × Places) (rows : List (Cell × Places)) → n < key r
+      → AllByRecursion (λ (s : Cell × Places). key r ≤ key s) rows → AllByRecursion (λ (s : Cell × Places). n < key s) rows
+  all_above n r [] low all = tt
+  all_above n r (s ∷ rows) low all = (let up : key r ≤ key s = all.0 in omega (arith, low, up), all_above n r rows low all.1)
+
+  split : (n : ℕ) (rows : List (Cell × Places)) → IsAscending (λ (a b : Cell × Places). key a ≤ key b) rows
+      → filter (from n) rows ≡ filter (of_kind n) rows ++ filter (from (suc n)) rows
+  split n [] up = refl
+  split n (r ∷ rows) up = go (split n rows up.1) (nat_cmp (key r) n) refl
+    where
+      -- which tests the first one passes
+      shape : (a b c : Bool) → from n r ≡ a → of_kind n r ≡ b → from (suc n) r ≡ c
+          → cond a (r ∷ filter (from n) rows) (filter (from n) rows)
+          ≡ cond b (r ∷ filter (of_kind n) rows) (filter (of_kind n) rows) ++ cond c (r ∷ filter (from (suc n)) rows) (filter (from (suc n)) rows)
+          → filter (from n) (r ∷ rows) ≡ filter (of_kind n) (r ∷ rows) ++ filter (from (suc n)) (r ∷ rows)
+      shape a b c one two three same =
+          ap (λ t. cond t (r ∷ filter (from n) rows) (filter (from n) rows)) one ∙ same
+          ∙ sym (ap₂ ◌++◌ (ap (λ t. cond t (r ∷ filter (of_kind n) rows) (filter (of_kind n) rows)) two)
+          (ap (λ t. cond t (r ∷ filter (from (suc n)) rows) (filter (from (suc n)) rows)) three))
+
+      here : (b : Bool) → filter (from n) rows ≡ filter (of_kind n) rows ++ filter (from (suc n)) rows
+          → cond b (r ∷ filter (from n) rows) (filter (from n) rows)
+          ≡ cond b (r ∷ filter (of_kind n) rows) (filter (of_kind n) rows) ++ filter (from (suc n)) rows
+      here true rest = ap (λ more. r ∷ more) rest
+      here false rest = rest
+
+      later : filter (of_kind n) rows ≡ [] → (b : Bool) → filter (from n) rows ≡ filter (of_kind n) rows ++ filter (from (suc n)) rows
+          → cond b (r ∷ filter (from n) rows) (filter (from n) rows)
+          ≡ filter (of_kind n) rows ++ cond b (r ∷ filter (from (suc n)) rows) (filter (from (suc n)) rows)
+      later none true rest = ap (λ more. r ∷ more) (rest ∙ ap (λ f. f ++ filter (from (suc n)) rows) none)
+          ∙ sym (ap (λ f. f ++ (r ∷ filter (from (suc n)) rows)) none)
+      later none false rest = rest
+
+      go : filter (from n) rows ≡ filter (of_kind n) rows ++ filter (from (suc n)) rows → (o : Ordering) → nat_cmp (key r) n ≡ o
+          → filter (from n) (r ∷ rows) ≡ filter (of_kind n) (r ∷ rows) ++ filter (from (suc n)) (r ∷ rows)
+      go rest Less f =
+          let low : key r < n = grind (arith, nat_tests, f) in
+          shape false false false
+          (ap (λ b. p r && b) (let e : nat_le n (key r) ≡ false = grind (arith, nat_tests, low) in e) ∙ and_false (p r))
+          (ap (λ b. p r && b) (let e : (key r == n) ≡ false = grind (arith, nat_tests, low) in e) ∙ and_false (p r))
+          (ap (λ b. p r && b) (let e : nat_le (suc n) (key r) ≡ false = grind (arith, nat_tests, low) in e) ∙ and_false (p r))
+          rest
+      go rest Equal f =
+          let same : key r ≡ n = grind (arith, nat_tests, f) in
+          shape (p r) (p r) false
+          (ap (λ b. p r && b) (let e : nat_le n (key r) ≡ true = grind (arith, nat_tests, same) in e) ∙ and_true (p r))
+          (ap (λ b. p r && b) (let e : (key r == n) ≡ true = grind (arith, nat_tests, same) in e) ∙ and_true (p r))
+          (ap (λ b. p r && b) (let e : nat_le (suc n) (key r) ≡ false = grind (arith, nat_tests, same) in e) ∙ and_false (p r))
+          (here (p r) rest)
+      go rest Greater f =
+          let high : n < key r = grind (arith, nat_tests, f) in
+          shape (p r) false (p r)
+          (ap (λ b. p r && b) (let e : nat_le n (key r) ≡ true = grind (arith, nat_tests, high) in e) ∙ and_true (p r))
+          (ap (λ b. p r && b) (let e : (key r == n) ≡ false = grind (arith, nat_tests, high) in e) ∙ and_false (p r))
+          (ap (λ b. p r && b) (let e : nat_le (suc n) (key r) ≡ true = grind (arith, nat_tests, high) in e) ∙ and_true (p r))
+          (later (none_of n rows (all_above n r rows high up.0)) (p r) rest)
+
+  all_from_none : (r : Cell × Places) → p r ≡ from 0 r
+  all_from_none r = sym (ap (λ b. p r && b) (let e : nat_le 0 (key r) ≡ true = grind (arith, nat_tests) in e) ∙ and_true (p r))
+
+  none_from_four : (rows : List (Cell × Places)) → filter (from 4) rows ≡ []
+  none_from_four [] = refl
+  none_from_four (r ∷ rows) =
+      ap (λ b. cond b (r ∷ filter (from 4) rows) (filter (from 4) rows)) (ap (λ b. p r && b) (low r.0.kind) ∙ and_false (p r)) ∙ none_from_four rows
+    where
+      low : (kind : Kind) → nat_le 4 (kind_number kind) ≡ false
+      low Flight = refl
+      low Room = refl
+      low Transfer = refl
+      low Cover = refl
+
+-- the cells that are asked for are those of the four kinds, one after another
+pub by_kinds : (f : CellFilter) (rows : List (Cell × Places)) → are_in_order rows ≡ true
+    → asked_cells f rows
+    ≡ cells_of_kind Flight f rows ++ (cells_of_kind Room f rows ++ (cells_of_kind Transfer f rows ++ cells_of_kind Cover f rows))
+by_kinds f rows order =
+    let p : Cell × Places → Bool = λ r. is_cell_asked f r.0 in
+    let up = kinds_rise rows order in
+    filter_same p (from p 0) rows (all_from_none p)
+    ∙ split p 0 rows up
+    ∙ ap (λ more. filter (of_kind p 0) rows ++ more) (split p 1 rows up
+    ∙ ap (λ more. filter (of_kind p 1) rows ++ more) (split p 2 rows up
+    ∙ ap (λ more. filter (of_kind p 2) rows ++ more) (split p 3 rows up
+    ∙ ap (λ more. filter (of_kind p 3) rows ++ more) (none_from_four p rows) ∙ append_none _)))
+  where
+    append_none : {X : Type 0} (xs : List X) → xs ++ [] ≡ xs
+    append_none [] = refl
+    append_none (x ∷ xs) = ap (λ more. x ∷ more) (append_none xs)
+
+flat_append : {X : Type 0} (f : X → List ℕ) (xs ys : List X) → flat_map f (xs ++ ys) ≡ flat_map f xs ++ flat_map f ys
+flat_append f [] ys = refl
+flat_append f (x ∷ xs) ys = ap (λ more. f x ++ more) (flat_append f xs ys) ∙ sym (append_assoc (f x) (flat_map f xs) (flat_map f ys))
+
+length_append : {X : Type 0} (xs ys : List X) → length (xs ++ ys) ≡ length xs + length ys
+length_append [] ys = let e : length ys ≡ 0 + length ys = omega arith in e
+length_append (x ∷ xs) ys =
+    let rest = length_append xs ys in
+    let e : suc (length (xs ++ ys)) ≡ suc (length xs) + length ys = omega (arith, rest) in e
+
+-- The report in its parts: the head, the lines of its cells, the ending.
+
+module _ (format : Format) (cells : List (Cell × Places)) where
+  abbrev lines : List ℕ
+  lines = flat_map (stock_row format) cells
+
+  abbrev ending : List ℕ
+  ending = last_line format (codes "cells") (length cells)
+
+  pub head_front : (held now : Option (List ℕ)) → WroteFront held now (stock_head format) → WroteFront held now (stock_in format cells)
+  head_front held now front =
+      front_before held now (stock_head format ++ lines) ending (front_before held now (stock_head format) lines front)
+
+  module _ (held mid : Option (List ℕ)) (sent : Appends held mid (stock_head format)) where
+    pub lines_front : (now : Option (List ℕ)) → WroteFront mid now lines → WroteFront held now (stock_in format cells)
+    lines_front now front =
+        front_before held now (stock_head format ++ lines) ending (front_after held mid now (stock_head format) lines sent front)
+
+    pub ending_front : (late now : Option (List ℕ)) → Appends mid late lines → WroteFront late now ending → WroteFront held now (stock_in format cells)
+    ending_front late now wrote front =
+        front_after held late now (stock_head format ++ lines) ending (appends_more held mid late (stock_head format) lines sent wrote) front
+
+    pub all_written : (late now : Option (List ℕ)) → Appends mid late lines → Appends late now ending → Appends held now (stock_in format cells)
+    all_written late now wrote ended =
+        appends_more held late now (stock_head format ++ lines) ending (appends_more held mid late (stock_head format) lines sent wrote) ended
+
+-- Lines that are written one list of cells after another.
+
+module _ (held half holds : Option (List ℕ)) (format : Format) (xs ys : List (Cell × Places)) (before between : Progress) where
+  writes_both : (result : Result Progress ReportFault) → WritesCells held half format xs before (Ok between)
+      → WritesCells half holds format ys between result → WritesCells held holds format (xs ++ ys) before result
+  writes_both (Err fault) one two = record {
+    whole = tt;
+    front = subst (WroteFront held holds) (sym (flat_append (stock_row format) xs ys))
+        (front_after held half holds (flat_map (stock_row format) xs) (flat_map (stock_row format) ys) one.whole two.front);
+    going = tt;
+    counted = tt;
+  }
+  writes_both (Ok after) one two =
+      let all : Appends held holds (flat_map (stock_row format) (xs ++ ys)) =
+      subst (Appends held holds) (sym (flat_append (stock_row format) xs ys))
+      (appends_more held half holds (flat_map (stock_row format) xs) (flat_map (stock_row format) ys) one.whole two.whole) in
+      record {
+        whole = all;
+        front = front_whole held holds _ all;
+        going = two.going;
+        counted = (let first : between.given ≡ length xs + before.given = one.counted in
+            let second : after.given ≡ length ys + between.given = two.counted in
+            let e : after.given ≡ length (xs ++ ys) + before.given = omega (arith, first, second, length_append xs ys) in e);
+      }
+
+writes_less : (held holds : Option (List ℕ)) (format : Format) (cells : List (Cell × Places)) (before : Progress) (result : Result Progress ReportFault)
+    → IsErr result → WroteFront held holds (flat_map (stock_row format) cells) → WritesCells held holds format cells before result
+writes_less held holds format cells before (Ok after) failed front = let no : false ≡ true = failed in absurd (cc)
+writes_less held holds format cells before (Err fault) failed front = record { whole = tt; front = front; going = tt; counted = tt }
+
+module _ {S : Type 0} (g : Ghosts S) (format : Format) where
+  -- one more list of cells was shown
+  pub shows_both : {old mid new : Held S} {held half holds : Option (List ℕ)} {one two : List (Cell × Places) → List (Cell × Places)}
+      {before between : Progress} {result : Result Progress ReportFault}
+      → ShowsCells g old mid held half format one before (Ok between)
+      → ShowsCells g mid new half holds format two between result
+      → ShowsCells g old new held holds format (λ all. one all ++ two all) before result
+  shows_both {held = held} {half} {holds} {one} {two} {before} {between} {result} first second =
+      shows_then g first second (λ s wrote more going all stock. (
+      let lines = wrote going all stock in
+      writes_both held half holds format (one all) (two all) before between result lines (more lines.going all stock)))
+
+  -- a fault came before the next one
+  pub shows_less : {old new : Held S} {held holds : Option (List ℕ)} {one : List (Cell × Places) → List (Cell × Places)}
+      {before : Progress} {result : Result Progress ReportFault} (two : List (Cell × Places) → List (Cell × Places))
+      (after : Result Progress ReportFault) → IsErr after
+      → ShowsCells g old new held holds format one before result
+      → ShowsCells g old new held holds format (λ all. one all ++ two all) before after
+  shows_less {held = held} {holds} {one} {before} {result} two after failed first =
+      shows_as g first (λ s desk wrote going all stock.
+      writes_less held holds format (one all ++ two all) before after failed
+      (subst (WroteFront held holds) (sym (flat_append (stock_row format) (one all) (two all)))
+      (front_before held holds (flat_map (stock_row format) (one all)) (flat_map (stock_row format) (two all)) (wrote going all stock).front)))
+
+  -- those of the four kinds are those that are asked for
+  pub shows_asked : {old new : Held S} {held holds : Option (List ℕ)} {before : Progress} {result : Result Progress ReportFault}
+      (f : CellFilter)
+      → ShowsCells g old new held holds format
+      (λ all. cells_of_kind Flight f all ++ (cells_of_kind Room f all ++ (cells_of_kind Transfer f all ++ cells_of_kind Cover f all))) before result
+      → ShowsCells g old new held holds format (asked_cells f) before result
+  shows_asked {held = held} {holds} {before} {result} f shows =
+      shows_as g shows (λ s desk wrote going all stock.
+      subst (λ cells. WritesCells held holds format cells before result) (sym (by_kinds f all stock.in_order)) (wrote going all stock))
+
+-- The cells of one kind.
+
+-- a cell is of the kind and asked for where it is of the kind, the kind is asked for, and its other values are
+kind_same : (kind : Kind) (f : CellFilter) (x : Cell) (b : Bool) → (kind_number x.kind == kind_number kind) ≡ b
+    → (is_cell_asked f x && b)
+    ≡ (is_kind_asked f.kind (kind_number kind)
+    && (b && (is_name_asked f.supplier x.supplier && (is_name_asked f.product x.product && is_night_asked f.from f.to x.night))))
+kind_same kind f x true e =
+    let same : kind_number x.kind ≡ kind_number kind = eqb-true _ _ e in
+    and_true _ ∙ ap (λ n. is_kind_asked f.kind n && (is_name_asked f.supplier x.supplier && (is_name_asked f.product x.product && is_night_asked f.from f.to x.night))) same
+kind_same kind f x false e = and_false _ ∙ sym (and_false _)
+
+each_same : (kind : Kind) (f : CellFilter) (r : Cell × Places)
+    → (is_cell_asked f r.0 && (kind_number r.0.kind == kind_number kind)) ≡ (is_kind_asked f.kind (kind_number kind) && is_cell_of kind f r.0)
+each_same kind f r = kind_same kind f r.0 (kind_number r.0.kind == kind_number kind) refl
+
+-- the kind is asked for
+pub kind_asked : (kind : Kind) (f : CellFilter) (rows : List (Cell × Places)) → is_kind_asked f.kind (kind_number kind) ≡ true
+    → cells_of_kind kind f rows ≡ filter (λ (r : Cell × Places). is_cell_of kind f r.0) rows
+kind_asked kind f rows e =
+    filter_same _ (λ (r : Cell × Places). is_cell_of kind f r.0) rows (λ r. each_same kind f r ∙ ap (λ b. b && is_cell_of kind f r.0) e)
+
+-- it is not: there is no such cell
+pub kind_passed : (kind : Kind) (f : CellFilter) (rows : List (Cell × Places)) → is_kind_asked f.kind (kind_number kind) ≡ false
+    → cells_of_kind kind f rows ≡ []
+kind_passed kind f rows e =
+    filter_same _ (λ _. false) rows (λ r. each_same kind f r ∙ ap (λ b. b && is_cell_of kind f r.0) e) ∙ none rows
+  where
+    none : {X : Type 0} (xs : List X) → filter (λ _. false) xs ≡ []
+    none [] = refl
+    none (x ∷ xs) = none xs
+
+-- each cell is asked for
+pub asked_all : (f : CellFilter) (rows : List (Cell × Places)) → ((cell : Cell) → is_cell_asked f cell ≡ true) → asked_cells f rows ≡ rows
+asked_all f [] each = refl
+asked_all f (r ∷ rows) each = ap₂ (λ b more. cond b (r ∷ more) more) (each r.0) (asked_all f rows each)

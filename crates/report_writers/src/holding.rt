@@ -1,0 +1,67 @@
+//! The reports of the holders of a cell, and of those of the cells that a filter lets through, of a desk that is not
+//! recovered.
+ghost use Rattle.std.specs.Prelude.{List};
+ghost use Rattle.holder_reports.specs.Holders.{holders_of};
+ghost use Rattle.holder_reports.specs.HoldingLayouts.{holdings_shown};
+ghost use Rattle.holder_reports.specs.Holdings.{cells_asked, holdings_in};
+ghost use Rattle.holder_reports.specs.Layouts.{holders_in};
+ghost use Rattle.saga_core.specs.Views.{IsStock};
+ghost use Rattle.report_writers.specs.Writing.{ShowsDesk, WritesText};
+
+use allotment::{Cell, Held};
+use filters::CellFilter;
+use holder_reports::{holders_text, holdings_text};
+use report_rows::{FoundRows, Progress, start_holders, start_holdings};
+use reports::{Format, ReportFault};
+use sql_model::fault_of;
+use sqlite::{Alter, Connection};
+use std::alloc::Global;
+use std::io::Write;
+
+/// Writes the report of the holders of a cell, of the desk of a connection, and returns how many there are.
+pub(crate) fn write_holders<S: Alter, O: Write>(
+    alloc: Global,
+    cell: &Cell,
+    format: Format,
+    conn: &mut Connection<S>,
+    out: &mut O,
+) -> Result<u64, ReportFault>
+    ensures shows { ShowsDesk S.Store conn.old conn.new (λ s.
+        WritesText (O.contents out.old) (O.contents out.new)
+        (holders_in format (holders_of s.ledger cell.now)) result) }
+{
+    let mut rows = match start_holders(conn, cell) {
+        Ok(rows) => rows,
+        Err(error) => return Err(fault_of(&error).into()),
+    };
+    let mut holders = FoundRows {
+        rows: &mut rows,
+        progress: Progress::new(),
+    };
+    holders_text(alloc, format, &mut holders, out)
+}
+
+/// Writes the report of the holders of the cells that a filter lets through, night by night, of the desk of a connection,
+/// and returns how many there are.
+pub(crate) fn write_holdings<S: Alter, O: Write>(
+    alloc: Global,
+    filter: &CellFilter,
+    format: Format,
+    conn: &mut Connection<S>,
+    out: &mut O,
+) -> Result<u64, ReportFault>
+    ensures shows { ShowsDesk S.Store conn.old conn.new (λ s.
+        (rows : List (Cell × Held)) → IsStock s.ledger rows →
+        WritesText (O.contents out.old) (O.contents out.new)
+        (holdings_shown format (holdings_in s.ledger (cells_asked filter.now rows))) result) }
+{
+    let mut rows = match start_holdings(conn, filter) {
+        Ok(rows) => rows,
+        Err(error) => return Err(fault_of(&error).into()),
+    };
+    let mut holdings = FoundRows {
+        rows: &mut rows,
+        progress: Progress::new(),
+    };
+    holdings_text(alloc, format, &mut holdings, out)
+}

@@ -1,3 +1,0 @@
-pub mod LoadedCells
-pub mod NewRows
-pub mod LoadedWeeks

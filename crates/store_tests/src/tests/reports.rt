@@ -1,0 +1,157 @@
+//! The reports of a book over tables: the text of each kind, that a journey which is absent has none, and that a malformed row
+//! is a fault after which the book has failed.
+use crate::tests::asking::is_answered;
+use crate::tests::helping::{book_over, run};
+use crate::tests::sources::DONE;
+use allotment::Cell;
+use commands::Fault;
+use filters::{CellFilter, JourneyFilter};
+use memory_files::{ClosedFile, Session};
+use month_reports::MonthReport;
+use report_kinds::{Report, Reporting};
+use reports::{Format, JourneyReport};
+use saga_core::Book;
+use sqlite::{Alter, Connection};
+use std::alloc::Global;
+use std::process::Abort;
+use std::test::Fail;
+use tables::TableBook;
+
+const STOCK: &str = "kind     supplier product  night       allot   held   free
+flight   AL       A1       2030-06-01     10      2      8
+room     INN      DBL      2030-06-02      1      1      0
+cells 2
+";
+
+const SUMMARY: &str = "kind,supplier,product,month,nights,allot,held,free\r
+flight,AL,A1,2030-06,1,10,2,8\r
+room,INN,DBL,2030-06,1,1,1,0\r
+";
+
+const UNFINISHED: &str = "           2 desk             back 1 to 0
+unfinished 1
+";
+
+const HOLDERS: &str = "journey,step,option,places\r
+1,2,1,1\r
+";
+
+const HOLDINGS: &str = "night,kind,supplier,product,journey,agent,state,places\r
+2030-06-01,flight,AL,A1,1,desk,ended,1\r
+2030-06-01,flight,AL,A1,2,desk,back,1\r
+2030-06-02,room,INN,DBL,1,desk,ended,1\r
+";
+
+const HISTORY: &str = "journey 2 agent desk
+plan F/AL/A1/2030-06-01/1/1;R/INN/DBL/2030-06-02/1/1!0
+items T1.1 B0r
+state back 1 to 0
+";
+
+const WHY: &str = r#"{"agent":"desk","journey":2,"pos":1,"state":"back","target":0}
+{"journey":2,"next":"C1.1","want":"F/AL/A1/2030-06-01/1/1"}
+{"free":8,"journey":2,"night":"2030-06-01"}
+{"journey":2,"step":"C1.1"}
+"#;
+
+/// The report of the unfinished journeys, as a text.
+fn unfinished() -> Report {
+    Report::Journeys {
+        name: JourneyReport::Unfinished,
+        filter: JourneyFilter::unfinished(),
+        format: Format::Text,
+    }
+}
+
+/// A report of each kind, of a desk with the two journeys, and its text; of a journey that does not exist there is none.
+#[rattlefmt::skip]
+fn texts() -> Option<[(Report, Option<&'static str>); 9]> {
+    let (filter, cell) = (CellFilter::all(), Cell::parse("R/INN/DBL/2030-06-02")?);
+    let (text, json, csv) = (Format::Text, Format::Json, Format::Csv);
+    Some([
+        (Report::Stock { filter, format: text }, Some(STOCK)),
+        (Report::Months { months: MonthReport::Summary(csv), filter }, Some(SUMMARY)),
+        (unfinished(), Some(UNFINISHED)),
+        (Report::Holders { cell, format: csv }, Some(HOLDERS)),
+        (Report::Holdings { filter, format: csv }, Some(HOLDINGS)),
+        (Report::History { id: 2, format: text }, Some(HISTORY)),
+        (Report::Why { id: 2, format: json }, Some(WHY)),
+        (Report::History { id: 3, format: text }, None),
+        (Report::Why { id: 3, format: json }, None),
+    ])
+}
+
+/// Checks that a book returns this report.
+fn is_returned<S: Alter>(
+    rt: &impl Abort,
+    book: &mut TableBook<S>,
+    report: &Report,
+    expected: Option<&str>,
+) -> Result<(), Fail> {
+    let found = book.report(report)?;
+    let bytes = found.as_ref().map(|text| text.as_slice());
+    assert!(rt;
+        bytes == expected.map(|text| text.as_bytes()),
+        "{expected:?}"
+    );
+    Ok(())
+}
+
+/// Makes the two journeys, and checks each report of them twice.
+#[derive(Drop)]
+struct Reported;
+
+impl<R: Abort> Session<R> for Reported {
+    fn run<S: Alter + Drop>(
+        &mut self,
+        rt: &R,
+        alloc: Global,
+        conn: Connection<S>,
+    ) -> Result<Connection<S>, Fail> {
+        let mut book = book_over(alloc, conn)?;
+        is_answered(rt, alloc, &mut book, &DONE)?;
+        for _ in 0..2u8 {
+            for (report, expected) in &texts().ok_or("no cell")? {
+                is_returned(rt, &mut book, report, *expected)?;
+            }
+        }
+        Ok(book.into_store())
+    }
+}
+
+/// Checks that a book with a malformed cell fails at the report of its stock, and not at one that does not read it.
+#[derive(Drop)]
+struct Malformed;
+
+impl<R: Abort> Session<R> for Malformed {
+    fn run<S: Alter + Drop>(
+        &mut self,
+        rt: &R,
+        alloc: Global,
+        mut conn: Connection<S>,
+    ) -> Result<Connection<S>, Fail> {
+        run(
+            &mut conn,
+            "UPDATE stock SET supplier = 'inn' WHERE kind = 1",
+        )?;
+        let mut book = book_over(alloc, conn)?;
+        is_returned(rt, &mut book, &unfinished(), Some(UNFINISHED))?;
+        let (filter, format) = (CellFilter::all(), Format::Text);
+        let stock = book.report(&Report::Stock { filter, format });
+        assert!(rt; stock == Err(Fault::Store), "a malformed row");
+        assert!(rt;
+            book.report(&unfinished()) == Err(Fault::Store),
+            "no report after a fault"
+        );
+        assert!(rt; book.counts().is_err(), "no answer after a fault");
+        Ok(book.into_store())
+    }
+}
+
+#[test]
+fn a_book_returns_each_report(rt: HostRuntime) -> Result<(), Fail> {
+    let alloc = rt.alloc();
+    let closed = ClosedFile::new(alloc).open_for(&rt, alloc, &mut Reported)?;
+    closed.open_for(&rt, alloc, &mut Malformed)?;
+    Ok(())
+}
