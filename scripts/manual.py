@@ -4,8 +4,8 @@ import subprocess
 import sys
 from dataclasses import dataclass
 
-# the values of which a help names the words that may stand for them, and those that are files
-CHOSEN, FILES = ("FORMAT", "KIND", "STATE"), ("FILE", "CSV")
+# the values of which a help names the words that may stand for them, and those that are files or sockets
+CHOSEN, FILES = ("FORMAT", "KIND", "STATE"), ("FILE", "CSV", "PATH")
 
 
 @dataclass
@@ -24,6 +24,9 @@ class Value:
         """The words that may stand for its value, where these are few."""
         text = self.about.replace(" (the default)", "").rpartition(": ")[2].replace(",", "").replace(" or ", " ")
         return text.split(" ") if self.name in CHOSEN else []
+
+    def is_file(self):
+        return self.name in FILES
 
 
 class Help:
@@ -114,7 +117,7 @@ _desk() {{
     for command in commands:
         for option in (it for it in command.options if it.choices()):
             yield f"""    {command.word}:--{option.long}) mapfile -t COMPREPLY < <(compgen -W '{" ".join(option.choices())}' -- "$word"); return ;;"""
-        valued = [f"{command.word}:--{option.long}" for option in command.options if option.name]
+        valued = [f"{command.word}:--{option.long}" for option in command.options if option.name and not option.is_file()]
         if valued:
             yield f"    {' | '.join(valued)}) return ;;"
     yield "  esac\n  case ${COMP_WORDS[1]} in"
@@ -142,10 +145,11 @@ def zsh_arguments(command):
         return re.sub(r"([\[\]:])", r"\\\1", text)
 
     for option in command.options:
-        value = f":{option.name}:{'(' + ' '.join(option.choices()) + ')' if option.choices() else ' '}" if option.name else ""
+        words = f"({' '.join(option.choices())})" if option.choices() else "_files" if option.is_file() else " "
+        value = f":{option.name}:{words}" if option.name else ""
         yield from (quoted(f"{flag}[{shown(option.about)}]{value}") for flag in reversed(option.flags()))
     for value in command.values:
-        yield quoted(f":{value.name} -- {shown(value.about)}:{'_files' if value.name in FILES else ' '}")
+        yield quoted(f":{value.name} -- {shown(value.about)}:{'_files' if value.is_file() else ' '}")
 
 
 def zsh_completion(_, commands, __):
@@ -172,7 +176,8 @@ _desk() {{
 def fish_options(when, options):
     for option in options:
         short, choices = f" -s {option.short}" if option.short else "", f" -a '{' '.join(option.choices())}'" if option.choices() else ""
-        yield f"complete -c desk -n '{when}'{short} -l {option.long}{f' -x{choices}' if option.name else ''} -d {quoted(option.about)}"
+        value = " -rF" if option.is_file() else f" -x{choices}" if option.name else ""
+        yield f"complete -c desk -n '{when}'{short} -l {option.long}{value} -d {quoted(option.about)}"
 
 
 def fish_completion(main, commands, _):
@@ -182,7 +187,7 @@ def fish_completion(main, commands, _):
         when = f"__fish_seen_subcommand_from {command.word}"
         yield f"complete -c desk -n __fish_use_subcommand -a {command.word} -d {quoted(command.about)}"
         yield from fish_options(when, command.options)
-        if any(value.name in FILES for value in command.values):
+        if any(value.is_file() for value in command.values):
             yield f"complete -c desk -n '{when}' -F"
 
 

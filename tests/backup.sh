@@ -5,13 +5,7 @@
 # BACKUPS=200 DESK=.. tests/backup.sh    makes so many backups of a desk at work; SEED=N: at other moments
 . "$(dirname "${BASH_SOURCE[0]}")/helping.bash"
 . "$tests/hostile.bash"
-needs_python
-for command in perl flock timeout; do
-  if ! command -v "$command" >/dev/null; then
-    echo "backup.sh: skipped, there is no $command" >&2
-    exit 0
-  fi
-done
+stands_on perl flock timeout
 trap 'umount "$work/full" 2>/dev/null; rm -rf "$work"' EXIT
 export DESK
 tool=$(dirname "$tests")/tools/backup
@@ -45,11 +39,7 @@ begins() {
   touch hold
   PATH=$work/slow:$PATH env --default-signal=HUP,INT,QUIT "$tool" "$@" >out 2>err </dev/null &
   backup=$!
-  for _ in {1..1000}; do
-    [ ! -e copying ] || return 0
-    sleep 0.01
-  done
-  same "a copy that is slow" begun "$(cat out err)"
+  comes 10 test -e copying || same "a copy that is slow" begun "$(cat out err)"
 }
 
 # ends WHAT STATUS SAID: that call ends so
@@ -61,8 +51,8 @@ ends() {
   has_said "$1" "$2" "$3" "$status"
 }
 
-# state: how the open desk is, by a letter
-state() { sed -n 's/^State:\t\(.\).*/\1/p' "/proc/$desk/status"; }
+# is_stopped: the open desk is
+is_stopped() { grep -q '^State:.T' "/proc/$desk/status"; }
 
 mkdir slow "a folder"
 cat >slow/cp <<END
@@ -171,24 +161,17 @@ same "what it shows" "           2 desk             run 0
 unfinished 1" "$("$DESK" unfinished b4.db)"
 for signal in INT QUIT TERM HUP; do
   begins trips.db b.db
-  same "the desk is stopped" T "$(state)"
-  kill -s "$signal" "$backup"
-  wait "$backup" 2>/dev/null
+  same "the desk is stopped" yes "$(is_stopped && echo yes)"
+  ends_by "$signal" "$backup"
   ended=$?
   has_said "$signal amid the copy" $((128 + $(kill -l "$signal"))) "" "$ended"
   asks "after $signal" "step 0" "refused 4 BadBody"
 done
 begins trips.db b.db
-{
-  kill -9 "$backup"
-  wait "$backup"
-} 2>/dev/null
+ends_by KILL "$backup"
 asks "after a kill" "step 0" "refused 4 BadBody"
 rm -f hold copied
-for _ in {1..3000}; do
-  [ ! -e copied ] || break
-  sleep 0.01
-done
+comes 30 test -e copied
 rm -rf .desk-backup.*
 begins --seconds 4 trips.db b.db
 asks "while a copy takes too long" "step 0" "refused 4 BadBody"
@@ -212,18 +195,12 @@ if mount -t tmpfs -o size=64k tmpfs full 2>/dev/null; then
   umount full
 fi
 kill -STOP "$desk"
-for _ in {1..1000}; do
-  [ "$(state)" != T ] || break
-  sleep 0.01
-done
+comes 10 is_stopped
 backs_up "a desk that was stopped before" 0 "saved b5.db"$'\n'"backup: process $desk was stopped before; it is continued after this" trips.db b5.db
 asks "it is continued" "step 0" "refused 4 BadBody"
 backs_up "a backup in use" 1 "backup: trips.db is in use, by process $desk" --replace b5.db trips.db
 begins trips.db b.db
-{
-  kill -9 "$desk"
-  wait "$desk"
-} 2>/dev/null
+ends_by KILL "$desk"
 ends "a desk that is killed" 1 "backup: the process that held the file was continued or has ended while it was copied; *"
 closes_desk
 same "files that were made" "" "$(ls -d b.db* 2>/dev/null)"
@@ -240,10 +217,7 @@ if [ "$(id -u)" -eq 0 ] && command -v setpriv >/dev/null; then
   desk=$!
   exec 5>their_lines
   echo "begin $flight/1/1!0" >&5
-  for _ in {1..1000}; do
-    [ ! -s told ] || break
-    sleep 0.01
-  done
+  comes 10 test -s told
   backs_up "another user's desk" 0 "saved b6.db" theirs/trips.db b6.db
   exec 5>&-
   wait "$desk"

@@ -73,20 +73,19 @@ builds() {
   same "./build $*: the status" "$expected" $?
 }
 
-# says WHAT TEXT: it was said
-says() { same "$1: '$2' is said" yes "$(grep -qF -- "$2" "$work/said" && echo yes)"; }
-
 # order: what the fake rt noted, side by side in the order of names
 order() { tr '\n' ' ' <"$FAKE/log"; }
 
 # until_begun NAME: waits until this crate is being proved
-until_begun() {
-  local n
-  for n in {1..200}; do
-    if grep -q "^begins $1" "$FAKE/log"; then return; fi
-    sleep 0.1
-  done
-  same "after $n tries $1 is being proved" yes ""
+until_begun() { comes 20 grep -q "^begins $1" "$FAKE/log" || same "after 20 seconds $1 is being proved" yes ""; }
+
+# begins_build: ./build begins, as process $build, and is held in its first crate
+begins_build() {
+  touch "$FAKE/hold"
+  : >"$FAKE/log"
+  ./build >"$work/said" 2>&1 &
+  build=$!
+  until_begun low
 }
 
 mkdir -p crates/desk/out/trial
@@ -152,30 +151,20 @@ done
 
 # a build that is stopped goes on with what was kept
 touch crates/low/src/lib.rt
-touch "$FAKE/hold"
-: >"$FAKE/log"
-./build >"$work/said" 2>&1 &
-build=$!
-until_begun low
+begins_build
 ./build >"$work/second" 2>&1
 same "a second call: the status" 1 $?
 same "a second call" "build: another ./build runs here" "$(cat "$work/second")"
 touch "$FAKE/hold.left"
 rm "$FAKE/hold"
 until_begun left
-kill "$build"
-{ wait "$build"; } 2>/dev/null
+ends_by TERM "$build"
 same "a build that is ended: the status" 143 $?
 rm "$FAKE/hold.left"
 same "a build that is ended: no room is left" "" "$(find out -mindepth 1 ! -name 'build.*')"
 same "what it has proved is kept" "low" "$(cat crates/low/out/rlib/stamp)"
-: >"$FAKE/log"
-touch "$FAKE/hold"
-./build >"$work/said" 2>&1 &
-build=$!
-until_begun low
-kill -9 "$build"
-{ wait "$build"; } 2>/dev/null
+begins_build
+ends_by KILL "$build"
 rm "$FAKE/hold"
 flock -w 20 out/build.lock true # what it has left running holds its lock
 builds 0
@@ -197,11 +186,7 @@ builds 1
 says "a source that is not proved" "src/lib.rt:1:1: error: wrong"
 says "a source that is not proved" "right is not proved"
 echo one >crates/right/src/lib.rt
-touch "$FAKE/hold"
-: >"$FAKE/log"
-./build >"$work/said" 2>&1 &
-build=$!
-until_begun low
+begins_build
 touch crates/low/src/lib.rt
 rm "$FAKE/hold"
 wait "$build"

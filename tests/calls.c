@@ -92,26 +92,17 @@ static int fails(const char *name) {
 
 static size_t at_most(long most, size_t size) { return most > 0 && size > (size_t)most ? (size_t)most : size; }
 
-static size_t piece(size_t size) {
-  static long most = -1;
-  if (most < 0)
-    most = number("PIECES");
-  return at_most(most, size);
-}
-
-static size_t sip(size_t size) {
-  static long most = -1;
-  if (most < 0)
-    most = number("SIPS");
-  return at_most(most, piece(size));
-}
-
-static size_t part(size_t size) {
-  static long most = -1;
-  if (most < 0)
-    most = number("PARTS");
-  return at_most(most, size);
-}
+/* A size of at most the number that the environment has under this name, which is read once. */
+#define LIMITS(function, name, other)                                                                                  \
+  static size_t function(size_t size) {                                                                                \
+    static long most = -1;                                                                                             \
+    if (most < 0)                                                                                                      \
+      most = number(name);                                                                                             \
+    return at_most(most, other(size));                                                                                 \
+  }
+LIMITS(piece, "PIECES", )
+LIMITS(sip, "SIPS", piece)
+LIMITS(part, "PARTS", )
 
 /* One call: what it was, on which descriptor, a place or a length, and so many bytes that follow. */
 struct note {
@@ -147,6 +138,13 @@ static void note(int kind, int file, int64_t at, const void *bytes, size_t size)
   static type (*next)(__VA_ARGS__);                                                                                    \
   if (!next)                                                                                                           \
     next = (type(*)(__VA_ARGS__))dlsym(RTLD_NEXT, name)
+
+/* A call that is passed on: of this type, which is `failed` where it fails, by this name among those that count. */
+#define PASSES(type, failed, function, next_one, name, words, ...)                                                     \
+  type function(__VA_ARGS__) {                                                                                         \
+    NEXT(type, next_one, __VA_ARGS__);                                                                                 \
+    return fails(name) ? failed : next words;                                                                          \
+  }
 
 static void note_opened(int file, const char *path, int is_made) {
   int error = errno;
@@ -189,13 +187,8 @@ int close(int file) {
   return next(file);
 }
 
-#define READS_AT(function)                                                                                             \
-  ssize_t function(int file, void *bytes, size_t size, off_t at) {                                                     \
-    NEXT(ssize_t, "pread64", int, void *, size_t, off_t);                                                              \
-    return fails("pread") ? -1 : next(file, bytes, part(size), at);                                                   \
-  }
-READS_AT(pread)
-READS_AT(pread64)
+PASSES(ssize_t, -1, pread, "pread64", "pread", (file, bytes, part(size), at), int file, void *bytes, size_t size, off_t at)
+PASSES(ssize_t, -1, pread64, "pread64", "pread", (file, bytes, part(size), at), int file, void *bytes, size_t size, off_t at)
 
 static ssize_t put_at(int file, const void *bytes, size_t size, off_t at) {
   NEXT(ssize_t, "pwrite64", int, const void *, size_t, off_t);
@@ -229,19 +222,15 @@ static int synced(int file, int status) {
     note('y', file, 0, "", 0);
   return status;
 }
-int fsync(int file) {
-  NEXT(int, "fsync", int);
-  return fails("fsync") ? -1 : synced(file, next(file));
-}
-int fdatasync(int file) {
-  NEXT(int, "fdatasync", int);
-  return fails("fdatasync") ? -1 : synced(file, next(file));
-}
+#define SYNCS(function)                                                                                                \
+  int function(int file) {                                                                                             \
+    NEXT(int, #function, int);                                                                                         \
+    return fails(#function) ? -1 : synced(file, next(file));                                                           \
+  }
+SYNCS(fsync)
+SYNCS(fdatasync)
 
-ssize_t read(int file, void *bytes, size_t size) {
-  NEXT(ssize_t, "read", int, void *, size_t);
-  return fails("read") ? -1 : next(file, bytes, piece(size));
-}
+PASSES(ssize_t, -1, read, "read", "read", (file, bytes, piece(size)), int file, void *bytes, size_t size)
 
 /* The program writes its files by pwrite alone, so this is a stream. */
 static ssize_t said(int file, const void *bytes, ssize_t put) {
@@ -259,10 +248,7 @@ ssize_t send(int file, const void *bytes, size_t size, int flags) {
   NEXT(ssize_t, "send", int, const void *, size_t, int);
   return fails("send") ? -1 : said(file, bytes, next(file, bytes, sip(size), flags));
 }
-ssize_t recv(int file, void *bytes, size_t size, int flags) {
-  NEXT(ssize_t, "recv", int, void *, size_t, int);
-  return fails("recv") ? -1 : next(file, bytes, sip(size), flags);
-}
+PASSES(ssize_t, -1, recv, "recv", "recv", (file, bytes, sip(size), flags), int file, void *bytes, size_t size, int flags)
 
 /* What else an opening and a port need; the last argument of fcntl is passed on as it is. */
 int fcntl(int file, int command, ...) {
@@ -273,38 +259,17 @@ int fcntl(int file, int command, ...) {
   va_end(rest);
   return fails("fcntl") ? -1 : next(file, command, last);
 }
-int statx(int folder, const char *restrict path, int flags, unsigned int mask, struct statx *restrict about) {
-  NEXT(int, "statx", int, const char *, int, unsigned int, struct statx *);
-  return fails("statx") ? -1 : next(folder, path, flags, mask, about);
-}
-char *realpath(const char *restrict path, char *restrict to) {
-  NEXT(char *, "realpath", const char *, char *);
-  return fails("realpath") ? NULL : next(path, to);
-}
-int posix_fadvise(int file, off_t at, off_t size, int advice) {
-  NEXT(int, "posix_fadvise64", int, off_t, off_t, int);
-  return fails("posix_fadvise") ? errno : next(file, at, size, advice);
-}
-int fchown(int file, uid_t owner, gid_t group) {
-  NEXT(int, "fchown", int, uid_t, gid_t);
-  return fails("fchown") ? -1 : next(file, owner, group);
-}
-int fchmod(int file, mode_t mode) {
-  NEXT(int, "fchmod", int, mode_t);
-  return fails("fchmod") ? -1 : next(file, mode);
-}
-int bind(int file, const struct sockaddr *address, socklen_t size) {
-  NEXT(int, "bind", int, const struct sockaddr *, socklen_t);
-  return fails("bind") ? -1 : next(file, address, size);
-}
-int listen(int file, int backlog) {
-  NEXT(int, "listen", int, int);
-  return fails("listen") ? -1 : next(file, backlog);
-}
-int accept4(int file, struct sockaddr *restrict address, socklen_t *restrict size, int flags) {
-  NEXT(int, "accept4", int, struct sockaddr *, socklen_t *, int);
-  return fails("accept") ? -1 : next(file, address, size, flags);
-}
+PASSES(int, -1, statx, "statx", "statx", (folder, path, flags, mask, about), int folder, const char *restrict path, int flags,
+       unsigned int mask, struct statx *restrict about)
+PASSES(char *, NULL, realpath, "realpath", "realpath", (path, to), const char *restrict path, char *restrict to)
+PASSES(int, errno, posix_fadvise, "posix_fadvise64", "posix_fadvise", (file, at, size, advice), int file, off_t at, off_t size,
+       int advice)
+PASSES(int, -1, fchown, "fchown", "fchown", (file, owner, group), int file, uid_t owner, gid_t group)
+PASSES(int, -1, fchmod, "fchmod", "fchmod", (file, mode), int file, mode_t mode)
+PASSES(int, -1, bind, "bind", "bind", (file, address, size), int file, const struct sockaddr *address, socklen_t size)
+PASSES(int, -1, listen, "listen", "listen", (file, backlog), int file, int backlog)
+PASSES(int, -1, accept4, "accept4", "accept", (file, address, size, flags), int file, struct sockaddr *restrict address,
+       socklen_t *restrict size, int flags)
 
 /* What the program is not known to call: noted, so that a reader of the notes sees that they do not tell all. */
 #define UNKNOWN(function, ...)                                                                                         \

@@ -79,10 +79,7 @@ key_of() { if [ -n "$wide" ]; then cat /proc/sys/kernel/random/uuid; else echo "
 begins_desk() {
   rm -f trips.db*
   bookings=0
-  serves_with "$@" || {
-    echo "clients.sh: no desk" >&2
-    exit 1
-  }
+  serves_with "$@"
   printf 'kind,supplier,product,night,places\nflight,AL,A1,2030-06-01,1000\n' >june.csv
   page "the file" 200 '{"batch":"june","rows":1}' -H 'Desk-Agent: ann' -H 'Desk-Key: june' --data-binary @june.csv \
     "http://127.0.0.1:$port/batches/june"
@@ -92,8 +89,7 @@ begins_desk() {
 all=0
 ends_desk() {
   ends_proxies
-  kill "$desk"
-  wait "$desk" 2>/dev/null
+  ends_by TERM "$desk"
   same "$1: what the desk told" "ready $port" "$(cat told desk_err)"
   same "$1: journeys, events and places" "$bookings|$((2 * bookings + 1))|$((1000 - bookings))" \
     "$(rows 'SELECT journeys, events, (SELECT free FROM stock) FROM meta')"

@@ -9,7 +9,7 @@ import sqlite3
 import sys
 
 from driving import Client, Lines, Server, desk, request
-from ledger import Ledger, history_report, stock_report, tables_of, unfinished_report
+from ledger import Ledger, report, tables_of
 from parts import IN_PART, PARTS, Deal, chances
 from scenes import FIRST, FLIGHT, JUNE, PLANS, SECOND
 from shown import lay, look, old_file, read_files
@@ -41,15 +41,6 @@ class Base:
         self.states = [last] if is_old else [ledger.after(count) for count in range(ledger.count + 1)]
         assert self.states[-1] == last, last
         self.journeys = [row[0] for row in last["journey"]]
-
-    def expected(self, words, tables):
-        """The report that these tables give, with its status."""
-        if words[0] == "unfinished":
-            return unfinished_report(tables), 0
-        if words[0] == "stock":
-            return stock_report(tables), 0
-        known = [row[0] for row in tables["journey"]]
-        return (history_report(tables, int(words[1])), 0) if int(words[1]) in known else ("refused 9 NoJourney\n", 1)
 
 
 def used(log):
@@ -138,11 +129,8 @@ class Trial:
         shown = [self.ended(f"{what}, {words[0]}", desk(words[0], f"cut/{DB}", *words[1:])) for words in reports]
         if any(ended.fault() or ended.out.startswith("refused 20") for ended in shown):
             return "a fault, by all" if all(e.status for e in shown) else "a fault, by some"
-        fits = [
-            count
-            for count, tables in enumerate(base.states)
-            if all(base.expected(w, tables) == (e.out, e.status) for w, e in zip(reports, shown))
-        ]
+        ends = [(ended.out, ended.status) for ended in shown]
+        fits = [count for count, tables in enumerate(base.states) if [report(tables, *words) for words in reports] == ends]
         try:
             tables = tables_of(f"cut/{DB}")
         except (sqlite3.Error, UnicodeDecodeError):

@@ -215,11 +215,10 @@ def is_socket(path):
         return False
 
 
-def request(method, path, key="", body=b""):
-    """The bytes of a request of ann's."""
-    fields = ["Host: d", "Desk-Agent: ann"]
-    if key:
-        fields += [f"Desk-Key: {key}", f"Content-Length: {len(body)}"]
+def request(method, path, key="", body=b"", agent="ann"):
+    """The bytes of a request."""
+    fields = ["Host: d"] + [f"Desk-Agent: {agent}"] * bool(agent) + [f"Desk-Key: {key}"] * bool(key)
+    fields += [f"Content-Length: {len(body)}"] * (method == "POST")
     return "\r\n".join([f"{method} {path} HTTP/1.1", *fields, "", ""]).encode() + body
 
 

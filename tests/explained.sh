@@ -1,6 +1,6 @@
 #!/usr/bin/env bash
-# Faults that are explained: after --explain, and where standard error is a terminal, a second line says why a fault came, if
-# that is known, and what to do. Without that a fault stays one line. An opening that recovered events says so there too. A file
+# Faults that are explained: after --explain, and where standard error is a terminal (waiting.py), a second line says why a fault came,
+# if that is known, and what to do. Without that a fault stays one line. An opening that recovered events says so there too. A file
 # that is no database of the desk is left as it was, without a log beside it.
 . "$(dirname "${BASH_SOURCE[0]}")/helping.bash"
 . "$tests/serving.bash"
@@ -10,17 +10,12 @@ line="begin F/AL/A1/2030-06-01/1/1!0"
 # explains WHAT END WHY WORDS..: this call ends with this line, of a fault or a refusal, and is explained so; without the word
 # there is no second line
 explains() {
-  local what=$1 end=$2 why=$3 out=""
+  local what=$1 end=$2 why=$3 out="" err=""
   shift 3
-  [[ $end == fault* ]] || out=$end
-  same "$what, as ever" "$end" "$("$DESK" "$@" 2>&1 </dev/null)"
-  same "$what: standard output" "$out" "$("$DESK" --explain "$@" 2>"$work/err" </dev/null)"
-  same "$what: standard error" "$(
-    [[ $end == fault* ]] && echo "$end"
-    [ -z "$why" ] || echo "$why"
-  )" "$(cat "$work/err")"
-  "$DESK" --explain "$@" >/dev/null 2>&1 </dev/null
-  same "$what: the status" 1 "$?"
+  if [[ $end == fault* ]]; then err=$end; else out=$end; fi
+  tells "$what, as ever" 1 "$out" "$err" "$@" </dev/null
+  [ -z "$why" ] || err+=${err:+$'\n'}$why
+  tells "$what" 1 "$out" "$err" --explain "$@" </dev/null
 }
 
 # sums: the names of the files in the folder, and a sum of what they hold
@@ -122,27 +117,23 @@ explains "a file in use" "fault 21 Store" \
 closes_desk
 
 # recovered events are noted once, before the answers
-same "a recovery: the answers" "journey 4 begun" "$("$DESK" --explain run trips.db 2>err <<<"$line")"
-same "a recovery: the note" "recovered events (see 'desk history'): 1" "$(cat err)"
+note="recovered events (see 'desk history')"
+tells "a recovery" 0 "journey 4 begun" "$note: 1" --explain run trips.db <<<"$line"
 printf '%s\n%s\n' "$line" "$line" | "$DESK" run trips.db >/dev/null
-same "two events: the answers" "" "$("$DESK" --explain run trips.db 2>err </dev/null)"
-same "two events: the note" "recovered events (see 'desk history'): 2" "$(cat err)"
-same "no event: the note" "" "$("$DESK" --explain run trips.db 2>&1 </dev/null)"
-echo "$line" | "$DESK" run trips.db >/dev/null
+tells "two events" 0 "" "$note: 2" --explain run trips.db </dev/null
+tells "no event" 0 "" "" --explain run trips.db </dev/null
+"$DESK" run trips.db <<<"$line" >/dev/null
 printf 'kind,supplier,product,night,places\nflight,AL,A9,2030-06-01,9\n' >nine.csv
-same "a load: the answer" "loaded nine 1" "$("$DESK" --explain load trips.db nine.csv --batch nine 2>err)"
-same "a load: the note" "recovered events (see 'desk history'): 1" "$(cat err)"
-echo "$line" | "$DESK" run trips.db >/dev/null
-same "recover says it itself" "recovered 1" "$("$DESK" --explain recover trips.db 2>err)"
-same "recover: no note" "" "$(cat err)"
+tells "a load" 0 "loaded nine 1" "$note: 1" --explain load trips.db nine.csv --batch nine
+"$DESK" run trips.db <<<"$line" >/dev/null
+tells "recover says it itself" 0 "recovered 1" "" --explain recover trips.db
 
 # a wrong field of an allotment file: the row, the column and what stands there, and what may stand there
 rows='kind,supplier,product,night,places\nflight,AL,A9,2030-06-01,9\n'
 wrong() {
   printf '%b' "$rows$2" >wrong.csv
-  same "$1: the answer" "refused 6 BadCsv $3" "$("$DESK" --explain load trips.db wrong.csv --batch wrong 2>err)"
-  same "$1: why" "$4" "$(paste -sd'|' err)"
-  same "$1: the answer alone" "refused 6 BadCsv $3" "$("$DESK" load trips.db wrong.csv --batch wrong 2>&1)"
+  tells "$1" 1 "refused 6 BadCsv $3" "${4//|/$'\n'}" --explain load trips.db wrong.csv --batch wrong
+  tells "$1, as ever" 1 "refused 6 BadCsv $3" "" load trips.db wrong.csv --batch wrong
 }
 wrong "a wrong night" 'room,INN,DBL,2030-13-01,4\n' "2 night" \
   "row 2, night: 2030-13-01|A night is a date from 2000-01-01 to 2099-12-31, as 2030-06-01."
@@ -158,7 +149,7 @@ wrong "a cell twice" 'flight,AL,A9,2030-06-01,9\n' "2 twice" \
   "The cell of this row stands in an earlier row. Leave one of them out."
 
 # the full disk: all calls from some one on find no room
-cc -O1 -shared -fPIC -o calls.so "$tests/calls.c" -ldl || exit 1
+compiles calls
 full=0
 for call in 20 40 60 80 100 120; do
   rm -f new.db* failed
@@ -207,28 +198,4 @@ same "the word after the command" "2:" "$?:$(cat out)"
 same "the word alone" 2 "$?"
 same "the word and the version" "$("$DESK" --version)" "$("$DESK" --explain --version)"
 
-# standard error is a terminal: what it shows, without carriage returns
-if command -v python3 >/dev/null; then
-  shown=$(
-    python3 - "$DESK" absent.db <<'TERMINAL'
-import os, pty, subprocess, sys
-ours, theirs = pty.openpty()
-run = subprocess.run([sys.argv[1], "stock", sys.argv[2]], stdin=subprocess.DEVNULL, stdout=subprocess.PIPE, stderr=theirs)
-os.close(theirs)
-text = b""
-try:
-    while True:
-        piece = os.read(ours, 1000)
-        if not piece:
-            break
-        text += piece
-except OSError:
-    pass
-sys.stdout.write(f"{run.returncode} {run.stdout.decode()}{text.decode()}")
-TERMINAL
-  )
-  same "a terminal" "1 fault 26 File The file is absent. Look at its name. " "$(tr -d '\r' <<<"$shown" | tr '\n' ' ')"
-else
-  echo "explained.sh: there is no python3, so a terminal is not tried" >&2
-fi
 finish

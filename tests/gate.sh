@@ -4,10 +4,7 @@
 # nothing is without a turn for more than 30 landings on two processors. In place of `rt` and of scripts/mutants.py stand
 # scripts that note what they are given.
 . "$(dirname "${BASH_SOURCE[0]}")/helping.bash"
-if ! command -v git >/dev/null 2>&1; then
-  echo "gate.sh: skipped, there is no git" >&2
-  exit 0
-fi
+stands_on git
 top=$work/repo
 mkdir -p "$top/docs" "$top/tests" "$top/scripts" fake
 cp -r "$tests/../check" "$top"
@@ -108,9 +105,6 @@ tried() { cut -d/ -f1 "$FAKE/mutants" 2>/dev/null | sort | uniq -c | awk '{ prin
 # proved: the crates that rt was given
 proved() { tr '\n' ' ' <"$FAKE/crates" | sed 's/ $//'; }
 
-# says WHAT TEXT: it was said
-says() { same "$1: '$2' is said" yes "$(grep -qF -- "$2" "$work/said" && echo yes)"; }
-
 same "a crate with two rows of minutes" "" "$(grep -v '^#' "$tests/../docs/minutes.tsv" | cut -f1 | sort | uniq -d)"
 
 git init -q .
@@ -176,23 +170,23 @@ gate 1
 says "a source that is not laid out" "rt fmt lays out crates/low/src/lib.rt differently"
 same "a source that is not laid out: nothing is tried" absent "$([ -e "$FAKE/crates" ] || echo absent)"
 git checkout -q crates/low
+# changed WHAT CRATES: what was changed since the last commit changes these crates; then it is as before
+changed() {
+  gate 0 --since HEAD
+  says "$1" "sources changed in $2"
+  git reset -q --hard
+  git clean -q -d -f crates
+  echo "kit 1" >"$FAKE/version"
+}
 mkdir crates/other/proofs
 echo new >crates/other/proofs/New.antt
-gate 0 --since HEAD
-says "a new file" "sources changed in other"
-rm -r crates/other/proofs
+changed "a new file" other
 git rm -q -f crates/high/src/lib.rt
-gate 0 --since HEAD
-says "a file that is gone" "sources changed in high"
-git reset -q --hard
+changed "a file that is gone" high
 sed -i 's/^high:.*/high: mid other/' crates.txt
-gate 0 --since HEAD
-says "a crate that stands on another" "sources changed in high"
-git checkout -q crates.txt
+changed "a crate that stands on another" high
 echo "kit 2" >"$FAKE/version"
-gate 0 --since HEAD
-says "another toolchain" "sources changed in low mid high other desk low_tests high_tests bench"
-echo "kit 1" >"$FAKE/version"
+changed "another toolchain" "low mid high other desk low_tests high_tests bench"
 
 # choose LANES SINCE: which mutants a landing tries that has no turn of any, where each takes so long that there is room for few
 choose() {
@@ -257,12 +251,8 @@ ends_gate() {
   rm -f "$2"
   ./check >"$work/said" 2>&1 &
   check=$!
-  for _ in {1..200}; do
-    [ ! -s "$2" ] || break
-    sleep 0.1
-  done
-  kill "$check"
-  { wait "$check"; } 2>/dev/null
+  comes 20 test -s "$2"
+  ends_by TERM "$check"
   same "$1: the status" 143 $?
   same "$1: what is left" "gate.lock" "$(ls out)"
 }

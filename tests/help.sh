@@ -89,11 +89,11 @@ abort ID P
 save ID
 LINES
 
-# the requests that serve names are the routes of the program, and two that it finds without its router
+# the requests that serve names are the routes of the program, and three that it finds without its router
 routes() {
   sed -nE '/^static LINES/,/^\];/s/^ *\("(.*)", Verb::([A-Z][a-z]*), .*/\U\2\E \1/p' "$top/crates/http_pages/src/routes.rt" |
     sed -E 's/\{([a-z]*)\}/\U\1/g'
-  printf '%s\n' 'GET /' 'POST /stop'
+  printf '%s\n' 'GET /' 'GET /metrics' 'POST /stop'
 }
 helps "serve --help" serve --help
 same "serve: its requests" "$(routes | LC_ALL=C sort)" \
@@ -193,6 +193,7 @@ completes "desk stock --p" "--product" desk stock --p
 completes "desk stock --c" "--calendar" desk stock --c
 completes "desk stock --x" "" desk stock --x
 completes "desk stock --f" "--from --format" desk stock --f
+completes "desk why --a" "--at" desk why --a
 completes "a kind" "flight room transfer cover" desk stock --kind ""
 completes "a state of an unfinished journey" "run back" desk unfinished trips.db --state ""
 completes "a state that begins so" "undone" desk journeys trips.db --state u
@@ -203,6 +204,8 @@ completes "a format that begins so" "json" desk unfinished trips.db --format j
 completes "desk run t" "trips.db" desk run t
 completes "desk load trips.db j" "june.csv" desk load trips.db j
 completes "a port" "" desk serve trips.db --port ""
+completes "a socket" "trips.db" desk stock --at t
+completes "the socket of a desk that serves" "trips.db" desk serve trips.db --house t
 cd ..
 
 manual zsh >_desk

@@ -3,35 +3,24 @@
 set -u
 : "${DESK:?the program to drive}"
 
-# The gate calls a long script with PART=K/N, and the script then does the K-th of N parts of its cases. N calls, with K from 1
-# to N, do each case once. What many cases stand on is done in every part. Without PART a script does all.
-part=1 parts=1 cases=0
-
-# in_part: what the last line of a script ends with, which says what was done: nothing where it was all
-in_part=""
-
-# read_part: takes in PART, and ends the script with 2 where it has another form
-read_part() {
-  if ! [[ $PART =~ ^([1-9][0-9]?[0-9]?)/([1-9][0-9]?[0-9]?)$ ]] || [ "${BASH_REMATCH[1]}" -gt "${BASH_REMATCH[2]}" ]; then
-    echo "$(basename "$0"): PART=$PART is not K/N, with K from 1 to N" >&2
-    exit 2
-  fi
-  part=${BASH_REMATCH[1]} parts=${BASH_REMATCH[2]}
-  in_part=", part $part of $parts"
-}
-[ -z "${PART:-}" ] || read_part
-
-# is_mine: whether this part has the next case. The cases are dealt out in turn, so that each part takes about as long.
-is_mine() {
-  cases=$((cases + 1))
-  [ $((cases % parts)) -eq $((part % parts)) ]
-}
+# in_part: what the last line of a script ends with, which the gate calls with PART=K/N (parts.py): nothing where it does all
+in_part=${PART:+, part ${PART/\// of }}
 
 tests=$(cd "$(dirname "${BASH_SOURCE[0]}")" && pwd)
 work=$(mktemp -d ${in_memory:+-p "$in_memory"})
 trap 'rm -rf "$work"' EXIT
 cd "$work" || exit 2
 wrong=0
+
+# stands_on TOOL ..: the script is skipped where one of these is absent
+stands_on() {
+  local tool
+  for tool in "$@"; do
+    command -v "$tool" >/dev/null && continue
+    echo "$(basename "$0"): skipped, there is no $tool" >&2
+    exit 0
+  done
+}
 
 # same WHAT EXPECTED FOUND
 same() {
@@ -41,29 +30,53 @@ same() {
   fi
 }
 
-# answers WHAT INPUT OUTPUT: the program answers these lines over trips.db, and ends with 0
-answers() {
-  local found status
-  found=$(printf '%b' "$2" | "$DESK" run trips.db 2>err)
+# tells WHAT STATUS OUT ERR WORD ..: the program, called by these words with this standard input, tells this and ends so
+tells() {
+  local what=$1 expected=$2 out=$3 err=$4 found status
+  shift 4
+  found=$("$DESK" "$@" 2>"$work/err")
   status=$?
-  same "$1: the answer" "$3" "$found"
-  same "$1: the status" 0 "$status"
-  same "$1: standard error" "" "$(cat err)"
+  same "$what: the answer" "$out" "$found"
+  same "$what: standard error" "$err" "$(cat "$work/err")"
+  same "$what: the status" "$expected" "$status"
 }
 
-# refuses_file WHAT FILE OUT ERR: the program does not open the file, and leaves it as it was
-refuses_file() {
-  local found status before
-  before=$(sum "$2")
-  found=$(printf 'begin F/AL/A1/2030-06-01/1/1!0\n' | "$DESK" run "$2" 2>err)
-  status=$?
-  same "$1: the answer" "$3" "$found"
-  same "$1: standard error" "$4" "$(cat err)"
-  same "$1: the status" 1 "$status"
-  same "$1: the file" "$before" "$(sum "$2")"
+# leaves WHAT STATUS OUT ERR WORD FILE [WORD ..]: the same, and the file keeps its bytes
+leaves() {
+  local before
+  before=$(sum "$6")
+  tells "$@"
+  same "$1: the file" "$before" "$(sum "$6")"
 }
+
+# answers WHAT INPUT OUTPUT: the program answers these lines over trips.db, and ends with 0
+answers() { tells "$1" 0 "$3" "" run trips.db < <(printf '%b' "$2"); }
 
 sum() { if [ -f "$1" ]; then cksum <"$1"; fi; }
+
+# compiles NAME ..: makes NAME.so of each of these, to be loaded before the C library
+compiles() {
+  local name
+  for name in "$@"; do cc -O1 -shared -fPIC -o "$name.so" "$tests/$name.c" -ldl || exit 1; done
+}
+
+# comes SECONDS COMMAND ..: waits until this holds, for so many seconds at most; whether it came to hold
+comes() {
+  local end=$((SECONDS + $1))
+  until "${@:2}"; do
+    [ "$SECONDS" -lt "$end" ] || return 1
+    sleep 0.01
+  done 2>/dev/null
+}
+
+# ends_by SIGNAL PROCESS: a process of this script gets this signal, and has ended; the status is its
+ends_by() {
+  kill -s "$1" "$2"
+  wait "$2"
+} 2>/dev/null
+
+# says WHAT TEXT: this is in the file said
+says() { same "$1: '$2' is said" yes "$(grep -qF -- "$2" "$work/said" && echo yes)"; }
 
 # opens_desk: the program runs over trips.db as process $desk, told lines by asks; what it faults goes to desk_err
 opens_desk() {

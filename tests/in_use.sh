@@ -19,7 +19,7 @@ held() {
   while read -r said <&4 && [ "$said" != held ]; do :; done
   same "$1: sqlite3 holds the file" held "$said"
   before=$(both_files)
-  refuses_file "$1" trips.db "" "fault 21 Store"
+  leaves "$1" 1 "" "fault 21 Store" run trips.db <<<"$line"
   same "$1: the file and its log" "$before" "$(both_files)"
   exec 3>&- 4<&-
   wait "$holder"
@@ -36,7 +36,7 @@ answers "free after a reader" "$line\n" "journey 3 begun"
 opens_desk
 asks "the first program" "$line" "journey 4 begun"
 before=$(both_files)
-refuses_file "a second program" trips.db "" "fault 21 Store"
+leaves "a second program" 1 "" "fault 21 Store" run trips.db <<<"$line"
 same "another reader" "" "$(sqlite3 trips.db 'SELECT count(*) FROM journey' 2>/dev/null)"
 same "a second program: the file and its log" "$before" "$(both_files)"
 asks "the first program goes on" "$line" "journey 5 begun"
@@ -57,11 +57,7 @@ exec 4<report
 IFS= read -r heading <&4
 same "a report has begun" "kind" "${heading%% *}"
 for words in "stock many.db" "stock many.db --format csv" "unfinished many.db" "summary many.db" "recover many.db"; do
-  same "beside a report: $words" "fault 21 Store" "$("$DESK" $words 2>&1)"
-  same "beside a report: $words: the status" 1 "$(
-    "$DESK" $words >/dev/null 2>&1
-    echo $?
-  )"
+  tells "beside a report: $words" 1 "" "fault 21 Store" $words
 done
 same "why" "fault 21 Store
 The file is in use. End the program that has it open, or wait for it." "$("$DESK" --explain stock many.db 2>&1)"

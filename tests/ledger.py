@@ -166,3 +166,11 @@ def history_report(tables, identity):
         f"journey {identity} agent {journey[2]}\nplan {plan_line(plans_of(tables)[identity])}\n"
         f"{' '.join(['items', *items])}\nstate {state_of(journey)}\n"
     )
+
+
+def report(tables, word, *rest):
+    """What the desk prints of these tables as a report of these words, and its status."""
+    if word != "history":
+        return {"stock": stock_report, "unfinished": unfinished_report}[word](tables), 0
+    is_there = int(rest[0]) in {row[0] for row in tables["journey"]}
+    return (history_report(tables, int(rest[0])), 0) if is_there else ("refused 9 NoJourney\n", 1)

@@ -4,10 +4,13 @@ import signal
 import socket
 import stat
 import struct
+import sys
 import threading
 import time
 
-from driving import Client, Desk, Logged, asked, desk, free_port, holds, is_whole, opened, request, same, sockets_of, wrong
+from driving import (
+    Client, Desk, Logged, asked, desk, free_port, holds, is_whole, opened, page_size, request, rest_of, same, sockets_of, wrong,
+)
 
 FLIGHT = b'{"count":1,"first":"2030-06-01","kind":"flight","nights":1,"product":"A1","supplier":"AL"}'
 PLAN = b'{"steps":[{"options":[' + FLIGHT + b'],"save":false}],"tries":0}'
@@ -22,7 +25,7 @@ def body_of(page):
 
 
 def post(path, key, body=b"", agent="ann"):
-    return request("POST", path, key, body).replace(b"Desk-Agent: ann", f"Desk-Agent: {agent}".encode())
+    return request("POST", path, key, body, agent)
 
 
 def is_served(what, port):
@@ -159,7 +162,7 @@ def books(port, number, pages):
     same(f"the step of {agent}", b'{"item":"T1.1","journey":%s,"pos":1,"state":"ended"}' % journey.encode(), stepped)
     pages.append(journey)
     for _ in range(20):
-        client.ask(request("GET", f"/journeys/{journey}").replace(b"ann", agent.encode()))
+        client.ask(request("GET", f"/journeys/{journey}", agent=agent))
     client.close()
 
 
@@ -363,47 +366,19 @@ def resets():
     torn.kill()
 
 
-def unnamed(method, path, body=b""):
-    """The bytes of a request that names no agent."""
-    fields = ["Host: d"]
-    if method == "POST":
-        fields.append(f"Content-Length: {len(body)}")
-    return "\r\n".join([f"{method} {path} HTTP/1.1", *fields, "", ""]).encode() + body
-
-
-def house():
-    """The house at its own door: what it sees and moves, and that the port knows nothing of it; and the stop."""
-    path = "own.sock"
-    served = Desk("own.db", "--house", path)
-    begin = request("POST", "/journeys", "h1", PLAN)
-    same("ann begins", b'{"journey":1}', body_of(asked(path, begin)))
-    same("the house begins", b'{"journey":2}', body_of(asked(path, unnamed("POST", "/journeys", PLAN))))
-    both = b'{"unfinished":[{"agent":"ann","journey":1,"pos":0,"state":"run"},{"agent":"desk","journey":2,"pos":0,"state":"run"}]}'
-    own = b'{"unfinished":[{"journey":1,"pos":0,"state":"run"}]}'
-    same("what the house sees", both, body_of(asked(path, unnamed("GET", "/unfinished"))))
-    same("what ann sees there", own, body_of(asked(path, UNFINISHED)))
-    turn = unnamed("POST", "/journeys/1/abort/0")
-    same("the house turns back", b'{"item":"B0a","journey":1,"pos":0,"state":"undone"}', body_of(asked(path, turn)))
-    no_agent, unknown = b'{"name":"NoAgent","refused":2}', b'{"name":"UnknownPath","refused":7}'
-    client = Client(served.port)
-    same("nobody at the port", no_agent, body_of(client.ask(unnamed("GET", "/unfinished"))))
-    same("nobody stops it at the port", unknown, body_of(client.ask(unnamed("POST", "/stop"))))
-    same("no agent stops it", unknown, body_of(asked(path, request("POST", "/stop", "h2"))))
-    same("the house stops it", b'{"state":"stopping"}', body_of(asked(path, unnamed("POST", "/stop"))))
-    served.ends("a desk that the house stops")
-    client.close()
-    same("what the stop leaves", [], [name for name in os.listdir(".") if name.startswith(path)])
-
-
-def given_number():
-    """With a number of connections the desk ends when all of them were there and have ended."""
-    counted = Desk("counted.db", "--connections", "5")
-    clients = [Client(counted.port) for _ in range(5)]
-    for client in clients:
-        holds("one of five", is_whole(client.ask(UNFINISHED)))
-    for client in clients:
-        client.close()
-    counted.ends("five connections")
+def unread_at_a_stop():
+    """Pages wait for a peer that has not read any when the house stops the desk: it gets them whole, and none after them."""
+    path = "unread.sock"
+    served = Desk("unread.db", "--house", path)
+    late = Client(path)
+    late.stream.sendall(request("GET", "/metrics", agent="") * 300)
+    time.sleep(2)
+    same("the house stops it", b'{"state":"stopping"}', body_of(asked(path, request("POST", "/stop", agent=""))))
+    pages, count = rest_of(late.stream), 0
+    while is_whole(pages):
+        pages, count = pages[page_size(pages):], count + 1
+    same("whole pages, but not all", (b"", True), (pages[:200], 0 < count < 300 or count))
+    served.ends("a desk that is stopped while pages wait")
 
 
 def side_by_side(*calls):
@@ -427,15 +402,15 @@ def main():
     loads(whole.port)
     waiting = [half_a_head, byte_by_byte, silent]
     calls = [(case, whole.port) for case in waiting] + [(never_reads,), (stopped_for_long,)]
-    beside = [(ten_book, whole.port), (places_taken,), (few_descriptors,), (stopped_shortly,), (kills,), (given_number,),
-        (unix_socket,), (house,), (resets,)]
+    beside = [(ten_book, whole.port), (places_taken,), (few_descriptors,), (stopped_shortly,), (kills,),
+        (unix_socket,), (unread_at_a_stop,), (resets,)]
     side_by_side(*calls, *beside)
     is_served("at the end", whole.port)
     whole.tells_why("late-request", 2)
     whole.kill()
     told = desk("unfinished", "trips.db")
     same("nothing is unfinished", "unfinished 0\n", told.out)
-    print("\n".join(wrong))
+    sys.exit("\n".join(wrong) or 0)
 
 
 main()

@@ -30,23 +30,13 @@ same "the report and the rows" "$(sqlite3 -separator ' ' copy.db "SELECT CASE ki
   allot - free, free FROM stock ORDER BY kind, supplier, product, night")" \
   "$("$DESK" stock trips.db | awk 'NR > 1 && NF == 7 { print $1, $2, $3, $4, $5, $6, $7 }')"
 
-# faults WHAT FAULT WORDS: the program ends with 1, and tells this fault alone
-faults() {
-  local what=$1 fault=$2 found status
-  shift 2
-  found=$("$DESK" "$@" 2>err)
-  status=$?
-  same "$what: the answer" "" "$found"
-  same "$what: standard error" "$fault" "$(cat err)"
-  same "$what: the status" 1 "$status"
-}
-faults "an absent allotment file" "fault 26 File" load trips.db absent.csv --batch b7
+tells "an absent allotment file" 1 "" "fault 26 File" load trips.db absent.csv --batch b7
 mkdir folder
-faults "a folder for an allotment file" "fault 26 File" load trips.db folder --batch b7
-faults "an absent allotment file and a bad name" "fault 26 File" load trips.db absent.csv --batch B6
-faults "an absent allotment file and a new database" "fault 26 File" load new.db absent.csv --batch b7
+tells "a folder for an allotment file" 1 "" "fault 26 File" load trips.db folder --batch b7
+tells "an absent allotment file and a bad name" 1 "" "fault 26 File" load trips.db absent.csv --batch B6
+tells "an absent allotment file and a new database" 1 "" "fault 26 File" load new.db absent.csv --batch b7
 same "the new database is made" "0|0" "$(sqlite3 new.db 'SELECT events, journeys FROM meta')"
-faults "a folder for a database" "fault 21 Store" load folder absent.csv --batch b7
+tells "a folder for a database" 1 "" "fault 21 Store" load folder absent.csv --batch b7
 
 # standard input, where the allotment file is `-`
 same "standard input" "loaded b8 1" "$(printf '%b' "$header\nroom,SEA,DBL,2030-08-01,3\n" | "$DESK" load trips.db - --batch b8)"
@@ -63,7 +53,7 @@ same "an empty standard input" "refused 6 BadCsv 0 header" "$("$DESK" load trips
 same "many bytes of standard input" "refused 6 BadCsv 0 size" "$(fill 600000 | "$DESK" load trips.db - --batch c1)"
 printf '%b' "$both" >-
 same "a file of that name" "loaded c2 2" "$("$DESK" load trips.db ./- --batch c2 </dev/null)"
-faults "a standard input that cannot be read" "fault 24 Read" load trips.db - --batch c3 <folder
+tells "a standard input that cannot be read" 1 "" "fault 24 Read" load trips.db - --batch c3 <folder
 same "a standard input that is not read" "left" "$(echo left | {
   "$DESK" load trips.db ./- --batch c2 >/dev/null
   cat

@@ -1,6 +1,8 @@
 """The log of a desk that serves, over real sockets. Prints what went wrong, and nothing else. Why connections end that wait too long,
 are cut off or displaced is looked at in live.py, where they are."""
+import calendar
 import os
+import re
 import threading
 import time
 
@@ -9,6 +11,7 @@ from driving import LOG_HEAD, Client, Logged, asked, desk, request, same, wrong
 FLIGHT = b'{"count":1,"first":"2030-06-01","kind":"flight","nights":1,"product":"A1","supplier":"AL"}'
 PLAN = b'{"steps":[{"options":[' + FLIGHT + b'],"save":false}],"tries":0}'
 STOCK = request("GET", "/stock")
+TIME = re.compile(r"[0-9]{4}-[0-9]{2}-[0-9]{2}T[0-9]{2}:[0-9]{2}:[0-9]{2}\.[0-9]{3}Z ")
 
 
 def kinds():
@@ -85,6 +88,33 @@ def widely():
     served.kill()
 
 
+def timed():
+    """With --log=time: each line begins with its time in UTC, and goes on as without. The milliseconds of a request count from its
+    last byte on, so they are no more than its client waited after that."""
+    begun = time.time()
+    served = Logged("timed.db", "--log=time", "--house", "timed.sock")
+    one = Client(served.port)
+    begin = request("POST", "/journeys", "k1", PLAN)
+    one.stream.sendall(begin[:-1])
+    time.sleep(1)
+    sent = time.monotonic()
+    one.ask(begin[-1:])
+    waited = (time.monotonic() - sent) * 1000
+    asked("timed.sock", b"POST /stop HTTP/1.1\r\nHost: d\r\nContent-Length: 0\r\n\r\n")
+    served.ends("a stop with times")
+    one.close()
+    with open(served.name, encoding="utf-8") as kept:
+        lines = kept.read().splitlines()
+    times = [TIME.match(line) for line in lines]
+    same("each line has its time", [True] * 5, [it is not None for it in times])
+    told = [served.told(TIME.sub("", line, count=1)).split() for line in lines]
+    same("what the lines say", ["opened", "request", "request", "ended", "ended"], [words[0] for words in told])
+    read = [calendar.timegm(time.strptime(it[0][:19], "%Y-%m-%dT%H:%M:%S")) + int(it[0][20:23]) / 1000 for it in times]
+    same("times in order, of now", True, begun - 0.001 <= read[0] and read == sorted(read) and read[-1] <= time.time())
+    millis = int(lines[1].rpartition("ms=")[2])
+    same("no more than its client waited", True, millis <= waited + 1 or (millis, waited))
+
+
 def odd_bytes():
     """Bytes of a peer that do not print are escaped: one line is one record, however odd they are."""
     served = Logged("odd.db", "--log")
@@ -158,7 +188,7 @@ def guarded(call):
 
 
 def main():
-    threads = [threading.Thread(target=guarded, args=(call,)) for call in (kinds, widely, odd_bytes, broken, silent)]
+    threads = [threading.Thread(target=guarded, args=(call,)) for call in (kinds, widely, timed, odd_bytes, broken, silent)]
     for thread in threads:
         thread.start()
     for thread in threads:

@@ -16,22 +16,15 @@ for name in wide plain; do
 done
 
 key=7d444840-9dc0-11d1-b245-5ffdce74fad2
-plan='{"steps":[{"options":[{"count":1,"first":"2030-06-01","kind":"flight","nights":1,"product":"A1","supplier":"AL"}],"save":false}],"tries":0}'
-serves_with --wide || {
-  echo "messages.sh: no desk" >&2
-  exit 1
-}
+serves_with --wide
 for host in 127.0.0.2 '[::1]'; do
   curl -s -o got --max-time 5 "http://$host:$port/health"
   same "no connection but at 127.0.0.1: $host" 7 $?
 done
 page "a begin in chunks" 200 '{"journey":1}' -H 'Desk-Agent: ann' -H "Desk-Key: $key" -H 'Transfer-Encoding: chunked' \
   --data-binary "$plan" "http://127.0.0.1:$port/journeys"
-{
-  kill -9 "$desk"
-  wait "$desk"
-} 2>/dev/null
-serves_with --wide --house "$work/desk.sock" || exit 1
+ends_by KILL "$desk"
+serves_with --wide --house "$work/desk.sock"
 page "the same by its length, after a kill" 200 '{"journey":1}' -H 'Desk-Agent: ann' -H "Desk-Key: ${key//-/}" \
   --data-binary "$plan" "http://127.0.0.1:$port/journeys"
 page "the same over HTTP/1.0" 200 '{"journey":1}' --http1.0 -H 'Desk-Agent: ann' -H "Desk-Key: $key" \
@@ -52,7 +45,7 @@ ends_well "with --wide"
 same "the begin acted once" "1" "$(rows 'SELECT journeys FROM meta')"
 
 # with --page another host is refused, whatever it asks for
-serves_with --wide --page || exit 1
+serves_with --wide --page
 for method in GET HEAD POST OPTIONS DELETE; do
   asks=(-X "$method")
   [ "$method" != HEAD ] || asks=(-I)
@@ -74,6 +67,5 @@ page "a POST to the page" 405 '{"name":"WrongMethod","refused":8}' -D head -X PO
 same "its methods again" "Allow: GET, HEAD, OPTIONS" "$(tr -d '\r' <head | grep '^Allow')"
 same "the page by HEAD" "200 0" \
   "$(curl -s -I -o head -w '%{http_code} %{size_download}' --max-time 20 "http://127.0.0.1:$port/")"
-kill "$desk"
-wait "$desk" 2>/dev/null
+ends_by TERM "$desk"
 finish

@@ -1,5 +1,6 @@
-"""The messages that tests/messages.py sends, with the pages that they get with --wide and without: as clients, proxies and browsers send
-them, and one for each page of a refusal. Journey 1 was begun by ann under k1, with this plan, and its step was taken under s1, which
+"""The messages that tests/messages.py sends, with the pages that they get with --wide and without: one for each way in which a body is
+framed, for each page of a refusal, and for what smuggling needs. message_tests has the others of each kind, and clients.sh drives the
+clients and proxies that send them. Journey 1 was begun by ann under k1, with this plan, and its step was taken under s1, which
 found no place; journey 2 was begun under a UUID. bob has no journey.
 """
 
@@ -45,7 +46,6 @@ def refused(status, number, name, *lines):
 
 BEGUN, BEGUN_2 = page(b"200 OK", b'{"journey":1}'), page(b"200 OK", b'{"journey":2}')
 STEPPED = page(b"200 OK", b'{"item":"B0r","journey":1,"pos":0,"state":"undone"}')
-SHOWN = page(b"200 OK", b'{"history":["B0r"],"journey":1,"pos":0,"state":"undone"}')
 UNFINISHED = page(b"200 OK", b'{"unfinished":[]}')
 STOCK = page(b"200 OK", b"kind     supplier product  night       allot   held   free\ncells 0\n", kind=b"text/plain")
 NO_AGENT, NO_KEY = refused(b"400 Bad Request", 2, b"NoAgent"), refused(b"400 Bad Request", 3, b"NoKey")
@@ -85,53 +85,22 @@ SETUP = [
 MESSAGES = {
     "curl, a body": (request(BEGIN, HOST, b"User-Agent: curl/7.88.1", b"Accept: */*", ANN, K1, SIZE,
                              b"Content-Type: application/x-www-form-urlencoded", body=PLAN), BEGUN),
-    "Node, fetch": (request(BEGIN, b"host: 127.0.0.1:8080", b"connection: keep-alive", ANN, K1, b"content-type: application/json",
-                            b"accept: */*", b"accept-language: *", b"sec-fetch-mode: cors", b"user-agent: node",
-                            b"accept-encoding: gzip, deflate", SIZE.lower(), body=PLAN), BEGUN),
-    "Java, an upgrade": (request(BEGIN, b"Connection: Upgrade, HTTP2-Settings", SIZE, HOST,
-                                 b"HTTP2-Settings: AAEAAEAAAAIAAAABAAMAAABkAAQBAAAAAAUAAEAA", b"Upgrade: h2c",
-                                 b"User-Agent: Java-http-client/17.0.15", ANN, K1, body=PLAN), BEGUN),
-    "Java, a GET with a length": (request(b"GET /journeys/1 HTTP/1.1", b"Content-Length: 0", HOST, ANN), SHOWN),
-    "axios, {} as the body of a step": (request(STEP, HOST, ANN, b"Desk-Key: x1", b"Content-Length: 2",
-                                                b"Content-Type: application/json", body=b"{}"), BAD_BODY),
-    "LWP": (request(STEP, b"TE: deflate,gzip;q=0.3", b"Connection: TE, close", HOST, b"User-Agent: lwp-request/6.68", ANN, S1,
-                    b"Content-Length: 0"), closing(STEPPED), STEPPED),
     "curl -X POST": (request(STEP, HOST, b"User-Agent: curl/7.88.1", b"Accept: */*", ANN, S1), STEPPED, NO_LENGTH),
-    "PHP streams, no content": (request(STEP, HOST, ANN, S1, b"Content-Type: application/json", b"Connection: close"),
-                                closing(STEPPED), NO_LENGTH),
-    "HttpURLConnection, no output": (request(STEP, ANN, S1, b"User-Agent: Java/17.0.15", HOST,
-                                             b"Accept: text/html, image/gif, image/jpeg, */*; q=0.2", b"Connection: keep-alive"),
-                                     STEPPED, NO_LENGTH),
     "a UUID with hyphens": (request(BEGIN, HOST, ANN, b"Desk-Key: " + UUID, SIZE, body=PLAN), BEGUN_2, NO_KEY),
     "nginx as it comes": (request(b"POST /journeys HTTP/1.0", b"Host: desk", b"Connection: close", SIZE, b"User-Agent: curl/7.88.1",
                                   b"Accept: */*", ANN, K1, body=PLAN), closing(BEGUN), BAD_HEAD),
-    "ab -k, which would stay": (request(b"GET /unfinished HTTP/1.0", b"Connection: Keep-Alive", HOST, BOB), closing(UNFINISHED), BAD_HEAD),
-    "HAProxy's check as it comes": (request(b"OPTIONS / HTTP/1.0"), closing(UNKNOWN), BAD_HEAD),
     "HAProxy's check by HEAD": (request(b"HEAD /stock HTTP/1.0", ANN), head_of(closing(STOCK)), head_of(BAD_HEAD)),
-    "Node, a stream": (request(BEGIN, b"host: 127.0.0.1:8080", b"connection: keep-alive", ANN, K1, b"accept: */*",
-                               b"transfer-encoding: chunked", body=chunks(PLAN)), BEGUN, BAD_HEAD),
-    "Node, http.request.write": (request(BEGIN, ANN, K1, HOST, b"Connection: keep-alive", CHUNKED,
-                                         body=chunks(*(PLAN[at : at + 1] for at in range(len(PLAN))))), BEGUN, BAD_HEAD),
-    "urllib, a file": (request(BEGIN, b"Accept-Encoding: identity", CHUNKED, HOST, b"User-Agent: Python-urllib/3.11", ANN, K1,
-                               b"Connection: close", body=chunks(PLAN, size=b"%X\r\n")), closing(BEGUN), BAD_HEAD),
-    "Java, a stream": (request(BEGIN, HOST, b"Transfer-encoding: chunked", ANN, K1, body=chunks(PLAN[:60], PLAN[60:])), BEGUN, BAD_HEAD),
-    "Go, a file, and no body": (request(STEP, HOST, b"User-Agent: Go-http-client/1.1", CHUNKED, ANN, S1, body=chunks()), STEPPED, BAD_HEAD),
     "HAProxy, Caddy, Apache: chunks passed on": (
         request(BEGIN, b"host: desk", b"desk-agent: ann", b"desk-key: k1", b"x-forwarded-for: 192.0.2.7", b"via: 1.1 desk",
                 b"transfer-encoding: chunked", body=chunks(PLAN[:100], PLAN[100:], size=b"%06x\r\n")), BEGUN, BAD_HEAD),
     "chunks with trailers": (request(BEGIN, HOST, ANN, K1, CHUNKED, body=chunks(
         PLAN, end=b"0\r\nDesk-Agent: bob\r\nDesk-Key: k2\r\nContent-Length: 3\r\n\r\n")), BEGUN, BAD_HEAD),
-    "a client of a proxy": (request(b"POST http://127.0.0.1:8080/journeys HTTP/1.1", HOST, b"Proxy-Connection: Keep-Alive", ANN, K1,
-                                    SIZE, body=PLAN), BEGUN, UNKNOWN),
-    "a browser's icon": (request(b"GET /favicon.ico HTTP/1.1", HOST, b"Sec-Fetch-Dest: image"), UNKNOWN),
-    "the address bar, a known path": (request(b"GET /stock HTTP/1.1", HOST, b"Sec-Fetch-Mode: navigate"), NO_AGENT),
     "HEAD": (request(b"HEAD /stock HTTP/1.1", HOST, ANN), head_of(STOCK), head_of(not_allowed(b"GET"))),
     "OPTIONS of the desk": (request(b"OPTIONS * HTTP/1.1", HOST), allowed(b"GET, HEAD, OPTIONS, POST"), UNKNOWN),
     "a preflight": (request(b"OPTIONS /journeys HTTP/1.1", HOST, b"Origin: http://other.example",
                             b"Access-Control-Request-Method: POST", b"Access-Control-Request-Headers: desk-agent,desk-key"),
                     allowed(b"OPTIONS, POST"), not_allowed(b"POST")),
     "another method": (request(b"DELETE /stock HTTP/1.1", HOST, ANN), not_allowed(b"GET, HEAD, OPTIONS"), not_allowed(b"GET")),
-    "meant for another, in chunks": (request(BEGIN, b"Desk-For: ann", HOST, BOB, K1, CHUNKED, body=chunks(PLAN)), NO_AGENT, BAD_HEAD),
     "bare LF, after empty lines": (b"\r\n\n\r\n" + GET.replace(b"\r\n", b"\n"), UNFINISHED),
     "a body that is no text": (request(BEGIN, HOST, ANN, b"Desk-Key: x2", b"Content-Length: 4", body=b"\xff\0\xc3\x28"), BAD_BODY),
     "a request in a body by its length": (request(b"POST /journeys/7/step HTTP/1.1", HOST, ANN, b"Desk-Key: x3", b"Content-Length: %d" % len(HIDDEN),
@@ -141,11 +110,7 @@ MESSAGES = {
     "a request after the last one": (request(STEP, HOST, ANN, S1, b"Content-Length: 0", b"Connection: close"), closing(STEPPED)),
     # what is not read: one for each page, and what smuggling needs
     "a length, then chunks": (request(BEGIN, HOST, ANN, K1, b"Content-Length: 4", CHUNKED), BAD_HEAD),
-    "two lengths": (request(BEGIN, HOST, ANN, K1, b"Content-Length: 4", b"Content-Length: 5"), BAD_HEAD),
-    "chunks on a folded line": (request(BEGIN, HOST, ANN, K1, b"Transfer-Encoding:", b" chunked"), BAD_HEAD),
     "two hosts": (request(b"GET /unfinished HTTP/1.1", HOST, HOST, BOB), BAD_HEAD),
-    "NUL in the target": (request(b"GET /\0 HTTP/1.1", HOST), BAD_HEAD),
-    "one byte in a line": (b"A\r\n\r\n", BAD_HEAD),
     "gzip, then chunks": (request(BEGIN, HOST, ANN, K1, b"Transfer-Encoding: gzip, chunked"), OTHER_CODING, BAD_HEAD),
     "HTTP/2.0": (b"PRI * HTTP/2.0\r\n\r\n", OTHER_VERSION, BAD_HEAD),
     "33 fields": (GET[:-2] + b"A: b\r\n" * 31 + b"\r\n", LONG_HEAD, BAD_HEAD),
@@ -154,12 +119,8 @@ MESSAGES = {
 # the head asks for 100 Continue, and a body comes
 ASKING = {
     "curl -T -": (request(BEGIN, HOST, b"User-Agent: curl/7.88.1", b"Accept: */*", CHUNKED, ANN, K1, EXPECT, body=chunks(PLAN)), BEGUN, BAD_HEAD),
-    "curl, asked for it": (request(BEGIN, HOST, b"User-Agent: curl/7.88.1", ANN, EXPECT, K1, SIZE, body=PLAN), BEGUN),
     "java.net.http, asked for it": (request(BEGIN, SIZE, b"Expect: 100-Continue", HOST, b"User-Agent: Java-http-client/17.0.15", ANN,
                                             K1, body=PLAN), BEGUN),
-    "PHP CURLOPT_POST without fields": (request(STEP, HOST, b"Accept: */*", CHUNKED, ANN, S1, EXPECT, body=chunks()), STEPPED, BAD_HEAD),
-    "aiohttp": (request(BEGIN, HOST, ANN, K1, b"Accept: */*", b"Accept-Encoding: gzip, deflate", b"User-Agent: Python/3.11 aiohttp/3.8.4",
-                        SIZE, b"Content-Type: application/json", EXPECT, body=PLAN), BEGUN),
 }
 # chunks that are none, of which the desk may be certain before all came; and what begins no method, which ends the connection
 NO_CHUNKS = {"a size line with LF alone": b"2\n{}", "a chunk longer than its size": b"1\r\n{}", "a request as a trailer": b"0\r\nGET / HTTP/1.1\r\n\r\n"}

@@ -1,70 +1,53 @@
 #!/usr/bin/env bash
 # Files of schema 1, which sqlite3 makes here, are shown as they are, refused where the desk would write, and migrated; then they are
-# used, also with the index for own journeys. What a migration leaves that is killed, or whose calls or allocations fail, is looked at by power_cuts.sh, failing_calls.sh
-# and memory_of_runs.sh.
+# used, also with the index for own journeys. What else is refused, each kept reply and each recovered journey is tried in
+# migration_tests. What a migration leaves that is killed, or whose calls or allocations fail, is looked at by power_cuts.sh,
+# failing_calls.sh and memory_of_runs.sh.
 [ -w /dev/shm ] && in_memory=/dev/shm
 . "$(dirname "${BASH_SOURCE[0]}")/helping.bash"
 . "$tests/serving.bash"
 
-# tells WHAT STATUS OUT ERR WORDS: the program, called by these words, tells this and ends so
-tells() {
-  local what=$1 expected=$2 out=$3 fault=$4 found status
-  shift 4
-  found=$("$DESK" "$@" 2>err </dev/null)
-  status=$?
-  same "$what: the answer" "$out" "$found"
-  same "$what: standard error" "$fault" "$(cat err)"
-  same "$what: the status" "$expected" "$status"
-}
-
-# leaves WHAT STATUS OUT ERR WORD FILE [WORDS]: the same, and the file keeps its bytes
-leaves() {
-  local before
-  before=$(sum "$6")
-  tells "$@"
-  same "$1: the file" "$before" "$(sum "$6")"
-}
-
-# old_journeys FOURS: the rows of a batch and of four times so many journeys. Of each four the first has ended, the second is
-# going back to a save-point, the third was refused at once, and the fourth, which the house began, is running
-old_journeys() {
-  cat <<SQL
-CREATE TEMP TABLE sort(sort, agent, steps, tries, pos, phase, target, used, first, reply);
-INSERT INTO sort VALUES (0, 'ann',  1, 0, 1, 2, 0, 0, 0, 'T1.1 ended 1'),
-                        (1, 'ann',  3, 0, 2, 1, 1, 0, 2, 'B1a back 2 to 1'),
-                        (2, 'bob',  1, 0, 0, 3, 0, 1, 6, 'B0r undone 0'),
-                        (3, 'desk', 2, 0, 1, 0, 0, 0, 8, NULL);
-CREATE TEMP TABLE opt(sort, place, opt, save, taken, kind, supplier, product, nights, places);
-INSERT INTO opt VALUES (0, 1, 1, 0, 1, 0, 'AL', 'A1', 1, 1),
-                       (1, 1, 1, 1, 1, 0, 'AL', 'A1', 1, 1), (1, 2, 1, 0, 1, 0, 'AL', 'A2', 1, 2), (1, 3, 1, 0, 0, 2, 'BUS', 'X', 1, 1),
-                       (2, 1, 1, 0, 0, 1, 'INN', 'A', 2, 1), (2, 1, 2, 0, 0, 1, 'INN', 'B', 1, 1),
-                       (3, 1, 1, 0, 1, 0, 'AL', 'A1', 1, 1), (3, 2, 1, 0, 0, 2, 'BUS', 'X', 1, 1);
-CREATE TEMP TABLE item(sort, turn, item, a, b);
-INSERT INTO item VALUES (0, 1, 0, 1, 1), (1, 1, 0, 1, 1), (1, 2, 0, 2, 1), (1, 3, 2, 1, 2), (2, 1, 2, 0, 1), (3, 1, 0, 1, 1);
-CREATE TEMP TABLE begun AS
-  WITH RECURSIVE n(id) AS (SELECT 1 UNION ALL SELECT id + 1 FROM n WHERE id < 4 * $1)
-  SELECT id, 2 + 10 * ((id - 1) / 4) + first AS num, sort.* FROM n JOIN sort ON sort.sort = (id - 1) % 4;
-INSERT INTO batch VALUES ('all', 1, CAST('F/AL/A1/2030-06-01/100000
-F/AL/A2/2030-06-01/90000
-T/BUS/X/2030-06-01/80000
-' AS BLOB));
-INSERT INTO stock VALUES (0, 'AL', 'A1', 22066, 100000, 100000 - 3 * $1), (0, 'AL', 'A2', 22066, 90000, 90000 - 2 * $1),
-  (2, 'BUS', 'X', 22066, 80000, 80000);
-INSERT INTO journey SELECT id, num, agent, steps, tries, pos, phase, target, used FROM begun;
-INSERT INTO step SELECT id, place, opt, save, taken, kind, supplier, product, 22066, nights, places
-  FROM begun JOIN opt USING (sort);
-INSERT INTO entry SELECT num + turn, id, item, a, b FROM begun JOIN item USING (sort);
--- what came over HTTP: the target and a line feed
-INSERT INTO answer SELECT agent, 'k' || id, CAST('/journeys/' || id || iif(sort = 1, '/abort/1', '/step') || char(10) AS BLOB),
-  'journey ' || id || ' ' || reply FROM begun WHERE reply IS NOT NULL;
-INSERT INTO meta VALUES (1, 1, 1 + 10 * $1, 4 * $1);
-SQL
-}
-
-# makes_old FILE FOURS: a file of schema 1, with 1 event and 10 more for each four journeys
+# makes_old FILE: a file of schema 1, of a batch and of four journeys with 11 events. The first has ended, the second is going back to
+# a save-point, the third was refused at once, and the fourth, which the house began, is running
 makes_old() {
-  rm -f "$1" "$1"-*
-  { echo 'BEGIN;' && cat "$tests/schema_1.sql" && old_journeys "$2" && echo 'COMMIT;'; } | sqlite3 "$1" || exit 2
+  sqlite3 "$1" <<'SQL' || exit 2
+BEGIN;
+CREATE TABLE meta(one INTEGER PRIMARY KEY CHECK(one = 1), version INTEGER NOT NULL, events INTEGER NOT NULL,
+  journeys INTEGER NOT NULL) STRICT;
+CREATE TABLE stock(kind INTEGER NOT NULL CHECK(kind BETWEEN 0 AND 3), supplier TEXT NOT NULL, product TEXT NOT NULL,
+  night INTEGER NOT NULL, allot INTEGER NOT NULL, free INTEGER NOT NULL CHECK(free >= 0 AND free <= allot),
+  PRIMARY KEY(kind, supplier, product, night)) STRICT;
+CREATE TABLE batch(name TEXT NOT NULL PRIMARY KEY, num INTEGER NOT NULL UNIQUE, content BLOB NOT NULL) STRICT;
+CREATE TABLE journey(id INTEGER PRIMARY KEY, num INTEGER NOT NULL UNIQUE, agent TEXT NOT NULL, steps INTEGER NOT NULL,
+  tries INTEGER NOT NULL, pos INTEGER NOT NULL, phase INTEGER NOT NULL CHECK(phase BETWEEN 0 AND 3), target INTEGER NOT NULL,
+  used INTEGER NOT NULL) STRICT;
+CREATE TABLE step(journey INTEGER NOT NULL REFERENCES journey(id), place INTEGER NOT NULL, opt INTEGER NOT NULL,
+  save INTEGER NOT NULL CHECK(save IN (0, 1)), taken INTEGER NOT NULL CHECK(taken IN (0, 1)), kind INTEGER NOT NULL,
+  supplier TEXT NOT NULL, product TEXT NOT NULL, night INTEGER NOT NULL, nights INTEGER NOT NULL, places INTEGER NOT NULL,
+  PRIMARY KEY(journey, place, opt)) STRICT;
+CREATE TABLE entry(num INTEGER PRIMARY KEY, journey INTEGER NOT NULL REFERENCES journey(id),
+  item INTEGER NOT NULL CHECK(item BETWEEN 0 AND 2), a INTEGER NOT NULL, b INTEGER NOT NULL) STRICT;
+CREATE TABLE answer(agent TEXT NOT NULL, mark TEXT NOT NULL, ask BLOB NOT NULL, reply TEXT NOT NULL, PRIMARY KEY(agent, mark)) STRICT;
+INSERT INTO batch VALUES ('all', 1, CAST('F/AL/A1/2030-06-01/10
+F/AL/A2/2030-06-01/9
+T/BUS/X/2030-06-01/8
+' AS BLOB));
+INSERT INTO stock VALUES (0, 'AL', 'A1', 22066, 10, 7), (0, 'AL', 'A2', 22066, 9, 7), (2, 'BUS', 'X', 22066, 8, 8);
+INSERT INTO journey VALUES (1, 2, 'ann', 1, 0, 1, 2, 0, 0), (2, 4, 'ann', 3, 0, 2, 1, 1, 0), (3, 8, 'bob', 1, 0, 0, 3, 0, 1),
+  (4, 10, 'desk', 2, 0, 1, 0, 0, 0);
+INSERT INTO step VALUES (1, 1, 1, 0, 1, 0, 'AL', 'A1', 22066, 1, 1),
+  (2, 1, 1, 1, 1, 0, 'AL', 'A1', 22066, 1, 1), (2, 2, 1, 0, 1, 0, 'AL', 'A2', 22066, 1, 2), (2, 3, 1, 0, 0, 2, 'BUS', 'X', 22066, 1, 1),
+  (3, 1, 1, 0, 0, 1, 'INN', 'A', 22066, 2, 1), (3, 1, 2, 0, 0, 1, 'INN', 'B', 22066, 1, 1),
+  (4, 1, 1, 0, 1, 0, 'AL', 'A1', 22066, 1, 1), (4, 2, 1, 0, 0, 2, 'BUS', 'X', 22066, 1, 1);
+INSERT INTO entry VALUES (3, 1, 0, 1, 1), (5, 2, 0, 1, 1), (6, 2, 0, 2, 1), (7, 2, 2, 1, 2), (9, 3, 2, 0, 1), (11, 4, 0, 1, 1);
+-- what came over HTTP: the target and a line feed
+INSERT INTO answer VALUES ('ann', 'k1', CAST('/journeys/1/step
+' AS BLOB), 'journey 1 T1.1 ended 1'), ('ann', 'k2', CAST('/journeys/2/abort/1
+' AS BLOB), 'journey 2 B1a back 2 to 1'), ('bob', 'k3', CAST('/journeys/3/step
+' AS BLOB), 'journey 3 B0r undone 0');
+INSERT INTO meta VALUES (1, 1, 11, 4);
+COMMIT;
+SQL
 }
 
 # holds FILE: what its tables hold, whatever the order of rows
@@ -79,48 +62,25 @@ new_of() {
   holds plain.db
 }
 
-stock='kind     supplier product  night       allot   held   free
-flight   AL       A1       2030-06-01 100000      6  99994
-flight   AL       A2       2030-06-01  90000      4  89996
-transfer BUS      X        2030-06-01  80000      0  80000
-cells 3'
-unfinished='           2 ann              back 2 to 1
-           4 desk             run 1
-           6 ann              back 2 to 1
-           8 desk             run 1
-unfinished 4'
 day=2030-06-01
-history="journey 2 agent ann
-plan F/AL/A1/$day/1/1*;F/AL/A2/$day/1/2;T/BUS/X/$day/1/1!0
-items T1.1 T2.1 B1a
-state back 2 to 1"
+plan="plan F/AL/A1/$day/1/1*;F/AL/A2/$day/1/2;T/BUS/X/$day/1/1!0"
 
-# is_shown WHAT FILE: the reports show the file of eight journeys, and leave it
+# is_shown WHAT FILE: the reports show the file of four journeys, and leave it
 is_shown() {
-  leaves "$1: stock" 0 "$stock" "" stock "$2"
-  leaves "$1: unfinished" 0 "$unfinished" "" unfinished "$2"
-  leaves "$1: a part of the stock" 0 "$(sed -n '1p;4p' <<<"$stock")
-cells 1" "" stock "$2" --kind transfer --to $day
-  leaves "$1: unfinished journeys of an agent" 0 "$(grep ann <<<"$unfinished")
-unfinished 2" "" unfinished "$2" --agent ann
+  leaves "$1: stock" 0 'kind     supplier product  night       allot   held   free
+flight   AL       A1       2030-06-01     10      3      7
+flight   AL       A2       2030-06-01      9      2      7
+transfer BUS      X        2030-06-01      8      0      8
+cells 3' "" stock "$2"
+  leaves "$1: unfinished" 0 '           2 ann              back 2 to 1
+           4 desk             run 1
+unfinished 2' "" unfinished "$2"
   leaves "$1: undone journeys" 0 "           3 bob              undone 0
-           7 bob              undone 0
-journeys 2" "" journeys "$2" --state undone
-  leaves "$1: a history" 0 "$history" "" history "$2" 2
-  leaves "$1: another" 0 "journey 7 agent bob
-plan R/INN/A/$day/2/1|R/INN/B/$day/1/1!0
-items B0r
-state undone 0" "" history "$2" 7
-  leaves "$1: an absent journey" 1 "refused 9 NoJourney" "" history "$2" 9
-}
-
-# is_not_written WHAT FILE VERSION: no subcommand that would write does so
-is_not_written() {
-  local refusal="refused 20 UnknownSchema $3"
-  leaves "$1: run" 1 "$refusal" "" run "$2"
-  leaves "$1: recover" 1 "$refusal" "" recover "$2"
-  leaves "$1: load" 1 "$refusal" "" load "$2" some.csv --batch some
-  leaves "$1: serve" 1 "$refusal" "" serve "$2" --port "$taken" --connections 1
+journeys 1" "" journeys "$2" --state undone
+  leaves "$1: a history" 0 "journey 2 agent ann
+$plan
+items T1.1 T2.1 B1a
+state back 2 to 1" "" history "$2" 2
 }
 
 # a port that another program listens on, so that a desk that listens before it refuses would fault
@@ -129,111 +89,62 @@ s = socket.socket(); s.bind(("127.0.0.1", 0)); s.listen(); print(s.getsockname()
 read -r taken <&"${listener[0]}"
 
 printf 'kind,supplier,product,night,places\nflight,AL,A9,2030-06-01,10\n' >some.csv
-makes_old old.db 2
+makes_old old.db
 is_shown "an old file" old.db
-is_not_written "an old file" old.db 1
+for words in "run old.db" "recover old.db" "load old.db some.csv --batch some" "serve old.db --port $taken --connections 1"; do
+  leaves "an old file: $words" 1 "refused 20 UnknownSchema 1" "" $words </dev/null
+done
 expected=$(new_of old.db)
 cp old.db trips.db
-tells "an old file" 0 "migrated 1 to 2 events 21" "" migrate trips.db
+tells "an old file" 0 "migrated 1 to 2 events 11" "" migrate trips.db
 same "what the new file holds" "$expected" "$(holds trips.db)"
 same "the new file is sound" "ok" "$(rows 'PRAGMA integrity_check')"
 same "what it refers to" "" "$(rows 'PRAGMA foreign_key_check')"
 is_shown "a new file" trips.db
 leaves "a new file" 1 "refused 23 AlreadyNew" "" migrate trips.db
 
-# without a journey
-makes_old bare.db 0
-sqlite3 bare.db "DELETE FROM batch; DELETE FROM stock; DELETE FROM journey; DELETE FROM step; DELETE FROM entry;
-  DELETE FROM answer; UPDATE meta SET events = 0, journeys = 0"
-is_not_written "an empty old file" bare.db 1
-expected=$(new_of bare.db)
-tells "an empty old file" 0 "migrated 1 to 2 events 0" "" migrate bare.db
-same "what the empty file holds" "$expected" "$(holds bare.db)"
-
 # what is no file of schema 1
 tells "an absent file" 1 "" "fault 26 File" migrate absent.db
 same "none is made" "" "$(ls absent.db* 2>/dev/null)"
-mkdir folder
-tells "a folder" 1 "" "fault 21 Store" migrate folder
-head -c 5000 /dev/zero | tr '\0' x >text.db
-leaves "a text file" 1 "" "fault 21 Store" migrate text.db
 : >empty.db
 tells "a file without a byte" 1 "refused 20 UnknownSchema 0" "" migrate empty.db
 same "a file without a byte gets no table" "0" "$(sqlite3 empty.db 'SELECT count(*) FROM sqlite_schema')"
-for version in 0 3; do
-  cp old.db other.db
-  sqlite3 other.db "UPDATE meta SET version = $version"
-  leaves "version $version" 1 "refused 20 UnknownSchema $version" "" migrate other.db
-  leaves "version $version: stock" 1 "refused 20 UnknownSchema $version" "" stock other.db
-  is_not_written "version $version" other.db "$version"
-done
-for table in meta entry; do
-  cp old.db other.db
-  sqlite3 other.db "DROP TABLE $table"
-  leaves "no table $table" 1 "" "fault 21 Store" migrate other.db
-done
+cp old.db other.db
+sqlite3 other.db "UPDATE meta SET version = 3"
+leaves "version 3" 1 "refused 20 UnknownSchema 3" "" migrate other.db
 "$DESK" migrate >out 2>err
-same "no file: the status" 2 $?
-same "no file: standard output" "" "$(cat out)"
+same "no file: the status, and standard output" "2:" "$?:$(cat out)"
 
 # a full output: what was asked is done
-cp old.db full.db
-"$DESK" migrate full.db >/dev/full 2>err
-same "a full disk: the status" 1 $?
-same "a full disk: standard error" "fault 25 Write" "$(cat err)"
-leaves "after a full disk" 1 "refused 23 AlreadyNew" "" migrate full.db
+"$DESK" migrate old.db >/dev/full 2>err
+same "a full disk: the status" "1 fault 25 Write" "$? $(cat err)"
+leaves "after a full disk" 1 "refused 23 AlreadyNew" "" migrate old.db
 
-# keeps FIRST: each kept key of four journeys from this one on gives its reply, over HTTP, and for another text none
-keeps() {
-  local url=http://127.0.0.1:$port id=$1
-  local item='{"item":"T1.1","journey":'$id',"pos":1,"state":"ended"}'
-  page "a kept step" 200 "$item" -d '' -H 'Desk-Agent: ann' -H "Desk-Key: k$id" "$url/journeys/$id/step"
-  page "its key for something else" 409 '{"name":"KeyReused","refused":14}' -d '' -H 'Desk-Agent: ann' -H "Desk-Key: k$id" \
-    "$url/journeys/$id/abort/0"
-  id=$((id + 1))
-  item='{"item":"B1a","journey":'$id',"pos":2,"state":"back","target":1}'
-  page "a kept abort" 200 "$item" -d '' -H 'Desk-Agent: ann' -H "Desk-Key: k$id" "$url/journeys/$id/abort/1"
-  id=$((id + 1))
-  item='{"item":"B0r","journey":'$id',"pos":0,"state":"undone"}'
-  page "a kept refusal" 200 "$item" -d '' -H 'Desk-Agent: bob' -H "Desk-Key: k$id" "$url/journeys/$id/step"
-}
-
-# is_used WHAT LAST: the new file trips.db, of which these are the last four journeys, is recovered; a journey goes to its
-# target and on, a new one takes a save-point, and the kept keys give their replies
-is_used() {
-  local what=$1 last=$2 new
-  new=$((last + 1))
-  tells "$what: recovery" 0 "recovered $((5 * last / 4))" "" recover trips.db
-  tells "$what: recovery once more" 0 "recovered 0" "" recover trips.db
-  tells "$what: a journey that was going back" 0 "journey $((last - 2)) agent ann
-plan F/AL/A1/$day/1/1*;F/AL/A2/$day/1/2;T/BUS/X/$day/1/1!0
+# the new file is recovered; a journey goes to its target and on, a new one takes a save-point, and a kept key gives its reply
+tells "recovery" 0 "recovered 5" "" recover trips.db
+tells "recovery once more" 0 "recovered 0" "" recover trips.db
+tells "a journey that was going back" 0 "journey 2 agent ann
+$plan
 items T1.1 T2.1 B1a C2.1 T2.1 T3.1
-state ended 3" "" history trips.db $((last - 2))
-  tells "$what: one that was running" 0 "journey $last agent desk
-plan F/AL/A1/$day/1/1;T/BUS/X/$day/1/1!0
-items T1.1 B0s C1.1
-state undone 0" "" history trips.db "$last"
-  answers "$what: a new journey" "begin F/AL/A1/$day/1/1;F/AL/A2/$day/1/1;T/BUS/X/$day/1/1!0
-step $new\nsave $new\nstep $new\nabort $new 1\nstep $new\nstep $new\nstep $new\n" "journey $new begun
-journey $new T1.1 run 1
-journey $new S1 run 1
-journey $new T2.1 run 2
-journey $new B1a back 2 to 1
-journey $new C2.1 run 1
-journey $new T2.1 run 2
-journey $new T3.1 ended 3"
-  same "$what: its items" "0|1|1 3|1|0 0|2|1 2|1|2 1|2|1 0|2|1 0|3|1" \
-    "$(rows "SELECT item, a, b FROM entry2 WHERE journey = $new ORDER BY num")"
-  same "$what: nothing more is written to the old items" "0" "$(rows "SELECT count(*) FROM entry WHERE journey > $last")"
-  if serves 4; then
-    keeps $((last - 3))
-    ends_well "$what: the desk"
-  else
-    same "$what: the desk serves" yes no
-  fi
-  same "$what: the file is sound" "ok" "$(rows 'PRAGMA integrity_check')"
-}
-is_used "a new file" 8
+state ended 3" "" history trips.db 2
+answers "a new journey" "begin F/AL/A1/$day/1/1;F/AL/A2/$day/1/1;T/BUS/X/$day/1/1!0
+step 5\nsave 5\nstep 5\nabort 5 1\nstep 5\nstep 5\nstep 5\n" "journey 5 begun
+journey 5 T1.1 run 1
+journey 5 S1 run 1
+journey 5 T2.1 run 2
+journey 5 B1a back 2 to 1
+journey 5 C2.1 run 1
+journey 5 T2.1 run 2
+journey 5 T3.1 ended 3"
+same "its items" "0|1|1 3|1|0 0|2|1 2|1|2 1|2|1 0|2|1 0|3|1" "$(rows "SELECT item, a, b FROM entry2 WHERE journey = 5 ORDER BY num")"
+same "nothing more is written to the old items" "6" "$(rows "SELECT count(*) FROM entry")"
+serves 2
+page "a kept step" 200 '{"item":"T1.1","journey":1,"pos":1,"state":"ended"}' -d '' -H 'Desk-Agent: ann' -H "Desk-Key: k1" \
+  "http://127.0.0.1:$port/journeys/1/step"
+page "its key for something else" 409 '{"name":"KeyReused","refused":14}' -d '' -H 'Desk-Agent: ann' -H "Desk-Key: k1" \
+  "http://127.0.0.1:$port/journeys/1/abort/0"
+ends_well "the desk"
+same "the file is sound" "ok" "$(rows 'PRAGMA integrity_check')"
 
 # The index for own journeys. A file without it, or with another one beside it, is used in the same way, and `index` adds it once.
 made="CREATE INDEX journey_agent ON journey(agent, id)"
@@ -246,9 +157,7 @@ journey $2 T1.1 ended 1"
 }
 
 tells "the index of an absent file" 1 "" "fault 26 File" index absent.db
-rm -f trips.db trips.db-*
-: >trips.db
-tells "the index of a file without tables" 1 "refused 20 UnknownSchema 0" "" index trips.db
+tells "the index of a file without tables" 1 "refused 20 UnknownSchema 0" "" index empty.db
 rm -f trips.db trips.db-*
 answers "a new desk" "set a F/AL/A1/$day 5\n" "loaded a 1"
 same "the index of a new desk" "$made" "$(own_indexes)"
@@ -263,7 +172,5 @@ rows "CREATE INDEX item_journey ON entry2(journey, num)"
 ends_next "with an index on the items too" 4
 same "the items" "3|1 5|2 7|3 9|4" "$(rows 'SELECT num, journey FROM entry2 ORDER BY num')"
 same "the file with indexes is sound" "ok" "$(rows 'PRAGMA integrity_check')"
-rows "UPDATE meta SET version = 3"
-tells "the index of an unknown version" 1 "refused 20 UnknownSchema 3" "" index trips.db
 
 finish

@@ -2,10 +2,7 @@
 # scripts/mutants.py finds a mutant that the prover accepts, also one that it rejects only for a function that it calls, in a
 # repository of one small crate. It says so of each mutant, tries alone what may share no check, and leaves the sources as they are.
 . "$(dirname "${BASH_SOURCE[0]}")/helping.bash"
-if ! command -v rt >/dev/null 2>&1; then
-  echo "mutants.sh: skipped, there is no rt" >&2
-  exit 0
-fi
+stands_on rt
 crate=crates/small
 mkdir -p repo/$crate/{src,specs,must-fail,mutants} repo/{docs,scripts,tests} rooms
 cp -r "$tests"/../scripts/{gate,mutants.py} repo/scripts
@@ -155,13 +152,9 @@ same "the reason" yes "$(grep -qE 'returns_the_number.edit: refused: .*src/sums.
 # one that is ended while a wrong body stands in its room
 scripts/mutants.py small returns_the_number.edit >"$work/said" 2>&1 &
 run=$!
-for _ in {1..600}; do
-  ! grep -qs 'Ok(x)' "$work"/rooms/*/src/sums.rt || break
-  sleep 0.2
-done
-same "the wrong body stands" yes "$(grep -qs 'Ok(x)' "$work"/rooms/*/src/sums.rt && echo yes)"
-kill "$run"
-{ wait "$run"; } 2>/dev/null
+wrong_body() { grep -qs 'Ok(x)' "$work"/rooms/*/src/sums.rt; }
+comes 120 wrong_body || same "the wrong body stands" yes ""
+ends_by TERM "$run"
 same "a run that is ended: the status" 143 $?
 files >"$work/after"
 same "a run that is ended: the files are as they were" "$(cat "$work/before")" "$(cat "$work/after")"

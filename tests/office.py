@@ -14,11 +14,10 @@ from office_day import day
 from office_firefox import FIREFOX, Firefox
 from office_kept import not_found, wrong_in
 from office_proxies import ARE, Proxy, in_folder, with_certificates, with_names
-from page_driving import DESK, Browser, Desk
+from page_driving import Browser, Desk
 from page_scenes import JUNE, comes, same
 from parts import Deal
 
-HERE = os.path.dirname(os.path.abspath(__file__))
 LINE = "F/AL/A1/2030-06-01/1/1*;T/BUS/X/2030-06-01/1/1!0"
 DAYS = ("nginx", "haproxy")
 NO_AGENT = '{"name":"NoAgent","refused":2}'
@@ -96,16 +95,6 @@ def begins(browser):
     browser.named("Do step 2", ".acts")
 
 
-def backs_up(desk, to):
-    """A backup while the desk serves: it has the three journeys, as they are."""
-    tools = os.path.join(os.path.dirname(HERE), "tools", "backup")
-    made = subprocess.run([tools, desk.file, to], capture_output=True, text=True, env={**os.environ, "DESK": DESK})
-    same("a backup", (0, f"saved {to}\n"), (made.returncode, made.stdout))
-    shown = subprocess.run([DESK, "journeys", to], check=True, capture_output=True, text=True).stdout
-    same("what it has", [["1", "ann", "run", "1"], ["2", "bob", "run", "1"], ["3", "ann", "run", "1"], ["journeys", "3"]],
-         [line.split() for line in shown.splitlines()])
-
-
 def in_office(proxy, desk, ann, bob):
     """A short day of two agents."""
     same("health needs no password", 200, proxy.ask("/health")[0])
@@ -126,7 +115,6 @@ def in_office(proxy, desk, ann, bob):
     ann.open(f"https://127.0.0.1:{proxy.port}/")
     ann.shows("Up to date", "#state")
     begins(ann)
-    backs_up(desk, f"{proxy.folder}/{proxy.name}-backup.db")
     desk.kill()
     ann.press("Do step 2", ".acts")
     for browser, window in ((ann, windows[0]), (ann, windows[1]), (bob, None)):

@@ -8,10 +8,11 @@ import subprocess
 import sys
 import time
 
+from driving import DESK
 from ledger import events_of
 from office_kept import Day, Tab
 from office_proxies import Proxy
-from page_driving import DESK, PATIENCE, Browser, Desk, wait_until
+from page_driving import PATIENCE, Browser, Desk, wait_until
 from page_scenes import JUNE, same
 from soak_files import rows_in
 

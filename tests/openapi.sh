@@ -9,10 +9,7 @@ if ! perl -MJSON::Validator -MYAML::PP -MHTTP::Tiny -e 1 2>/dev/null; then
 fi
 described=$(cd "$tests/.." && pwd)/docs/openapi.yaml
 operations=$(grep -c '^      operationId:' "$described")
-serves "$operations" || {
-  echo "openapi.sh: no desk" >&2
-  exit 1
-}
+serves "$operations"
 same "the examples" "$operations answered as described" "$(perl "$tests/openapi.pl" "$described" "$port" 2>&1)"
 ends_well "the desk"
 finish

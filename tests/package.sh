@@ -10,12 +10,7 @@ if [[ $DESK == */out/trial/* ]]; then
   say "skipped, a trial program is too slow"
   exit 0
 fi
-for tool in dpkg-deb dpkg-shlibdeps strip curl; do
-  if ! command -v "$tool" >/dev/null; then
-    say "skipped, there is no $tool"
-    exit 0
-  fi
-done
+stands_on dpkg-deb dpkg-shlibdeps strip curl
 for file in program needs install package; do . "$top/scripts/$file.bash"; done
 program=$DESK
 
@@ -119,7 +114,6 @@ asks_for() {
   page "$1" 200 "$2" -H 'Desk-Agent: ann' -H "Desk-Key: $3" --data-binary "$5" "http://127.0.0.1:$port$4"
 }
 
-plan='{"steps":[{"options":[{"count":1,"first":"2030-06-01","kind":"flight","nights":1,"product":"A1","supplier":"AL"}],"save":false}],"tries":0}'
 cp "$new" "$old" root
 changes "it is installed, in an older version" -i "$at_root/${old##*/}"
 same "the older version" 0.0.1 "$(version_there)"

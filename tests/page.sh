@@ -28,10 +28,7 @@ unknown='{"name":"UnknownPath","refused":7}'
 policy="default-src 'none'; script-src $(allowed script); style-src $(allowed style); connect-src 'self'"
 policy="$policy; frame-ancestors 'none'; base-uri 'none'; form-action 'none'"
 
-serves 17 --page || {
-  echo "page.sh: no desk" >&2
-  exit 1
-}
+serves 17 --page
 desk_at=http://127.0.0.1:$port
 page "the page" 200 "$(cat "$shown")" -D head "$desk_at/"
 cmp -s got "$shown" || same "the bytes of the page" "those of web/desk.html" "others"
@@ -58,8 +55,7 @@ ends_well "with a page"
 
 # the house has begun journey 1, which an opening undoes; ann begins journey 2, and the house journey 3
 answers "the house" 'begin F/AL/A1/2030-06-01/1/1!0\n' 'journey 1 begun'
-plan='{"steps":[{"options":[{"count":1,"first":"2030-06-01","kind":"flight","nights":1,"product":"A1","supplier":"AL"}],"save":false}],"tries":0}'
-serves 12 --page --house "$work/desk.sock" || exit 1
+serves 15 --page --house "$work/desk.sock"
 desk_at=http://127.0.0.1:$port
 at_house=(--unix-socket "$work/desk.sock")
 page "a begin by ann" 200 '{"journey":2}' -H 'Desk-Agent: ann' -H 'Desk-Key: k1' --data-binary "$plan" "$desk_at/journeys"
@@ -75,10 +71,17 @@ page "who asks at the house's door" 200 '{"agent":"desk"}' "${at_house[@]}" http
 page "the page at the house's door" 404 "$unknown" "${at_house[@]}" http://desk/
 page "the page again" 200 "$(cat "$shown")" "$desk_at/"
 page "a stop at the port" 404 "$unknown" -H 'Desk-Agent: ann' -H 'Desk-Key: k2' -d '' "$desk_at/stop"
+page "what the house sees" 200 \
+  '{"unfinished":[{"agent":"ann","journey":2,"pos":0,"state":"run"},{"agent":"desk","journey":3,"pos":0,"state":"run"}]}' \
+  "${at_house[@]}" http://desk/unfinished
+page "the house turns back ann's journey" 200 '{"item":"B0a","journey":2,"pos":0,"state":"undone"}' "${at_house[@]}" -d '' \
+  http://desk/journeys/2/abort/0
+page "an agent's stop at the house's door" 404 "$unknown" "${at_house[@]}" -H 'Desk-Agent: ann' -H 'Desk-Key: k2' -d '' http://desk/stop
 page "a stop" 200 '{"state":"stopping"}' "${at_house[@]}" -d '' http://desk/stop
 ends_well "with a page and the house's door"
+same "what the stop leaves" "" "$(ls "$work"/desk.sock* 2>/dev/null)"
 
-serves 2 || exit 1
+serves 2
 page "no page" 404 "$unknown" -H 'Desk-Agent: ann' "http://127.0.0.1:$port/"
 page "a request under another host" 200 '{"unfinished":[]}' -H 'Host: evil.example' -H 'Desk-Agent: bob' "http://127.0.0.1:$port/unfinished"
 ends_well "without a page"

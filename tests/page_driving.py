@@ -3,7 +3,6 @@ import http.client
 import json
 import os
 import shutil
-import signal
 import subprocess
 import time
 
@@ -17,10 +16,9 @@ from selenium.webdriver.common.action_chains import ActionChains
 from selenium.webdriver.common.keys import Keys
 from selenium.webdriver.support.ui import Select
 
+from driving import PATIENCE, Server
 from ports import free_port
 
-DESK = os.environ["DESK"]
-PATIENCE = float(os.environ.get("PATIENCE", "60"))
 SEEN = """const isSeen = one => one.checkVisibility({visibilityProperty: true});
 const seen = css => [...document.querySelectorAll(css)].filter(isSeen);
 const named = one => one.getAttribute('aria-label') || one.innerText.trim();
@@ -43,26 +41,19 @@ def wait_until(holds, what):
         time.sleep(0.05)
 
 
-class Desk:
-    """The program over a file, with its page, at a port that it keeps when it is started again. A log is kept in a file, if one is named."""
+class Desk(Server):
+    """The program over a file, with its page, at a port that it keeps when it is started again. A log is kept in a file, if named."""
 
     def __init__(self, file, words=(), log=None):
-        self.file, self.words, self.port, self.process, self.log = file, words, free_port(), None, log
+        self.file, self.words, self.port, self.log = file, words, free_port(), log
         self.start()
 
     def start(self):
-        words = [DESK, "serve", self.file, "--port", str(self.port), "--page", *self.words, *(["--log"] if self.log else [])]
+        words = ["--page", *self.words, *(["--log"] if self.log else [])]
         with open(self.log or os.devnull, "ab") as log:
-            self.process = subprocess.Popen(
-                words, stdin=subprocess.DEVNULL, stdout=subprocess.PIPE, stderr=log if self.log else subprocess.PIPE,
-            )
-        said = self.process.stdout.readline()
-        if said != f"ready {self.port}\n".encode():
-            raise RuntimeError(f"no desk at {self.port}: {said!r} {self.process.communicate()}")
-
-    def kill(self):
-        self.process.send_signal(signal.SIGKILL)
-        self.process.communicate()
+            super().__init__(self.file, None, words=words, port=self.port, errors=log if self.log else subprocess.PIPE)
+        if not self.said:
+            raise RuntimeError(f"no desk at {self.port}")
 
     def ask(self, method, path, agent="ann", key="", body="", host=None):
         """The status and the body of a page, of which JSON is read."""

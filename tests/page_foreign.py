@@ -1,8 +1,11 @@
-"""Pages that are not the desk's own: they reach nothing of it, and the page loads nothing from elsewhere."""
+"""Pages that are not the desk's own: they reach nothing of it, and the page loads nothing from elsewhere. And a browser that is
+connected to the desk itself."""
 import http.server
 import json
 import threading
+import time
 
+from driving import Client, is_whole, request, sockets_of
 from page_driving import Browser, wait_until
 from page_scenes import same
 
@@ -80,3 +83,48 @@ def foreign_pages(scene):
     added = """const one = document.createElement('script'); one.textContent = 'window.ran = 1';
       document.body.append(one); return window.ran ? 'yes' : 'no'"""
     same("a script that was added runs", "no", browser.script(added))
+
+
+# asks for the stock so many times at once, and gives each status and body
+ASKS = """const [count, done] = arguments;
+const ask = () => fetch("/stock", {headers: {"Desk-Agent": "ann"}, cache: "no-store"})
+  .then(page => page.text().then(text => page.status + " " + text));
+Promise.all(Array.from({length: count}, ask)).then(done, error => done([String(error)]));"""
+# opens a connection ahead, for which nothing is asked
+AHEAD = """const link = document.createElement("link");
+link.rel = "preconnect";
+link.href = location.origin;
+link.crossOrigin = arguments[0];
+document.head.append(link);"""
+
+
+def at_once(what, call):
+    """What a call gives, which comes within 15 seconds: a desk that waited for a silent connection would take longer."""
+    begun = time.monotonic()
+    found = call()
+    same(f"{what}: it comes at once", True, time.monotonic() - begun < 15)
+    return found
+
+
+def silent_ahead(scene):
+    """A browser without a proxy opens connections, asks over some of them, and leaves them all silent; one more is silent to the
+    end, whatever the browser does with its own. Nobody waits: not the browser, and not another client."""
+    scene.browser.end()
+    scene.browser = browser = Browser(f"{scene.folder}/ahead")
+    browser.open(scene.desk.url("stock"))
+    same("a page without an agent", {"name": "NoAgent", "refused": 2}, json.loads(browser.script("return document.body.innerText")))
+    silent, other = Client(scene.desk.port), Client(scene.desk.port)
+    asks = request("GET", "/stock").replace(b"Host: d", f"Host: 127.0.0.1:{scene.desk.port}".encode())
+    connections = lambda: sockets_of(scene.desk.process) - 1
+    for count in (12, 1):
+        pages = at_once(f"{count} requests", lambda count=count: browser.driver.execute_async_script(ASKS, count))
+        same(f"{count} pages", [True] * count, [page.startswith("200 ") and page.rstrip().endswith("cells 43") for page in pages])
+        for crossed in ("anonymous", "use-credentials"):
+            browser.script(AHEAD, crossed)
+        wait_until(lambda: connections() > 4, lambda: f"silent connections beside two of others; there are {connections()}")
+        for number in range(20):
+            found = at_once(f"another client's request {number}", lambda: other.ask(asks))
+            same(f"another client's page {number}", (True, b"HTTP/1.1 200 OK"), (is_whole(found), found.partition(b"\r\n")[0]))
+        same("the silent ones stay", True, connections() > 4)
+    for client in (silent, other):
+        client.close()

@@ -3,9 +3,9 @@ or spoil the page."""
 import base64
 import hashlib
 import http.client
+import http.server
 import json
 import re
-import socket
 import threading
 import urllib.parse
 from typing import NamedTuple
@@ -26,21 +26,6 @@ class Request(NamedTuple):
 
     def field(self, name):
         return next((value for known, value in self.fields if known.lower() == name), None)
-
-
-def request_in(source):
-    """The next request of a connection; None at its end, and where the browser itself asks for something elsewhere."""
-    try:
-        method, url, _ = source.readline().decode().split(" ")
-        fields = []
-        while line := source.readline().decode().rstrip("\r\n"):
-            fields.append(tuple(line.split(": ", 1)))
-        request = Request(method, urllib.parse.urlsplit(url), fields, b"")
-        if method == "CONNECT" or request.where.hostname not in HERE:
-            return None
-        return request._replace(body=source.read(int(request.field("content-length") or 0)))
-    except (ValueError, OSError):
-        return None
 
 
 def page_of(status, reason, fields, text):
@@ -121,36 +106,42 @@ class Gets:
             self.changed.notify_all()
 
 
-class Network:
+class Handler(http.server.BaseHTTPRequestHandler):
+    """A connection of a browser, which ends where a request gets no page, and where it is for elsewhere."""
+
+    protocol_version = "HTTP/1.1"
+
+    def passes(self):
+        where, body = urllib.parse.urlsplit(self.path), self.rfile.read(int(self.headers.get("Content-Length") or 0))
+        page = self.server.comes(Request(self.command, where, self.headers.items(), body)) if where.hostname in HERE else None
+        self.close_connection = not page
+        if page:
+            self.wfile.write(page)
+
+    do_GET = do_HEAD = do_POST = do_OPTIONS = passes
+
+    def log_message(self, *_):
+        pass
+
+
+class Network(http.server.ThreadingHTTPServer):
     """`mode` says what becomes of POSTs: each is passed on; or its page is lost once it was carried out; or it is held until it
     is let go, and then lost. `instead` is the status and the page that the next POST gets in the place of the desk's. `gets` holds
     GETs back, where that is asked for. `front` is called with each request, and may return the bytes of a page in the desk's place;
     `before` is called once, before the next POST is passed on. The desk is served below `folder`, where that is given, and is told
     that `signed_in` asks, whoever a request names. With `spoil`, an old and a new text, the desk's page is spoiled."""
 
+    request_queue_size = 64
+
     def __init__(self, spoil=None):
+        super().__init__(("127.0.0.1", 0), Handler)
         self.mode, self.posts, self.paths, self.instead = "pass", [], [], None
         self.front, self.before, self.folder, self.signed_in = None, None, "", ""
-        self.spoil, self.let_go, self.gets = spoil, threading.Event(), Gets()
-        self.socket = socket.create_server(("127.0.0.1", 0), backlog=64)
-        self.port = self.socket.getsockname()[1]
-        threading.Thread(target=self.accept, daemon=True).start()
+        self.spoil, self.let_go, self.gets, self.port = spoil, threading.Event(), Gets(), self.server_address[1]
+        threading.Thread(target=self.serve_forever, daemon=True).start()
 
-    def accept(self):
-        while True:
-            try:
-                stream, _ = self.socket.accept()
-            except OSError:
-                return
-            threading.Thread(target=self.serve, args=(stream,), daemon=True).start()
-
-    def serve(self, stream):
-        with stream, stream.makefile("rb") as source:
-            while (request := request_in(source)) and (page := self.comes(request)):
-                try:
-                    stream.sendall(page)
-                except OSError:
-                    return
+    def handle_error(self, *_):
+        """A browser that has gone away is no fault."""
 
     def comes(self, request):
         """A request comes: the bytes of its page; nothing where the connection ends instead."""
@@ -195,6 +186,7 @@ class Network:
         return page_of(status, reason, fields, text)
 
     def end(self):
-        self.socket.close()
+        self.shutdown()
+        self.server_close()
         self.let_go.set()
         self.gets.release()

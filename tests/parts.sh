@@ -4,99 +4,53 @@
 . "$(dirname "${BASH_SOURCE[0]}")/helping.bash"
 export PYTHONDONTWRITEBYTECODE=1 PYTHONPATH=$tests
 unset PART TESTED
-bad=(0/3 4/3 x 1 1/ /3 0/0 01/3 1/03 -1/3 +1/3 1/3/5 ' 1/3' '1/3 ' 1.0/3 1/x 1/1000 $'1/3\n' '1,3' '1/3;')
 
-# prints a line "NAME CASE" for each case that helping.bash gives a part, of two lists of 25; and what the last line of a script
-# ends with
-cat >deals.sh <<'SH'
-. "$TESTS/helping.bash"
-for name in one two; do
-  for n in {1..25}; do if is_mine; then echo "$name $n"; fi; done
-done
-echo "last$in_part"
-SH
-
-# deals PART: the same, for this part
-deals() { PART=$1 TESTS=$tests bash deals.sh; }
-
-# the same in Python, for each part in the words; in place of numbers it is given lists without end, up to 100; and what chance
-# gives every part, and what it gives one
-cat >deals.py <<'PY'
-import importlib, itertools, os, sys
+# all parts of one to six, over two lists of 25 cases and over numbers without end, of which those up to 100 are looked at; and what
+# chance gives every part, and what it gives one. Then parts of another form
+python3 - >out 2>&1 <<'PY' || same "the parts" "" "$(cat out)"
+import collections, contextlib, importlib, io, itertools, os, random, sys
 import parts
-for part in sys.argv[1:]:
+
+def same(what, expected, found):
+    assert expected == found, f"{what}\n  expected: {expected}\n  found:    {found}"
+
+LISTS = [(name, n) for name in ("one", "two") for n in range(1, 26)]
+ALL = sorted(LISTS + [("from", n) for first in (3, 4, 5) for n in range(first, 101, 5)])
+
+def done_by(part):
+    """The cases that a part has, and its chances."""
     os.environ["PART"] = part
     importlib.reload(parts)
     deal = parts.Deal()
-    for name in ("one", "two"):
-        for n in deal.mine(range(1, 26)):
-            print(part, name, n)
+    cases = deal.mine(LISTS)
     for first in (3, 4, 5):
-        for n in itertools.takewhile(lambda n: n <= 100, deal.mine_from(first, 5)):
-            print(part, "from", n)
-    same, own = parts.chances(7)
-    print(part, "chance", same.random(), own.random())
-    print(f"{part} last{parts.IN_PART}")
-PY
+        cases += [("from", n) for n in itertools.takewhile(lambda n: n <= 100, deal.mine_from(first, 5))]
+    same(f"{part}: the last line", f", part {part.replace('/', ' of ')}" if part else "", parts.IN_PART)
+    return cases, [one.random() for one in parts.chances(7)]
 
-# reads each of the words as a part, and prints with what status, and in which words
-cat >bad.py <<'PY'
-import contextlib, io, sys
-import parts
-for text in sys.argv[1:]:
+chances = [done_by("")[1]]
+same("without a part", ALL, sorted(done_by("")[0]))
+chance = random.Random(7)
+same("without a part there is one chance", [chance.random(), chance.random()], chances[0])
+for n in range(1, 7):
+    found = [done_by(f"{k}/{n}") for k in range(1, n + 1)]
+    same(f"the cases of {n} parts", ALL, sorted(case for cases, _ in found for case in cases))
+    for cases, _ in found:
+        few = sum(name == "one" for name, _ in cases)
+        same(f"a part of {n} has {few} of 25 cases", True, 25 // n <= few <= 24 // n + 1)
+    chances += [both for _, both in found]
+same("every part chooses the same cases", 1, len({one for one, _ in chances}))
+same("each part has chances of its own", 21, len({own for _, own in chances}))
+for text in ("0/3", "4/3", "x", "1", "1/", "/3", "0/0", "01/3", "1/03", "-1/3", "+1/3", "1/3/5", " 1/3", "1/3 ", "1.0/3", "1/x", "1/1000",
+             "1/3\n", "1,3", "1/3;"):
     said, status = io.StringIO(), 0
     with contextlib.redirect_stderr(said):
         try:
             parts.read_part(text)
         except SystemExit as end:
             status = end.code
-    print(status, said.getvalue(), end="")
+    same(f"PART={text!r}", (2, f"-: PART={text} is not K/N, with K from 1 to N\n"), (status, said.getvalue()))
 PY
-
-# all_of NAME FIRST LAST: each case of this name
-all_of() { seq -f "$1 %.0f" "$2" "$3"; }
-by_bash=$({ all_of one 1 25 && all_of two 1 25; } | sort)
-by_python=$({ all_of one 1 25 && all_of two 1 25 && all_of from 3 100 | grep '[034589]$'; } | sort)
-
-# is_dealt_out N ALL: so many parts do each of these cases once, and each of them has its share; their lines are in dealt
-is_dealt_out() {
-  local k few
-  for ((k = 1; k <= $1; k++)); do
-    same "part $k of $1: the last line" "last, part $k of $1" "$(sed -n "s,^$k/$1 \(last.*\),\1,p" dealt)"
-    few=$(grep -c "^$k/$1 one " dealt)
-    same "part $k of $1 has $few of 25 cases" yes "$([ "$few" -ge $((25 / $1)) ] && [ "$few" -le $((24 / $1 + 1)) ] && echo yes)"
-  done
-  same "the cases of $1 parts" "$2" "$(sed -n "s,^[0-9]*/$1 \([a-z_]* [0-9]*\)$,\1,p" dealt | sort)"
-}
-every=()
-for n in {1..6}; do
-  for ((k = 1; k <= n; k++)); do
-    every+=("$k/$n")
-    deals "$k/$n" | sed "s,^,$k/$n ,"
-  done
-done >dealt
-for n in {1..6}; do is_dealt_out "$n" "$by_bash"; done
-same "bash, without a part" "$by_bash" "$(deals '' | grep -vx last | sort)"
-same "bash, without a part: the last line" last "$(deals '' | tail -n 1)"
-python3 deals.py "${every[@]}" >dealt
-for n in {1..6}; do is_dealt_out "$n" "$by_python"; done
-python3 deals.py '' >whole
-same "Python, without a part" "$by_python" "$(sed -n 's/^ \([a-z]* [0-9]*\)$/\1/p' whole | sort)"
-same "Python, without a part: the last line" " last" "$(tail -n 1 whole)"
-
-same "every part chooses the same cases" 1 "$(sed -n 's/.* chance \([^ ]*\) .*/\1/p' dealt whole | sort -u | wc -l)"
-same "each part has chances of its own" "${#every[@]}" "$(sed -n 's/.* chance [^ ]* //p' dealt | sort -u | wc -l)"
-same "without a part there is one chance" "$(grep chance whole)" \
-  "$(python3 -c 'import random; c = random.Random(7); print("", "chance", c.random(), c.random())')"
-
-for text in "${bad[@]}"; do
-  deals "$text" >out 2>err
-  same "PART='$text': the status" 2 $?
-  same "PART='$text': the output" "" "$(cat out)"
-  same "PART='$text': standard error" "deals.sh: PART=$text is not K/N, with K from 1 to N" "$(cat err)"
-done
-same "the same in Python" "$(printf '2 bad.py: PART=%s is not K/N, with K from 1 to N\n' "${bad[@]}")" \
-  "$(python3 bad.py "${bad[@]}")"
 
 # a script that is not dealt out does all in the first part
 same "trial.sh in another part" "0: trial.sh: left out until its turn" \
@@ -104,8 +58,6 @@ same "trial.sh in another part" "0: trial.sh: left out until its turn" \
     PART=2/4 bash "$tests/trial.sh" 2>err
     echo "$?: $(cat err)"
   )"
-PART=5/4 bash "$tests/trial.sh" >out 2>&1
-same "trial.sh in a part of another form" 2 $?
 
 # programs of three tests, which allocate five, four and four times, and note what is refused to them; to note it allocates
 # nothing. The last test is done again at each byte, by its name
@@ -140,6 +92,8 @@ refuses() {
     bash "$tests/memory_of_crates.sh" >out 2>err
   status=$?
 }
+# all_of NAME FIRST LAST: each case of this name
+all_of() { seq -f "$1 %.0f" "$2" "$3"; }
 for name in one_tests two_tests; do
   all_of "$name tests::five" 1 5
   all_of "$name tests::four" 1 4

@@ -3,10 +3,7 @@
 # itself; and a history is drawn as its items say, or refused. Without Graphviz nothing is drawn, and the pictures are looked at.
 . "$(dirname "${BASH_SOURCE[0]}")/helping.bash"
 
-if ! command -v python3 >/dev/null 2>&1; then
-  echo "pictures.sh: skipped, there is no python3" >&2
-  exit 0
-fi
+stands_on python3
 top=$(dirname "$tests")
 
 # ends WHAT STATUS ERR WORD ..: the script of the folder copy, called with these words, ends so, with this on standard error;

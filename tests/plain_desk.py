@@ -6,6 +6,7 @@ A request is a tuple: ("load", name, rows), ("begin", plan line), ("step", id), 
 ("moved", id, item, pos, phase), or a Refusal. An item is ("T", step, option), ("C", step, option),
 ("B", target, cause) or ("S", position, 0).
 """
+import copy
 import functools
 from typing import NamedTuple
 
@@ -15,7 +16,7 @@ CODES = {"T": 0, "C": 1, "B": 2, "S": 3}
 NAMES = {
     1: "BadHead", 2: "NoAgent", 3: "NoKey", 4: "BadBody", 5: "BadPlan", 6: "BadCsv", 7: "UnknownPath", 8: "WrongMethod",
     9: "NoJourney", 10: "Finished", 11: "NoSavePoint", 12: "BelowHeld", 13: "BatchDiffers", 14: "KeyReused",
-    15: "TooLarge", 19: "NoLength", 23: "AlreadyNew", 28: "NoSave",
+    15: "TooLarge", 16: "Limit", 19: "NoLength", 23: "AlreadyNew", 28: "NoSave",
 }
 PHASES = RUN, BACK, ENDED, UNDONE = "run", "back", "ended", "undone"
 
@@ -116,11 +117,9 @@ class Desk:
         self.known = {}  # rows of events and journeys that did not change since; copies share them
 
     def copy(self):
-        other = Desk()
-        other.events, other.journeys = list(self.events), list(self.journeys)
-        other.wants, other.phases, other.places = list(self.wants), list(self.phases), dict(self.places)
-        other.batches, other.allotted, other.kept = dict(self.batches), dict(self.allotted), dict(self.kept)
-        other.open, other.known, other.rows, other.way = set(self.open), self.known, self.rows, self.way
+        other = copy.copy(self)
+        for name in ("events", "journeys", "wants", "phases", "places", "batches", "allotted", "kept", "open"):
+            setattr(other, name, copy.copy(getattr(self, name)))
         return other
 
     def by_events(self):

@@ -23,10 +23,9 @@ shows() {
 
 # shown WORDS PRINTED STATUS:FAULT: the program, called by these words, prints this and ends so
 shown() {
-  local status
   [ -n "$1" ] || return
   "$DESK" $1 >out 2>err </dev/null
-  status=$?
+  local status=$?
   case $1 in *csv*) same "$1: lines that end with CR LF" "$(wc -l <out)" "$(grep -c $'\r$' out)" ;; esac
   same "$1" "${2%$'\n'}" "$(tr -d '\r' <out)"
   same "$1: the end" "$3" "$status:$(cat err)"

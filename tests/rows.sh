@@ -1,11 +1,8 @@
 #!/usr/bin/env bash
 # Worked rows, of which all values were written by hand: lines, reports, files and requests, through the program (tests/rows.txt).
 # Rows of lines are run over HTTP too. Then some answers of the table are spoiled, and each of these has to be found wrong.
-[ -w /dev/shm ] && in_memory=/dev/shm
-. "$(dirname "${BASH_SOURCE[0]}")/helping.bash"
-. "$tests/hostile.bash"
+. "$(dirname "${BASH_SOURCE[0]}")/hostile.bash"
 
-needs_python
 python3 "$tests/rows.py" "$tests/rows.txt" || wrong=1
 
 # finds ROW SED: with its text changed so, this row is found wrong

@@ -1,9 +1,14 @@
 # What the scripts share that drive the desk over HTTP. The desk serves trips.db.
 
+# a plan of one flight, as the body of a request
+flight='{"count":1,"first":"2030-06-01","kind":"flight","nights":1,"product":"A1","supplier":"AL"}'
+plan='{"steps":[{"options":['$flight'],"save":false}],"tries":0}'
+
 # a port that is free now; another try is made where it is not free any more
 free_port() { python3 "$tests/ports.py"; }
 
-# serves_with [WORD ..]: the desk serves with these words, as process $desk, on $port; what it tells goes to told and desk_err
+# serves_with [WORD ..]: the desk serves with these words, as process $desk, on $port; what it tells goes to told and desk_err.
+# Without a desk the script ends
 serves_with() {
   local tries
   for tries in 1 2 3; do
@@ -15,20 +20,17 @@ serves_with() {
     [ -s told ] && return 0
     wait "$desk"
   done
-  return 1
+  echo "$(basename "$0"): no desk" >&2
+  exit 1
 }
 
 # serves CONNECTIONS [WORD ..]: the same, for so many connections
-serves() {
-  serves_with --connections "$@"
-}
+serves() { serves_with --connections "$@"; }
 
 # ends_with WHAT STATUS: the desk ends by itself, with this status
 ends_with() {
-  local status
   wait "$desk" 2>/dev/null
-  status=$?
-  same "$1: the status" "$2" "$status"
+  same "$1: the status" "$2" $?
 }
 
 # ends_well WHAT: it told that it is ready, and nothing else, and ends with 0

@@ -2,7 +2,7 @@
 import os
 
 from driving import Client, Server, desk, lay, read_files
-from ledger import Ledger, history_report, is_settled, make_file, statements_of, stock_report, tables_of, unfinished_report
+from ledger import Ledger, is_settled, make_file, report, statements_of, tables_of
 from scenes import OLD_EVENTS, ON
 
 NEW_TEXTS = ("CREATE TABLE entry2", "CREATE TABLE mark", "CREATE INDEX journey_agent")
@@ -17,7 +17,7 @@ def look(files):
     if shown.status != 0 or shown.err:
         return f"unfinished: {shown}"
     tables = tables_of("cut/trips.db")
-    expected = "unfinished 0\n" if tables is None else unfinished_report(tables)
+    expected = "unfinished 0\n" if tables is None else report(tables, "unfinished")[0]
     return tables if shown.out == expected else f"unfinished: {shown}"
 
 
@@ -74,12 +74,9 @@ class Events:
 
     def reports(self, tables, chance):
         """What is wrong with the reports of the recovered disk."""
-        expected = {("stock",): stock_report(tables)}
-        if tables["journey"]:
-            one = chance.choice(tables["journey"])[0]
-            expected[("history", str(one))] = history_report(tables, one)
-        for words, text in expected.items():
-            shown = desk(words[0], "cut/trips.db", *words[1:])
+        calls = [("stock",)] + ([("history", str(chance.choice(tables["journey"])[0]))] if tables["journey"] else [])
+        for words in calls:
+            shown, text = desk(words[0], "cut/trips.db", *words[1:]), report(tables, *words)[0]
             if (shown.out, shown.err, shown.status) != (text, "", 0):
                 return f"{' '.join(words)}: {shown}, expected {text!r}"
         return ""

@@ -11,10 +11,7 @@ if [[ $DESK == */out/trial/* ]]; then
   exit 0
 fi
 
-needs_python
-for name in calls refuse; do
-  cc -O1 -shared -fPIC -o "$name.so" "$tests/$name.c" -ldl || exit 1
-done
+compiles calls refuse
 
 # soaks SEED COUNT WORD ..: runs the simulation
 soaks() { python3 "$tests/soak.py" . "$@"; }

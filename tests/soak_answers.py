@@ -1,7 +1,7 @@
 """What the desk answers, by the plain desk and docs/HTTP.md: the bytes of its lines, pages and reports."""
 import json
 
-from ledger import history_report, stock_report, unfinished_report
+from ledger import report, stock_report
 from plain_desk import BACK, NAMES, RUN, Refusal, item_text, line_of, request_in
 from soak_asks import bytes_of
 
@@ -10,7 +10,6 @@ STATUSES = {
     19: (411, "Length Required"),
 }
 BAD, CONFLICT = (400, "Bad Request"), (409, "Conflict")
-REPORTS = {"stock": stock_report, "unfinished": unfinished_report}
 
 
 def value_of(reply):
@@ -81,12 +80,4 @@ def answer(desk, saying):
 
 def report_of(desk, word, rest):
     """What a report prints of a desk."""
-    tables = desk.tables()
-    if word in REPORTS:
-        return REPORTS[word](tables).encode()
-    if word == "migrate":
-        return b"refused 23 AlreadyNew\n"
-    identity = int(rest[0])
-    if not 1 <= identity <= len(desk.journeys):
-        return b"refused 9 NoJourney\n"
-    return history_report(tables, identity).encode()
+    return b"refused 23 AlreadyNew\n" if word == "migrate" else report(desk.tables(), word, *rest)[0].encode()

@@ -1,4 +1,5 @@
 """What was said to one life of the program, and the desks that may stand by then: an answer leaves those that give it."""
+from driving import is_whole, page_size
 from soak_answers import answer
 
 
@@ -94,12 +95,9 @@ class Stream:
 
     def page(self, is_head):
         def size(text):
-            head, end, _ = text.partition(b"\r\n\r\n")
-            if not end:
-                return None
-            sizes = [int(f[15:]) for f in head.split(b"\r\n") if f.startswith(b"Content-Length:")]
-            whole = len(head) + 4 + (0 if is_head or not sizes else sizes[0])
-            return whole if len(text) >= whole else None
+            if is_head:
+                return text.find(b"\r\n\r\n") + 4 if b"\r\n\r\n" in text else None
+            return page_size(text) if is_whole(text) else None
         return self.until(size)
 
     def to_end(self):

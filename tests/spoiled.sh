@@ -16,7 +16,7 @@ fi
 [ -w /dev/shm ] && in_memory=/dev/shm
 . "$(dirname "${BASH_SOURCE[0]}")/helping.bash"
 
-cc -O1 -shared -fPIC -o refuse.so "$tests/refuse.c" || exit 1
+compiles refuse
 program=${MEMORY_TESTS:-$tests/../crates/fault_tests/out}/fault_tests_tests
 if [ ! -x "$program" ]; then
   same "the tests of fault_tests, which ./check leaves" built absent

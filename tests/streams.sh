@@ -7,12 +7,9 @@ mkdir folder
 
 # ends_with WHAT STATUS ERR COMMAND ..: the command has this status, and this on standard error
 ends_with() {
-  local what=$1 expected=$2 err=$3 status
-  shift 3
-  "$@" 2>err
-  status=$?
-  same "$what: the status" "$expected" "$status"
-  same "$what: standard error" "$err" "$(cat err)"
+  "${@:4}" 2>err
+  same "$1: the status" "$2" $?
+  same "$1: standard error" "$3" "$(cat err)"
 }
 
 from_folder() { "$DESK" run trips.db <folder; }

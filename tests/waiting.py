@@ -9,27 +9,18 @@ import pty
 import re
 import subprocess
 import sys
-import tempfile
 import termios
 import threading
 import time
 import tty
 
-from driving import DESK
+from driving import DESK, same, wrong
 
 LINES = [f"set b{n} F/AL/A{n}/2030-06-01 9\n" for n in range(1, 9)]
 ANSWERS = "".join(f"loaded b{n} 1\n" for n in range(1, 9))
 ROWS = ["kind,supplier,product,night,places\n"] + [f"flight,AL,B{n},2030-06-01,9\n" for n in range(1, 8)]
 PAUSE = 0.6
 AWAY = " " * 48 + "\r"
-wrong = 0
-
-
-def same(what, expected, found):
-    global wrong
-    if expected != found:
-        print(f"waiting.sh: {what}\n  expected: {expected!r}\n  found:    {found!r}", file=sys.stderr)
-        wrong += 1
 
 
 def all_of(descriptor):
@@ -112,28 +103,28 @@ def shows_numbers(what, shown, most):
 
 
 def main():
-    with tempfile.TemporaryDirectory() as folder:
-        os.chdir(folder)
-        status, output, shown, _ = run(["run", "a.db"], LINES, PAUSE)
-        same("slow lines: the end", (0, ANSWERS), (status, output))
-        shows_numbers("slow lines", shown, len(LINES))
-        status, output, shown, _ = run(["load", "a.db", "-", "--batch", "slow"], ROWS, PAUSE)
-        same("a slow file: the end", (0, "loaded slow 7\n"), (status, output))
-        shows_numbers("a slow file", shown, len(ROWS))
-        begun = time.monotonic()
-        status, output, shown, _ = run(["run", "b.db"], LINES, 0)
-        same("lines at once: the end", (0, ANSWERS), (status, output))
-        if time.monotonic() - begun < 1:
-            same("lines at once: nothing is shown", "", shown)
-        status, output, shown, errors = run(["run", "c.db"], LINES, PAUSE, at_terminal=())
-        same("no terminal", (0, ANSWERS, "", ""), (status, output, shown, errors))
-        status, output, shown, _ = run(["run", "d.db"], LINES, PAUSE, at_terminal=("out", "err"))
-        same("answers at the terminal", (0, ANSWERS), (status, shown))
-        _, output, shown, _ = run(["run", "e.db"], LINES, PAUSE, at_terminal=("in", "err"))
-        same("typed lines", (ANSWERS, ""), (output, shown))
-        status, output, shown, _ = run(["stock", "a.db"], [], 0)
-        same("a report", (0, "", True), (status, shown, output.endswith("cells 15\n")))
-    sys.exit(1 if wrong else 0)
+    status, output, shown, _ = run(["run", "a.db"], LINES, PAUSE)
+    same("slow lines: the end", (0, ANSWERS), (status, output))
+    shows_numbers("slow lines", shown, len(LINES))
+    status, output, shown, _ = run(["load", "a.db", "-", "--batch", "slow"], ROWS, PAUSE)
+    same("a slow file: the end", (0, "loaded slow 7\n"), (status, output))
+    shows_numbers("a slow file", shown, len(ROWS))
+    begun = time.monotonic()
+    status, output, shown, _ = run(["run", "b.db"], LINES, 0)
+    same("lines at once: the end", (0, ANSWERS), (status, output))
+    if time.monotonic() - begun < 1:
+        same("lines at once: nothing is shown", "", shown)
+    status, output, shown, errors = run(["run", "c.db"], LINES, PAUSE, at_terminal=())
+    same("no terminal", (0, ANSWERS, "", ""), (status, output, shown, errors))
+    status, output, shown, _ = run(["run", "d.db"], LINES, PAUSE, at_terminal=("out", "err"))
+    same("answers at the terminal", (0, ANSWERS), (status, shown))
+    _, output, shown, _ = run(["run", "e.db"], LINES, PAUSE, at_terminal=("in", "err"))
+    same("typed lines", (ANSWERS, ""), (output, shown))
+    status, output, shown, _ = run(["stock", "a.db"], [], 0)
+    same("a report", (0, "", True), (status, shown, output.endswith("cells 15\n")))
+    status, output, shown, _ = run(["stock", "absent.db"], [], 0)
+    same("a fault, which is explained", (1, "", "fault 26 File\nThe file is absent. Look at its name.\n"), (status, output, shown))
+    sys.exit("\n".join(wrong) or 0)
 
 
 main()

@@ -4,7 +4,6 @@ ever lowered.
 
 words.py            compares the counts with the limits, and ends with 1 where one is above
 words.py --list     prints each place that counts, page by page
-words.py --pages    prints the counts of each page
 """
 import re
 import sys
@@ -134,27 +133,22 @@ def texts():
         yield text
 
 
-def show(word):
-    """Prints each place that counts, or the counts of each page."""
+def show():
+    """Prints each place that counts."""
     for text in texts():
-        phrases, sentences = list(text.phrases()), list(text.sentences())
-        if word == "--pages" and (phrases or sentences or text.is_long()):
-            print(f"{text.name}: {len(phrases)} phrases, {len(sentences)} sentences, {text.lines} lines")
-        elif word == "--list":
-            for line, found, instead in phrases:
-                print(f"{text.name}:{line}: '{found}': {instead}")
-            for line, count, begin in sentences:
-                print(f"{text.name}:{line}: {count} words: {begin} ..")
-            if text.is_long():
-                print(f"{text.name}: {text.lines} lines")
-    if word == "--list":
-        for line, why in bad_decisions():
-            print(f"{DECISIONS}:{line}: {why}")
+        for line, found, instead in text.phrases():
+            print(f"{text.name}:{line}: '{found}': {instead}")
+        for line, count, begin in text.sentences():
+            print(f"{text.name}:{line}: {count} words: {begin} ..")
+        if text.is_long():
+            print(f"{text.name}: {text.lines} lines")
+    for line, why in bad_decisions():
+        print(f"{DECISIONS}:{line}: {why}")
 
 
 def main(words):
-    if words in (["--list"], ["--pages"]):
-        show(words[0])
+    if words == ["--list"]:
+        show()
         return 0
     if words:
         print(__doc__.strip(), file=sys.stderr)

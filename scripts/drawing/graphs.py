@@ -73,6 +73,8 @@ class Picture:
         # the shapes and texts with their classes, in whole numbers, and nothing of what the style sheet says
         inside = re.sub(r'<title>.*?</title>|<!--.*?-->| (id|fill|stroke|font-family|font-weight|font-size)="[^"]*"| text-anchor="middle"', "", svg[svg.index("<g ") :], flags=re.S)
         inside = re.sub(r'="[^"]*"', lambda value: re.sub(r"-?\d+\.\d+", lambda number: f"{float(number[0]):.0f}", value[0]), inside)
+        # a line without a head and a text needs no group
+        inside = re.sub(r'<g class="edge">\s*(<path [^>]*/>)\s*</g>', r"\1", inside)
         drawn = "\n".join([
             f'<svg xmlns="http://www.w3.org/2000/svg" width="{size}" text-anchor="middle" role="img" aria-labelledby="title desc">',
             f'<title id="title">{escape(self.title, False)}</title>',

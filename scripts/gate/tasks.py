@@ -2,6 +2,7 @@
 
 import subprocess
 import sys
+from functools import partial
 from pathlib import Path
 
 from lanes import Task
@@ -44,7 +45,7 @@ def proving_tasks(tables, choice):
 def trial_task(tables, results):
     """Returns what makes the trial program."""
     task = Task(("trial", "program"), tables.number("(trial)", 0, 2.0), fills=True, proves=True)
-    task.words, task.ended = ["bash", "-c", f"{TRIAL} trial_program", "", str(tables.top)], results.of_trial()
+    task.words, task.ended = ["bash", "-c", f"{TRIAL} trial_program", "", str(tables.top)], results.trial_ended
     return task
 
 
@@ -65,7 +66,7 @@ def mutant_tasks(gate, choice, results):
         minutes = tables.proof(name) + LAST_CHECK + len(mutants) * tables.mutant(name)
         script = [sys.executable, "-B", str(tables.top / "scripts/mutants.py"), "--libraries", str(gate.copy), name]
         task = Task((name, "mutants"), minutes, [(name, "proof")], fills=True, proves=True)
-        task.words, task.ended = script + [Path(it).name for it in mutants], results.of_mutants(name, mutants, tried)
+        task.words, task.ended = script + [Path(it).name for it in mutants], partial(results.mutants_ended, name, mutants, tried)
         tasks.append(task)
     return tasks
 
@@ -83,7 +84,7 @@ def script_tasks(gate, choice, results):
         if name in OVER_TESTS:
             task.minutes *= share if OVER_TESTS[name] is None else OVER_TESTS[name] in tested
             task.waits += [(it, "tests") for it in tested if OVER_TESTS[name] in (None, it)]
-        task.words, task.ended = ["bash", str(tables.top / "tests" / name)], results.of_script(name)
+        task.words, task.ended = ["bash", str(tables.top / "tests" / name)], partial(results.script_ended, name)
         task.environment = {"DESK": str(program), "TESTED": " ".join(tested)}
         if parts > 1:
             task.environment["PART"] = f"{part}/{parts}"
@@ -99,55 +100,42 @@ class Results:
         self.rejected, self.failed_mutants = 0, []
         self.passed, self.failed, self.skipped, self.left_out = [], [], [], []
 
-    def of_mutants(self, name, mutants, tried):
-        """Returns what takes in the end of a try of mutants of a crate, and notes it where a whole run is to go on."""
-
-        def ended(status, heard, seconds):
-            print(heard, end="", flush=True)
-            self.say(f"{len(mutants)} mutants of {name}: {'each rejected' if status == 0 else 'FAILED'}, {seconds / 60:.1f} minutes")
-            if status != 0:
-                self.failed_mutants.append(name)
-                return
-            self.rejected += len(mutants)
-            if tried:
-                tried.add(name, mutants)
-
-        return ended
+    def mutants_ended(self, name, mutants, tried, status, heard, seconds):
+        """Takes in the end of a try of mutants of a crate, and notes it where a whole run is to go on."""
+        print(heard, end="", flush=True)
+        self.say(f"{len(mutants)} mutants of {name}: {'each rejected' if status == 0 else 'FAILED'}, {seconds / 60:.1f} minutes")
+        if status != 0:
+            self.failed_mutants.append(name)
+            return
+        self.rejected += len(mutants)
+        if tried:
+            tried.add(name, mutants)
 
     def of_earlier_mutants(self, name, count):
         """Takes in that an earlier run had each of so many mutants rejected."""
         self.say(f"{count} mutants of {name}: each rejected by an earlier run over the same sources")
         self.rejected += count
 
-    def of_trial(self):
-        """Returns what takes in the end of making the trial program."""
+    def trial_ended(self, status, heard, seconds):
+        """Takes in the end of making the trial program."""
+        print(heard, end="", flush=True)
+        self.say(f"the trial program {'is made' if status == 0 else 'FAILED'}, {seconds / 60:.1f} minutes")
 
-        def ended(status, heard, seconds):
-            print(heard, end="", flush=True)
-            self.say(f"the trial program {'is made' if status == 0 else 'FAILED'}, {seconds / 60:.1f} minutes")
-
-        return ended
-
-    def of_script(self, name):
-        """Returns what takes in the end of a script. One that lacks a tool, or whose turn it is not, says so in a line of its own."""
-
-        def ended(status, heard, seconds):
-            print(heard, end="", flush=True)
-            lines = heard.splitlines()
-            is_said = lambda word: any(line.startswith(f"{name}: {word}") for line in lines)
-            if status != 0:
-                self.failed.append(name)
-                self.say(f"tests/{name} FAILED")
-            elif is_said("skipped"):
-                self.skipped.append(name)
-                self.say(f"tests/{name} was skipped")
-            elif is_said("left out until its turn"):
-                self.left_out.append(name)
-            else:
-                self.passed.append(name)
-            self.say(f"tests/{name} took {seconds:.0f} s")
-
-        return ended
+    def script_ended(self, name, status, heard, seconds):
+        """Takes in the end of a script. One that lacks a tool, or whose turn it is not, says so in a line of its own."""
+        print(heard, end="", flush=True)
+        is_said = lambda word: any(line.startswith(f"{name}: {word}") for line in heard.splitlines())
+        if status != 0:
+            self.failed.append(name)
+            self.say(f"tests/{name} FAILED")
+        elif is_said("skipped"):
+            self.skipped.append(name)
+            self.say(f"tests/{name} was skipped")
+        elif is_said("left out until its turn"):
+            self.left_out.append(name)
+        else:
+            self.passed.append(name)
+        self.say(f"tests/{name} took {seconds:.0f} s")
 
     def tell(self, not_begun):
         """Says what all came to, and returns whether everything passed."""
