@@ -61,11 +61,6 @@ one_page came s t a b page other =
     let one = response_unique came page.head other.head a b page.reads other.reads in
     (sym page.is.code ∙ ap code_of one.0 ∙ other.is.code, one.1)
 
--- without a page there is no answer
-pub none_without_page : (came : List ℕ) → ((s : ℕ) (body : List ℕ) → ¬ (IsPage came s body)) → HasNoAnswer came
-none_without_page came none (Report text) is = none 200 text.items is
-none_without_page came none NoJourney is = none 404 absence_text is
-
 -- a page of another status is none, nor is one of an absence with another body
 pub none_of_page : (came : List ℕ) (s : ℕ) (body : List ℕ) → IsPage came s body → s ≢ 200 → (s ≡ 404 → body ≢ absence_text)
     → HasNoAnswer came
