@@ -1,7 +1,7 @@
 #!/usr/bin/env bash
-# Bookings by clients and proxies as Debian has them, each with the settings of docs/CLIENTS.md: a journey is begun and its step
-# done, each twice under its key, and then read. Directly, and through each proxy. A client or proxy that is absent is named in
-# the closing line.
+# Bookings by clients and proxies as Debian has them, each with the settings of docs/CLIENTS_BY_LANGUAGE.md and docs/PROXIES.md: a
+# journey is begun and its step done, each twice under its key, and then read. Directly, and through each proxy. A client or proxy that
+# is absent is named in the closing line.
 if [ -w /dev/shm ]; then in_memory=/dev/shm; fi
 . "$(dirname "${BASH_SOURCE[0]}")/helping.bash"
 . "$tests/serving.bash"

@@ -1,4 +1,4 @@
-"""An office behind each of the proxies named, by the recipe of OPERATING.md, and a day of so many seconds behind two of them:
+"""An office behind each of the proxies named, by the recipe of OFFICE.md, and a day of so many seconds behind two of them:
 FOLDER SECONDS PROXY ..
 
 The folder has desk.pem, the certificate and the key of the proxies. Prints what went wrong. With PART=K/N it does the K-th of N parts."""

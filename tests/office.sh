@@ -1,5 +1,5 @@
 #!/usr/bin/env bash
-# The recipes of OPERATING.md for an office, as printed but for ports, files and passwords: HAProxy, nginx, Apache and Caddy with TLS
+# The recipes of OFFICE.md for an office, as printed but for ports, files and passwords: HAProxy, nginx, Apache and Caddy with TLS
 # and passwords before a desk with its page, and headless Chromium before them. Two agents book at once in three windows, the
 # desk is killed and started again, a password is changed. Firefox does a journey, where it is there. Then names are mapped to
 # agents, the page is served in a folder, and certificates say who asks. A proxy that is absent is left out.

@@ -1,4 +1,4 @@
-"""Proxies before a desk with its page, by the recipes of OPERATING.md for an office, as printed but for ports, files and passwords."""
+"""Proxies before a desk with its page, by the recipes of OFFICE.md for an office, as printed but for ports, files and passwords."""
 import base64
 import http.client
 import os
@@ -35,7 +35,7 @@ def blocks():
 
 def printed():
     """The page with the recipes."""
-    with open(os.path.join(os.path.dirname(HERE), "docs", "OPERATING.md"), encoding="utf-8") as page:
+    with open(os.path.join(os.path.dirname(HERE), "docs", "OFFICE.md"), encoding="utf-8") as page:
         return page.read()
 
 
