@@ -1,4 +1,4 @@
--- Each connection is at its door and is read by its way, since it came so. For serve_many.
+-- Each connection is at its door, is read by its way, and has both ends of one peer, since it came so. For serve_many.
 use Rattle.std.proofs.Common.{◌≡◌, ℕ, ◌<◌, List, [], ◌∷◌, ◌++◌, All, length, map, refl, sym, ap₂, subst, slice_index_or, slice_set}
 use Rattle.std.proofs.Math.Logic.{∥∥₁_map}
 use Rattle.std.proofs.lemmas.List.Elements.{All-append, All-cons, All-get_or, All-head, All-map, All-nil, All-set, All-tail, All-weaker}
@@ -7,8 +7,8 @@ use Rattle.std.specs.declared.io.traits.Write as Write
 use Rattle.desk_http.specs.declared.doors.Door.{Door}
 use Rattle.http_ways.specs.declared.ways.Way.{Way}
 use Rattle.http_conversations.specs.History.{History, Passes}
-use Rattle.http_live.specs.Arrivals.{Arrival, IsAtItsDoor, IsReadByItsWay, arrival, arrival_of, arrivals_at}
-use Rattle.http_live.specs.Calls.{Admits}
+use Rattle.http_live.specs.Arrivals.{Arrival, HasBothOfOne, IsAtItsDoor, IsReadByItsWay, arrival, arrival_of, arrivals_at}
+use Rattle.http_live.specs.Calls.{Admits, AreLeft, IsEmpty}
 use Rattle.http_live.specs.Seats.{connections_at}
 use Rattle.http_live.specs.declared.connection.Connection.{Connection}
 use Rattle.http_live.specs.declared.seats.Seat.{Seat}
@@ -19,20 +19,24 @@ All-unmap P f [] all = All-nil _
 All-unmap P f (y ∷ ys) all =
     All-cons (λ z. P (f z)) y ys (All-head P (f y) (map f ys) all) (All-unmap P f ys (All-tail P (f y) (map f ys) all))
 
--- somebody came with a reader of which this is so
-record CameAs {R W : Type 0} (is : R → Arrival R W → Type 0) (a : Arrival R W) : Type 0 where
+-- somebody came with two ends of which this is so
+record CameAs {R W : Type 0} (is : R → W → Arrival R W → Type 0) (a : Arrival R W) : Type 0 where
   reader : R
   writer : W
   came : a.ends ≡ (reader, writer) ∷ []
-  so : is reader a
+  so : is reader writer a
 
 -- by the door of the reader
 abbrev AtDoor : {R W : Type 0} → (R → Door → Type 0) → Arrival R W → Type 0
-AtDoor is_at = CameAs (λ reader a. is_at reader a.door)
+AtDoor is_at = CameAs (λ reader writer a. is_at reader a.door)
 
 -- by the way of the reader
 abbrev ByWay : {R W : Type 0} → (R → Way → Type 0) → Arrival R W → Type 0
-ByWay is_by = CameAs (λ reader a. is_by reader a.way)
+ByWay is_by = CameAs (λ reader writer a. is_by reader a.way)
+
+-- with the writer of the reader
+abbrev OfOne : {R W : Type 0} → (R → W → Type 0) → Arrival R W → Type 0
+OfOne is_pair = CameAs (λ reader writer a. is_pair reader writer)
 
 module _ {R W : Type 0} {r : Read.Ghosts R} {w : Write.Ghosts W} where
   -- what is so of connections as they came
@@ -64,6 +68,22 @@ module _ {R W : Type 0} {r : Read.Ghosts R} {w : Write.Ghosts W} where
         (All-append Came (arrivals_at old) (a ∷ [])
         (all_came old (All-get_or (λ seat. All Is (connections_at seat)) seats i d within all))
         (All-cons Came a [] one (All-nil _))))) all
+
+    -- nobody came to any seat
+    left_as : (old new : List (Seat R W r w)) → map arrivals_at new ≡ map arrivals_at old
+        → All (λ seat. All Is (connections_at seat)) old → All (λ seat. All Is (connections_at seat)) new
+    left_as old new same all =
+        All-weaker (λ seat. All Came (arrivals_at seat)) (λ seat. All Is (connections_at seat)) all_so new
+        (All-unmap (All Came) arrivals_at new
+        (subst (All (All Came)) (sym same)
+        (All-map (All Came) arrivals_at old
+        (All-weaker (λ seat. All Is (connections_at seat)) (λ seat. All Came (arrivals_at seat)) all_came old all))))
+
+  -- of seats without any connection all is so
+  pub so_of_none : (Is : Connection R W r w → Type 0) (seats : List (Seat R W r w)) → All IsEmpty seats
+      → All (λ seat. All Is (connections_at seat)) seats
+  so_of_none Is seats empty =
+      All-weaker IsEmpty (λ seat. All Is (connections_at seat)) (λ seat none. subst (All Is) (sym none.empty) (All-nil Is)) seats empty
 
   -- Doors.
 
@@ -97,25 +117,56 @@ module _ {R W : Type 0} {r : Read.Ghosts R} {w : Write.Ghosts W} where
       messages = ∥∥₁_map c.conversation.served (λ served. served.by_way);
     }
 
-  module _ {is_at : R → Door → Type 0} {is_by : R → Way → Type 0} (seats : List (Seat R W r w)) (i : ℕ) (d new : Seat R W r w) (within : i < length seats) where
+  -- Pairs.
+
+  module _ (is_pair : R → W → Type 0) where
+    came_of : (c : Connection R W r w) → HasBothOfOne is_pair c → OfOne is_pair (arrival_of c)
+    came_of c x = record { reader = x.reader; writer = x.writer; came = x.came; so = x.pair }
+
+    is_of : (c : Connection R W r w) → OfOne is_pair (arrival_of c) → HasBothOfOne is_pair c
+    is_of c x = record { reader = x.reader; writer = x.writer; came = x.came; pair = x.so }
+
+  module _ {is_at : R → Door → Type 0} {is_by : R → Way → Type 0} {is_pair : R → W → Type 0} (seats : List (Seat R W r w)) (i : ℕ) (d new : Seat R W r w) (within : i < length seats) where
     -- nobody came to one seat
-    pub admits_none : arrivals_at new ≡ arrivals_at (slice_index_or seats i d) → Admits is_at is_by seats (slice_set seats i new)
+    pub admits_none : arrivals_at new ≡ arrivals_at (slice_index_or seats i d) → Admits is_at is_by is_pair seats (slice_set seats i new)
     admits_none same = record {
       doors = kept_as (AtDoor is_at) (IsAtItsDoor is_at) (came_at is_at) (is_there is_at) seats i d new within same;
       ways = kept_as (ByWay is_by) (IsReadByItsWay is_by) (came_by is_by) (is_read is_by) seats i d new within same;
+      pairs = kept_as (OfOne is_pair) (HasBothOfOne is_pair) (came_of is_pair) (is_of is_pair) seats i d new within same;
     }
 
     -- a peer came to one seat
     pub admits_one : (reader : R) (writer : W) (door : Door) (way : Way)
         → arrivals_at new ≡ arrivals_at (slice_index_or seats i d) ++ arrival reader writer door way ∷ []
-        → is_at reader door → is_by reader way → Admits is_at is_by seats (slice_set seats i new)
-    admits_one reader writer door way more at by =
+        → is_at reader door → is_by reader way → is_pair reader writer → Admits is_at is_by is_pair seats (slice_set seats i new)
+    admits_one reader writer door way more at by of =
         let a = arrival reader writer door way in record {
           doors = came_as (AtDoor is_at) (IsAtItsDoor is_at) (came_at is_at) (is_there is_at) seats i d new a within more
               (record { reader = reader; writer = writer; came = refl; so = at });
           ways = came_as (ByWay is_by) (IsReadByItsWay is_by) (came_by is_by) (is_read is_by) seats i d new a within more
               (record { reader = reader; writer = writer; came = refl; so = by });
+          pairs = came_as (OfOne is_pair) (HasBothOfOne is_pair) (came_of is_pair) (is_of is_pair) seats i d new a within more
+              (record { reader = reader; writer = writer; came = refl; so = of });
         }
+
+  -- nobody came to any seat
+  pub admits_left : {is_at : R → Door → Type 0} {is_by : R → Way → Type 0} {is_pair : R → W → Type 0} (old new : List (Seat R W r w))
+      → AreLeft old new → Admits is_at is_by is_pair old new
+  admits_left {is_at} {is_by} {is_pair} old new left = record {
+    doors = left_as (AtDoor is_at) (IsAtItsDoor is_at) (came_at is_at) (is_there is_at) old new left.arrivals;
+    ways = left_as (ByWay is_by) (IsReadByItsWay is_by) (came_by is_by) (is_read is_by) old new left.arrivals;
+    pairs = left_as (OfOne is_pair) (HasBothOfOne is_pair) (came_of is_pair) (is_of is_pair) old new left.arrivals;
+  }
+
+  -- who came before, and who came then
+  pub admits_then : {is_at : R → Door → Type 0} {is_by : R → Way → Type 0} {is_pair : R → W → Type 0}
+      (before between after : List (Seat R W r w)) → Admits is_at is_by is_pair before between
+      → Admits is_at is_by is_pair between after → Admits is_at is_by is_pair before after
+  admits_then before between after x y = record {
+    doors = λ doors. y.doors (x.doors doors);
+    ways = λ ways. y.ways (x.ways ways);
+    pairs = λ pairs. y.pairs (x.pairs pairs);
+  }
 
 abbrev with_ends : {R W : Type 0} → List (R × W) → Door → Way → Arrival R W
 with_ends ends door way = record { ends = ends; door = door; way = way }

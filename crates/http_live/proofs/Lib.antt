@@ -2,6 +2,7 @@ pub mod LeadLemmas
 pub mod Merged
 pub mod WorldLemmas
 pub mod RestLemmas
+mod GainLemmas
 pub mod Ends
 mod DoorLemmas
 mod TurnLemmas

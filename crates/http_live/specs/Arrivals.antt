@@ -53,3 +53,14 @@ module _ {R W : Type 0} {r : Read.Ghosts R} {w : Write.Ghosts W} where
   -- so it is with each connection of the seats, also with those that ended
   abbrev pub AreReadByTheirWays : (R → Way → Type 0) → List (Seat R W r w) → Type 0
   AreReadByTheirWays is_by seats = All (λ seat. All (IsReadByItsWay is_by) (connections_at seat)) seats
+
+  -- The two ends with which the connection came are those of one peer.
+  pub record HasBothOfOne (is_pair : R → W → Type 0) (c : Connection R W r w) : Type 0 where
+    pub reader : R
+    pub writer : W
+    pub came : c.came.items ≡ (reader, writer) ∷ []
+    pub pair : is_pair reader writer
+
+  -- so it is with each connection of the seats, also with those that ended
+  abbrev pub ArePairs : (R → W → Type 0) → List (Seat R W r w) → Type 0
+  ArePairs is_pair seats = All (λ seat. All (HasBothOfOne is_pair) (connections_at seat)) seats

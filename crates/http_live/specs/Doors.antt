@@ -1,4 +1,4 @@
--- By which door a peer comes, and by which way it is read.
+-- By which door a peer comes, by which way it is read, and with which ends; and for which reason none comes.
 use Rattle.std.specs.Prelude.{⊤}
 use Rattle.desk_http.specs.declared.doors.Door.{Door}
 use Rattle.http_ways.specs.declared.ways.Way.{Way}
@@ -18,3 +18,17 @@ ComesByItsWay is_by (Comes at door way reader writer) = is_by reader way
 ComesByItsWay is_by (Ready at) = ⊤
 ComesByItsWay is_by (Leaves at) = ⊤
 ComesByItsWay is_by End = ⊤
+
+-- the two ends of a peer that comes in this turn are those of one peer
+abbrev pub ComesWithBoth : {R W : Type 0} → (R → W → Type 0) → Turn R W → Type 0
+ComesWithBoth is_pair (Comes at door way reader writer) = is_pair reader writer
+ComesWithBoth is_pair (Ready at) = ⊤
+ComesWithBoth is_pair (Leaves at) = ⊤
+ComesWithBoth is_pair End = ⊤
+
+-- where no turn comes, it is for this reason
+abbrev pub EndsOnlyIf : {R W : Type 0} → Type 0 → Turn R W → Type 0
+EndsOnlyIf reason (Comes at door way reader writer) = ⊤
+EndsOnlyIf reason (Ready at) = ⊤
+EndsOnlyIf reason (Leaves at) = ⊤
+EndsOnlyIf reason End = reason

@@ -24,6 +24,7 @@ turn_stops (Err fault) = false
 abbrev pub is_stopped : Ending → Bool
 is_stopped ending.Stopped = true
 is_stopped ending.NoTurn = false
+is_stopped ending.Spent = false
 
 abbrev pub has_stopped : Result Ending Fault → Bool
 has_stopped (Ok end) = is_stopped end

@@ -1,5 +1,6 @@
 pub mod Faithful
 pub mod Resting
+pub mod Gains
 pub mod Endings
 pub mod Merging
 pub mod Examples
@@ -8,3 +9,4 @@ pub mod Seats
 pub mod Doors
 pub mod Arrivals
 pub mod Calls
+pub mod Whole

@@ -61,3 +61,11 @@ module _ {R W : Type 0} {r : Read.Ghosts R} {w : Write.Ghosts W} where
   -- what each connection of a seat received, in order
   abbrev pub received_at : Seat R W r w → List (List ℕ)
   received_at s = map received_with (connections_at s)
+
+  -- what waits to go out
+  abbrev pub pending_now : Option (Connection R W r w) → List ℕ
+  pending_now None = []
+  pending_now (Some c) = (history c.conversation).pending
+
+  abbrev pub pending_at : Seat R W r w → List ℕ
+  pending_at s = pending_now s.connection

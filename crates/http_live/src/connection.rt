@@ -1,10 +1,11 @@
 //! A conversation over a reader and a writer of its own.
-ghost use Rattle.std.specs.Prelude.{◌≡◌, ◌≤◌, [], length, OnErr, Ok, false};
+ghost use Rattle.std.specs.Prelude.{◌≡◌, ◌≤◌, [], length, IfOk, OnErr, Ok, false, true};
 ghost use Rattle.saga_core.specs.Calls.{Serves};
 ghost use Rattle.http_conversations.specs.Conversations.{history};
-ghost use Rattle.http_conversations.specs.History.{HasNoTurn, IsServed, WantsRead, stops_by};
+ghost use Rattle.http_conversations.specs.History.{HasNoTurn, IsServed, TakesFirst, WantsRead, stops_by};
 ghost use Rattle.http_conversations.specs.Leading.{GoesOnByOne, has_broken};
 ghost use Rattle.http_live.specs.Endings.{is_stop, turn_stops};
+ghost use Rattle.http_live.specs.Gains.{Gains, is_answer};
 ghost use Rattle.http_live.specs.Faithful.{Faithful};
 
 use crate::seats::Standing;
@@ -101,6 +102,9 @@ impl<R: Read + Drop, W: Write + Drop> Connection<R, W> {
             (B.leaves book.new) (has_broken result) (turn_stops result)
             (exchanges_with self.old) (exchanges_with self.new) }
         ensures ends { EndsTurn result self.old self.new }
+        ensures gains { IfOk result (λ standing. Gains standing
+            (history self.new.conversation).pending
+            (exchanges_with self.old) (exchanges_with self.new)) }
         ensures serves { Serves B.is_sound B.leaves B.has_failed book.old book.new
             Fault.Store result }
     {
@@ -144,6 +148,7 @@ impl<R: Read + Drop, W: Write + Drop> Connection<R, W> {
     fn answered(&self) -> Standing
         ensures rests { Rests result (history self.now.conversation) }
         ensures stopping { is_stop result ≡ (history self.now.conversation).stops }
+        ensures answered { is_answer result ≡ true }
     {
         if self.conversation.stops() {
             Standing::Stopped
@@ -166,6 +171,8 @@ impl<R: Read + Drop, W: Write + Drop> Connection<R, W> {
             (exchanges_with self.old) (exchanges_with self.new) }
         ensures none { result ≡ Ok false → HasNoTurn (history self.old.conversation)
             × (history self.new.conversation ≡ history self.old.conversation) }
+        ensures takes { TakesFirst result (history self.old.conversation)
+            (history self.new.conversation) }
         ensures arrival { arrival_of self.new ≡ arrival_of self.old }
         ensures serves { Serves B.is_sound B.leaves B.has_failed book.old book.new
             Fault.Store result }
@@ -273,7 +280,7 @@ impl<R: Read + Drop, W: Write + Drop> Connection<R, W> {
     fn rest(&self) -> Standing
         ensures rests { IsUsedUp (history self.now.conversation) →
             Rests result (history self.now.conversation) }
-        ensures unstopped { is_stop result ≡ false }
+        ensures unanswered { is_answer result ≡ false }
     {
         match self.conversation.stage() {
             Stage::Open if self.conversation.has_part() => Standing::Amid,

@@ -3,6 +3,7 @@
 //! `serve_many` takes turns from any source and lets the connection of each go on by one step: what waits is handed out,
 //! or else one message is answered, or else more is read. The messages of all connections are carried out one after
 //! another, each once. A fault of a reader, a writer or of memory ends one connection; a fault of the store ends the desk.
+//! `serve_to_end` does so over seats of its own, and hands out what waits where the administrator stops the desk.
 //!
 //! Words: a *seat* has one connection after another; a *turn* is a step of the connection of one seat; the *standing* of a
 //! connection says what it waits for.
@@ -11,7 +12,9 @@
 mod connection;
 mod seats;
 mod serving;
+mod whole;
 
 pub use connection::Connection;
 pub use seats::{SEATS, Seat, Standing, empty_seats};
 pub use serving::{Ending, Turn, Turns, finish_many, serve_many};
+pub use whole::serve_to_end;

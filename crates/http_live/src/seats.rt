@@ -3,7 +3,8 @@ ghost use Rattle.http_conversations.specs.Leading.{GoesOnByOne, has_broken};
 ghost use Rattle.http_live.specs.Arrivals.{arrival, arrivals_at};
 ghost use Rattle.http_live.specs.Calls.{EndsTurnAt, IsEmpty, IsLeft};
 ghost use Rattle.http_live.specs.Endings.{turn_stops};
-ghost use Rattle.http_live.specs.Seats.{HasDoor, exchanges_at};
+ghost use Rattle.http_live.specs.Gains.{Gains};
+ghost use Rattle.http_live.specs.Seats.{HasDoor, exchanges_at, pending_at};
 ghost use Rattle.saga_core.specs.Calls.{Serves};
 ghost use Rattle.std.specs.Prelude.{◌≡◌, ◌∷◌, ◌++◌, ◌≤◌, [], All, length, IfOk};
 
@@ -117,6 +118,8 @@ impl<R: Read + Drop, W: Write + Drop> Seat<R, W> {
             (B.leaves book.new) (has_broken result) (turn_stops result)
             (exchanges_at self.old) (exchanges_at self.new) }
         ensures ends { EndsTurnAt result self.old self.new }
+        ensures gains { IfOk result (λ standing. Gains standing (pending_at self.new)
+            (exchanges_at self.old) (exchanges_at self.new)) }
         ensures serves { Serves B.is_sound B.leaves B.has_failed book.old book.new
             Fault.Store result }
     {

@@ -6,9 +6,9 @@ ghost use Rattle.http_live.specs.Endings.{ends_stopped, has_stopped, ending_afte
 ghost use Rattle.http_live.specs.Seats.{IsTaken, exchanges_at};
 ghost use Rattle.http_live.specs.Worlds.{WorldsGoOn};
 ghost use Rattle.saga_core.specs.Calls.{Serves};
-ghost use Rattle.std.specs.Prelude.{◌≡◌, ◌<◌, ◌≤◌, length, map, Err, IfErr};
+ghost use Rattle.std.specs.Prelude.{◌≡◌, ◌<◌, ◌≤◌, length, map, false, true, Ok, Err, Some, IfErr};
 ghost use Rattle.desk_http.specs.declared.doors.Door.{Door};
-ghost use Rattle.http_live.specs.Doors.{ComesByItsDoor, ComesByItsWay};
+ghost use Rattle.http_live.specs.Doors.{ComesByItsDoor, ComesByItsWay, ComesWithBoth, EndsOnlyIf};
 ghost use Rattle.http_ways.specs.declared.ways.Way.{Way};
 
 use crate::seats::{Seat, Standing};
@@ -33,12 +33,13 @@ pub fn serve_many<T: Turns, B: Reporting>(
     turns: &mut T,
     book: &mut Ready<B>,
 ) -> Result<Ending, Fault>
-    ensures turns { TakesTurns T.is_at T.is_by (B.is_sound book.new) (B.stands book.old)
-        (B.stands book.new) (B.leaves book.new) (has_broken result) (has_stopped result)
-        seats.old seats.new }
+    ensures turns { TakesTurns T.is_at T.is_by T.is_pair (B.is_sound book.new)
+        (B.stands book.old) (B.stands book.new) (B.leaves book.new) (has_broken result)
+        (has_stopped result) seats.old seats.new }
     ensures worlds { WorldsGoOn (B.is_sound book.new) (B.stands book.old) (B.stands book.new)
         (B.leaves book.new) (has_broken result) (has_stopped result) (map exchanges_at seats.old)
         (map exchanges_at seats.new) }
+    ensures over { result ≡ Ok Ending.NoTurn → T.is_over turns.new }
 
     ensures memory { result ≡ Err Fault.Memory →
         (seats.new ≡ seats.old) × (turns.new ≡ turns.old) × (book.new ≡ book.old) }
@@ -64,9 +65,10 @@ fn serve_turns<T: Turns, B: Reporting>(
 ) -> Result<Ending, Fault>
     requires small { length buffer.old ≤ MOST_READ }
 
-    ensures turns { TakesTurns T.is_at T.is_by (B.is_sound book.new) (B.stands book.old)
-        (B.stands book.new) (B.leaves book.new) (has_broken result) (has_stopped result)
-        seats.old seats.new }
+    ensures turns { TakesTurns T.is_at T.is_by T.is_pair (B.is_sound book.new)
+        (B.stands book.old) (B.stands book.new) (B.leaves book.new) (has_broken result)
+        (has_stopped result) seats.old seats.new }
+    ensures over { result ≡ Ok Ending.NoTurn → T.is_over turns.new }
 
     ensures broken { IfErr result (λ fault. fault ≡ Fault.Store) }
     ensures serves { Serves B.is_sound B.leaves B.has_failed book.old book.new Fault.Store result }
@@ -78,7 +80,7 @@ fn serve_turns<T: Turns, B: Reporting>(
             None => {}
         }
     }
-    Ok(Ending::NoTurn)
+    Ok(Ending::Spent)
 }
 
 /// Takes the next turn, and reports whether serving ends with it.
@@ -92,9 +94,10 @@ fn take_turn<T: Turns, B: Reporting>(
 ) -> Result<Option<Ending>, Fault>
     requires small { length buffer.old ≤ MOST_READ }
 
-    ensures turns { TakesTurns T.is_at T.is_by (B.is_sound book.new) (B.stands book.old)
-        (B.stands book.new) (B.leaves book.new) (has_broken result) (ends_stopped result)
-        seats.old seats.new }
+    ensures turns { TakesTurns T.is_at T.is_by T.is_pair (B.is_sound book.new)
+        (B.stands book.old) (B.stands book.new) (B.leaves book.new) (has_broken result)
+        (ends_stopped result) seats.old seats.new }
+    ensures over { result ≡ Ok (Some Ending.NoTurn) → T.is_over turns.new }
 
     ensures broken { IfErr result (λ fault. fault ≡ Fault.Store) }
     ensures serves { Serves B.is_sound B.leaves B.has_failed book.old book.new Fault.Store result }
@@ -159,10 +162,11 @@ fn welcome<T: Turns>(
 )
     requires door { T.is_at reader door }
     requires way { T.is_by reader way }
+    requires pair { T.is_pair reader writer }
 
     ensures kept { map exchanges_at seats.new ≡ map exchanges_at seats.old }
     ensures taken { at < length seats.old → IsTaken at door way seats.old seats.new }
-    ensures admits { Admits T.is_at T.is_by seats.old seats.new }
+    ensures admits { Admits T.is_at T.is_by T.is_pair seats.old seats.new }
 {
     if at >= seats.len() {
         return;
@@ -170,21 +174,24 @@ fn welcome<T: Turns>(
     seats[at].take(alloc, door, way, reader, writer);
 }
 
-/// Hands out the pages that wait, turn by turn, until no turn comes. Nothing is read, and no message is answered; a
-/// connection for which nothing waits is over, and a peer that comes is let go.
-pub fn finish_many<T: Turns>(seats: &mut [Seat<T::Reader, T::Writer>], turns: &mut T)
+/// Hands out the pages that wait, turn by turn, until no turn comes, and reports whether none does. Nothing is read, and no
+/// message is answered; a connection for which nothing waits is over, and a peer that comes is let go.
+pub fn finish_many<T: Turns>(seats: &mut [Seat<T::Reader, T::Writer>], turns: &mut T) -> bool
     ensures left { AreLeft seats.old seats.new }
+    ensures over { result ≡ true → T.is_over turns.new }
 {
     for _ in 0..u64::MAX {
         if !finish_turn(seats, turns) {
-            return;
+            return true;
         }
     }
+    false
 }
 
 /// Takes the next turn, and reports whether there was one.
 fn finish_turn<T: Turns>(seats: &mut [Seat<T::Reader, T::Writer>], turns: &mut T) -> bool
     ensures left { AreLeft seats.old seats.new }
+    ensures over { result ≡ false → T.is_over turns.new }
 {
     match turns.next_turn() {
         Turn::Comes(_, _, _, _, _) => true,
@@ -246,10 +253,22 @@ pub trait Turns {
     /// What this reader gives is read by this way.
     ghost is_by: { Self.Reader → Way → Type 0 };
 
-    /// Waits for the next turn. A peer comes by the door of its reader, and is read by the way of its reader.
+    /// What is written to this writer goes to the peer whose bytes this reader gives.
+    ghost is_pair: { Self.Reader → Self.Writer → Type 0 };
+
+    /// There is a reason that no turn comes any more.
+    ghost is_over: { Self → Type 0 };
+
+    /// Waits for the next turn. A peer comes by the door of its reader, and is read by the way of its reader. Its pages go to
+    /// the writer of the same peer.
     fn next_turn(&mut self) -> Turn<Self::Reader, Self::Writer>
         ensures door { ComesByItsDoor is_at result }
-        ensures way { ComesByItsWay is_by result };
+        ensures way { ComesByItsWay is_by result }
+        ensures pair { ComesWithBoth is_pair result }
+        ensures over { EndsOnlyIf (is_over self.new) result };
+
+    /// The administrator stops the desk: nobody comes any more, and no turn comes once the pages that wait had time to go out.
+    fn stop(&mut self) {}
 
     /// What the clock shows, in seconds since 1970, if it can be read. Pages by the wide way have its date.
     fn second(&mut self) -> Option<u64> {
@@ -287,6 +306,8 @@ pub enum Ending {
     NoTurn,
     /// The house asked the desk to stop.
     Stopped,
+    /// As many turns were taken as a number of 64 bits counts.
+    Spent,
 }
 
 /// The ending after a turn of a connection, if serving ends with it.

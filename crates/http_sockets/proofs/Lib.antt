@@ -1,1 +1,1 @@
-mod SeatLemmas
+mod TurnLemmas

@@ -1,13 +1,15 @@
--- By which door the messages of a socket come in, and by which way they are read.
+-- By which door the messages of a socket come in, by which way they are read, and where their pages go.
 use Rattle.std.specs.Prelude.{◌≡◌, ◌≢◌, ⊤, Option, Some, None}
 use Rattle.desk_http.specs.declared.doors.Door.{Door}
 use Rattle.desk_http.specs.declared.doors.Door.TheVariants.{House}
 use Rattle.desk_http.specs.declared.doors.Door.TheVariants as doors
 use Rattle.desk_http.specs.declared.doors.Site.{Site}
 use Rattle.http_ways.specs.declared.ways.Way.{Way}
+use Rattle.http_live.specs.Doors.{ComesByItsDoor, ComesByItsWay, ComesWithBoth, EndsOnlyIf}
 use Rattle.http_live.specs.declared.serving.Turn.{Turn}
 use Rattle.http_live.specs.declared.serving.Turn.TheVariants.{Comes, Ready, Leaves, End}
 use Rattle.http_sockets.specs.declared.places.ReadEnd.{ReadEnd}
+use Rattle.http_sockets.specs.declared.places.WriteEnd.{WriteEnd}
 use Rattle.http_sockets.specs.declared.places.Socket.{Socket}
 use Rattle.http_sockets.specs.declared.places.Socket.TheVariants.{Port, Path}
 use Rattle.http_sockets.specs.declared.sockets.Sockets.{Sockets}
@@ -20,6 +22,10 @@ IsDoorOf (Port stream) door = door ≢ House
 -- so do those that the end of a socket gives
 abbrev pub IsAt : ReadEnd → Door → Type 0
 IsAt end door = IsDoorOf end.0.value door
+
+-- both ends are of one socket
+abbrev pub IsPair : ReadEnd → WriteEnd → Type 0
+IsPair reader writer = writer.0.value ≡ reader.0.value
 
 -- the door of a socket, where this page is served at the port, if one is
 abbrev pub door_of : Socket → Option Site → Door
@@ -52,3 +58,10 @@ ComesBy by (Comes at door way reader writer) = way ≡ by
 ComesBy by (Ready at) = ⊤
 ComesBy by (Leaves at) = ⊤
 ComesBy by End = ⊤
+
+-- a turn: who comes in it, if anybody does, comes by the door and the way of its socket, and has both ends of it
+pub record IsTurn (turn : Turn ReadEnd WriteEnd) : Type 0 where
+  pub door : ComesByItsDoor IsAt turn
+  pub way : ComesByItsWay IsReadBy turn
+  pub pair : ComesWithBoth IsPair turn
+  pub some : EndsOnlyIf ⊥ turn

@@ -1,3 +1,4 @@
 pub mod Doors
 pub mod Limits
+pub mod Ends
 pub mod Going

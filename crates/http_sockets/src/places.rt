@@ -49,6 +49,8 @@ pub(crate) struct Places {
 }
 
 impl Places {
+    ghost use Rattle.http_sockets.specs.Ends.{are_free};
+
     /// So many seats, all free.
     pub(crate) fn new(alloc: Global, count: usize) -> Result<Places, AllocError> {
         let mut places = Vec::with_capacity(alloc, count)?;
@@ -79,7 +81,9 @@ impl Places {
     }
 
     /// Whether no seat has a peer.
-    pub(crate) fn are_free(&self) -> bool {
+    pub(crate) fn are_free(&self) -> bool
+        ensures free { result ≡ are_free self.now }
+    {
         self.places.iter().all(|place| place.socket.is_none())
     }
 
@@ -242,6 +246,7 @@ impl Socket {
 pub(crate) fn ends_of(socket: &Rc<Socket>, way: Way) -> Result<(ReadEnd, WriteEnd), AllocError>
     ensures read { IfOk result (λ ends. ends.0.0.value ≡ socket.now.value) }
     ensures way { IfOk result (λ ends. ends.0.1 ≡ way) }
+    ensures write { IfOk result (λ ends. ends.1.0.value ≡ socket.now.value) }
 {
     Ok((ReadEnd(socket.clone()?, way), WriteEnd(socket.clone()?)))
 }

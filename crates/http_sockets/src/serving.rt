@@ -2,12 +2,13 @@
 ghost use Rattle.http_conversations.specs.Leading.{has_broken};
 ghost use Rattle.http_sockets.specs.Going.{GoOnBySockets, GoOnBySome};
 ghost use Rattle.saga_core.specs.Calls.{Serves};
-ghost use Rattle.std.specs.Prelude.{◌≡◌, Err};
+ghost use Rattle.http_sockets.specs.Ends.{IsOver};
+ghost use Rattle.std.specs.Prelude.{◌≡◌, Err, IfOk};
 
 use crate::places::{ReadEnd, WriteEnd};
 use crate::sockets::Sockets;
 use commands::Fault;
-use http_live::{Ending, Seat, empty_seats, finish_many, serve_many};
+use http_live::serve_to_end;
 use recovery::Ready;
 use report_kinds::Reporting;
 use std::alloc::Global;
@@ -36,23 +37,13 @@ pub fn serve_sockets<B: Reporting>(
         (B.leaves book.new) (has_broken result) }
     ensures doors { GoOnBySockets ⟦<ReadEnd as Read>⟧ ⟦<WriteEnd as Write>⟧ (B.is_sound book.new)
         (B.stands book.old) (B.stands book.new) (B.leaves book.new) (has_broken result) }
+    ensures over { IfOk result (λ done. IsOver sockets.new) }
 
     ensures memory { result ≡ Err Fault.Memory →
         (sockets.new ≡ sockets.old) × (book.new ≡ book.old) }
     ensures serves { Serves B.is_sound B.leaves B.has_failed book.old book.new Fault.Store result }
 {
-    let Ok(mut seats) = empty_seats(alloc) else {
-        return Err(Fault::Memory);
-    };
-    let ending = serve_many(alloc, seats.as_mut_slice(), sockets, book)?;
-    if ending == Ending::Stopped {
-        finish(seats.as_mut_slice(), sockets);
-    }
+    let ending = serve_to_end(alloc, sockets, book)?;
+    sockets.note_ending(ending);
     Ok(())
-}
-
-/// The pages that wait go out, and no more messages are answered.
-fn finish(seats: &mut [Seat<ReadEnd, WriteEnd>], sockets: &mut Sockets<'_>) {
-    sockets.stop();
-    finish_many(seats, sockets);
 }

@@ -1,14 +1,14 @@
 //! Turns from the system: what epoll reports, and who comes and goes.
-ghost use Rattle.std.specs.Prelude.{◌≡◌, None, IfOk, IfSome, IsSome, OnErr, OnOk};
-ghost use Rattle.http_live.specs.Doors.{ComesByItsDoor, ComesByItsWay};
-ghost use Rattle.http_sockets.specs.Doors.{IsAt, IsReadBy};
+ghost use Rattle.std.specs.Prelude.{◌≡◌, None, IfOk, IfSome, IsSome, IsTrue, OnErr, OnOk};
+ghost use Rattle.http_sockets.specs.Doors.{IsAt, IsPair, IsReadBy, IsTurn};
+ghost use Rattle.http_sockets.specs.Ends.{IsOver};
 
 use crate::listeners::{Accepted, FIRST, Listeners};
 use crate::places::{Places, ReadEnd, Socket, WriteEnd, ends_of};
 use crate::serving::Limits;
 use desk_http::{Door, Site};
 use http_journal::Journal;
-use http_live::{SEATS, Standing, Turn, Turns};
+use http_live::{Ending, SEATS, Standing, Turn, Turns};
 use http_log::{LogForm, Metrics, Why};
 use http_pages::HtmlPage;
 use http_ways::{Arrived, Way};
@@ -70,6 +70,8 @@ pub struct Sockets<'a> {
 }
 
 impl<'a> Sockets<'a> {
+    ghost use Rattle.http_live.specs.Whole.{EndsOver};
+    ghost use Rattle.http_sockets.specs.Ends.{IsAtEnd, is_failed};
     ghost use Rattle.http_sockets.specs.Doors.{ComesAt, ComesBy, page_at_port, way_to_come};
     ghost use Rattle.http_sockets.specs.Limits.{KeepsLimits, patience_of, still_to_come};
 
@@ -164,19 +166,20 @@ impl<'a> Sockets<'a> {
     }
 
     /// Whether no turn came since the system failed to report what happens.
-    pub fn has_failed(&self) -> bool {
+    pub fn has_failed(&self) -> bool
+        ensures failed { result ≡ is_failed self.now }
+    {
         self.has_failed
     }
 
-    /// The desk stops: nobody comes any more, and each connection has a turn, in which its page may go out. After five
-    /// seconds no turn comes.
-    pub(crate) fn stop(&mut self) {
-        self.to_come = Some(0);
-        self.last = Some(self.tick.saturating_add(STOPPING));
-        for at in 0..SEATS {
-            if self.places.queues(at) {
-                let _ = self.next.push_back(at);
-            }
+    /// Serving has ended so. That all turns were spent is a failure.
+    pub(crate) fn note_ending(&mut self, ending: Ending)
+        ensures over { EndsOver (IsOver self.old) ending → IsOver self.new }
+    {
+        match ending {
+            Ending::NoTurn => {}
+            Ending::Stopped => {}
+            Ending::Spent => self.has_failed = true,
         }
     }
 
@@ -190,8 +193,7 @@ impl<'a> Sockets<'a> {
 
     /// The next turn of this round.
     fn turn_of_round(&mut self) -> Option<Turn<ReadEnd, WriteEnd>>
-        ensures door { IfSome result (ComesByItsDoor IsAt) }
-        ensures way { IfSome result (ComesByItsWay IsReadBy) }
+        ensures turn { IfSome result IsTurn }
     {
         if let Some(at) = self.leaving.pop_front() {
             let why = self.places.why_overdue(at);
@@ -214,8 +216,7 @@ impl<'a> Sockets<'a> {
 
     /// The next peer takes a seat, if one waits.
     fn welcome(&mut self) -> Option<Turn<ReadEnd, WriteEnd>>
-        ensures door { IfSome result (ComesByItsDoor IsAt) }
-        ensures way { IfSome result (ComesByItsWay IsReadBy) }
+        ensures turn { IfSome result IsTurn }
     {
         for _ in 0..WELCOMES {
             if !self.welcomes() {
@@ -246,8 +247,7 @@ impl<'a> Sockets<'a> {
     /// A peer takes a seat, by the door of its socket, at the port by that with the page that is served now, if one is. It
     /// is read by the way that is now.
     fn seated(&mut self, socket: Socket, at: usize) -> io::Result<Turn<ReadEnd, WriteEnd>>
-        ensures door { IfOk result (ComesByItsDoor IsAt) }
-        ensures way { IfOk result (ComesByItsWay IsReadBy) }
+        ensures turn { IfOk result IsTurn }
         ensures now { IfOk result (ComesBy (way_to_come self.old)) }
         ensures page { IfOk result (ComesAt (page_at_port self.old)) }
     {
@@ -309,9 +309,18 @@ impl<'a> Sockets<'a> {
     }
 
     /// Whether no turn comes any more: all peers came, and have left; or the desk stops, and the time for that is over.
-    fn is_at_end(&self) -> bool {
-        let is_over = self.last.map_or(false, |last| self.tick >= last);
-        is_over || self.to_come == Some(0) && self.places.are_free()
+    fn is_at_end(&self) -> bool
+        ensures over { IsTrue result → IsAtEnd self.now }
+    {
+        if let Some(last) = self.last {
+            if self.tick >= last {
+                return true;
+            }
+        }
+        match self.to_come {
+            Some(0) => self.places.are_free(),
+            _ => false,
+        }
     }
 }
 
@@ -323,6 +332,10 @@ impl Turns for Sockets<'_> {
     ghost is_at = { IsAt };
 
     ghost is_by = { IsReadBy };
+
+    ghost is_pair = { IsPair };
+
+    ghost is_over = { IsOver };
 
     fn next_turn(&mut self) -> Turn<ReadEnd, WriteEnd> {
         for _ in 0..u64::MAX {
@@ -337,7 +350,19 @@ impl Turns for Sockets<'_> {
                 return Turn::End;
             }
         }
+        self.has_failed = true;
         Turn::End
+    }
+
+    /// Each connection has a turn, in which its page may go out. After five seconds no turn comes.
+    fn stop(&mut self) {
+        self.to_come = Some(0);
+        self.last = Some(self.tick.saturating_add(STOPPING));
+        for at in 0..SEATS {
+            if self.places.queues(at) {
+                let _ = self.next.push_back(at);
+            }
+        }
     }
 
     fn second(&mut self) -> Option<u64> {

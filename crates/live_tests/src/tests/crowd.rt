@@ -1,8 +1,7 @@
 //! A source of turns over few seats: peers come at any time, some in place of others, go on in a random order, and some
 //! are cut off.
-ghost use Rattle.std.specs.Prelude.{◌≡◌, IfSome};
+ghost use Rattle.std.specs.Prelude.{◌≡◌};
 ghost use Rattle.http_ways.specs.declared.ways.Way.TheVariants.{Profile};
-ghost use Rattle.http_live.specs.Doors.{ComesByItsDoor, ComesByItsWay};
 
 use crate::tests::dice::Dice;
 use crate::tests::ends::{Notes, Pieces, Sink};
@@ -54,11 +53,8 @@ impl<'a> Crowd<'a> {
         }
     }
 
-    /// The next peer comes, if there is one more.
-    fn comes(&mut self, seat: usize) -> Option<Turn<Pieces<'a>, Sink<'a>>>
-        ensures door { IfSome result (ComesByItsDoor (λ reader door. reader.door ≡ door)) }
-        ensures way { IfSome result (ComesByItsWay (λ reader way. way ≡ Profile)) }
-    {
+    /// The next peer comes, if there is one more: its two ends.
+    fn comes(&mut self, seat: usize) -> Option<(Pieces<'a>, Sink<'a>)> {
         let at = self.came;
         let peer = self.peers.get(at)?;
         self.came = at.saturating_add(1);
@@ -80,7 +76,7 @@ impl<'a> Crowd<'a> {
             step: peer.write_step,
             dice: Dice::new(self.dice.roll(1_000_000)),
         };
-        Some(Turn::Comes(seat, peer.door, Way::Profile, reader, writer))
+        Some((reader, writer))
     }
 }
 
@@ -92,6 +88,10 @@ impl<'a> Turns for Crowd<'a> {
     ghost is_at = { λ reader door. reader.door ≡ door };
 
     ghost is_by = { λ reader way. way ≡ Profile };
+
+    ghost is_pair = { λ reader writer. Unit {0} };
+
+    ghost is_over = { λ crowd. crowd.left ≡ 0 };
 
     fn next_turn(&mut self) -> Turn<Pieces<'a>, Sink<'a>> {
         if self.left == 0 {
@@ -105,7 +105,9 @@ impl<'a> Turns for Crowd<'a> {
                 Turn::Leaves(seat)
             }
             1..=6 => match self.comes(seat) {
-                Some(turn) => turn,
+                Some((reader, writer)) => {
+                    Turn::Comes(seat, reader.door, Way::Profile, reader, writer)
+                }
                 None => Turn::Ready(seat),
             },
             _ => Turn::Ready(seat),

@@ -32,6 +32,10 @@ impl<'a> Turns for Schedule<'a> {
 
     ghost is_by = { λ reader way. way ≡ Profile };
 
+    ghost is_pair = { λ reader writer. Unit {0} };
+
+    ghost is_over = { λ schedule. schedule.left ≡ 0 };
+
     fn next_turn(&mut self) -> Turn<Pieces<'a>, Sink<'a>> {
         let seat = self.came;
         if let Some(peer) = self.peers.get(seat) {

@@ -67,6 +67,10 @@ impl<'a> Turns for Peer<'a> {
 
     ghost is_by = { λ reader way. way ≡ Profile };
 
+    ghost is_pair = { λ reader writer. Unit {0} };
+
+    ghost is_over = { λ peer. peer.turns ≡ 0 };
+
     fn next_turn(&mut self) -> Turn<&'static [u8], Sink<'a>> {
         if !self.has_come {
             self.has_come = true;

@@ -7,6 +7,7 @@ use Rattle.http_live.proofs.serving.serve_turns.Given as goal
 abbrev pub invariant-loop : goal.invariant-loop
 invariant-loop g l =
     let book = g.B.Book in record {
-      turns : TakesTurns g.T.Turns.is_at g.T.Turns.is_by (book.is_sound l.book) (book.stands l.fn.book) (book.stands l.book) (book.leaves l.book) false false l.fn.seats l.seats;
+      turns : TakesTurns g.T.Turns.is_at g.T.Turns.is_by g.T.Turns.is_pair (book.is_sound l.book)
+          (book.stands l.fn.book) (book.stands l.book) (book.leaves l.book) false false l.fn.seats l.seats;
       stays : Stays book.is_sound book.leaves book.has_failed l.fn.book l.book;
     }

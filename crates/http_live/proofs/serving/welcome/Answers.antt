@@ -11,4 +11,4 @@ returns-clause-kept g c =
 pub returns-clause-admits : goal.returns-clause-admits
 returns-clause-admits g c =
     admits_one c.args.seats.now c.args.at c.index-seats-at.result _ c.if-at-seats.false
-    c.args.reader c.args.writer c.args.door c.args.way c.take.ensures.arrivals c.requires.door c.requires.way
+    c.args.reader c.args.writer c.args.door c.args.way c.take.ensures.arrivals c.requires.door c.requires.way c.requires.pair

@@ -1,0 +1,54 @@
+-- How serving goes from the first peer to its end, over seats that had no connection before.
+use Rattle.std.specs.Prelude.{◌≡◌, ⊤, Bool, true, false, List, [], All, map, Result, Ok, Err}
+use Rattle.std.specs.declared.io.traits.Read as Read
+use Rattle.std.specs.declared.io.traits.Write as Write
+use Rattle.commands.specs.declared.replies.Fault.{Fault}
+use Rattle.ledger.specs.Answer.{State}
+use Rattle.desk_http.specs.declared.doors.Door.{Door}
+use Rattle.http_ways.specs.declared.ways.Way.{Way}
+use Rattle.http_conversations.specs.Exchanges.{Exchange}
+use Rattle.http_conversations.specs.Leading.{has_broken}
+use Rattle.http_live.specs.Arrivals.{AreAtTheirDoors, ArePairs, AreReadByTheirWays}
+use Rattle.http_live.specs.Seats.{exchanges_at}
+use Rattle.http_live.specs.Worlds.{WorldsGoOn}
+use Rattle.http_live.specs.declared.seats.Seat.{Seat}
+use Rattle.http_live.specs.declared.serving.Ending.{Ending}
+use Rattle.http_live.specs.declared.serving.Ending.TheVariants.{NoTurn, Stopped, Spent}
+
+-- serving came to its end, and there is a reason that no turn comes, unless all turns were spent
+abbrev pub EndsOver : Type 0 → Ending → Type 0
+EndsOver reason NoTurn = reason
+EndsOver reason Stopped = reason
+EndsOver reason Spent = ⊤
+
+-- the administrator stopped the desk, or nobody did, as this ending says; where all turns were spent, it does not say
+abbrev pub IsStoppedAs : Ending → Bool → Type 0
+IsStoppedAs NoTurn stopped = stopped ≡ false
+IsStoppedAs Stopped stopped = stopped ≡ true
+IsStoppedAs Spent stopped = ⊤
+
+-- at a fault nobody did
+abbrev pub StopsAs : Result Ending Fault → Bool → Type 0
+StopsAs (Ok ending) stopped = IsStoppedAs ending stopped
+StopsAs (Err fault) stopped = stopped ≡ false
+
+-- Each world at whose end the book stood goes on by the exchanges of all seats, merged. Where serving ended so, the last of
+-- them stopped the desk; no other did.
+pub record WorldsEnd (sound : Type 0) (stood stands : State → Type 0) (leaves : State → State → Type 0)
+    (result : Result Ending Fault) (before after : List (List Exchange)) : Type 0 where
+  pub stopped : Bool
+  pub stops_as : StopsAs result stopped
+  pub worlds : WorldsGoOn sound stood stands leaves (has_broken result) stopped before after
+
+-- The same of seats that had no exchange before. Each connection of them came by the door and the way of its reader, with the
+-- writer of the same peer.
+pub record GoOnByTurns {R W : Type 0} (r : Read.Ghosts R) (w : Write.Ghosts W) (is_at : R → Door → Type 0)
+    (is_by : R → Way → Type 0) (is_pair : R → W → Type 0) (sound : Type 0) (stood stands : State → Type 0)
+    (leaves : State → State → Type 0) (result : Result Ending Fault) : Type 0 where
+  pub seats : List (Seat R W r w)
+  pub doors : AreAtTheirDoors is_at seats
+  pub ways : AreReadByTheirWays is_by seats
+  pub pairs : ArePairs is_pair seats
+  pub before : List (List Exchange)
+  pub none : All (λ exchanges. exchanges ≡ []) before
+  pub goes_on : WorldsEnd sound stood stands leaves result before (map exchanges_at seats)
