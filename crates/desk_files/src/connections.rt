@@ -1,18 +1,30 @@
-//! Connections to the database in a file, and how they are closed.
-ghost use Rattle.std.specs.Prelude.{◌≡◌, ◌≢◌, ◌↔◌, false, None, IfErr, IfOk};
+//! Connections to the database in a file.
+//!
+//! `S: Start` stands for what the file and its log held as they were opened. The program opens them as `Unknown`.
+ghost use Rattle.std.specs.Prelude.{◌≡◌, ◌≢◌, ◌↔◌, ℕ, false, None, IfErr, IfOk, IsTrue};
+ghost use Rattle.sqlite.specs.Files.{file_state};
+ghost use Rattle.sqlite.specs.Held.{state};
+ghost use Rattle.sqlite.specs.State.{HasCleanDisk};
+ghost use Rattle.sqlite_trees.specs.Tree.{Trees};
+ghost use Rattle.sqlite_wal.specs.Files.{image_at};
 ghost use Rattle.desk_sql.specs.Calls.{Idle};
-ghost use Rattle.program_ends.specs.Ends.{EndsBadly, EndsJob};
+ghost use Rattle.program_ends.specs.Ends.{EndsBadly};
+ghost use Rattle.desk_files.specs.Images.{LeavesAsFound, LeavesLastCommit, OpensOver};
 
+use crate::closing::Left;
 use crate::files::{NewLog, cause_of_kind, cause_of_path, is_no_database};
-use desk_sql::has_no_tables;
 use program_ends::{Cause, End, Ended, ProgramFault};
-use sqlite::{Connection, Error, ErrorCode, File, FileStore, Leftover, Unknown};
-use sqlite_schema::names::same_name;
-use sqlite_schema::schema::{Schema, Table};
+use sqlite::{Alter, Connection, Error, ErrorCode, FileFrom, FileStore, Start, Unknown};
 use std::fs;
 
-/// A connection to the database in a file.
-pub type FileConnection = Connection<FileStore<File>>;
+/// A connection to the database in a file, whatever that held.
+pub type FileConnection = ConnectionFrom<Unknown>;
+
+/// A connection to the database in a file that held what `S` says.
+pub type ConnectionFrom<S> = Connection<FileStore<FileFrom<S>>>;
+
+/// The end where no connection was made, and what is left of the files.
+type NotConnected<S> = (Ended, Left<FileFrom<S>>);
 
 /// A connection to the database in a file, of any contents, and the log that this made beside it. An absent file is a
 /// fault, and is not made.
@@ -20,8 +32,28 @@ pub fn connect_there(rt: &HostRuntime, file: &str) -> Result<(FileConnection, Ne
     ensures idle { IfOk result (λ opened. Idle opened.0) }
     ensures end { IfErr result (λ ended. EndsBadly ended.end) }
 {
-    check_there(rt, file)?;
-    connect(rt, file)
+    match connect_there_from(rt, file, Unknown) {
+        Ok(opened) => Ok(opened),
+        Err((ended, _left)) => Err(ended),
+    }
+}
+
+/// The same of a file and a log that held what `S` says. Returns also what is left of the files at a fault.
+pub fn connect_there_from<S: Start>(
+    rt: &HostRuntime,
+    file: &str,
+    start: S,
+) -> Result<(ConnectionFrom<S>, NewLog), NotConnected<S>>
+    ensures idle { IfOk result (λ opened. Idle opened.0) }
+    ensures opened { IfOk result (λ opened. HasCleanDisk (file_state opened.0)
+        → OpensOver (image_at S.Start) opened.0) }
+    ensures end { IfErr result (λ failed. EndsBadly failed.0.end) }
+    ensures left { IfErr result (λ failed. LeavesAsFound (image_at S.Start) failed.1) }
+{
+    match check_there(rt, file) {
+        Ok(()) => connect_from(rt, file, start),
+        Err(ended) => Err((ended, Left::Unopened(None))),
+    }
 }
 
 /// Reports a fault if the file is absent.
@@ -45,21 +77,56 @@ pub fn connect(rt: &HostRuntime, file: &str) -> Result<(FileConnection, NewLog),
     ensures idle { IfOk result (λ opened. Idle opened.0) }
     ensures end { IfErr result (λ ended. EndsBadly ended.end) }
 {
-    let log = NewLog::beside(rt, file);
-    if log.is_new() && is_no_database(rt, file) {
-        return Err(not_opened(ProgramFault::OpeningStore, Some(Cause::NoDatabase)));
-    }
-    match Connection::open_from(rt, file, false, Unknown) {
-        Ok(conn) => Ok((conn, log)),
-        Err((error, left)) => {
-            if is_unreadable(&error) {
-                drop_log(rt, log, left);
-            }
-            let cause = cause_of_error(rt, file, &error);
-            Err(not_opened(opening_fault(&error), cause))
-        }
+    match connect_from(rt, file, Unknown) {
+        Ok(opened) => Ok(opened),
+        Err((ended, _left)) => Err(ended),
     }
 }
+
+/// The same of a file and a log that held what `S` says. Returns also what is left of the files at a fault.
+///
+/// The connection shows the database that they held, and an empty one if the file was absent or had no byte; a crash
+/// leaves just that. Where no database was begun in them, a fault leaves them as they were.
+pub fn connect_from<S: Start>(
+    rt: &HostRuntime,
+    file: &str,
+    start: S,
+) -> Result<(ConnectionFrom<S>, NewLog), NotConnected<S>>
+    ensures idle { IfOk result (λ opened. Idle opened.0) }
+    ensures opened { IfOk result (λ opened. HasCleanDisk (file_state opened.0)
+        → OpensOver (image_at S.Start) opened.0) }
+    ensures end { IfErr result (λ failed. EndsBadly failed.0.end) }
+    ensures left { IfErr result (λ failed. LeavesAsFound (image_at S.Start) failed.1) }
+{
+    let log = NewLog::beside(rt, file);
+    if log.is_new() && is_no_database(rt, file) {
+        let ended = not_opened(ProgramFault::OpeningStore, Some(Cause::NoDatabase));
+        return Err((ended, Left::Unopened(None)));
+    }
+    match Connection::open_from(rt, file, false, start) {
+        Ok(conn) => {
+            leaves_last_commit(&conn);
+            Ok((conn, log))
+        }
+        Err((error, left)) => Err((end_of_error(rt, file, log, &error), Left::Unopened(left))),
+    }
+}
+
+/// The end after an error of an opening. A new log beside a file that cannot be read is removed, while the files are still
+/// locked.
+fn end_of_error(rt: &HostRuntime, file: &str, log: NewLog, error: &Error) -> Ended
+    ensures end { EndsBadly result.end }
+{
+    if is_unreadable(error) {
+        log.remove(rt);
+    }
+    not_opened(opening_fault(error), cause_of_error(rt, file, error))
+}
+
+/// A crash of an open connection leaves its last commit, by the law of its store.
+fn leaves_last_commit<S: Alter>(conn: &Connection<S>)
+    ensures only { LeavesLastCommit S.Store conn.now }
+{}
 
 /// The end where a file was not opened.
 fn not_opened(fault: ProgramFault, cause: Option<Cause>) -> Ended
@@ -69,74 +136,6 @@ fn not_opened(fault: ProgramFault, cause: Option<Cause>) -> Ended
         end: End::Fault(fault),
         cause,
     }
-}
-
-/// Removes a new log while the files are still locked.
-fn drop_log(rt: &HostRuntime, log: NewLog, left: Option<Leftover<File>>) {
-    let _files = match left {
-        Some(left) => Some(left.into_files()),
-        None => None,
-    };
-    log.remove(rt);
-}
-
-/// Closes a connection after a job that ended so, so that the file has the whole database. The end is that of the closing.
-/// A database with other tables than the desk's is left as it was, without a log.
-pub fn close_after(rt: &HostRuntime, conn: FileConnection, log: NewLog, job: &End) -> Ended
-    ensures job { EndsJob result.end }
-{
-    if is_unopened(job) && has_other_tables(conn.schema()) {
-        let _files = conn.into_store().close();
-        log.remove(rt);
-        return Ended {
-            end: End::Done,
-            cause: Some(Cause::OtherTables),
-        };
-    }
-    close(conn, job)
-}
-
-/// Closes a connection in the same way, whatever its tables are.
-fn close(conn: FileConnection, job: &End) -> Ended
-    ensures job { EndsJob result.end }
-{
-    match conn.close_files() {
-        Ok(files) if has_failed(job) && files.tally().refused > 0 => Ended {
-            end: End::Done,
-            cause: Some(Cause::FullDisk),
-        },
-        Ok(_) => Ended {
-            end: End::Done,
-            cause: None,
-        },
-        Err((error, store)) => {
-            let _files = store.close();
-            Ended {
-                end: End::Fault(ProgramFault::Store),
-                cause: cause_of_store(&error),
-            }
-        }
-    }
-}
-
-/// Whether a job ended since its store could not be opened.
-fn is_unopened(job: &End) -> bool {
-    matches!(job, End::Fault(ProgramFault::OpeningStore))
-}
-
-/// Whether a job ended since its store failed.
-fn has_failed(job: &End) -> bool {
-    is_unopened(job) || matches!(job, End::Fault(ProgramFault::Store))
-}
-
-/// Whether a database has tables, and not those of a desk.
-fn has_other_tables(schema: &Schema) -> bool {
-    !has_no_tables(schema) && !schema.tables.as_slice().iter().any(is_meta)
-}
-
-/// Whether a table is the one in which a desk keeps its version.
-fn is_meta(table: &Table) -> bool {
-    same_name(table.name.as_slice(), b"meta")
 }
 
 /// Whether a file has no database that can be read.

@@ -7,8 +7,12 @@
 //! No contract can speak of the bytes of a file: which file is opened, made or left alone is tested by scripts.
 #![tactic(auto)]
 
+mod closing;
 mod connections;
 mod files;
 
-pub use connections::{FileConnection, close_after, connect, connect_there};
+pub use closing::{Left, close_after, close_from};
+pub use connections::{
+    ConnectionFrom, FileConnection, connect, connect_from, connect_there, connect_there_from,
+};
 pub use files::NewLog;
