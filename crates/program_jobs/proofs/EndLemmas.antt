@@ -1,0 +1,72 @@
+-- How a report ends, and what was written where it could not be begun. For the job of a report.
+use Rattle.std.proofs.Common.{◌≡◌, inl, inr, sym, subst, ℕ, List, Option}
+use Rattle.sqlite.specs.Store.{Ghosts}
+use Rattle.sqlite.specs.Held.{Held, state}
+use Rattle.sqlite.specs.State.{HasCleanDisk}
+use Rattle.commands.specs.declared.replies.Refusal.{Refusal}
+use Rattle.desk_sql.specs.declared.versions.Version.{Version}
+use Rattle.ledger.specs.Answer.{State}
+use Rattle.reports.specs.declared.faults.ReportFault.{ReportFault}
+use Rattle.reports.specs.declared.faults.ReportFault.TheVariants as report
+use Rattle.tables.specs.Keeping.{StoodFor}
+use Rattle.tables.specs.Opening.{Tells}
+use Rattle.tables.specs.declared.faults.OpenFault.{OpenFault}
+use Rattle.tables.specs.declared.faults.OpenFault.TheVariants as opening
+use Rattle.program_ends.specs.Ends.{IfRefused, fault_of_report}
+use Rattle.program_ends.specs.declared.ends.End.{End}
+use Rattle.program_ends.specs.declared.ends.End.TheVariants as finish
+use Rattle.program_ends.specs.declared.faults.ProgramFault.{ProgramFault}
+use Rattle.openings.specs.Ends.{end_of_open}
+use Rattle.program_jobs.specs.Jobs.{EndsReport, RefusesAbsent, RefusesToShow}
+use Rattle.program_jobs.specs.Reporting.{IsFaultOfReport, Reports}
+use Rattle.report_kinds.specs.declared.report.Report.{Report}
+use Rattle.program_jobs.proofs.ReportLemmas.{failed_report}
+
+-- a fault of a report that was begun is one of a report
+pub begun_fault : (f : ReportFault) → IsFaultOfReport (fault_of_report f)
+begun_fault report.Memory = tt
+begun_fault report.Store = tt
+begun_fault report.Write = tt
+
+-- what may be refused for a reason, may be for a weaker one
+refused_weaker : (So Also : Refusal → Type 0) → ((why : Refusal) → So why → Also why) → (e : End) → IfRefused e So → IfRefused e Also
+refused_weaker So Also weaker finish.Done refused = tt
+refused_weaker So Also weaker (finish.Refused why) refused = weaker why refused
+refused_weaker So Also weaker (finish.Fault f) refused = tt
+refused_weaker So Also weaker (finish.Usage text) refused = tt
+
+ends_weaker : (So Also : Refusal → Type 0) → ((why : Refusal) → So why → Also why) → (e : End) → EndsReport So e → EndsReport Also e
+ends_weaker So Also weaker e ends =
+    record { refused = refused_weaker So Also weaker e ends.refused; fault = ends.fault; job = ends.job }
+
+-- the end of what is never refused may be that of any report
+pub ends_any : (So : Refusal → Type 0) (e : End) → EndsReport (λ _. ⊥) e → EndsReport So e
+ends_any So e ends = ends_weaker (λ _. ⊥) So (λ why none. absurd none) e ends
+
+module _ {S : Type 0} (g : Ghosts S) (old new : Held S) where
+  -- a report of what was opened is refused no more than its job
+  pub ends_begun : (asked : Report) (e : End) → EndsReport (RefusesAbsent asked) e → EndsReport (RefusesToShow g old new asked) e
+  ends_begun asked e ends =
+      ends_weaker (RefusesAbsent asked) (RefusesToShow g old new asked) (λ why absent. inl absent) e ends
+
+  -- an opening that failed is refused where the version is unknown
+  refused_opening : (asked : Report) (fault : OpenFault) → Tells g old new fault
+      → EndsReport (RefusesToShow g old new asked) (end_of_open fault)
+  refused_opening asked (opening.UnknownSchema n) tells = record { refused = inr tells; fault = tt; job = tt }
+  refused_opening asked opening.Store tells = record { refused = tt; fault = tt; job = tt }
+  refused_opening asked opening.Memory tells = record { refused = tt; fault = tt; job = tt }
+
+  pub ends_unopened : (asked : Report) (fault : OpenFault) (e : End) → e ≡ end_of_open fault → Tells g old new fault
+      → EndsReport (RefusesToShow g old new asked) e
+  ends_unopened asked fault e is tells =
+      subst (EndsReport (RefusesToShow g old new asked)) (sym is) (refused_opening asked fault tells)
+
+-- the opening failed, of a connection that stood for a state
+pub unopened_report : {S : Type 0} (g : Ghosts S) (old new : Held S) (held : Option (List ℕ)) (asked : Report) (fault : OpenFault)
+    (v : Version) (s : State)
+    → Tells g old new fault
+    → HasCleanDisk (state g new) → StoodFor v (state g old) s
+    → Reports held held asked (end_of_open fault) s
+unopened_report g old new held asked (opening.UnknownSchema n) v s tells clean stood = absurd (tells.2 clean v s stood)
+unopened_report g old new held asked opening.Store v s tells clean stood = failed_report held asked _ s
+unopened_report g old new held asked opening.Memory v s tells clean stood = failed_report held asked _ s

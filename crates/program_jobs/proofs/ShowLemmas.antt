@@ -1,0 +1,31 @@
+-- What was opened, where its connection was lent to be read. For the job of a report.
+use Rattle.std.proofs.Common.{◌≡◌, sym, subst}
+use Rattle.sqlite.specs.Store.{Ghosts}
+use Rattle.sqlite.specs.Held.{Held, state}
+use Rattle.sqlite.specs.State.{HasCleanDisk}
+use Rattle.desk_sql.specs.Calls.{Quiet}
+use Rattle.ledger.specs.Answer.{State}
+use Rattle.sql_model.proofs.Quieting.{quiet_keeps}
+use Rattle.tables.specs.Keeping.{KeepsIn}
+use Rattle.tables.specs.Lending.{IsOnlyRead}
+use Rattle.tables.specs.declared.opening.Opened.{Opened}
+use Rattle.report_writers.specs.Writing.{ShowsIn}
+use Rattle.program_jobs.specs.Reporting.{IsDeskIn, ShowsOpened}
+
+-- what was only read still keeps the state
+pub still_in : {S : Type 0} (g : Ghosts S) (old new : Opened S) (s : State) → IsOnlyRead g old new → IsDeskIn g old s → IsDeskIn g new s
+still_in g old new s read is = record {
+  desk = is.desk;
+  keeps = subst (λ v. KeepsIn v (state g new.conn) s) (sym read.version)
+      (quiet_keeps g old.conn new.conn read.quiet old.version s is.keeps);
+}
+
+-- what a call shows of the connection, which was lent
+pub shows_lent : {S : Type 0} (g : Ghosts S) {Told : State → Type 0} {old new : Opened S} {h last : Held S} {Shown : State → Type 0}
+    → h ≡ old.conn → ShowsIn g old.version h last Shown
+    → new.version ≡ old.version → new.conn ≡ last → ((s : State) → Shown s → Told s) → ShowsOpened g old new Told
+shows_lent g {old = old} {h = h} {last} same shows version conn told = record {
+  told = λ clean s is. told s (shows.told (subst (λ h. HasCleanDisk (state g h)) conn clean) s is.desk
+      (subst (λ h. KeepsIn old.version (state g h) s) (sym same) is.keeps));
+  kept = record { version = version; quiet = subst (Quiet g old.conn) (sym conn) (subst (λ h. Quiet g h last) same shows.quiet) };
+}

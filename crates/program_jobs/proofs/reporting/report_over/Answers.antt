@@ -1,0 +1,45 @@
+-- An opening that failed wrote nothing; one that did not found the state that was represented.
+use Rattle.std.proofs.Common.{sym, subst}
+use Rattle.sql_model.proofs.Quieting.{quiet_clean}
+use Rattle.program_jobs.specs.Reporting.{IsDeskIn, Reports}
+use Rattle.program_jobs.proofs.EndLemmas.{ends_begun, ends_unopened, unopened_report}
+use Rattle.program_jobs.proofs.ShowLemmas.{still_in}
+use Rattle.program_jobs.proofs.reporting.report_over.Goals as goal
+
+pub returns-clause-told : goal.returns-clause-told
+returns-clause-told g c clean v s was =
+    let is : IsDeskIn g.S.Store c.in-Ok.opened s =
+    record { desk = was.desk; keeps = λ at. c.in-Ok.ensures.opens.finds at v s was.stood } in
+    c.tell_report-end.ensures.shows.told (c.into_store.ensures.sound clean) s is
+
+pub returns-in-Err-clause-told : goal.returns-in-Err-clause-told
+returns-in-Err-clause-told g c clean v s was =
+    let held = g.O.Write.contents c.args.out.now in
+    subst (λ e. Reports held held c.args.report.now e s) (sym c.end_of_opening.ensures.end)
+    (unopened_report g.S.Store c.args.conn c.in-Err.conn held c.args.report.now c.in-Err.fault v s c.in-Err.ensures.fails.told clean was.stood)
+
+pub returns-clause-ends : goal.returns-clause-ends
+returns-clause-ends g c = ends_begun g.S.Store c.args.conn c.into_store.result c.args.report.now _ c.tell_report-end.ensures.ends
+
+-- an opening that failed is refused where the version is unknown
+pub returns-in-Err-clause-ends : goal.returns-in-Err-clause-ends
+returns-in-Err-clause-ends g c =
+    ends_unopened g.S.Store c.args.conn c.in-Err.conn c.args.report.now c.in-Err.fault _ c.end_of_opening.ensures.end c.in-Err.ensures.fails.told
+
+-- what was opened was only read, and its connection is returned
+pub returns-clause-keeps : goal.returns-clause-keeps
+returns-clause-keeps g c =
+    let read = c.tell_report-end.ensures.shows.kept in
+    record {
+      same = λ clean v s was. (
+          let is : IsDeskIn g.S.Store c.in-Ok.opened s =
+          record { desk = was.desk; keeps = λ at. c.in-Ok.ensures.opens.finds at v s was.stood } in (
+            c.tell_report-end.new.opened.version,
+            record { desk = was.desk; stood = c.into_store.ensures.found s (still_in g.S.Store _ _ s read is).keeps },
+          ));
+      idle = record {
+        outside = c.into_store.ensures.outside (read.quiet.mode c.in-Ok.ensures.opens.idle.outside);
+        unlimited = c.into_store.ensures.unlimited;
+      };
+      sound = λ clean. c.in-Ok.ensures.opens.sound (quiet_clean _ _ _ read.quiet (c.into_store.ensures.sound clean));
+    }

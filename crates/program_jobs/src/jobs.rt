@@ -1,0 +1,104 @@
+//! The one job over a connection, whatever its task.
+ghost use Rattle.desk_sql.specs.Calls.{Idle};
+ghost use Rattle.desk_jobs.specs.Jobs.{Leaves};
+ghost use Rattle.program_jobs.specs.Streams.{streams};
+ghost use Rattle.program_jobs.specs.Tasks.{Does, CountsIndex, CountsMigration, CountsRecovery};
+
+use crate::environment::Environment;
+use crate::loading::load_from;
+use crate::outcomes::{Count, Outcome};
+use crate::showing::show_over;
+use crate::tasks::Task;
+use desk_jobs::{index_over, migrate_over, recover_over, run_over};
+use program_ends::Ended;
+use sqlite::{Alter, Connection};
+use std::alloc::Global;
+use std::io::{Read, Write};
+
+/// Does a task over a connection, from the opening of its desk to the end of the job. Returns the connection, which is then
+/// closed, and what the job came to.
+pub fn do_job<S: Alter + Drop, E: Environment, R: Read, O: Write, N: Write>(
+    alloc: Global,
+    conn: Connection<S>,
+    task: &Task,
+    environment: &mut E,
+    reader: &mut R,
+    out: &mut O,
+    notes: &mut N,
+) -> (Connection<S>, Outcome)
+    requires idle { Idle conn }
+
+    ensures does { Does S.Store conn result.0
+        (streams (R.remaining reader.old) (R.remaining reader.new) (O.contents out.old)
+        (O.contents out.new) (N.contents notes.old) (N.contents notes.new))
+        (E.bytes_of environment.old) task.now result.1 }
+    ensures leaves { Leaves S.Store conn result.0 }
+{
+    match task {
+        Task::Run => {
+            let (conn, end) = run_over(alloc, conn, reader, out, notes);
+            (conn, Outcome::Ended(Ended::from(end)))
+        }
+        Task::Recover => recover(alloc, conn),
+        Task::Load { source, batch } => {
+            let batch = batch.as_str();
+            let (conn, end) = load_from(
+                alloc,
+                conn,
+                source,
+                batch,
+                environment,
+                reader,
+                out,
+                notes,
+            );
+            (conn, Outcome::Ended(Ended::of_load(end)))
+        }
+        Task::Report(report) => {
+            let (conn, end) = show_over(alloc, conn, report, out);
+            (conn, Outcome::of_report(end))
+        }
+        Task::Migrate => migrate_tables(conn),
+        Task::Index => add_index(conn),
+    }
+}
+
+/// Recovers the desk, and counts what that made.
+fn recover<S: Alter + Drop>(alloc: Global, conn: Connection<S>) -> (Connection<S>, Outcome)
+    requires idle { Idle conn }
+
+    ensures counts { CountsRecovery S.Store conn result.0 result.1 }
+    ensures leaves { Leaves S.Store conn result.0 }
+{
+    let (conn, recovered) = recover_over(alloc, conn);
+    match recovered {
+        Ok(made) => (conn, Outcome::Counted(Count::Recovered(made))),
+        Err(end) => (conn, Outcome::Ended(Ended::from(end))),
+    }
+}
+
+/// Migrates the tables, and counts the events.
+fn migrate_tables<S: Alter + Drop>(conn: Connection<S>) -> (Connection<S>, Outcome)
+    requires idle { Idle conn }
+
+    ensures counts { CountsMigration S.Store conn result.0 result.1 }
+    ensures leaves { Leaves S.Store conn result.0 }
+{
+    match migrate_over(conn) {
+        (conn, Ok(migrated)) => (conn, Outcome::Counted(Count::Migrated(migrated))),
+        (conn, Err(end)) => (conn, Outcome::Ended(Ended::from(end))),
+    }
+}
+
+/// Adds the index, and counts the journeys.
+fn add_index<S: Alter + Drop>(conn: Connection<S>) -> (Connection<S>, Outcome)
+    requires idle { Idle conn }
+
+    ensures counts { CountsIndex S.Store conn result.0 result.1 }
+    ensures leaves { Leaves S.Store conn result.0 }
+{
+    match index_over(conn) {
+        (conn, Ok(indexed)) => (conn, Outcome::Counted(Count::Indexed(indexed))),
+        (conn, Err(end)) => (conn, Outcome::Ended(Ended::from(end))),
+    }
+}

@@ -1,0 +1,89 @@
+//! What a job came to, and its end once the connection was closed.
+ghost use Rattle.std.specs.Prelude.{◌≡◌};
+ghost use Rattle.std.specs.Io.KnownBytes.{Appends};
+ghost use Rattle.streams.specs.Written.{WroteFront};
+ghost use Rattle.program_ends.specs.Ends.{EndsJob, IfDone};
+ghost use Rattle.desk_jobs.specs.Ends.{EndsWriting};
+ghost use Rattle.program_jobs.specs.Outcomes.{Closes, IsReported, count_line, end_of};
+
+use desk_jobs::{Recovered, tell_indexed, tell_migrated};
+use migrate::{Indexed, Migrated};
+use program_ends::{End, Ended};
+use std::alloc::Global;
+use std::io::Write;
+
+/// What a job counted, which is printed once the connection is closed.
+#[derive(Clone, Copy, Debug)]
+pub enum Count {
+    /// The events that a recovery made.
+    Recovered(Recovered),
+    /// The events that were migrated.
+    Migrated(Migrated),
+    /// The journeys that are indexed.
+    Indexed(Indexed),
+}
+
+/// What a job came to before the connection is closed.
+#[derive(Debug, Drop)]
+pub enum Outcome {
+    /// It ended so.
+    Ended(Ended),
+    /// A report was written whole. Nothing has changed, so it stays written however the closing ends.
+    Shown,
+    /// All was done, and this is to be printed if the connection is closed in order.
+    Counted(Count),
+}
+
+impl Count {
+    /// Writes the line of the count, and flushes it. At a fault a prefix of it was written.
+    fn tell<O: Write>(self, alloc: Global, out: &mut O) -> End
+        ensures told { IfDone result (Appends (O.contents out.old) (O.contents out.new)
+            (count_line self)) }
+        ensures front { WroteFront (O.contents out.old) (O.contents out.new) (count_line self) }
+        ensures end { EndsJob result }
+        ensures writing { EndsWriting result }
+    {
+        match self {
+            Count::Recovered(made) => made.tell(alloc, out),
+            Count::Migrated(migrated) => tell_migrated(alloc, migrated, out),
+            Count::Indexed(indexed) => tell_indexed(alloc, indexed, out),
+        }
+    }
+}
+
+impl Outcome {
+    /// The end of a report: one that was written whole was shown.
+    pub(crate) fn of_report(end: End) -> Outcome
+        ensures end { end_of result ≡ end }
+        ensures shown { IsReported result }
+    {
+        match end {
+            End::Done => Outcome::Shown,
+            End::Refused(why) => Outcome::Ended(Ended::from(End::Refused(why))),
+            End::Fault(fault) => Outcome::Ended(Ended::from(End::Fault(fault))),
+            End::Usage(text) => Outcome::Ended(Ended::from(End::Usage(text))),
+        }
+    }
+
+    /// The end of the job before its connection is closed, by which that is closed; where all was done, the end that is given.
+    pub fn end_or<'a>(&'a self, done: &'a End) -> &'a End {
+        match self {
+            Outcome::Ended(job) => &job.end,
+            Outcome::Shown | Outcome::Counted(_) => done,
+        }
+    }
+
+    /// The end of the job, whose connection was closed with this end. What it counted is printed if that was done.
+    pub fn report<O: Write>(self, closed: Ended, alloc: Global, out: &mut O) -> Ended
+        ensures closes { Closes self closed (O.contents out.old) (O.contents out.new) result }
+    {
+        match self {
+            Outcome::Ended(job) => closed.after(job),
+            Outcome::Shown => Ended::from(End::Done),
+            Outcome::Counted(count) => match closed {
+                Ended { end: End::Done, .. } => Ended::from(count.tell(alloc, out)),
+                closed => closed,
+            },
+        }
+    }
+}

@@ -1,0 +1,103 @@
+//! The job of a report, of a desk that is not recovered.
+ghost use Rattle.std.specs.Prelude.{◌≡◌, ℕ, false, List, Option, Ok};
+ghost use Rattle.std.specs.Io.KnownBytes.{Keeps};
+ghost use Rattle.sqlite.specs.Held.{state};
+ghost use Rattle.sqlite.specs.State.{HasCleanDisk};
+ghost use Rattle.desk_sql.specs.Calls.{Idle};
+ghost use Rattle.desk_sql.specs.declared.versions.Version.{Version};
+ghost use Rattle.ledger.specs.Answer.{State};
+ghost use Rattle.openings.specs.Connections.{RepresentsIn};
+ghost use Rattle.report_kinds.specs.Texts.{IsOfJourney};
+ghost use Rattle.report_kinds.specs.declared.report.Report.{Report};
+ghost use Rattle.report_writers.specs.Writing.{WritesIfThere};
+ghost use Rattle.program_jobs.specs.Jobs.{EndsReport, KeepsDesk, RefusesAbsent, RefusesToShow};
+ghost use Rattle.program_jobs.specs.Reporting.{end_of_report, Reports, ReportsIfThere, ShowsOpened};
+
+use commands::Refusal;
+use openings::end_of_opening;
+use program_ends::End;
+use report_kinds::Report;
+use report_writers::write_report;
+use reports::ReportFault;
+use sqlite::{Alter, Connection};
+use std::alloc::Global;
+use std::io::Write;
+use tables::{Opened, open_from};
+
+/// Writes a report of the desk of a connection, and flushes it. A journey that is absent is refused. Returns the
+/// connection, and the end.
+pub fn report_over<S: Alter + Drop, O: Write>(
+    alloc: Global,
+    conn: Connection<S>,
+    report: &Report,
+    out: &mut O,
+) -> (Connection<S>, End)
+    requires idle { Idle conn }
+
+    ensures told { HasCleanDisk (state S.Store result.0) → (v : Version) (s : State) →
+        RepresentsIn S.Store conn v s →
+        Reports (O.contents out.old) (O.contents out.new) report.now result.1 s }
+    ensures ends { EndsReport (RefusesToShow S.Store conn result.0 report.now) result.1 }
+
+    ensures keeps { KeepsDesk S.Store conn result.0 }
+{
+    let mut opened = match open_from(conn) {
+        Ok(opened) => opened,
+        Err((conn, fault)) => return (conn, end_of_opening(fault)),
+    };
+    let end = tell_report(alloc, report, &mut opened, out);
+    (opened.into_store(), end)
+}
+
+/// Writes a report of what was opened, and flushes it. A journey that is absent is refused. What was opened was only
+/// read, and may be read again.
+pub fn tell_report<S: Alter, O: Write>(
+    alloc: Global,
+    report: &Report,
+    opened: &mut Opened<S>,
+    out: &mut O,
+) -> End
+    ensures shows { ShowsOpened S.Store opened.old opened.new (λ s.
+        Reports (O.contents out.old) (O.contents out.new) report.now result s) }
+    ensures ends { EndsReport (RefusesAbsent report.now) result }
+{
+    let version = opened.version();
+    let done = write_report(alloc, report, version, opened.connection(), out);
+    finish(done, out)
+}
+
+/// Flushes the writer after a report that was written so, if there was one, and returns its end.
+fn finish<O: Write>(done: Result<bool, ReportFault>, out: &mut O) -> End
+    ensures told { (held : Option (List ℕ)) → (text : Option (List ℕ)) →
+        WritesIfThere held (O.contents out.old) text done →
+        ReportsIfThere held (O.contents out.new) text result }
+    ensures ends { (report : Report) → (done ≡ Ok false → IsOfJourney report) →
+        EndsReport (RefusesAbsent report) result }
+{
+    match done {
+        Ok(true) => end_of_report(flush(out)),
+        Ok(false) => End::Refused(Refusal::NoJourney),
+        Err(fault) => end_of_report(Err(fault)),
+    }
+}
+
+/// The end of a report that was begun: it was written, or a fault came.
+fn end_of_report(done: Result<(), ReportFault>) -> End
+    ensures end { result ≡ end_of_report done }
+    ensures ends { EndsReport (λ _. ⊥) result }
+{
+    match done {
+        Ok(()) => End::Done,
+        Err(fault) => End::Fault(fault.into()),
+    }
+}
+
+/// Flushes the writer.
+fn flush<O: Write>(out: &mut O) -> Result<(), ReportFault>
+    ensures same { Keeps (O.contents out.old) (O.contents out.new) }
+{
+    match out.flush() {
+        Ok(()) => Ok(()),
+        Err(_) => Err(ReportFault::Write),
+    }
+}

@@ -1,3 +1,0 @@
-pub mod ReportLemmas
-pub mod EndLemmas
-pub mod ShowLemmas
