@@ -1,0 +1,21 @@
+//! What the files may be found to hold after any number of invocations.
+//!
+//! A law is the contract of a function that does nothing: who calls it may use the law.
+ghost use Rattle.std.specs.Prelude.{[], ◌∷◌};
+ghost use Rattle.invocations.specs.Examples.{absent, report};
+ghost use Rattle.invocations.specs.Headline.{Headline, IsEndOf};
+
+/// After any number of invocations over a file that was absent or had no byte, with crashes at any time, what the files
+/// hold stands for the end of one execution of them all, in order. So its ledger keeps what is promised of each execution.
+pub fn any_invocations()
+    ensures headline { Headline }
+{}
+
+/// The law, used on two reports over an absent file.
+///
+/// Its proof hands these invocations to the law. So a premise more in it, which they do not meet, is refused here.
+pub fn two_reports_over_an_absent_file()
+    ensures found { ∥ IsEndOf (report ∷ report ∷ []) absent ∥₁ }
+{
+    any_invocations();
+}
