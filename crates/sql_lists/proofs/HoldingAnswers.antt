@@ -4,6 +4,7 @@ use Rattle.std.specs.List.{AllByRecursion, list_all}
 use Rattle.std.specs.Ordering.{int_cmp, nat_cmp, ordering_then}
 use Rattle.std.specs.Cmp.Lexicographic.{slice_cmp}
 use Rattle.std.proofs.lemmas.Int.{ints}
+use Rattle.std.proofs.lemmas.Bool.{and_parts, and_right, eqb-true}
 use Rattle.std.proofs.lemmas.Bool.Decides.{nat_tests}
 use Rattle.std.proofs.lemmas.Slice.Eq.{bytes_eq-Decides}
 use Rattle.sqlite.specs.declared.types.Value.TheVariants.{Text}
@@ -28,7 +29,7 @@ use Rattle.sqlite_trees.specs.Tree.{Trees}
 use Rattle.sqlite_trees.proofs.ListLemmas.{ascending_weaker}
 use Rattle.allotment.specs.Cells.{kind_number}
 use Rattle.allotment.specs.declared.codes.Kind.{Kind}
-use Rattle.filters.specs.CellFilters.{is_from, is_kind_asked, is_name_asked, is_to}
+use Rattle.filters.specs.CellFilters.{is_from, is_kind_asked, is_name_asked, is_night_asked, is_to}
 use Rattle.filters.specs.declared.cells.CellFilter.{CellFilter}
 use Rattle.desk_sql.specs.declared.versions.Version.{Version}
 use Rattle.desk_sql.specs.declared.versions.Version.TheVariants.{One, Two}
@@ -39,7 +40,8 @@ use Rattle.desk_sql.specs.Rows.{whole, JourneyRow, StepRow, StockRow, journey_ro
 use Rattle.desk_sql.proofs.Causing.{Takes}
 use Rattle.desk_sql.proofs.Meaning.{MeansEach}
 use Rattle.desk_sql.proofs.Testing.{and_true, eq_text, eq_whole, ge_whole, le_whole, truth_is}
-use Rattle.sql_lists.specs.HoldingLists.{HoldingRow, HoldingsRest, IsByNight, Joined, ListsHoldings, holding_found, holding_of, holding_shown, holding_tests, holdings_names, holdings_params, holdings_query, holdings_text, is_joined, is_stock_asked, joined, joined_cmp, kind_param, step_cmp, name_param, night_param, shows_holding}
+use Rattle.sql_lists.specs.HolderLists.{is_night_of}
+use Rattle.sql_lists.specs.HoldingLists.{HoldingRow, HoldingsRest, IsByNight, Joined, ListsHoldings, holding_found, holding_of, holding_shown, holding_tests, holdings_names, holdings_params, holdings_query, holdings_text, is_held_in, is_joined, is_stock_asked, joined, joined_cmp, kind_param, step_cmp, name_param, night_param, shows_holding}
 use Rattle.sql_lists.specs.declared.holdings.HoldingFound.{HoldingFound}
 use Rattle.sql_lists.proofs.HandedCells.{number_cmp}
 use Rattle.sql_lists.proofs.HandedRows.{starts}
@@ -89,7 +91,18 @@ unfolding binary unary
 to_test None n = le_whole n n ∙ same_low n
 to_test (Some last) n = le_whole n last
 
--- tests in a row are those of the cell, and the others
+-- that the option was taken is tested first, and stands after the tests of what the filter names
+taken_later : (taken asked rest : Bool) → (taken && (asked && rest)) ≡ (asked && (taken && rest))
+taken_later true asked rest = refl
+taken_later false true rest = refl
+taken_later false false rest = refl
+
+-- two tests in the place of one another, since they agree where the next one is passed
+where_passed : (a b next rest : Bool) → (next ≡ true → a ≡ b) → (a && (next && rest)) ≡ (b && (next && rest))
+where_passed a b true rest alike = ap (λ it. it && rest) (alike refl)
+where_passed a b false rest alike = and_right a false refl ∙ sym (and_right b false refl)
+
+-- tests in a row are those of what the filter names, and the others
 five_apart : (a b c d e rest : Bool) → (a && (b && (c && (d && (e && rest))))) ≡ ((a && (b && (c && (d && e)))) && rest)
 five_apart true true true true e rest = refl
 five_apart true true true false e rest = refl
@@ -169,6 +182,28 @@ night_test first nights night low =
     ap (λ v. is_true (binary (Compare Lt Binary) (whole night) v)) (sum_is first nights low) ∙ lt_whole night (first + nights)
 
 module _ (f : CellFilter) where
+  -- the kind, supplier and product of an option, and the night of a cell, are those that the filter names
+  abbrev is_option_asked : StockRow → StepRow → Bool
+  is_option_asked c s =
+      is_kind_asked f.kind s.kind
+      && (is_name_asked f.supplier s.supplier
+      && (is_name_asked f.product s.product && is_night_asked f.from f.to c.night))
+
+  -- where the option's want has the cell, its kind, supplier and product are those of the cell
+  asked_alike : (c : StockRow) (s : StepRow) → is_held_in c s ≡ true → is_option_asked c s ≡ is_stock_asked f c
+  asked_alike c s held =
+      let nights = is_night_of s.night s.nights c.night in
+      let product = bytes_eq s.product c.product && nights in
+      let supplier = bytes_eq s.supplier c.supplier && product in
+      let at_kind = and_parts (s.kind == c.kind) supplier (and_parts (s.taken == 1) ((s.kind == c.kind) && supplier) held).1 in
+      let at_supplier = and_parts (bytes_eq s.supplier c.supplier) product at_kind.1 in
+      let at_product = and_parts (bytes_eq s.product c.product) nights at_supplier.1 in
+      rw (
+        eqb-true s.kind c.kind at_kind.0,
+        (bytes_eq-Decides s.supplier c.supplier).0 at_supplier.0,
+        (bytes_eq-Decides s.product c.product).0 at_product.0,
+      ) refl
+
   test_is : (p : ℤ × StockRow) (r : ℤ × StepRow) → IsSmall r.1 → (j : JourneyRow)
       → list_all (holds (holdings_params f ∷ numbered_row stock_columns p ∷ numbered_row step_columns r ∷ journey_row j ∷ [])) holding_tests
       ≡ is_joined f p.1 r.1 j
@@ -177,15 +212,18 @@ module _ (f : CellFilter) where
       let s = r.1 in
       let own = j.id == s.journey in
       simp (kind_test, name_test, from_test, to_test, eq_whole, eq_text, le_whole, night_test s.night s.nights c.night small)
-      (five_apart (is_kind_asked f.kind c.kind) (is_name_asked f.supplier c.supplier) (is_name_asked f.product c.product)
-      (is_from f.from c.night) (is_to f.to c.night) _
-      ∙ ap (λ b. is_stock_asked f c && b)
+      (ap (λ b. (s.taken == 1) && b)
+      (five_apart (is_kind_asked f.kind s.kind) (is_name_asked f.supplier s.supplier) (is_name_asked f.product s.product)
+      (is_from f.from c.night) (is_to f.to c.night) _)
+      ∙ taken_later (s.taken == 1) (is_option_asked c s) _
+      ∙ ap (λ b. is_option_asked c s && b)
       (six_apart (s.taken == 1) (s.kind == c.kind) (bytes_eq s.supplier c.supplier) (bytes_eq s.product c.product)
       (nat_le s.night c.night) (nat_lt c.night (s.night + s.nights)) (own && true)
       ∙ ap₂ (λ a b. a && b)
       (ap (λ n. (s.taken == 1) && ((s.kind == c.kind) && (bytes_eq s.supplier c.supplier && (bytes_eq s.product c.product && (nat_le s.night c.night && n)))))
       (and_true (nat_lt c.night (s.night + s.nights))))
-      (and_true own)))
+      (and_true own))
+      ∙ where_passed (is_option_asked c s) (is_stock_asked f c) (is_held_in c s) own (asked_alike c s))
 
   holdings_answer : (db : Trees) (stock : List StockRow) (steps : List StepRow) (journeys : List JourneyRow) (listed : List Joined)
       → IsTableOf stock_columns (db 1) stock → IsTableOf step_columns (db 8) steps

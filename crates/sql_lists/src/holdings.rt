@@ -74,7 +74,7 @@ pub fn hand_holdings<'a, S: Alter>(
         Starts S.Store conn.old it.conn.now (ListsHoldings filter.now) (HoldingsRest S.Store)) }
 {
     conn.query(
-        "SELECT stock.kind, stock.supplier, stock.product, stock.night, stock.allot, stock.free, journey.id, journey.agent, journey.phase, step.places FROM stock, step, journey WHERE stock.kind = coalesce(?1, stock.kind) AND stock.supplier = coalesce(?2, stock.supplier) AND stock.product = coalesce(?3, stock.product) AND stock.night >= coalesce(?4, stock.night) AND stock.night <= coalesce(?5, stock.night) AND step.taken = 1 AND step.kind = stock.kind AND step.supplier = stock.supplier AND step.product = stock.product AND step.night <= stock.night AND stock.night < step.night + step.nights AND journey.id = step.journey ORDER BY stock.night, stock.kind, stock.supplier, stock.product, step.journey, step.place, step.opt",
+        "SELECT stock.kind, stock.supplier, stock.product, stock.night, stock.allot, stock.free, journey.id, journey.agent, journey.phase, step.places FROM stock, step, journey WHERE step.taken = 1 AND step.kind = coalesce(?1, step.kind) AND step.supplier = coalesce(?2, step.supplier) AND step.product = coalesce(?3, step.product) AND stock.night >= coalesce(?4, stock.night) AND stock.night <= coalesce(?5, stock.night) AND step.kind = stock.kind AND step.supplier = stock.supplier AND step.product = stock.product AND step.night <= stock.night AND stock.night < step.night + step.nights AND journey.id = step.journey ORDER BY stock.night, stock.kind, stock.supplier, stock.product, step.journey, step.place, step.opt",
         &[
             kind_value(filter.kind),
             name_value(&filter.supplier),
