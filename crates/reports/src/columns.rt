@@ -1,5 +1,6 @@
 //! The columns of the line of a cell. Each is written over the blanks that the line has after the columns before it.
-ghost use Rattle.std.specs.Prelude.{◌≡◌, ◌+◌, ◌≤◌, length, decimal};
+ghost use Rattle.std.specs.Prelude.{◌≡◌, ◌+◌, ◌≤◌, length, decimal, IsTrue};
+ghost use Rattle.allotment.specs.Limits.{is_night};
 ghost use Rattle.allotment.specs.Nights.{night_text};
 ghost use Rattle.reports.specs.Columns.{PutsDigits, PutsText};
 
@@ -32,6 +33,7 @@ pub(crate) fn put_number(line: &mut [u8], end: usize, number: u32)
 /// The text of a night, as `2030-06-01`.
 pub(crate) fn night_digits(night: Night) -> [u8; 10]
     ensures text { result ≡ night_text night }
+    ensures limits { IsTrue (is_night night) }
 {
     let NightDate { year, month, day } = night.date();
     [

@@ -17,6 +17,7 @@ mod lines;
 mod objects;
 mod outputs;
 mod parts;
+mod pieces;
 mod records;
 mod reports;
 mod rows;

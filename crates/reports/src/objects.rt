@@ -1,25 +1,40 @@
 //! The rows of reports as JSON objects, each on a line.
 ghost use Rattle.std.specs.Prelude.{◌≡◌, [], ◌∷◌, false, codes, IfOk, string_bytes};
-ghost use Rattle.allotment.specs.Nights.{night_text};
 ghost use Rattle.serde_json.specs.View.{view};
 ghost use Rattle.serde_json.specs.Written.{has_float};
 ghost use Rattle.reports.specs.Objects.{json, counts, says, json_line, cell_data, journey_data, begin_data, item_data, state_data};
 
-use crate::lines::night_text;
+use crate::columns::night_digits;
+use crate::pieces::{put_count, put_piece};
 use allotment::{Cell, Held};
 use commands::{Cursor, Item, Phase};
 use saga_core::{Brief, Record};
 use serde_json::{Value, json};
 use std::alloc::{AllocError, Global};
 
-/// The line of a cell and its places.
-pub(crate) fn cell_object(alloc: Global, cell: &Cell, places: &Held) -> Result<String, AllocError>
+/// The line of a cell and its places. It has at most 127 bytes.
+pub(crate) fn cell_object(alloc: Global, cell: &Cell, places: &Held) -> Result<Vec<u8>, AllocError>
     ensures line { IfOk result
-        (λ text. string_bytes text ≡ json_line (cell_data (cell.now, places.now))) }
+        (λ line. line.items ≡ json_line (cell_data (cell.now, places.now))) }
 {
-    let night = night_text(alloc, cell.night)?;
-    let value = cell_value(alloc, cell, night.as_str(), places)?;
-    json_line(alloc, &value)
+    let mut line = Vec::with_capacity(alloc, 127)?;
+    put_count(&mut line, "{\"allot\":", places.allot)?;
+    put_count(&mut line, ",\"free\":", places.free)?;
+    put_count(&mut line, ",\"held\":", places.held())?;
+    put_piece(&mut line, ",\"kind\":\"", cell.kind.word().as_bytes())?;
+    put_piece(&mut line, "\",\"night\":\"", &night_digits(cell.night))?;
+    put_piece(
+        &mut line,
+        "\",\"product\":\"",
+        cell.product.as_str().as_bytes(),
+    )?;
+    put_piece(
+        &mut line,
+        "\",\"supplier\":\"",
+        cell.supplier.as_str().as_bytes(),
+    )?;
+    line.extend_from_slice(b"\"}\n")?;
+    Ok(line)
 }
 
 /// The line of a journey with its agent, and of where it is.
@@ -64,27 +79,6 @@ pub fn json_line(alloc: Global, value: &Value) -> Result<String, AllocError>
     let mut text = value.to_string(alloc)?;
     text.push('\n')?;
     Ok(text)
-}
-
-/// The value of a cell, whose night has this text, and its places.
-fn cell_value(alloc: Global, cell: &Cell, night: &str, places: &Held) -> Result<Value, AllocError>
-    ensures value { night.now ≡ night_text cell.now.night →
-        IfOk result (λ value. view value ≡ cell_data (cell.now, places.now)) }
-{
-    let Held { allot, free, .. } = *places;
-    let held = places.held();
-    let kind = cell.kind.word();
-    let product = cell.product.as_str();
-    let supplier = cell.supplier.as_str();
-    json!(in alloc; {
-        "allot": allot,
-        "free": free,
-        "held": held,
-        "kind": kind,
-        "night": night,
-        "product": product,
-        "supplier": supplier
-    })
 }
 
 /// The value of an unfinished journey.

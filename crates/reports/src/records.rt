@@ -1,12 +1,11 @@
 //! The rows of reports as CSV records (RFC 4180).
-ghost use Rattle.std.specs.Prelude.{◌≡◌, [], ◌∷◌, decimal, IfOk};
-ghost use Rattle.allotment.specs.Places.{held_of};
-ghost use Rattle.allotment.specs.Texts.{kind_word};
+ghost use Rattle.std.specs.Prelude.{◌≡◌, [], ◌∷◌, IfOk};
 ghost use Rattle.csv.specs.Records.{partial_of};
 ghost use Rattle.reports.specs.Records.{Adds, csv_line, cell_names, cell_fields, journey_names, journey_fields, target_field, item_names, item_fields};
 
+use crate::columns::night_digits;
 use crate::fields::{csv_line, put_field, put_number};
-use crate::lines::night_text;
+use crate::pieces::{put_count, put_piece};
 use allotment::{Cell, Held};
 use commands::{Cursor, Item, Phase};
 use csv::ByteRecord;
@@ -34,16 +33,21 @@ pub(crate) fn item_heading() -> &'static str
     "journey,item\r\n"
 }
 
-/// The record of a cell and its places.
+/// The record of a cell and its places. It has at most 60 bytes.
 pub(crate) fn cell_record(alloc: Global, cell: &Cell, places: &Held) -> Result<Vec<u8>, AllocError>
     ensures fields { IfOk result
         (λ text. text.items ≡ csv_line (cell_fields (cell.now, places.now))) }
 {
-    let night = night_text(alloc, cell.night)?;
-    let mut row = ByteRecord::new(alloc);
-    put_cell(&mut row, cell, night.as_str())?;
-    put_places(alloc, &mut row, places)?;
-    csv_line(alloc, &row)
+    let mut line = Vec::with_capacity(alloc, 60)?;
+    put_piece(&mut line, "", cell.kind.word().as_bytes())?;
+    put_piece(&mut line, ",", cell.supplier.as_str().as_bytes())?;
+    put_piece(&mut line, ",", cell.product.as_str().as_bytes())?;
+    put_piece(&mut line, ",", &night_digits(cell.night))?;
+    put_count(&mut line, ",", places.allot)?;
+    put_count(&mut line, ",", places.held())?;
+    put_count(&mut line, ",", places.free)?;
+    line.extend_from_slice(b"\r\n")?;
+    Ok(line)
 }
 
 /// The record of an unfinished journey.
@@ -78,33 +82,6 @@ pub fn put_journey(alloc: Global, row: &mut ByteRecord, brief: &Brief) -> Result
     put_field(row, phase.word())?;
     put_number(alloc, row, pos as u64)?;
     put_target(alloc, row, phase)
-}
-
-/// Adds the fields of a cell, whose night has this text: kind, supplier, product and night.
-fn put_cell(row: &mut ByteRecord, cell: &Cell, night: &str) -> Result<(), AllocError>
-    requires whole { partial_of row.old ≡ [] }
-
-    ensures adds { Adds row.old row.new
-        (kind_word cell.now.kind ∷ cell.now.supplier ∷ cell.now.product ∷ night.now ∷ []) result }
-{
-    put_field(row, cell.kind.word())?;
-    put_field(row, cell.supplier.as_str())?;
-    put_field(row, cell.product.as_str())?;
-    put_field(row, night)
-}
-
-/// Adds the allotted, held and free places.
-fn put_places(alloc: Global, row: &mut ByteRecord, places: &Held) -> Result<(), AllocError>
-    requires whole { partial_of row.old ≡ [] }
-
-    ensures adds { Adds row.old row.new
-        (decimal places.now.allot ∷ decimal (held_of places.now) ∷ decimal places.now.free ∷ []) result }
-{
-    let Held { allot, free, .. } = *places;
-    let held = places.held();
-    put_number(alloc, row, u64::from(allot))?;
-    put_number(alloc, row, u64::from(held))?;
-    put_number(alloc, row, u64::from(free))
 }
 
 /// Adds the position to which a journey goes back; an empty field if it does not.

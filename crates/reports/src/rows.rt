@@ -44,7 +44,7 @@ impl Layout<(Cell, Held)> for Format {
     ) -> Result<(), ReportFault> {
         match self {
             Format::Text => send(out, &lines::stock_line(&row.0, &row.1)),
-            Format::Json => send_text(out, objects::cell_object(alloc, &row.0, &row.1)?.as_str()),
+            Format::Json => send(out, &objects::cell_object(alloc, &row.0, &row.1)?),
             Format::Csv => send(out, &records::cell_record(alloc, &row.0, &row.1)?),
         }
     }

@@ -1,24 +1,28 @@
--- The fields were added one after another.
-use Rattle.std.proofs.Common.{◌≡◌, ◌∙◌, ◌++◌, ◌∷◌, ap, [], List, ℕ, decimal}
-use Rattle.std.proofs.lemmas.Result.{IfOk-weaker}
+-- The pieces that were appended make the record.
+use Rattle.std.proofs.Common.{◌∙◌, refl, ap, arith, List, ℕ, ◌++◌, codes, decimal}
 use Rattle.allotment.specs.Places.{held_of}
-use Rattle.allotment.specs.Texts.{kind_word}
-use Rattle.csv.specs.Records.{fields_of}
-use Rattle.reports.specs.Records.{cell_fields, csv_line}
+use Rattle.allotment.proofs.PlainLemmas.{code_plain, decimal_plain, night_plain}
+use Rattle.reports.proofs.PlainLemmas.{appended, record_made}
 use Rattle.reports.proofs.records.cell_record.Goals as goal
 
 pub returns : goal.returns
 returns c =
     let cell = c.args.cell.now in
     let places = c.args.places.now in
-    let numbers = decimal places.allot ∷ decimal (held_of places) ∷ decimal places.free ∷ [] in
-    let of_cell : List ℕ → List (List ℕ) = λ night. kind_word cell.kind ∷ cell.supplier ∷ cell.product ∷ night ∷ [] in
-    let night = c.as_str.ensures.value ∙ c.in_ok-night.ensures.text in
-    let fields : fields_of c.put_places.new.row ≡ cell_fields (cell, places) =
-    c.in_ok-put_places.ensures.adds.fields
-    ∙ ap (λ (before : List (List ℕ)). before ++ numbers) (c.in_ok-put_cell.ensures.adds.fields
-    ∙ ap (λ (before : List (List ℕ)). before ++ of_cell c.as_str.result.now) c.new-row.ensures.fields
-    ∙ ap of_cell night) in
+    let held = c.held.ensures in
+    let made =
+    appended (codes ",") c.in_ok-put_count-3.ensures.adds refl
+    (appended (codes ",") c.in_ok-put_count-2.ensures.adds (ap decimal held.held)
+    (appended (codes ",") c.in_ok-put_count.ensures.adds refl
+    (appended (codes ",") c.in_ok-put_piece-4.ensures.adds c.night_digits.ensures.text
+    (appended (codes ",") c.in_ok-put_piece-3.ensures.adds (c.as_bytes-3.ensures.value ∙ c.as_str-2.ensures.text)
+    (appended (codes ",") c.in_ok-put_piece-2.ensures.adds (c.as_bytes-2.ensures.value ∙ c.as_str.ensures.text)
+    (appended (codes "") c.in_ok-put_piece.ensures.adds (c.as_bytes.ensures.value ∙ c.word.ensures) c.in_ok-line.ensures.items)))))) in
     record {
-      fields = IfOk-weaker c.csv_line.result _ _ (λ text is. is ∙ ap csv_line fields) c.csv_line.ensures.fields;
+      fields = c.in_ok-extend_from_slice.ensures.items ∙ ap (λ (t : List ℕ). t ++ codes "\r\n") made
+          ∙ record_made (cell, places) (night_plain cell.night c.night_digits.ensures.limits)
+          (code_plain cell.product c.as_str-2.ensures.limits) (code_plain cell.supplier c.as_str.ensures.limits)
+          (decimal_plain places.allot (omega (arith, held.bounded)))
+          (decimal_plain (held_of places) (omega (arith, held.held, held.within, held.bounded)))
+          (decimal_plain places.free (omega (arith, held.within, held.bounded)));
     }
