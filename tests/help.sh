@@ -89,11 +89,11 @@ abort ID P
 save ID
 LINES
 
-# the requests that serve names are the routes of the program, and three that it finds without its router
+# the requests that serve names are the routes of the program, and four that it finds without its router
 routes() {
   sed -nE '/^static LINES/,/^\];/s/^ *\("(.*)", Verb::([A-Z][a-z]*), .*/\U\2\E \1/p' "$top/crates/http_pages/src/routes.rt" |
     sed -E 's/\{([a-z]*)\}/\U\1/g'
-  printf '%s\n' 'GET /' 'GET /metrics' 'POST /stop'
+  printf '%s\n' 'GET /' 'GET /reports/COMMAND' 'GET /metrics' 'POST /stop'
 }
 helps "serve --help" serve --help
 same "serve: its requests" "$(routes | LC_ALL=C sort)" \

@@ -38,6 +38,14 @@ same "the methods of a stop for which GET asks" "405 Allow: OPTIONS, POST" \
   "$(curl -s -D - -o /dev/null --max-time 20 "${at_house[@]}" http://desk/stop | tr -d '\r' | sed -n 's/^HTTP[^ ]* \([0-9]*\).*/\1/p; /^Allow/p' | paste -sd ' ')"
 same "those for which HEAD asks, without a body" "405 0" \
   "$(curl -s -I -o head -w '%{http_code} %{size_download}' --max-time 20 "${at_house[@]}" http://desk/stop)"
+for path in metrics reports/stock 'reports/holders?--kind&room'; do
+  page "the methods of $path" 204 "" "${at_house[@]}" -D head -X OPTIONS "http://desk/$path"
+  same "those of $path" "Allow: GET, HEAD, OPTIONS" "$(tr -d '\r' <head | grep '^Allow')"
+  page "a POST to $path" 405 '{"name":"WrongMethod","refused":8}' "${at_house[@]}" -D head -X POST "http://desk/$path"
+  same "the methods that it names" "Allow: GET, HEAD, OPTIONS" "$(tr -d '\r' <head | grep '^Allow')"
+done
+page "the methods of a monitor's path at the port" 404 '{"name":"UnknownPath","refused":7}' -H 'Desk-Agent: ann' -X OPTIONS \
+  "http://127.0.0.1:$port/metrics"
 page "a stop at the port" 404 '{"name":"UnknownPath","refused":7}' -H 'Desk-Agent: ann' -H 'Desk-Key: k2' -X POST \
   "http://127.0.0.1:$port/stop"
 page "a stop without a length" 200 '{"state":"stopping"}' "${at_house[@]}" -X POST http://desk/stop

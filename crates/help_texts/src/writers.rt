@@ -97,6 +97,9 @@ Requests:
   GET /health                The numbers of events, journeys and unfinished
                              journeys
   GET /                      With --page, the page for browsers
+  GET /reports/COMMAND       At the socket of --house: what the desk's COMMAND
+                             stock, summary, holders, unfinished, journeys,
+                             history or why prints; words as ?WORD&WORD
   GET /metrics               At the socket of --house: counts, for Prometheus
   POST /stop                 At the socket of --house: the desk stops
 

@@ -1,7 +1,7 @@
 -- The text of an ask that bytes make by a way is no longer than a head and a body. For the law.
-use Rattle.std.proofs.Common.{◌≡◌, ◌≤◌, ◌∙◌, ap, sym, ℕ, List, [], ◌++◌, Bool, true, false, length, arith, inl, inr, Some, None, drop, take, ◌-◌, if◌then◌else◌}
+use Rattle.std.proofs.Common.{◌≡◌, ◌≤◌, ◌∙◌, ap, sym, ℕ, List, [], ◌++◌, Bool, true, false, length, arith, inl, inr, Some, None, take, ◌-◌, if◌then◌else◌}
 use Rattle.std.proofs.lemmas.List.{length-drop, length-take}
-use Rattle.http_messages.specs.Heads.{Parts, parts_of}
+use Rattle.http_messages.specs.Heads.{Parts}
 use Rattle.http_messages.specs.Messages as sent
 use Rattle.http_messages.specs.Wide as wide
 use Rattle.http_messages.specs.Wide.{Wide}

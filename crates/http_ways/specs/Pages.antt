@@ -1,5 +1,5 @@
 -- The page of what is said by a way.
-use Rattle.std.specs.Prelude.{◌≡◌, ℕ, Bool, true, false, List, [], bytes_eq, codes, if◌then◌else◌, Option, Some, None, is_some, Result, Ok, Err}
+use Rattle.std.specs.Prelude.{◌≡◌, ℕ, ◌||◌, Bool, true, false, List, [], bytes_eq, codes, if◌then◌else◌, Option, Some, None, is_some, Result, Ok, Err}
 use Rattle.ledger.specs.Answer.{State}
 use Rattle.http_messages.specs.Heads.{parts_of}
 use Rattle.http_messages.specs.Messages as sent
@@ -10,6 +10,7 @@ use Rattle.http_pages.specs.declared.routes.Unrouted.{Unrouted}
 use Rattle.http_pages.specs.declared.routes.Unrouted.TheVariants.{UnknownPath, WrongMethod, BadPart}
 use Rattle.http_pages.specs.declared.routes.Verb.{Verb}
 use Rattle.http_pages.specs.declared.routes.Verb.TheVariants as verb
+use Rattle.report_words.specs.Targets.{asks_for_report}
 use Rattle.desk_http.specs.Answering.{Comes}
 use Rattle.desk_http.specs.Hosts.{refusal_at}
 use Rattle.desk_http.specs.Pages.{IsPage, closes, state_after}
@@ -43,13 +44,23 @@ verb_of_path method target = other_verb (route_of method target)
 abbrev pub unless_asked : Verb → List ℕ → Option Verb
 unless_asked verb method = if bytes_eq method (verb_text verb) then None else Some verb
 
--- the same at a door: the house's has `/stop`, and that with a page has `/`
+-- the method of a path that a door has of its own: the house's has `/stop`, `/metrics` and the reports, and that with a
+-- page has `/`
+abbrev pub own_verb : Door → List ℕ → Option Verb
+own_verb doors.Port target = None
+own_verb doors.House target =
+    if bytes_eq target (codes "/stop") then Some verb.Post
+    else if bytes_eq target (codes "/metrics") || asks_for_report target then Some verb.Get
+    else None
+own_verb (doors.Page site) target = if bytes_eq target (codes "/") then Some verb.Get else None
+
+-- the method that a path has at a door, which was asked for by another: that of the door's own path, or else of any path
+abbrev pub verb_by : Option Verb → List ℕ → List ℕ → Option Verb
+verb_by (Some verb) method target = unless_asked verb method
+verb_by None method target = verb_of_path method target
+
 abbrev pub verb_at : Door → List ℕ → List ℕ → Option Verb
-verb_at doors.Port method target = verb_of_path method target
-verb_at doors.House method target =
-    if bytes_eq target (codes "/stop") then unless_asked verb.Post method else verb_of_path method target
-verb_at (doors.Page site) method target =
-    if bytes_eq target (codes "/") then unless_asked verb.Get method else verb_of_path method target
+verb_at door method target = verb_by (own_verb door target) method target
 
 -- the page of the profile; for HEAD without its body
 abbrev pub page_for : AskedKind → Shown

@@ -1,14 +1,15 @@
 //! What is shown for a message that is read by the wide way.
-ghost use Rattle.std.specs.Prelude.{◌≡◌, IfOk, bytes_eq, if◌then◌else◌, is_some};
+ghost use Rattle.std.specs.Prelude.{◌≡◌, IfOk, if◌then◌else◌, is_some};
 ghost use Rattle.http_messages.specs.Messages as sent;
 ghost use Rattle.http_messages.specs.Requests.{IsTaken};
-ghost use Rattle.http_ways.specs.Pages.{is_head, not_allowed_of, other_verb, page_for, shown_at, shown_for};
+ghost use Rattle.http_ways.specs.Pages.{is_head, not_allowed_of, other_verb, own_verb, page_for, shown_at, shown_for};
 ghost use Rattle.http_ways.specs.Pages.{unless_asked, verb_at, verb_of_path};
 
 use commands::Refusal;
 use desk_http::Door;
 use http_messages::{AskedKind, Message, Request};
 use http_pages::{Paths, Route, Unrouted, Verb};
+use report_words::asks_for_report;
 use std::alloc::{AllocError, Global};
 
 /// What is shown for a message.
@@ -112,23 +113,22 @@ fn is_head(kind: AskedKind) -> bool
 fn verb_at(paths: &Paths, door: Door, request: &Request) -> Option<Verb>
     ensures verb { result ≡ verb_at door request.now.method.items request.now.target.items }
 {
-    match door {
-        Door::Port => verb_of_path(paths, request),
-        Door::House => verb_or(paths, request, b"/stop", Verb::Post),
-        Door::Page(_) => verb_or(paths, request, b"/", Verb::Get),
+    match own_verb(door, &request.target) {
+        Some(verb) => unless_asked(verb, &request.method),
+        None => verb_of_path(paths, request),
     }
 }
 
-/// This method, where the target of a request is this one; or else that of its path. None where the request has it.
-fn verb_or(paths: &Paths, request: &Request, own: &[u8], verb: Verb) -> Option<Verb>
-    ensures verb { result ≡ (if bytes_eq request.now.target.items own.now
-        then unless_asked verb request.now.method.items
-        else verb_of_path request.now.method.items request.now.target.items) }
+/// The method of a path that a door has of its own.
+fn own_verb(door: Door, target: &[u8]) -> Option<Verb>
+    ensures verb { result ≡ own_verb door target.now }
 {
-    if request.target.as_slice() == own {
-        unless_asked(verb, &request.method)
-    } else {
-        verb_of_path(paths, request)
+    match door {
+        Door::House if target == b"/stop".as_slice() => Some(Verb::Post),
+        Door::House if target == b"/metrics".as_slice() => Some(Verb::Get),
+        Door::House if asks_for_report(target) => Some(Verb::Get),
+        Door::Page(_) if target == b"/".as_slice() => Some(Verb::Get),
+        Door::Port | Door::House | Door::Page(_) => None,
     }
 }
 
