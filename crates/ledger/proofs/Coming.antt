@@ -1,11 +1,11 @@
 -- What each item requires to come next, and that it may then come. For journeys, places and steps.
-use Rattle.std.proofs.Common.{◌≡◌, ℕ, ◌+◌, List, refl, ap, ◌∙◌, eqb-true, eq-eqb, Bool, true, false, ◌&&◌, not, ◌==◌, nat_lt, Option, Some, None}
-use Rattle.std.proofs.lemmas.Bool.{and_parts, and_from, not_from_false}
+use Rattle.std.proofs.Common.{◌≡◌, ℕ, ◌+◌, List, arith, Bool, true, false, not, Option, Some}
+use Rattle.std.proofs.lemmas.Bool.Decides.{nat_tests}
 use Rattle.plan.specs.PlanModel.{Planned}
 use Rattle.commands.specs.declared.items.Cause.TheVariants.{Stop, Refused}
 use Rattle.commands.specs.declared.items.Item.{Item}
 use Rattle.commands.specs.declared.items.Item.TheVariants.{Transaction, Compensation, Turn, Save}
-use Rattle.ledger.specs.History.{net, position_of, is_save_point, last_save, refused_target, phase, is_running, is_going_back, may_come, last_of, is_done_with, next_option}
+use Rattle.ledger.specs.History.{net, position_of, last_save, refused_target, phase, is_running, is_going_back, may_come, last_of, is_done_with, next_option}
 
 -- a transaction comes where the journey runs, with the next step and option, where that want fits
 pub record StepComes (plan : Planned) (h : List Item) (fits : Bool) (i c : ℕ) : Type 0 where
@@ -17,32 +17,17 @@ pub record StepComes (plan : Planned) (h : List Item) (fits : Bool) (i c : ℕ) 
 -- if the rule lets it come, each condition of a transaction holds
 pub step-comes : (plan : Planned) (h : List Item) (fits : Bool) (i c : ℕ)
     → may_come plan h fits (Transaction i c) ≡ true → StepComes plan h fits i c
-step-comes plan h fits i c may =
-    let all = and_parts _ _ may in
-    let most = and_parts (is_running (phase plan h) && (i == position_of h + 1)) _ all.0 in
-    let some = and_parts (is_running (phase plan h)) _ most.0 in
-    record {
-      running = some.0;
-      step = eqb-true _ _ some.1;
-      option = eqb-true _ _ most.1;
-      fitting = all.1;
-    }
+step-comes plan h fits i c may = grind (arith, nat_tests)
 
 -- if these conditions hold, the rule lets the transaction come
 pub step-may_come : (plan : Planned) (h : List Item) (fits : Bool)
     → is_running (phase plan h) ≡ true → fits ≡ true
     → may_come plan h fits (Transaction (position_of h + 1) (next_option plan h)) ≡ true
-step-may_come plan h fits run fitting =
-    and_from _ _
-    (and_from _ _ (and_from _ _ run (eq-eqb _ _ refl)) (eq-eqb _ _ refl))
-    fitting
+step-may_come plan h fits run fitting = grind (arith, nat_tests)
 
 -- the test for a step and an option passes for that pair alone
 is_pair : (o : Option (ℕ × ℕ)) (i c : ℕ) → is_done_with o i c ≡ true → o ≡ Some (i, c)
-is_pair None i c e = cc
-is_pair (Some t) i c e =
-    let both = and_parts (t.0 == i) (t.1 == c) e in
-    ap (λ x. Some (x, t.1)) (eqb-true _ _ both.0) ∙ ap (λ y. Some (i, y)) (eqb-true _ _ both.1)
+is_pair o i c e = grind (arith, nat_tests)
 
 -- a compensation comes where the journey goes back: that of the last transaction that stands
 pub record CompensationComes (plan : Planned) (h : List Item) (i c : ℕ) : Type 0 where
@@ -52,25 +37,19 @@ pub record CompensationComes (plan : Planned) (h : List Item) (i c : ℕ) : Type
 -- if the rule lets it come, each condition of a compensation holds
 pub compensation-comes : (plan : Planned) (h : List Item) (fits : Bool) (i c : ℕ)
     → may_come plan h fits (Compensation i c) ≡ true → CompensationComes plan h i c
-compensation-comes plan h fits i c may =
-    let both = and_parts (is_going_back (phase plan h)) (is_done_with (last_of (net h)) i c) may in
-    record { back = both.0; last = is_pair _ i c both.1 }
+compensation-comes plan h fits i c may = grind (arith, nat_tests, is_pair)
 
 -- if these conditions hold, the rule lets the compensation come
 pub compensation-may_come : (plan : Planned) (h : List Item) (fits : Bool) (i c : ℕ)
     → is_going_back (phase plan h) ≡ true → last_of (net h) ≡ Some (i, c)
     → may_come plan h fits (Compensation i c) ≡ true
-compensation-may_come plan h fits i c back last =
-    and_from _ _ back
-    (ap (λ o. is_done_with o i c) last ∙ and_from _ _ (eq-eqb i i refl) (eq-eqb c c refl))
+compensation-may_come plan h fits i c back last = grind (arith, nat_tests)
 
 -- a stop comes where the journey runs, to the last save-point
 pub stop-comes : (plan : Planned) (h : List Item) (fits : Bool) (p : ℕ)
     → may_come plan h fits (Turn p Stop) ≡ true
     → (is_running (phase plan h) ≡ true) × (p ≡ last_save plan h)
-stop-comes plan h fits p may =
-    let both = and_parts (is_running (phase plan h)) (p == last_save plan h) may in
-    (both.0, eqb-true _ _ both.1)
+stop-comes plan h fits p may = grind (arith, nat_tests)
 
 -- a refused turn comes where the journey runs and the next want does not fit
 pub record RefusedComes (plan : Planned) (h : List Item) (fits : Bool) (p : ℕ) : Type 0 where
@@ -81,23 +60,15 @@ pub record RefusedComes (plan : Planned) (h : List Item) (fits : Bool) (p : ℕ)
 -- if the rule lets it come, each condition of a refused turn holds
 pub refused-comes : (plan : Planned) (h : List Item) (fits : Bool) (p : ℕ)
     → may_come plan h fits (Turn p Refused) ≡ true → RefusedComes plan h fits p
-refused-comes plan h fits p may =
-    let all = and_parts (is_running (phase plan h) && not fits) (p == refused_target plan h) may in
-    let some = and_parts (is_running (phase plan h)) (not fits) all.0 in
-    record { running = some.0; unfitting = some.1; target = eqb-true _ _ all.1 }
+refused-comes plan h fits p may = grind (arith, nat_tests)
 
 -- if the journey runs and its want does not fit, the rule lets the refused turn come
 pub refused-may_come : (plan : Planned) (h : List Item) (fits : Bool)
     → is_running (phase plan h) ≡ true → fits ≡ false
     → may_come plan h fits (Turn (refused_target plan h) Refused) ≡ true
-refused-may_come plan h fits run unfitting =
-    and_from _ _ (and_from _ _ run (not_from_false fits unfitting)) (eq-eqb _ _ refl)
+refused-may_come plan h fits run unfitting = grind (arith, nat_tests)
 
 -- a save-point is taken where the journey runs
 pub save-comes : (plan : Planned) (h : List Item) (fits : Bool) (p : ℕ)
     → may_come plan h fits (Save p) ≡ true → is_running (phase plan h) ≡ true
-save-comes plan h fits p may =
-    let all = and_parts (is_running (phase plan h) && (p == position_of h) && nat_lt 0 p)
-    (not (is_save_point plan h p)) may in
-    let most = and_parts (is_running (phase plan h) && (p == position_of h)) (nat_lt 0 p) all.0 in
-    (and_parts (is_running (phase plan h)) (p == position_of h) most.0).0
+save-comes plan h fits p may = grind (arith, nat_tests)

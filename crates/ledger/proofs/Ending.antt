@@ -1,25 +1,23 @@
 -- A history item by item: each may come after those before it, where the journey is after it, and which of them
 -- finishes it. For those who read a history one item at a time.
-use Rattle.std.proofs.Common.{◌≡◌, ℕ, ◌-◌, ◌<◌, ◌⊎◌, List, [], ◌∷◌, ◌++◌, refl, ap, sym, ◌∙◌, subst, arith, append_assoc, append-nil, eqb-true, eq-eqb, inl, inr, Bool, true, false, ◌==◌, ◌&&◌, ◌||◌, nat_lt, Option, Some, None, if◌then◌else◌, IsTrue}
+use Rattle.std.proofs.Common.{◌≡◌, ℕ, ◌-◌, ◌<◌, List, [], ◌∷◌, ◌++◌, refl, ap, sym, ◌∙◌, subst, arith, append_assoc, append-nil, Bool, true, false, ◌==◌, ◌&&◌, ◌||◌, Option, Some, IsTrue}
 use Rattle.std.proofs.Math.Bool.{or-false}
-use Rattle.std.proofs.lemmas.Bool.{ne_eqb, eqb-false, and_right}
+use Rattle.std.proofs.lemmas.Bool.{ne_eqb, and_right}
 use Rattle.std.proofs.lemmas.Bool.Decides.{nat_tests}
-use Rattle.plan.specs.PlanModel.{Planned, step_count, numbered}
+use Rattle.plan.specs.PlanModel.{Planned, step_count}
 use Rattle.commands.specs.declared.items.Cause.{Cause}
 use Rattle.commands.specs.declared.items.Cause.TheVariants.{Stop, Refused, Asked}
 use Rattle.commands.specs.declared.items.Item.{Item}
 use Rattle.commands.specs.declared.items.Item.TheVariants.{Transaction, Compensation, Turn, Save}
 use Rattle.commands.specs.declared.items.Phase.{Phase}
-use Rattle.commands.specs.declared.items.Phase.TheVariants.{Run, Back, Ended, Undone}
-use Rattle.ledger.specs.History.{position_of, going_to, has_turned_to_start, phase, phase_at, back_or_run, is_finished, may_come, may_turn, next_want}
-use Rattle.ledger.specs.Ledger.{Event, Loaded, Began, Did, Journey, journeys, journey_at, history, fits, is_allowed, IsLegal}
+use Rattle.commands.specs.declared.items.Phase.TheVariants.{Ended, Undone}
+use Rattle.ledger.specs.History.{position_of, going_to, has_turned_to_start, phase, phase_at, is_finished, may_come, may_turn}
+use Rattle.ledger.specs.Ledger.{Event, Journey, journey_at, history, IsLegal}
 use Rattle.ledger.proofs.Coming.{step-comes, compensation-comes, stop-comes, refused-comes, save-comes}
 use Rattle.ledger.proofs.Deciding.{finished-none}
 use Rattle.ledger.proofs.Going.{turned-turn, turned-other}
-use Rattle.ledger.proofs.Growing.{Keeps, induct, journeys-began, journeys-loaded, journeys-did, history-began, history-loaded, history-did_same, history-did_other, is_item_allowed-may_do}
 use Rattle.ledger.proofs.Journeys.{goes-begin, goes-more}
-use Rattle.ledger.proofs.Ledgers.{all_go}
-use Rattle.ledger.proofs.Lists.{numbered-snoc}
+use Rattle.ledger.proofs.Ledgers.{Each, each_journey}
 use Rattle.ledger.proofs.Modes.{Rising, Mode, rises, falls, fell, Goes, upward, runs, ended, phase-fallen, running-rises, going_back-falls}
 use Rattle.ledger.proofs.Standing.{compensates, position_of-transaction, position_of-turn, position_of-save}
 
@@ -46,56 +44,10 @@ all_come-snoc plan before (y ∷ h) x all one = (
       (subst (λ g. Comes plan g x) (sym (append_assoc before (y ∷ []) h)) one),
 )
 
--- the items of each journey may come one after another
-abbrev EachComes : List Event → Type 0
-EachComes l = (j : ℕ) (a : Journey) → journey_at l j ≡ Some a → AllCome a.plan [] (history l j)
-
-come-began : (l : List Event) (agent : List ℕ) (plan : _) → IsLegal l → EachComes l
-    → EachComes (l ++ Began agent plan ∷ [])
-come-began l agent plan legal all j a e =
-    subst (AllCome a.plan []) (sym (history-began l agent plan j))
-    (old_or_new (numbered-snoc (journeys l) new j a (ap (λ js. numbered js j) (sym (journeys-began l agent plan)) ∙ e)))
-  where
-    new : Journey
-    new = record { agent = agent; plan = plan }
-
-    old_or_new : {X : Type 0} → (journey_at l j ≡ Some a) ⊎ ((journey_at l j ≡ None) × X)
-        → AllCome a.plan [] (history l j)
-    old_or_new (inl old) = all j a old
-    old_or_new (inr now) =
-        subst (AllCome a.plan []) (sym ((all_go l legal).none j now.0)) tt
-
-come-did : (l : List Event) (k : ℕ) (item : Item) → IsTrue (is_allowed l (Did k item)) → EachComes l
-    → EachComes (l ++ Did k item ∷ [])
-come-did l k item may all j a e =
-    go (ap (λ js. numbered js j) (sym (journeys-did l k item)) ∙ e) (j == k) refl
-  where
-    go : journey_at l j ≡ Some a → (v : Bool) → (j == k) ≡ v
-        → AllCome a.plan [] (history (l ++ Did k item ∷ []) j)
-    go is true same =
-        let at : journey_at l k ≡ Some a = ap (journey_at l) (sym (eqb-true _ _ same)) ∙ is in
-        let comes : Comes a.plan (history l k) item = record {
-          fits = fits l (next_want a.plan (history l k));
-          may = sym (is_item_allowed-may_do l k item a at) ∙ may;
-        } in
-        subst (AllCome a.plan []) (sym (history-did_same l k item j same))
-        (all_come-snoc a.plan [] (history l j) item (all j a is)
-        (subst (λ i. Comes a.plan (history l i) item) (sym (eqb-true _ _ same)) comes))
-    go is false other =
-        subst (AllCome a.plan []) (sym (history-did_other l k item j other)) (all j a is)
-
-come-more : Keeps EachComes
-come-more l (Loaded name rows) legal may all j a e =
-    subst (AllCome a.plan []) (sym (history-loaded l name rows j))
-    (all j a (ap (λ js. numbered js j) (sym (journeys-loaded l name rows)) ∙ e))
-come-more l (Began agent plan) legal may all j a e = come-began l agent plan legal all j a e
-come-more l (Did k item) legal may all j a e = come-did l k item may all j a e
-
-all_come : (l : List Event) → IsLegal l → EachComes l
-all_come = induct EachComes none come-more
-  where
-    none : (j : ℕ) (a : Journey) → journey_at [] j ≡ Some a → AllCome a.plan [] []
-    none j a e = tt
+-- the items of each journey of a legal ledger may come one after another
+all_come : (l : List Event) → IsLegal l → Each (λ plan h. AllCome plan [] h) l
+all_come = each_journey (λ plan h. AllCome plan [] h) (λ plan good. tt)
+    (λ plan h fits x may all. all_come-snoc plan [] h x all (record { fits = fits; may = may }))
 
 -- after a prefix of a history the journey follows its word, and each later item may come
 all_come-split : (plan : Planned) (before h rest : List Item) → Goes plan before
@@ -123,7 +75,7 @@ pub goes_on : (l : List Event) (legal : IsLegal l) (j : ℕ) (a : Journey) → j
     → GoesOn a.plan h x later
 goes_on l legal j a at h x later e =
     let both = all_come-split a.plan [] h (x ∷ later) (goes-begin a.plan)
-    (subst (AllCome a.plan []) e (all_come l legal j a at)) in
+    (subst (AllCome a.plan []) e ((all_come l legal).go j a at)) in
     record { goes = both.0; comes = both.1.0; rest = both.1.1 }
 
 -- Where the journey is.
@@ -148,20 +100,7 @@ module _ (plan : Planned) (h later : List Item) where
 -- by whether all steps stand, or none after a turn to the start
 finished_at : (n pos : ℕ) (turned : Bool) (going : Option ℕ)
     → is_finished (phase_at n pos turned going) ≡ ((pos == n) || (turned && (pos == 0)))
-finished_at n pos turned going = go (pos == n) (turned && (pos == 0))
-  where
-    open_yet : (o : Option ℕ) → is_finished (back_or_run pos o) ≡ false
-    open_yet None = refl
-    open_yet (Some p) = by (nat_lt p pos)
-      where
-        by : (v : Bool) → is_finished (if v then Back p else Run) ≡ false
-        by true = refl
-        by false = refl
-
-    go : (a b : Bool)
-        → is_finished (if a then Ended else if b then Undone else back_or_run pos going) ≡ (a || b)
-    go false false = open_yet going
-    go _ _ = refl
+finished_at n pos turned going = grind (arith, nat_tests)
 
 -- the same, of a history by its position and whether it turned to the start
 finished_by : (plan : Planned) (h : List Item) (pos : ℕ) (turned : Bool) → position_of h ≡ pos
@@ -177,15 +116,7 @@ swapped a b = grind (arith, nat_tests)
 
 -- the first step is compensated only on the way to the start
 first_back : (i target : ℕ) → target < i → ((0 == target) && (i - 1 == 0)) ≡ (i == 1)
-first_back i target above = go (i == 1) refl
-  where
-    go : (v : Bool) → (i == 1) ≡ v → ((0 == target) && (i - 1 == 0)) ≡ v
-    go true e =
-        let is = eqb-true i 1 e in
-        ap (λ b. b && (i - 1 == 0)) (eq-eqb 0 target (omega arith)) ∙ eq-eqb (i - 1) 0 (omega arith)
-    go false e =
-        let other = eqb-false i 1 e in
-        ap (λ b. (0 == target) && b) (ne_eqb (i - 1) 0 (λ z. omega arith)) ∙ and_right (0 == target) false refl
+first_back i target above = grind (arith, nat_tests)
 
 module _ (plan : Planned) (h later : List Item) where
   -- a transaction finishes it if it is that of the last step

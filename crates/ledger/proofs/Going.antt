@@ -1,11 +1,10 @@
 -- What one more item changes of the journey's target and of its save-points. For its modes.
-use Rattle.std.proofs.Common.{◌≡◌, ℕ, ◌≤◌, ◌⊎◌, List, [], ◌∷◌, ◌++◌, refl, ap, ◌∙◌, inl, inr, Bool, true, false, ◌||◌, ◌&&◌, not, ◌==◌, nat_le, Some, None, IsTrue}
+use Rattle.std.proofs.Common.{◌≡◌, ℕ, ◌≤◌, ◌⊎◌, List, [], ◌∷◌, ◌++◌, refl, ap, ◌∙◌, arith, inl, inr, Bool, true, false, ◌||◌, ◌&&◌, ◌==◌, Some, None, IsTrue}
 use Rattle.std.proofs.Math.Bool.{or-false}
-use Rattle.std.proofs.lemmas.Bool.{ne_eqb, le-leb}
+use Rattle.std.proofs.lemmas.Bool.Decides.{nat_tests}
 use Rattle.std.proofs.lemmas.List.{reverse-append}
 use Rattle.std.proofs.lemmas.List.Folds.{list_any-append}
-use Rattle.std.specs.List.{list_any}
-use Rattle.plan.specs.PlanModel.{Planned, is_marked_at}
+use Rattle.plan.specs.PlanModel.{Planned}
 use Rattle.commands.specs.declared.items.Cause.{Cause}
 use Rattle.commands.specs.declared.items.Item.{Item}
 use Rattle.commands.specs.declared.items.Item.TheVariants.{Transaction, Compensation, Turn, Save}
@@ -35,15 +34,12 @@ going_to-save h p = ap latest_turn (reverse-append h (Save p ∷ []))
 -- a journey has turned to its start if it had before, or if the new item is such a turn
 pub turned-more : (h : List Item) (x : Item)
     → has_turned_to_start (h ++ x ∷ []) ≡ (has_turned_to_start h || is_turn_to 0 x)
-turned-more h x =
-    list_any-append (is_turn_to 0) h (x ∷ [])
-    ∙ ap (λ b. has_turned_to_start h || b) (or-false (is_turn_to 0 x))
+turned-more h x = grind (arith, nat_tests, list_any-append, or-false)
 
 -- an item that is no turn to the start does not change whether there was one
 pub turned-other : (h : List Item) (x : Item) → is_turn_to 0 x ≡ false
     → has_turned_to_start (h ++ x ∷ []) ≡ has_turned_to_start h
-turned-other h x other =
-    turned-more h x ∙ ap (λ b. has_turned_to_start h || b) other ∙ or-false (has_turned_to_start h)
+turned-other h x other = grind (arith, nat_tests, turned-more, or-false)
 
 -- where there was none, there is one after a turn to 0 alone
 pub turned-turn : (h : List Item) (p : ℕ) (cause : Cause) → has_turned_to_start h ≡ false
@@ -56,20 +52,13 @@ turned-turn h p cause e = turned-more h (Turn p cause) ∙ ap (λ b. b || (0 == 
 pub is_taken-other : (h : List Item) (x : Item) (p : ℕ) → is_compensation_of p x ≡ false
     → is_taken (x ∷ []) p ≡ false → is_taken (h ++ x ∷ []) p ≡ is_taken h p
 is_taken-other [] x p other same = same
-is_taken-other (Save q ∷ h) x p other same =
-    ap (λ b. (p == q && not b) || is_taken (h ++ x ∷ []) p) (compensated-other p h x other)
-    ∙ ap (λ b. (p == q && not (list_any (is_compensation_of p) h)) || b)
-    (is_taken-other h x p other same)
+is_taken-other (Save q ∷ h) x p other same = grind (arith, nat_tests, is_taken-other h x p other same, compensated-other)
 is_taken-other (_ ∷ h) x p other same = is_taken-other h x p other same
 
 -- a turn leaves the save-points, since it leaves the position and what was taken
 is_save_point-turn : (plan : Planned) (h : List Item) (q : ℕ) (cause : Cause) (p : ℕ)
     → is_save_point plan (h ++ Turn q cause ∷ []) p ≡ is_save_point plan h p
-is_save_point-turn plan h q cause p =
-    ap (λ k. (is_marked_at plan p && nat_le p k) || is_taken (h ++ Turn q cause ∷ []) p)
-    (position_of-turn h q cause)
-    ∙ ap (λ b. (is_marked_at plan p && nat_le p (position_of h)) || b)
-    (is_taken-other h (Turn q cause) p refl refl)
+is_save_point-turn plan h q cause p = grind (arith, nat_tests, position_of-turn, is_taken-other)
 
 -- p is the start or a save-point after a turn if it was so before
 pub kept-turn : (plan : Planned) (h : List Item) (q : ℕ) (cause : Cause) (p : ℕ)
@@ -88,8 +77,4 @@ keeps_mark false old taken e = e
 pub is_save_point-compensation : (plan : Planned) (h : List Item) (i c p : ℕ)
     → p ≤ position_of (h ++ Compensation i c ∷ []) → (p ≡ i → ⊥)
     → is_save_point plan h p ≡ true → is_save_point plan (h ++ Compensation i c ∷ []) p ≡ true
-is_save_point-compensation plan h i c p low other e =
-    ap (λ b. (is_marked_at plan p && b) || is_taken (h ++ Compensation i c ∷ []) p) (le-leb _ _ low)
-    ∙ ap (λ b. (is_marked_at plan p && true) || b)
-    (is_taken-other h (Compensation i c) p (ne_eqb p i other) refl)
-    ∙ keeps_mark (is_marked_at plan p) (nat_le p (position_of h)) (is_taken h p) e
+is_save_point-compensation plan h i c p low other e = grind (arith, nat_tests, is_taken-other, keeps_mark)

@@ -14,9 +14,8 @@ use Rattle.ledger.specs.History.{net}
 use Rattle.ledger.proofs.Growing.{journeys-began, journeys-loaded, journeys-did, history-began, history-loaded, history-did_same, history-did_other}
 use Rattle.ledger.proofs.Ledgers.{AllGo}
 use Rattle.ledger.proofs.Lists.{numbered-some, numbered-past, number-within}
-use Rattle.ledger.proofs.Numbers.{numbers_from-append}
+use Rattle.ledger.proofs.Numbers.{numbers_from-append, sum_by-same, sum_by-filter, sum_by-changed}
 use Rattle.ledger.proofs.Standing.{net-transaction, net-compensation, net-turn, net-save}
-use Rattle.ledger.proofs.Sums.{sum_by-same, sum_by-filter, sum_by-changed}
 
 -- what a journey, if there is one, holds by its history
 abbrev held_in : Cell → List Item → Option Journey → ℕ

@@ -11,10 +11,9 @@ use Rattle.commands.specs.declared.items.Phase.TheVariants.{Run, Back, Ended, Un
 use Rattle.ledger.specs.History.{position_of, is_taken, is_save_point, refusals, phase, is_running, may_come, may_turn}
 use Rattle.ledger.specs.Word.{begins}
 use Rattle.ledger.proofs.Coming.{step-comes, compensation-comes, stop-comes, refused-comes, save-comes}
-use Rattle.ledger.proofs.Falling.{falling-turn, falling-compensation}
 use Rattle.ledger.proofs.Modes.{Mode, rises, falls, fell, Goes, upward, runs, ended, phase-falling, phase-fallen, running-rises, going_back-falls}
 use Rattle.ledger.proofs.Refusing.{HasTries, has_tries-other, has_tries-refused}
-use Rattle.ledger.proofs.Rising.{rising-transaction, rising-save, rising-turn}
+use Rattle.ledger.proofs.Rising.{rising-transaction, rising-save, rising-turn, falling-turn, falling-compensation}
 use Rattle.ledger.proofs.Standing.{compensates, standing-transaction, standing-turn, standing-save}
 use Rattle.ledger.proofs.Targets.{last_save-target, refused-target, asked-target}
 
@@ -99,11 +98,8 @@ pub goes-begin : (plan : Planned) → Goes plan []
 goes-begin plan = record {
   stands = refl;
   mode = rises (record {
-    before = [];
-    part = [];
     from = 0;
-    returns = begins;
-    whole = refl;
+    since = record { before = []; part = []; returns = begins; whole = refl };
     low = omega arith;
     within = omega arith;
     reads = refl;

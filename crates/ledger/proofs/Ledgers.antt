@@ -1,103 +1,97 @@
--- In every legal ledger each journey follows an up-and-down word. For the laws of words and steps.
-use Rattle.std.proofs.Common.{◌≡◌, ℕ, zero, suc, ◌⊎◌, List, [], ◌∷◌, ◌++◌, refl, ap, sym, ◌∙◌, subst, eqb-true, inl, inr, Bool, true, false, ◌==◌, Some, None, IsTrue}
-use Rattle.plan.specs.PlanModel.{numbered}
+-- Induction over the items of each history of a legal ledger, and that each journey follows an up-and-down word. For the
+-- laws of words and steps.
+use Rattle.std.proofs.Common.{◌≡◌, ℕ, zero, suc, ◌⊎◌, List, [], ◌∷◌, ◌++◌, refl, sym, ◌∙◌, subst, eqb-true, inl, inr, Bool, true, false, ◌==◌, Some, None, IsTrue}
+use Rattle.plan.specs.PlanModel.{Planned, is_plan}
 use Rattle.commands.specs.declared.items.Item.{Item}
-use Rattle.ledger.specs.History.{net, next_want}
-use Rattle.ledger.specs.Ledger.{Event, Loaded, Began, Did, Journey, journeys, journey_at, history, fits, is_allowed, IsLegal}
+use Rattle.ledger.specs.History.{net, may_come}
+use Rattle.ledger.specs.Ledger.{Event, Loaded, Began, Did, Journey, journeys, journey_at, history, is_allowed, IsLegal}
 use Rattle.ledger.specs.Laws.{EveryJourneyIsUpAndDown}
 use Rattle.ledger.proofs.Growing.{Keeps, induct, journeys-began, journeys-loaded, journeys-did, history-began, history-loaded, history-did_same, history-did_other, is_item_allowed-may_do, absurd_item}
 use Rattle.ledger.proofs.Journeys.{goes-begin, goes-more}
 use Rattle.ledger.proofs.Lists.{numbered-snoc, numbered-none, map-none}
-use Rattle.ledger.proofs.Modes.{Goes}
-use Rattle.ledger.proofs.Whole.{begins-word, ended-word, undone-word}
+use Rattle.ledger.proofs.Modes.{Goes, begins-word, ended-word, undone-word}
 
--- every journey follows its word, and a number without a journey has no history
-pub record AllGo (l : List Event) : Type 0 where
-  pub go : (j : ℕ) (a : Journey) → journey_at l j ≡ Some a → Goes a.plan (history l j)
+-- each journey of the ledger has this property, and a number without a journey has no history
+pub record Each (P : Planned → List Item → Type 0) (l : List Event) : Type 0 where
+  pub go : (j : ℕ) (a : Journey) → journey_at l j ≡ Some a → P a.plan (history l j)
   pub none : (j : ℕ) → journey_at l j ≡ None → history l j ≡ []
 
--- a batch leaves the journeys and their histories
-go-loaded : (l : List Event) (name : List ℕ) (rows : _) → AllGo l
-    → AllGo (l ++ Loaded name rows ∷ [])
-go-loaded l name rows all =
-    record {
-      go = λ j a e.
-          subst (Goes a.plan) (sym (history-loaded l name rows j)) (all.go j a (was j ∙ e));
-      none = λ j e. history-loaded l name rows j ∙ all.none j (was j ∙ e);
-    }
-  where
-    was : (j : ℕ) → journey_at l j ≡ journey_at (l ++ Loaded name rows ∷ []) j
-    was j = ap (λ js. numbered js j) (sym (journeys-loaded l name rows))
+-- what holds of a journey that is just begun
+abbrev pub AtBegin : (Planned → List Item → Type 0) → Type 0
+AtBegin P = (plan : Planned) → IsTrue (is_plan plan) → P plan []
 
--- a journey that is begun is new and has no history yet, and the others are as they were
-go-began : (l : List Event) (agent : List ℕ) (plan : _) → AllGo l
-    → AllGo (l ++ Began agent plan ∷ [])
-go-began l agent plan all =
-    record {
-      go = λ j a e.
-          subst (Goes a.plan) (sym (history-began l agent plan j))
-          (old_or_new j a (numbered-snoc (journeys l) begun j a (now j ∙ e)));
-      none = λ j e.
-          history-began l agent plan j
-          ∙ all.none j (numbered-none (journeys l) begun j (now j ∙ e));
-    }
-  where
-    begun : Journey
-    begun = record { agent = agent; plan = plan }
+-- what each item that may come keeps
+abbrev pub AtItem : (Planned → List Item → Type 0) → Type 0
+AtItem P = (plan : Planned) (h : List Item) (fits : Bool) (x : Item) → IsTrue (may_come plan h fits x)
+    → P plan h → P plan (h ++ x ∷ [])
 
-    now : (j : ℕ) → numbered (journeys l ++ record { agent = agent; plan = plan } ∷ []) j
-        ≡ journey_at (l ++ Began agent plan ∷ []) j
-    now j = ap (λ js. numbered js j) (sym (journeys-began l agent plan))
+module _ (P : Planned → List Item → Type 0) (begin : AtBegin P) (more : AtItem P) where
+  -- a journey that is begun is new and has no history yet, and the others are as they were
+  each-began : (l : List Event) (agent : List ℕ) (plan : Planned) → IsTrue (is_plan plan) → Each P l
+      → Each P (l ++ Began agent plan ∷ [])
+  each-began l agent plan good all =
+      record {
+        go = λ j a is. rw (history-began l agent plan j)
+            (old_or_new j a (numbered-snoc (journeys l) begun j a (rw (journeys-began l agent plan) at is)));
+        none = λ j is. history-began l agent plan j
+            ∙ all.none j (numbered-none (journeys l) begun j (rw (journeys-began l agent plan) at is));
+      }
+    where
+      begun : Journey
+      begun = record { agent = agent; plan = plan }
 
-    old_or_new : (j : ℕ) (a : Journey)
-        → (journey_at l j ≡ Some a)
-        ⊎ ((journey_at l j ≡ None) × (record { agent = agent; plan = plan } ≡ a))
-        → Goes a.plan (history l j)
-    old_or_new j a (inl old) = all.go j a old
-    old_or_new j a (inr new) = subst (Goes a.plan) (sym (all.none j new.0)) (goes-begin a.plan)
+      old_or_new : (j : ℕ) (a : Journey)
+          → (journey_at l j ≡ Some a) ⊎ ((journey_at l j ≡ None) × (record { agent = agent; plan = plan } ≡ a))
+          → P a.plan (history l j)
+      old_or_new j a (inl old) = all.go j a old
+      old_or_new j a (inr new) =
+          rw (all.none j new.0) (begin a.plan (subst (λ (b : Journey). IsTrue (is_plan b.plan)) new.1 good))
 
--- an item takes its own journey on along its word, and leaves the others
-go-did : (l : List Event) (k : ℕ) (item : Item) → IsTrue (is_allowed l (Did k item)) → AllGo l
-    → AllGo (l ++ Did k item ∷ [])
-go-did l k item may all =
-    record {
-      go = λ j a e. went j a (was j ∙ e) (j == k) refl;
-      none = λ j e. absent j (was j ∙ e) (j == k) refl;
-    }
-  where
-    was : (j : ℕ) → journey_at l j ≡ journey_at (l ++ Did k item ∷ []) j
-    was j = ap (λ js. numbered js j) (sym (journeys-did l k item))
+  -- an item takes its own journey on, and leaves the others
+  each-did : (l : List Event) (k : ℕ) (x : Item) → IsTrue (is_allowed l (Did k x)) → Each P l
+      → Each P (l ++ Did k x ∷ [])
+  each-did l k x may all =
+      record {
+        go = λ j a is. went j a (rw (journeys-did l k x) at is) (j == k) refl;
+        none = λ j is. absent j (rw (journeys-did l k x) at is) (j == k) refl;
+      }
+    where
+      went : (j : ℕ) (a : Journey) → journey_at l j ≡ Some a → (v : Bool) → (j == k) ≡ v
+          → P a.plan (history (l ++ Did k x ∷ []) j)
+      went j a is true e =
+          rw (history-did_same l k x j e) (more a.plan (history l j) _ x
+          (sym (is_item_allowed-may_do l j x a is) ∙ rw (eqb-true j k e) may) (all.go j a is))
+      went j a is false e = rw (history-did_other l k x j e) (all.go j a is)
 
-    went : (j : ℕ) (a : Journey) → journey_at l j ≡ Some a → (v : Bool) → (j == k) ≡ v
-        → Goes a.plan (history (l ++ Did k item ∷ []) j)
-    went j a is true e =
-        let at : journey_at l k ≡ Some a = ap (journey_at l) (sym (eqb-true _ _ e)) ∙ is in
-        let more = goes-more a.plan (history l k) (fits l (next_want a.plan (history l k))) item
-        (all.go k a at) (sym (is_item_allowed-may_do l k item a at) ∙ may) in
-        subst (Goes a.plan) (sym (history-did_same l k item j e))
-        (subst (λ i. Goes a.plan (history l i ++ item ∷ [])) (sym (eqb-true _ _ e)) more)
-    went j a is false e =
-        subst (Goes a.plan) (sym (history-did_other l k item j e)) (all.go j a is)
+      absent : (j : ℕ) → journey_at l j ≡ None → (v : Bool) → (j == k) ≡ v
+          → history (l ++ Did k x ∷ []) j ≡ []
+      absent j is true e = absurd_item l j x is (rw (eqb-true j k e) may)
+      absent j is false e = history-did_other l k x j e ∙ all.none j is
 
-    absent : (j : ℕ) → journey_at l j ≡ None → (v : Bool) → (j == k) ≡ v
-        → history (l ++ Did k item ∷ []) j ≡ []
-    absent j is true e =
-        absurd_item l k item (ap (journey_at l) (sym (eqb-true _ _ e)) ∙ is) may
-    absent j is false e = history-did_other l k item j e ∙ all.none j is
+  -- each allowed event keeps the property of each journey
+  each-more : Keeps (Each P)
+  each-more l (Loaded name rows) legal may all = record {
+    go = λ j a is. rw (history-loaded l name rows j) (all.go j a (rw (journeys-loaded l name rows) at is));
+    none = λ j is. history-loaded l name rows j ∙ all.none j (rw (journeys-loaded l name rows) at is);
+  }
+  each-more l (Began agent plan) legal may all = each-began l agent plan may all
+  each-more l (Did k x) legal may all = each-did l k x may all
 
--- each allowed event keeps every journey on its word
-all_go-more : Keeps AllGo
-all_go-more l (Loaded name rows) legal may all = go-loaded l name rows all
-all_go-more l (Began agent plan) legal may all = go-began l agent plan all
-all_go-more l (Did k item) legal may all = go-did l k item may all
+  -- what holds of the empty history, and is kept by each item that may come, holds of each journey
+  pub each_journey : (l : List Event) → IsLegal l → Each P l
+  each_journey = induct (Each P) (record { go = λ j a is. absurd (no_journey j a is); none = λ j is. refl }) each-more
+    where
+      no_journey : (j : ℕ) (a : Journey) → journey_at [] j ≡ Some a → ⊥
+      no_journey zero a is = cc
+      no_journey (suc i) a is = cc
+
+-- every journey follows its word, and a number without a journey has no history
+abbrev pub AllGo : List Event → Type 0
+AllGo l = Each Goes l
 
 -- in every legal ledger every journey follows its word
 pub all_go : (l : List Event) → IsLegal l → AllGo l
-all_go = induct AllGo (record { go = λ j a e. no_journey j a e; none = λ j e. refl }) all_go-more
-  where
-    no_journey : (j : ℕ) (a : Journey) → journey_at [] j ≡ Some a → Goes a.plan []
-    no_journey zero a e = cc
-    no_journey (suc i) a e = cc
+all_go = each_journey Goes (λ plan good. goes-begin plan) (λ plan h fits x may g. goes-more plan h fits x g may)
 
 -- each journey of a legal ledger reads as an up-and-down word
 pub up_and_down : (l : List Event) → IsLegal l → EveryJourneyIsUpAndDown l

@@ -3,15 +3,11 @@ pub mod Lists
 pub mod Standing
 pub mod Going
 pub mod Targets
-pub mod Runs
 pub mod Coming
 pub mod Refusing
 pub mod Modes
 pub mod Rising
-pub mod Falling
 pub mod Journeys
-pub mod Lowering
-pub mod Whole
 pub mod Growing
 pub mod Ledgers
 pub mod Deciding
@@ -19,12 +15,10 @@ pub mod Ending
 pub mod Plain
 pub mod Phases
 pub mod Recovering
-pub mod Sums
 pub mod Stopping
 pub mod Working
-pub mod Carrying
-pub mod Bounding
 pub mod Recoverable
+pub mod Reaching
 pub mod UnderWay
 pub mod Cells
 pub mod Held
@@ -32,5 +26,3 @@ pub mod Allotted
 pub mod Places
 pub mod Answers
 pub mod Outcomes
-pub mod Keys
-pub mod WorldLemmas

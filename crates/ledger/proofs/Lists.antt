@@ -1,9 +1,9 @@
 -- Lists: their last element, the element of a number, and the first that passes a test. For
 -- ledgers, allotments and answers.
-use Rattle.std.proofs.Common.{◌≡◌, ℕ, zero, suc, ◌+◌, ◌<◌, ◌≤◌, ◌⊎◌, List, [], ◌∷◌, ◌++◌, length, map, refl, ap, sym, ◌∙◌, arith, inl, inr, Bool, true, false, ◌&&◌, ◌||◌, not, nat_lt, Some, None, find, position, slice_get, cond}
-use Rattle.std.proofs.lemmas.Bool.{ltb-false, and_parts}
-use Rattle.std.proofs.lemmas.Option.{slice_get_within}
-use Rattle.std.specs.List.{list_any, list_all, position_or_len}
+use Rattle.std.proofs.Common.{◌≡◌, ℕ, zero, suc, ◌+◌, ◌<◌, ◌≤◌, ◌⊎◌, List, [], ◌∷◌, ◌++◌, length, map, refl, ap, sym, ◌∙◌, arith, Bool, true, false, not, Some, None, find, position, slice_get, cond, ◌==◌, if◌then◌else◌}
+use Rattle.std.proofs.lemmas.Bool.Decides.{nat_tests}
+use Rattle.std.proofs.lemmas.Option.{slice_get_within, slice_get_past, same_Some}
+use Rattle.std.specs.List.{list_any, list_all}
 use Rattle.plan.specs.PlanModel.{numbered}
 use Rattle.ledger.specs.History.{last_of}
 
@@ -31,61 +31,55 @@ last_of-append (x ∷ []) y ys = refl
 last_of-append (x ∷ z ∷ zs) y ys = last_of-append (z ∷ zs) y ys
 
 -- a list without its last element
-pub front_of : {X : Type 0} → List X → List X
+front_of : {X : Type 0} → List X → List X
 front_of [] = []
 front_of (x ∷ []) = []
 front_of (x ∷ y ∷ ys) = x ∷ front_of (y ∷ ys)
 
 -- an element that is appended is what `front_of` leaves out
-pub front_of-snoc : {X : Type 0} (xs : List X) (a : X) → front_of (xs ++ a ∷ []) ≡ xs
+front_of-snoc : {X : Type 0} (xs : List X) (a : X) → front_of (xs ++ a ∷ []) ≡ xs
 unfolding front_of
 front_of-snoc [] a = refl
 front_of-snoc (x ∷ []) a = refl
 front_of-snoc (x ∷ y ∷ ys) a = ap (λ zs. x ∷ zs) (front_of-snoc (y ∷ ys) a)
 
+-- two lists with one more element at their ends are the same only if both parts are
+pub snoc-same : {X : Type 0} (xs ys : List X) (a b : X) → xs ++ a ∷ [] ≡ ys ++ b ∷ [] → (xs ≡ ys) × (a ≡ b)
+snoc-same xs ys a b e = (
+  sym (front_of-snoc xs a) ∙ ap front_of e ∙ front_of-snoc ys b,
+  same_Some _ _ (sym (last_of-append xs a []) ∙ ap last_of e ∙ last_of-append ys b []),
+)
+
 -- The element with a number.
 
--- the same, counted from 0: it was there, or it is the appended one
-slice_get-snoc : {X : Type 0} (xs : List X) (a : X) (i : ℕ) (b : X)
-    → slice_get (xs ++ a ∷ []) i ≡ Some b
-    → (slice_get xs i ≡ Some b) ⊎ ((slice_get xs i ≡ None) × (a ≡ b))
-slice_get-snoc [] a zero b e = inr (refl, cc)
-slice_get-snoc [] a (suc i) b e = cc
-slice_get-snoc (x ∷ xs) a zero b e = inl e
-slice_get-snoc (x ∷ xs) a (suc i) b e = slice_get-snoc xs a i b e
+-- of a list with one more element at its end, counted from 0
+slice_get-snoc : {X : Type 0} (xs : List X) (a : X) (i : ℕ)
+    → slice_get (xs ++ a ∷ []) i ≡ (if i == length xs then Some a else slice_get xs i)
+slice_get-snoc [] a zero = refl
+slice_get-snoc [] a (suc i) = grind (arith, nat_tests)
+slice_get-snoc (x ∷ xs) a zero = grind (arith, nat_tests)
+slice_get-snoc (x ∷ xs) a (suc i) = let later = slice_get-snoc xs a i in grind (arith, nat_tests)
 
 -- of a list with one more element at its end, the element with a number was there, or is the appended one
 pub numbered-snoc : {X : Type 0} (xs : List X) (a : X) (j : ℕ) (b : X)
     → numbered (xs ++ a ∷ []) j ≡ Some b
     → (numbered xs j ≡ Some b) ⊎ ((numbered xs j ≡ None) × (a ≡ b))
 numbered-snoc xs a zero b e = cc
-numbered-snoc xs a (suc i) b e = slice_get-snoc xs a i b e
-
--- the same, counted from 0
-slice_get-none : {X : Type 0} (xs : List X) (a : X) (i : ℕ)
-    → slice_get (xs ++ a ∷ []) i ≡ None → slice_get xs i ≡ None
-slice_get-none [] a i e = refl
-slice_get-none (x ∷ xs) a zero e = cc
-slice_get-none (x ∷ xs) a (suc i) e = slice_get-none xs a i e
+numbered-snoc xs a (suc i) b e =
+    let now = slice_get-snoc xs a i in let past = slice_get_past xs i in grind (arith, nat_tests)
 
 -- a number that the longer list does not have, the shorter one does not have either
 pub numbered-none : {X : Type 0} (xs : List X) (a : X) (j : ℕ)
     → numbered (xs ++ a ∷ []) j ≡ None → numbered xs j ≡ None
 numbered-none xs a zero e = refl
-numbered-none xs a (suc i) e = slice_get-none xs a i e
-
--- the same, counted from 0
-slice_get-some : {X : Type 0} (xs : List X) (a : X) (i : ℕ) (b : X)
-    → slice_get xs i ≡ Some b → slice_get (xs ++ a ∷ []) i ≡ Some b
-slice_get-some [] a i b e = cc
-slice_get-some (x ∷ xs) a zero b e = e
-slice_get-some (x ∷ xs) a (suc i) b e = slice_get-some xs a i b e
+numbered-none xs a (suc i) e = let now = slice_get-snoc xs a i in grind (arith, nat_tests)
 
 -- an appended element leaves the elements that were there
 pub numbered-some : {X : Type 0} (xs : List X) (a : X) (j : ℕ) (b : X)
     → numbered xs j ≡ Some b → numbered (xs ++ a ∷ []) j ≡ Some b
 numbered-some xs a zero b e = cc
-numbered-some xs a (suc i) b e = slice_get-some xs a i b e
+numbered-some xs a (suc i) b e =
+    let now = slice_get-snoc xs a i in let past = slice_get_past xs i in grind (arith, nat_tests)
 
 -- numbers end where the list does
 pub numbered-past : {X : Type 0} (xs : List X) → numbered xs (suc (length xs)) ≡ None
@@ -116,48 +110,16 @@ find-first test x xs e = ap (λ b. cond b (Some x) (find test xs)) e
 pub find-passes : {X : Type 0} (test : X → Bool) (xs : List X) (x : X)
     → find test xs ≡ Some x → test x ≡ true
 find-passes test [] x e = cc
-find-passes test (y ∷ ys) x e = go (test y) refl (λ r. find-passes test ys x r) e
-  where
-    go : (v : Bool) → test y ≡ v → (find test ys ≡ Some x → test x ≡ true)
-        → cond v (Some y) (find test ys) ≡ Some x → test x ≡ true
-    go true passes later s = let same : y ≡ x = cc in ap test (sym same) ∙ passes
-    go false fails later s = later s
-
--- where the first that fails is past the end of the list, none fails
-all_pass : {X : Type 0} (p : X → Bool) (xs : List X)
-    → length xs ≤ position_or_len (λ x. not (p x)) xs → list_all p xs ≡ true
-all_pass p [] h = refl
-all_pass p (x ∷ xs) h = go (p x) (λ k. all_pass p xs k) h
-  where
-    go : (v : Bool)
-        → (length xs ≤ position_or_len (λ y. not (p y)) xs → list_all p xs ≡ true)
-        → suc (length xs) ≤ cond (not (not v)) (1 + position_or_len (λ y. not (p y)) xs) 0
-        → (v && list_all p xs) ≡ true
-    go true rest k = rest (omega arith)
-    go false rest k = absurd (omega arith)
+find-passes test (y ∷ ys) x e = let later = find-passes test ys x in grind arith
 
 -- where no first element fails the test, all pass
 pub position-none : {X : Type 0} (p : X → Bool) (xs : List X)
     → position (λ x. not (p x)) xs ≡ None → list_all p xs ≡ true
-position-none p xs e = go (nat_lt (position_or_len (λ x. not (p x)) xs) (length xs)) refl e
-  where
-    go : (v : Bool) → nat_lt (position_or_len (λ x. not (p x)) xs) (length xs) ≡ v
-        → cond v (Some (position_or_len (λ x. not (p x)) xs)) None ≡ None → list_all p xs ≡ true
-    go true t s = cc
-    go false t s = all_pass p xs (ltb-false _ _ t)
+position-none p [] e = refl
+position-none p (x ∷ xs) e = let later = position-none p xs in grind (arith, nat_tests)
 
 -- where one element passes p and all pass q, one passes both
 pub list_any-and_all : {X : Type 0} (p q : X → Bool) (xs : List X)
     → list_any p xs ≡ true → list_all q xs ≡ true → (x : X) × (p x ≡ true) × (q x ≡ true)
 list_any-and_all p q [] some all = cc
-list_any-and_all {X} p q (x ∷ xs) some all =
-    go (p x) refl (λ s. list_any-and_all p q xs s both.1) some
-  where
-    both : (q x ≡ true) × (list_all q xs ≡ true)
-    both = and_parts (q x) (list_all q xs) all
-
-    go : (v : Bool) → p x ≡ v
-        → (list_any p xs ≡ true → (y : X) × (p y ≡ true) × (q y ≡ true))
-        → (v || list_any p xs) ≡ true → (y : X) × (p y ≡ true) × (q y ≡ true)
-    go true e later s = (x, e, both.0)
-    go false e later s = later s
+list_any-and_all p q (x ∷ xs) some all = let later = list_any-and_all p q xs in grind arith

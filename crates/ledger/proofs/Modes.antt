@@ -1,27 +1,55 @@
--- Where a journey may be in its up-and-down word: on its way up, on its way down, or all the way down. And what its
--- phase is there. For each item that may come, and for what the word says in the end.
-use Rattle.std.proofs.Common.{◌≡◌, ℕ, ◌<◌, ◌≤◌, ◌⊎◌, List, [], ◌∷◌, ◌++◌, refl, ap, sym, ◌∙◌, arith, append_assoc, eqb-true, eq-eqb, Bool, true, false, ◌&&◌, ◌==◌, Option, Some, None, if◌then◌else◌, IsTrue}
-use Rattle.std.proofs.lemmas.Bool.{eqb-false, lt-ltb, le-ltb, ne_eqb, and_right}
+-- Where a journey may be in its up-and-down word: on its way up, on its way down, or all the way down. What its phase is
+-- there, and what that says of its whole word. For each item that may come, and for the law of words.
+use Rattle.std.proofs.Common.{◌≡◌, ℕ, ◌<◌, ◌≤◌, ◌⊎◌, List, ◌++◌, refl, ap, sym, ◌∙◌, arith, append_assoc, eqb-true, Bool, true, false, ◌==◌, Some, IsTrue, [], subst, append-nil, inl, inr}
+use Rattle.std.proofs.lemmas.Bool.{eqb-false}
+use Rattle.std.proofs.lemmas.Bool.Decides.{nat_tests}
 use Rattle.allotment.specs.Cells.{numbers_from}
 use Rattle.plan.specs.PlanModel.{Planned, step_count}
 use Rattle.commands.specs.declared.items.Item.{Item}
 use Rattle.commands.specs.declared.items.Phase.{Phase}
 use Rattle.commands.specs.declared.items.Phase.TheVariants.{Run, Back, Ended, Undone}
-use Rattle.ledger.specs.History.{position_of, going_to, is_save_point, has_turned_to_start, phase, phase_at, back_or_run, is_running, is_going_back}
-use Rattle.ledger.specs.Word.{word, up, down, Returns, GoesToStart}
+use Rattle.ledger.specs.History.{position_of, going_to, is_save_point, has_turned_to_start, phase, is_running, is_going_back}
+use Rattle.ledger.specs.Word.{word, up, down, Returns, IsTurnPart, GoesToEnd, GoesToStart, BeginsUpAndDown}
 use Rattle.ledger.proofs.Refusing.{HasTries}
 use Rattle.ledger.proofs.Standing.{standing}
+use Rattle.ledger.proofs.Numbers.{word-append, up-join, down-join, rise, fall, word-rise, word-fall}
+
+-- the items since the journey was at `from`, about to go up
+pub record Since (plan : Planned) (h : List Item) (from : ℕ) : Type 0 where
+  pub before : List Item
+  pub part : List Item
+  pub returns : Returns plan before from
+  pub whole : h ≡ before ++ part
+
+-- more items belong to the last part of the history
+abbrev pub since-append : {plan : Planned} {h : List Item} {from : ℕ} → Since plan h from → (more : List Item)
+    → Since plan (h ++ more) from
+since-append s more = record {
+  before = s.before;
+  part = s.part ++ more;
+  returns = s.returns;
+  whole = ap (λ g. g ++ more) s.whole ∙ append_assoc s.before s.part more;
+}
+
+-- if the last part goes up to the end, so does the history
+pub goes_to_end : {plan : Planned} {h : List Item} {from : ℕ} (s : Since plan h from) → from ≤ step_count plan
+    → word s.part ≡ up from (step_count plan) → GoesToEnd plan h
+goes_to_end {from = from} s low reads =
+    record { before = s.before; part = s.part; from = from; returns = s.returns; whole = s.whole; no_higher = low; reads = reads }
+
+-- if the last part goes up and down to the start, so does the history
+pub goes_to_start : {plan : Planned} {h : List Item} {from : ℕ} (s : Since plan h from) (top : ℕ)
+    → IsTurnPart plan from top 0 s.part → GoesToStart plan h
+goes_to_start {from = from} s top turns =
+    record { before = s.before; part = s.part; from = from; top = top; returns = s.returns; whole = s.whole; turns = turns }
 
 -- the journey is on its way up: since it last was at `from` it did the steps from there on
 pub record Rising (plan : Planned) (h : List Item) : Type 0 where
-  pub before : List Item
-  pub part : List Item
   pub from : ℕ
-  pub returns : Returns plan before from
-  pub whole : h ≡ before ++ part
+  pub since : Since plan h from
   pub low : from ≤ position_of h
   pub within : position_of h ≤ step_count plan
-  pub reads : word part ≡ up from (position_of h)
+  pub reads : word since.part ≡ up from (position_of h)
   pub unturned : has_turned_to_start h ≡ false
   -- it is at the target of its last turn, or below
   pub arrived : (p : ℕ) → going_to h ≡ Some p → position_of h ≤ p
@@ -29,17 +57,14 @@ pub record Rising (plan : Planned) (h : List Item) : Type 0 where
 -- the journey is on its way down to a target: from `from` it went up to `top`, and is on the way
 -- down
 pub record Falling (plan : Planned) (h : List Item) : Type 0 where
-  pub before : List Item
-  pub part : List Item
   pub from : ℕ
+  pub since : Since plan h from
   pub top : ℕ
   pub target : ℕ
-  pub returns : Returns plan before from
-  pub whole : h ≡ before ++ part
   pub rises : from ≤ top
   pub short : top < step_count plan
   pub falls : position_of h ≤ top
-  pub reads : word part ≡ up from top ++ down top (position_of h)
+  pub reads : word since.part ≡ up from top ++ down top (position_of h)
   pub going : going_to h ≡ Some target
   pub above : target < position_of h
   pub turned : has_turned_to_start h ≡ (0 == target)
@@ -65,11 +90,6 @@ pub record Goes (plan : Planned) (h : List Item) : Type 0 where
   pub mode : Mode plan h
   pub tries : HasTries plan h
 
--- one more item belongs to the last part of the history
-pub part-more : (h before part : List Item) (x : Item) → h ≡ before ++ part
-    → h ++ x ∷ [] ≡ before ++ (part ++ x ∷ [])
-part-more h before part x e = ap (λ g. g ++ x ∷ []) e ∙ append_assoc before part (x ∷ [])
-
 -- no journey is above its end
 pub position_of-most : (plan : Planned) (h : List Item) → Mode plan h → position_of h ≤ step_count plan
 position_of-most plan h (rises r) = r.within
@@ -78,61 +98,24 @@ position_of-most plan h (fell f) = let a = f.low in omega arith
 
 -- Phases.
 
--- a journey that is not above its target runs
-back_or_run-run : (pos : ℕ) (going : Option ℕ) → ((p : ℕ) → going ≡ Some p → pos ≤ p)
-    → back_or_run pos going ≡ Run
-back_or_run-run pos None arrived = refl
-back_or_run-run pos (Some p) arrived =
-    ap (λ b. if b then Back p else Run) (le-ltb p pos (arrived p refl))
-
--- where not all steps stand, and not none after a turn to the start, the journey goes back or runs
-phase_at-open : (n pos : ℕ) (turned : Bool) (going : Option ℕ) → (pos == n) ≡ false
-    → (turned && (pos == 0)) ≡ false → phase_at n pos turned going ≡ back_or_run pos going
-phase_at-open n pos turned going short open_yet =
-    ap (λ b. if b then Ended
-    else if turned && (pos == 0) then Undone
-    else back_or_run pos going)
-    short
-    ∙ ap (λ b. if b then Undone else back_or_run pos going) open_yet
-
 -- on its way up, and not at its end, a journey runs
 pub phase-rising : (plan : Planned) (h : List Item) → Rising plan h
     → position_of h < step_count plan → phase plan h ≡ Run
-phase-rising plan h r below =
-    phase_at-open (step_count plan) (position_of h) (has_turned_to_start h) (going_to h)
-    (ne_eqb _ _ (λ e. omega arith)) (ap (λ b. b && (position_of h == 0)) r.unturned)
-    ∙ back_or_run-run (position_of h) (going_to h) r.arrived
+phase-rising plan h r below = grind (arith, nat_tests, r.unturned, r.arrived)
 
 -- where all its steps stand, it has ended
 pub phase-ended : (plan : Planned) (h : List Item) → position_of h ≡ step_count plan
     → phase plan h ≡ Ended
-phase-ended plan h e =
-    ap (λ b. if b then Ended
-    else if has_turned_to_start h && (position_of h == 0) then Undone
-    else back_or_run (position_of h) (going_to h))
-    (eq-eqb _ _ e)
+phase-ended plan h e = grind (arith, nat_tests)
 
 -- on its way down it goes back to its target
 pub phase-falling : (plan : Planned) (h : List Item) (f : Falling plan h)
     → phase plan h ≡ Back f.target
-phase-falling plan h f =
-    phase_at-open (step_count plan) (position_of h) (has_turned_to_start h) (going_to h)
-    (ne_eqb _ _ (λ e. let a = f.falls in let b = f.short in omega arith))
-    (and_right (has_turned_to_start h) _ (ne_eqb _ _ (λ e. let a = f.above in omega arith)))
-    ∙ ap (back_or_run (position_of h)) f.going
-    ∙ ap (λ b. if b then Back f.target else Run) (lt-ltb _ _ f.above)
+phase-falling plan h f = grind (arith, nat_tests, f.going, f.above, f.falls, f.short)
 
 -- all the way down it is undone
 pub phase-fallen : (plan : Planned) (h : List Item) → Fallen plan h → phase plan h ≡ Undone
-phase-fallen plan h f =
-    ap (λ b. if b then Ended
-    else if has_turned_to_start h && (position_of h == 0) then Undone
-    else back_or_run (position_of h) (going_to h))
-    (ne_eqb _ _ (λ e. let a = f.start.turns.short in let b = f.low in omega arith))
-    ∙ ap (λ b. if b && (position_of h == 0) then Undone
-    else back_or_run (position_of h) (going_to h))
-    f.turned
-    ∙ ap (λ b. if b then Undone else back_or_run (position_of h) (going_to h)) (eq-eqb _ _ f.low)
+phase-fallen plan h f = grind (arith, nat_tests, f.turned, f.low, f.start.turns.short)
 
 -- What a phase says of the mode.
 
@@ -179,3 +162,66 @@ going_back-falls plan h (rises r) back = elim (upward plan h r) [
 going_back-falls plan h (falls f) back = f
 going_back-falls plan h (fell f) back =
     told_apart is_going_back _ _ back (phase-fallen plan h f) refl
+
+-- What the mode of a journey says of its whole word.
+
+-- on its way up a journey is completed by the steps that are left
+rising-begins : (plan : Planned) (h : List Item) (r : Rising plan h)
+    → GoesToEnd plan (h ++ rise (position_of h) (step_count plan))
+rising-begins plan h r =
+    let rest = rise (position_of h) (step_count plan) in
+    goes_to_end (since-append r.since rest) (let a = r.low in let b = r.within in omega arith)
+    (word-append r.since.part rest ∙ ap (λ w. w ++ word rest) r.reads
+    ∙ ap (λ w. up r.from (position_of h) ++ w) (word-rise (position_of h) (step_count plan))
+    ∙ sym (up-join r.from (position_of h) (step_count plan) r.low r.within))
+
+-- on its way down it is completed by the compensations that are left
+falling-begins : (plan : Planned) (h : List Item) (f : Falling plan h)
+    → GoesToStart plan (h ++ fall (position_of h) 0)
+falling-begins plan h f =
+    let rest = fall (position_of h) 0 in
+    goes_to_start (since-append f.since rest) f.top (record {
+      rises = f.rises;
+      short = f.short;
+      falls = omega arith;
+      reads =
+          word-append f.since.part rest ∙ ap (λ w. w ++ word rest) f.reads
+          ∙ append_assoc (up f.from f.top) (down f.top (position_of h)) (word rest)
+          ∙ ap (λ w. up f.from f.top ++ (down f.top (position_of h) ++ w)) (word-fall (position_of h) 0)
+          ∙ ap (λ w. up f.from f.top ++ w) (sym (down-join 0 (position_of h) f.top (omega arith) f.falls));
+    })
+
+-- in each mode the history begins an up-and-down word
+pub begins-word : (plan : Planned) (h : List Item) → Goes plan h → BeginsUpAndDown plan h
+begins-word plan h g = by_mode g.mode
+  where
+    by_mode : Mode plan h → BeginsUpAndDown plan h
+    by_mode (rises r) = (rise (position_of h) (step_count plan), inl (rising-begins plan h r))
+    by_mode (falls f) = (fall (position_of h) 0, inr (falling-begins plan h f))
+    by_mode (fell f) = ([], inr (subst (GoesToStart plan) (sym (append-nil h)) f.start))
+
+-- an ended journey went up to its end, and all its steps stand
+pub ended-word : (plan : Planned) (h : List Item) → Goes plan h → phase plan h ≡ Ended
+    → GoesToEnd plan h × (standing h ≡ numbers_from 1 (step_count plan))
+ended-word plan h g e = by_mode g.mode
+  where
+    by_mode : Mode plan h → GoesToEnd plan h × (standing h ≡ numbers_from 1 (step_count plan))
+    by_mode (rises r) = elim (upward plan h r) [
+      | runs below run ↦ (let bad : Run ≡ Ended = sym run ∙ e in cc)
+      | ended at same ↦ (goes_to_end r.since (let a = r.low in omega arith) (r.reads ∙ ap (up r.from) at), g.stands ∙ ap (numbers_from 1) at)
+    ]
+    by_mode (falls f) = let bad : Back f.target ≡ Ended = sym (phase-falling plan h f) ∙ e in cc
+    by_mode (fell f) = let bad : Undone ≡ Ended = sym (phase-fallen plan h f) ∙ e in cc
+
+-- an undone journey went all the way down, and no step stands
+pub undone-word : (plan : Planned) (h : List Item) → Goes plan h → phase plan h ≡ Undone
+    → GoesToStart plan h × (standing h ≡ [])
+undone-word plan h g e = by_mode g.mode
+  where
+    by_mode : Mode plan h → GoesToStart plan h × (standing h ≡ [])
+    by_mode (rises r) = elim (upward plan h r) [
+      | runs below run ↦ (let bad : Run ≡ Undone = sym run ∙ e in cc)
+      | ended at same ↦ (let bad : Ended ≡ Undone = sym same ∙ e in cc)
+    ]
+    by_mode (falls f) = let bad : Back f.target ≡ Undone = sym (phase-falling plan h f) ∙ e in cc
+    by_mode (fell f) = (f.start, g.stands ∙ ap (numbers_from 1) f.low)

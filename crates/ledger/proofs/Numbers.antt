@@ -1,6 +1,14 @@
--- Consecutive numbers, and how such lists join. For words and for sums over journeys.
-use Rattle.std.proofs.Common.{◌≡◌, ℕ, zero, suc, ◌+◌, ◌-◌, ◌≤◌, [], ◌∷◌, ◌++◌, ap, ◌∙◌, arith}
+-- Consecutive numbers: how such lists join, the runs up and down of words, and sums over them. For the words of journeys,
+-- and for the places that journeys hold.
+use Rattle.std.proofs.Common.{[], ◌≡◌, ℕ, zero, suc, ◌+◌, ◌-◌, ◌≤◌, ◌∷◌, ◌++◌, ap, ◌∙◌, arith, List, map, reverse, refl, ◌<◌, inl, inr, Bool, true, false, filter, sum_by, cond}
 use Rattle.allotment.specs.Cells.{numbers_from}
+use Rattle.std.proofs.lemmas.List.{reverse-append, map-append}
+use Rattle.commands.specs.declared.items.Item.{Item}
+use Rattle.commands.specs.declared.items.Item.TheVariants.{Transaction, Compensation}
+use Rattle.ledger.specs.Word.{Up, Down, word, up, down}
+use Rattle.std.proofs.lemmas.Bool.{cases_eq}
+use Rattle.std.proofs.lemmas.Grind.{common_steps}
+use Rattle.std.proofs.lemmas.List.Sums.{sum_by-cons}
 
 -- n + m consecutive numbers are the first n of them, followed by m more
 pub numbers_from-append : (first n m : ℕ)
@@ -29,3 +37,126 @@ numbers_between-none a = ap (numbers_from (suc a)) (let e : a - a ≡ 0 = omega 
 -- from a + 1 to a + 1 there is just one
 pub numbers_between-one : (a : ℕ) → numbers_from (suc a) (suc a - a) ≡ suc a ∷ []
 numbers_between-one a = ap (numbers_from (suc a)) (let e : suc a - a ≡ 1 = omega arith in e)
+
+-- the word of two histories, one after the other, is the word of the first followed by that of the second
+pub word-append : (g h : List Item) → word (g ++ h) ≡ word g ++ word h
+word-append [] h = refl
+word-append (Transaction i c ∷ g) h = ap (λ w. Up i ∷ w) (word-append g h)
+word-append (Compensation i c ∷ g) h = ap (λ w. Down i ∷ w) (word-append g h)
+word-append (_ ∷ g) h = word-append g h
+
+-- Runs of no step, of one step, and of steps that join.
+
+-- from a up to a no step is done
+pub up-none : (a : ℕ) → up a a ≡ []
+up-none a = ap (map Up) (numbers_between-none a)
+
+-- from a down to a no step is compensated
+pub down-none : (a : ℕ) → down a a ≡ []
+down-none a = ap (λ ns. map Down (reverse ns)) (numbers_between-none a)
+
+-- one step up
+pub up-one : (a : ℕ) → up a (suc a) ≡ Up (suc a) ∷ []
+up-one a = ap (map Up) (numbers_between-one a)
+
+-- one step down
+pub down-one : (a : ℕ) → down (suc a) a ≡ Down (suc a) ∷ []
+down-one a = ap (λ ns. map Down (reverse ns)) (numbers_between-one a)
+
+-- up to b and on up to d is up to d
+pub up-join : (a b d : ℕ) → a ≤ b → b ≤ d → up a d ≡ up a b ++ up b d
+up-join a b d low high =
+    ap (map Up) (numbers_between-join a b d low high)
+    ∙ map-append Up (numbers_from (suc a) (b - a)) (numbers_from (suc b) (d - b))
+
+-- down to b and on down to a is down to a
+pub down-join : (a b d : ℕ) → a ≤ b → b ≤ d → down d a ≡ down d b ++ down b a
+down-join a b d low high =
+    ap (λ ns. map Down (reverse ns)) (numbers_between-join a b d low high)
+    ∙ ap (map Down)
+    (reverse-append (numbers_from (suc a) (b - a)) (numbers_from (suc b) (d - b)))
+    ∙ map-append Down (reverse (numbers_from (suc b) (d - b)))
+    (reverse (numbers_from (suc a) (b - a)))
+
+-- Items that read as a run.
+
+-- the transactions of the steps from a + 1 to b
+pub rise : ℕ → ℕ → List Item
+rise a b = map (λ i. Transaction i 1) (numbers_from (suc a) (b - a))
+
+-- the compensations of the steps from b down to a + 1
+pub fall : ℕ → ℕ → List Item
+fall b a = map (λ i. Compensation i 1) (reverse (numbers_from (suc a) (b - a)))
+
+-- transactions read as their steps, upward
+word-ups : (ns : List ℕ) → word (map (λ i. Transaction i 1) ns) ≡ map Up ns
+word-ups [] = refl
+word-ups (n ∷ ns) = ap (λ w. Up n ∷ w) (word-ups ns)
+
+-- compensations read as their steps, downward
+word-downs : (ns : List ℕ) → word (map (λ i. Compensation i 1) ns) ≡ map Down ns
+word-downs [] = refl
+word-downs (n ∷ ns) = ap (λ w. Down n ∷ w) (word-downs ns)
+
+-- these transactions read as a run up
+pub word-rise : (a b : ℕ) → word (rise a b) ≡ up a b
+unfolding rise
+word-rise a b = word-ups (numbers_from (suc a) (b - a))
+
+-- these compensations read as a run down
+pub word-fall : (b a : ℕ) → word (fall b a) ≡ down b a
+unfolding fall
+word-fall b a = word-downs (reverse (numbers_from (suc a) (b - a)))
+
+-- Sums.
+
+-- where each term is the same, so is the sum
+pub sum_by-same : {X : Type 0} (f g : X → ℕ) (xs : List X) → ((x : X) → f x ≡ g x)
+    → sum_by f xs ≡ sum_by g xs
+sum_by-same f g [] same = refl
+sum_by-same f g (x ∷ xs) same = let later = sum_by-same f g xs same in grind (arith, common_steps, same x)
+
+-- a filtered list sums to no more than the list
+pub sum_by-filter : {X : Type 0} (f : X → ℕ) (test : X → Bool) (xs : List X)
+    → sum_by f (filter test xs) ≤ sum_by f xs
+sum_by-filter f test [] = omega arith
+sum_by-filter f test (x ∷ xs) = go (test x) (sum_by-filter f test xs)
+  where
+    go : (v : Bool) → sum_by f (filter test xs) ≤ sum_by f xs
+        → sum_by f (cond v (x ∷ filter test xs) (filter test xs)) ≤ sum_by f (x ∷ xs)
+    go true rest =
+        let a = sum_by-cons f x (filter test xs) in let b = sum_by-cons f x xs in omega arith
+    go false rest = let b = sum_by-cons f x xs in omega arith
+
+-- after the only number where terms differ, sums are the same
+sum_by-behind : (f g : ℕ → ℕ) (k first n : ℕ) → ((j : ℕ) → (j ≡ k → ⊥) → g j ≡ f j) → k < first
+    → sum_by g (numbers_from first n) ≡ sum_by f (numbers_from first n)
+sum_by-behind f g k first zero same behind = refl
+sum_by-behind f g k first (suc n) same behind =
+    let a = sum_by-cons g first (numbers_from (suc first) n) in
+    let b = sum_by-cons f first (numbers_from (suc first) n) in
+    let one = same first (λ e. omega arith) in
+    let rest = sum_by-behind f g k (suc first) n same (omega arith) in
+    omega arith
+
+-- if terms differ at one number only, the sums differ as these terms do
+pub sum_by-changed : (f g : ℕ → ℕ) (k first n : ℕ) → ((j : ℕ) → (j ≡ k → ⊥) → g j ≡ f j)
+    → first ≤ k → k < first + n
+    → sum_by g (numbers_from first n) + f k ≡ sum_by f (numbers_from first n) + g k
+sum_by-changed f g k first zero same low high = absurd (omega arith)
+sum_by-changed f g k first (suc n) same low high =
+    let a = sum_by-cons g first (numbers_from (suc first) n) in
+    let b = sum_by-cons f first (numbers_from (suc first) n) in
+    elim (cases_eq first k) [
+      | inl is ↦ (
+          let new : g first ≡ g k = ap g is in
+          let old : f first ≡ f k = ap f is in
+          let rest = sum_by-behind f g k (suc first) n same (omega arith) in
+          omega arith
+          )
+      | inr other ↦ (
+          let one = same first other in
+          let rest = sum_by-changed f g k (suc first) n same (omega arith) (omega arith) in
+          omega arith
+          )
+    ]

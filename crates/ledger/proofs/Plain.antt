@@ -11,7 +11,7 @@ use Rattle.ledger.specs.Laws.{HasNoSavePoint, EachPlainJourneyIsAllOrNothing}
 use Rattle.ledger.specs.Ledger.{Event, history, IsLegal}
 use Rattle.ledger.specs.Word.{word, up, down, Returns, begins, goes_on, GoesToEnd, GoesToStart, EndsAtSave}
 use Rattle.ledger.proofs.Ledgers.{up_and_down}
-use Rattle.ledger.proofs.Runs.{word-append, up-none, up-join, down-none}
+use Rattle.ledger.proofs.Numbers.{word-append, up-none, up-join, down-none}
 
 -- where no save-point was taken, none stands
 is_taken-none : (h : List Item) (p : ℕ) → list_any is_save h ≡ false → is_taken h p ≡ false

@@ -1,7 +1,7 @@
 -- What recovery has to go on with, and where it has gone on: a journey that goes back has a compensation, an open one a
 -- step, and after these none is left. For the law of recovery.
-use Rattle.std.proofs.Common.{◌≡◌, ℕ, zero, suc, ◌+◌, ◌<◌, ◌≤◌, List, [], ◌∷◌, ◌++◌, length, refl, ap, sym, ◌∙◌, arith, append_assoc, append-nil, Bool, true, false, not, Option, Some, None}
-use Rattle.std.proofs.lemmas.Bool.{and_parts, or_from, not_from_false}
+use Rattle.std.proofs.Common.{◌≡◌, ℕ, zero, suc, ◌+◌, ◌<◌, ◌≤◌, List, [], ◌∷◌, ◌++◌, refl, ap, sym, ◌∙◌, arith, append_assoc, append-nil, Bool, true, false, Option, Some, None}
+use Rattle.std.proofs.lemmas.Bool.{and_parts, or_from}
 use Rattle.std.specs.List.{list_all, list_any}
 use Rattle.allotment.specs.Cells.{numbers_from}
 use Rattle.plan.specs.PlanModel.{Planned}
@@ -12,9 +12,8 @@ use Rattle.commands.specs.declared.items.Phase.{Phase}
 use Rattle.commands.specs.declared.items.Phase.TheVariants.{Back}
 use Rattle.ledger.specs.History.{next_want, phase, is_going_back, is_open, is_compensation, may_come}
 use Rattle.ledger.specs.Ledger.{Event, Did, Journey, journeys, journey_at, history, fits, is_in, is_item_allowed, IsLegal}
-use Rattle.ledger.specs.Recovery.{are_items, has_none, is_forward}
+use Rattle.ledger.specs.Recovery.{are_items, is_forward}
 use Rattle.allotment.proofs.TestLemmas.{list_all_weaker}
-use Rattle.ledger.proofs.Carrying.{IsStage, Carries}
 use Rattle.ledger.proofs.Coming.{step-comes, refused-comes}
 use Rattle.ledger.proofs.Deciding.{run_or_back, each_open_has_one}
 use Rattle.ledger.proofs.Growing.{journeys-did, is_item_allowed-may_do}
@@ -22,6 +21,12 @@ use Rattle.ledger.proofs.Phases.{passing}
 use Rattle.ledger.proofs.Recovering.{compensation-forward}
 
 -- Stages.
+
+-- items of this kind are steps, and a journey in this kind of phase may make one
+pub record IsStage (test : Item → Bool) (passes : Phase → Bool) : Type 0 where
+  pub steps : (x : Item) → test x ≡ true → is_forward x ≡ true
+  pub has : (l : List Event) (j : ℕ) → IsLegal l → is_in passes l j ≡ true
+      → (x : Item) × (test x ≡ true) × (is_item_allowed l j x ≡ true)
 
 -- a journey that goes back is open
 back-open : (p : Phase) → is_going_back p ≡ true → is_open p ≡ true
@@ -94,18 +99,6 @@ none-pass test zero first each = refl
 none-pass test (suc n) first each =
     or_from _ _ (each first (omega arith) (omega arith))
     (none-pass test n (suc first) (λ j low high. each j (omega arith) (omega arith)))
-
--- events by which all journeys of a ledger go on
-abbrev pub CarriesAll : (Item → Bool) → (Phase → Bool) → List Event → Type 0
-CarriesAll test passes l = Carries test passes 1 (length (journeys l)) l
-
--- after such events no journey is in such a phase
-pub carried-none : (test : Item → Bool) (passes : Phase → Bool) (l : List Event)
-    (c : CarriesAll test passes l) → has_none passes (l ++ c.events) ≡ true
-carried-none test passes l c =
-    ap (λ js. not (list_any (is_in passes (l ++ c.events)) (numbers_from 1 (length js))))
-    (journeys-items test c.events l c.items)
-    ∙ not_from_false _ (none-pass (is_in passes (l ++ c.events)) (length (journeys l)) 1 c.done)
 
 -- compensations are steps
 pub compensations-forward : (p : List Event) → list_all (are_items is_compensation) p ≡ true

@@ -1,13 +1,13 @@
 -- A ledger has at most one recovered ledger. For the law of recovery.
 use Rattle.std.proofs.Common.{◌≡◌, ℕ, ◌<◌, ◌≤◌, List, [], ◌∷◌, ◌++◌, refl, ap, sym, ◌∙◌, arith, append_assoc, append-nil, subst, Bool, true, false, not, nat_le, nat_lt, Option, Some, None}
-use Rattle.std.proofs.lemmas.Bool.{and_parts, and_from, leb-true, le-leb, ltb-true, ltb-false, lt-ltb}
+use Rattle.std.proofs.lemmas.Bool.{and_parts, and_from, leb-true, ltb-true, ltb-false, lt-ltb}
 use Rattle.std.specs.List.{list_all}
 use Rattle.commands.specs.declared.items.Item.{Item}
 use Rattle.commands.specs.declared.items.Item.TheVariants.{Compensation, Turn, Save}
 use Rattle.commands.specs.declared.items.Phase.{Phase}
 use Rattle.ledger.specs.History.{next_want, phase, is_compensation, is_going_back, is_open, is_finished}
 use Rattle.ledger.specs.Laws.{AtMostOneIsRecovered}
-use Rattle.ledger.specs.Ledger.{Event, Loaded, Began, Did, Journey, journey_at, history, fits, is_in, is_item_allowed, AreAllowedAfter, IsLegal}
+use Rattle.ledger.specs.Ledger.{Event, Did, Journey, journey_at, history, fits, is_in, is_item_allowed, AreAllowedAfter, IsLegal}
 use Rattle.ledger.specs.Recovery.{stops, is_by_number, journey_of, are_items, has_none, is_forward, IsRecovered}
 use Rattle.allotment.proofs.TestLemmas.{list_all_weaker}
 use Rattle.ledger.proofs.Coming.{compensation-comes}
@@ -33,13 +33,6 @@ IsAlone test = (l : List Event) (j : ℕ) (x y : Item) → IsLegal l → test x 
 abbrev NeedsPhase : (Item → Bool) → (Phase → Bool) → Type 0
 NeedsPhase test passes = (l : List Event) (j : ℕ) (x : Item) → test x ≡ true
     → is_item_allowed l j x ≡ true → is_in passes l j ≡ true
-
--- what comes from a number on comes from each lower one on
-pub from-lower : (a b : ℕ) (p : List Event) → a ≤ b → list_all (λ d. nat_le b (journey_of d)) p ≡ true
-    → list_all (λ d. nat_le a (journey_of d)) p ≡ true
-from-lower a b p lower =
-    list_all_weaker (λ d. nat_le b (journey_of d)) (λ d. nat_le a (journey_of d))
-    (λ d e. let here = leb-true b (journey_of d) e in le-leb a (journey_of d) (omega arith)) p
 
 -- what is not below k is above j, if j is below k
 pub above-lower : (j k : ℕ) (p : List Event) → j < k → list_all (λ d. nat_le k (journey_of d)) p ≡ true
@@ -130,14 +123,9 @@ part-unique test passes alone needs (Did j x ∷ p) (Did k y ∷ q) l legal firs
     (rest-part test passes l (Did j x) q
     (subst (λ e. IsPart test passes l (e ∷ q)) same second)) in
     ap (λ r. Did j x ∷ r) rest ∙ ap (λ e. e ∷ q) (sym same)
-part-unique test passes alone needs (Loaded n r ∷ p) q l legal first second =
-    let bad : false ≡ true = first.items in cc
-part-unique test passes alone needs (Began a b ∷ p) q l legal first second =
-    let bad : false ≡ true = first.items in cc
-part-unique test passes alone needs p (Loaded n r ∷ q) l legal first second =
-    let bad : false ≡ true = second.items in cc
-part-unique test passes alone needs p (Began a b ∷ q) l legal first second =
-    let bad : false ≡ true = second.items in cc
+part-unique test passes alone needs (Did j x ∷ p) (_ ∷ q) l legal first second = cc second.items
+part-unique test passes alone needs (_ ∷ p) q l legal first second = cc first.items
+part-unique test passes alone needs [] (_ ∷ q) l legal first second = cc second.items
 
 -- The two parts of recovery.
 

@@ -1,16 +1,17 @@
--- One more item on the way up: a transaction, a save-point, or a turn. For each item that may come.
-use Rattle.std.proofs.Common.{◌≡◌, ℕ, suc, ◌+◌, ◌<◌, ◌≤◌, ◌⊎◌, List, [], ◌∷◌, ◌++◌, refl, ap, sym, ◌∙◌, arith, append-nil, eqb-true, Bool, true, false, ◌==◌, nat_lt, Some, IsTrue}
-use Rattle.std.proofs.lemmas.Bool.{eqb-false, ltb-true, ltb-false, ne_eqb}
+-- One more item: on the way up a transaction, a save-point, or a turn; on the way down a turn further down, or a
+-- compensation. For each item that may come.
+use Rattle.std.proofs.Common.{◌≡◌, ℕ, suc, ◌+◌, ◌<◌, ◌≤◌, ◌⊎◌, List, [], ◌∷◌, ◌++◌, refl, ap, sym, ◌∙◌, arith, subst, append_assoc, append-nil, inl, inr, false, ◌==◌, Some, IsTrue}
+use Rattle.std.proofs.lemmas.Bool.{ne_eqb, cases_lt, cases_eq}
 use Rattle.plan.specs.PlanModel.{Planned, step_count}
 use Rattle.commands.specs.declared.items.Cause.{Cause}
 use Rattle.commands.specs.declared.items.Item.{Item}
-use Rattle.commands.specs.declared.items.Item.TheVariants.{Transaction, Turn, Save}
+use Rattle.commands.specs.declared.items.Item.TheVariants.{Transaction, Compensation, Turn, Save}
 use Rattle.ledger.specs.History.{position_of, going_to, is_save_point, has_turned_to_start}
-use Rattle.ledger.specs.Word.{word, up, down, Up}
-use Rattle.ledger.proofs.Going.{going_to-transaction, going_to-turn, going_to-save, turned-other, turned-turn, kept-turn}
-use Rattle.ledger.proofs.Modes.{Rising, Falling, Fallen, Mode, rises, falls, fell, part-more}
-use Rattle.ledger.proofs.Runs.{word-append, down-none, up-join, up-one}
-use Rattle.ledger.proofs.Standing.{position_of-transaction, position_of-turn, position_of-save}
+use Rattle.ledger.specs.Word.{word, up, down, Up, Down, Returns, goes_on, IsTurnPart}
+use Rattle.ledger.proofs.Going.{going_to-transaction, going_to-turn, going_to-save, going_to-compensation, turned-other, turned-turn, kept-turn, is_save_point-compensation}
+use Rattle.ledger.proofs.Modes.{Since, since-append, goes_to_start, Rising, Falling, Fallen, Mode, rises, falls, fell}
+use Rattle.ledger.proofs.Numbers.{word-append, up-none, down-none, up-join, down-join, up-one, down-one}
+use Rattle.ledger.proofs.Standing.{position_of-transaction, position_of-turn, position_of-save, Compensates}
 
 -- the next transaction is one more step on the way up
 pub rising-transaction : (plan : Planned) (h : List Item) (i c : ℕ) → Rising plan h
@@ -20,15 +21,12 @@ rising-transaction plan h i c r below is =
     let pos = position_of-transaction h i c in
     let next : suc (position_of h) ≡ position_of (h ++ Transaction i c ∷ []) = omega arith in
     record {
-      before = r.before;
-      part = r.part ++ Transaction i c ∷ [];
       from = r.from;
-      returns = r.returns;
-      whole = part-more h r.before r.part (Transaction i c) r.whole;
+      since = since-append r.since (Transaction i c ∷ []);
       low = let a = r.low in omega arith;
       within = omega arith;
       reads =
-          word-append r.part (Transaction i c ∷ []) ∙ ap (λ w. w ++ Up i ∷ []) r.reads
+          word-append r.since.part (Transaction i c ∷ []) ∙ ap (λ w. w ++ Up i ∷ []) r.reads
           ∙ ap (λ k. up r.from (position_of h) ++ Up k ∷ [])
           (let k : i ≡ suc (position_of h) = omega arith in k)
           ∙ ap (λ w. up r.from (position_of h) ++ w) (sym (up-one (position_of h)))
@@ -43,15 +41,12 @@ stays : (plan : Planned) (h : List Item) (x : Item) → Rising plan h → word (
     → position_of (h ++ x ∷ []) ≡ position_of h → has_turned_to_start (h ++ x ∷ []) ≡ false
     → ((p : ℕ) → going_to (h ++ x ∷ []) ≡ Some p → position_of h ≤ p) → Rising plan (h ++ x ∷ [])
 stays plan h x r silent pos unturned arrived = record {
-  before = r.before;
-  part = r.part ++ x ∷ [];
   from = r.from;
-  returns = r.returns;
-  whole = part-more h r.before r.part x r.whole;
+  since = since-append r.since (x ∷ []);
   low = let a = r.low in omega arith;
   within = let a = r.within in omega arith;
   reads =
-      word-append r.part (x ∷ []) ∙ ap (λ w. word r.part ++ w) silent ∙ append-nil (word r.part) ∙ r.reads
+      word-append r.since.part (x ∷ []) ∙ ap (λ w. word r.since.part ++ w) silent ∙ append-nil (word r.since.part) ∙ r.reads
       ∙ ap (up r.from) (sym pos);
   unturned = unturned;
   arrived = λ p e. let k = arrived p e in omega arith;
@@ -71,18 +66,15 @@ turn-down : (plan : Planned) (h : List Item) (p : ℕ) (cause : Cause) → Risin
 turn-down plan h p cause r below kept lower =
     let pos = position_of-turn h p cause in
     record {
-      before = r.before;
-      part = r.part ++ Turn p cause ∷ [];
       from = r.from;
+      since = since-append r.since (Turn p cause ∷ []);
       top = position_of h;
       target = p;
-      returns = r.returns;
-      whole = part-more h r.before r.part (Turn p cause) r.whole;
       rises = r.low;
       short = below;
       falls = omega arith;
       reads =
-          word-append r.part (Turn p cause ∷ []) ∙ append-nil (word r.part) ∙ r.reads
+          word-append r.since.part (Turn p cause ∷ []) ∙ append-nil (word r.since.part) ∙ r.reads
           ∙ sym (append-nil (up r.from (position_of h)))
           ∙ ap (λ w. up r.from (position_of h) ++ w)
           (sym (down-none (position_of h)) ∙ ap (down (position_of h)) (sym pos));
@@ -107,41 +99,162 @@ turn-here plan h p cause r here more =
 turn-at_start : (plan : Planned) (h : List Item) (p : ℕ) (cause : Cause) → Rising plan h
     → position_of h < step_count plan → position_of h ≡ 0 → p ≡ 0
     → Fallen plan (h ++ Turn p cause ∷ [])
-turn-at_start plan h p cause r below at_start p_is =
-    let pos = position_of-turn h p cause in
-    record {
-      start = record {
-        before = r.before;
-        part = r.part ++ Turn p cause ∷ [];
-        from = r.from;
-        top = 0;
-        returns = r.returns;
-        whole = part-more h r.before r.part (Turn p cause) r.whole;
-        turns = record {
-          rises = let a = r.low in omega arith;
-          short = omega arith;
-          falls = omega arith;
-          reads =
-              word-append r.part (Turn p cause ∷ []) ∙ append-nil (word r.part) ∙ r.reads
-              ∙ ap (up r.from) at_start ∙ sym (append-nil (up r.from 0));
-        };
-      };
-      low = pos ∙ at_start;
-      turned = turned-turn h p cause r.unturned ∙ ap (λ k. 0 == k) p_is;
-    }
+turn-at_start plan h p cause r below at_start p_is = record {
+  start = goes_to_start (since-append r.since (Turn p cause ∷ [])) 0 (record {
+    rises = let a = r.low in omega arith;
+    short = omega arith;
+    falls = omega arith;
+    reads =
+        word-append r.since.part (Turn p cause ∷ []) ∙ append-nil (word r.since.part) ∙ r.reads
+        ∙ ap (up r.from) at_start ∙ sym (append-nil (up r.from 0));
+  });
+  low = position_of-turn h p cause ∙ at_start;
+  turned = turned-turn h p cause r.unturned ∙ ap (λ k. 0 == k) p_is;
+}
 
 -- a turn on the way up leads down, or leaves the journey where it is, or ends it at the start
 pub rising-turn : (plan : Planned) (h : List Item) (p : ℕ) (cause : Cause) → Rising plan h
     → position_of h < step_count plan → (p ≡ 0) ⊎ IsTrue (is_save_point plan h p)
     → Mode plan (h ++ Turn p cause ∷ [])
-rising-turn plan h p cause r below kept = go (nat_lt p (position_of h)) refl
-  where
-    at_start : (v : Bool) → (p == 0) ≡ v → position_of h ≤ p → Mode plan (h ++ Turn p cause ∷ [])
-    at_start true e here =
-        let z = eqb-true _ _ e in fell (turn-at_start plan h p cause r below (omega arith) z)
-    at_start false e here =
-        let ne = eqb-false _ _ e in rises (turn-here plan h p cause r here (omega arith))
+rising-turn plan h p cause r below kept = elim (cases_lt p (position_of h)) [
+  | inl lower ↦ falls (turn-down plan h p cause r below kept lower)
+  | inr here ↦ elim (cases_eq p 0) [
+    | inl start ↦ fell (turn-at_start plan h p cause r below (omega arith) start)
+    | inr more ↦ rises (turn-here plan h p cause r here (omega arith))
+  ]
+]
 
-    go : (v : Bool) → nat_lt p (position_of h) ≡ v → Mode plan (h ++ Turn p cause ∷ [])
-    go true e = falls (turn-down plan h p cause r below kept (ltb-true _ _ e))
-    go false e = at_start (p == 0) refl (ltb-false _ _ e)
+-- The way down.
+
+-- a turn further down gives the way down a lower target
+pub falling-turn : (plan : Planned) (h : List Item) (p : ℕ) (cause : Cause) (f : Falling plan h)
+    → p < f.target → (p ≡ 0) ⊎ IsTrue (is_save_point plan h p)
+    → Falling plan (h ++ Turn p cause ∷ [])
+falling-turn plan h p cause f lower kept =
+    let pos = position_of-turn h p cause in
+    record {
+      from = f.from;
+      since = since-append f.since (Turn p cause ∷ []);
+      top = f.top;
+      target = p;
+      rises = f.rises;
+      short = f.short;
+      falls = let a = f.falls in omega arith;
+      reads =
+          word-append f.since.part (Turn p cause ∷ []) ∙ append-nil (word f.since.part) ∙ f.reads
+          ∙ ap (λ k. up f.from f.top ++ down f.top k) (sym pos);
+      going = going_to-turn h p cause;
+      above = let a = f.above in omega arith;
+      turned = turned-turn h p cause (f.turned ∙ ne_eqb 0 f.target (λ e. omega arith));
+      kept = kept-turn plan h p cause p kept;
+    }
+
+module _ (plan : Planned) (h : List Item) (i c : ℕ) (f : Falling plan h) (k : Compensates h i c) where
+  -- the history with the compensation of the last step
+  abbrev next : List Item
+  next = h ++ Compensation i c ∷ []
+
+  -- its last part
+  abbrev onward : Since plan next f.from
+  onward = since-append f.since (Compensation i c ∷ [])
+
+  -- the last part goes up, and down to the new position: the compensation reads as one more step on the way down
+  part-compensation : IsTurnPart plan f.from f.top (position_of next) onward.part
+  part-compensation =
+      let pos : ℕ = position_of next in
+      let above : position_of h ≡ suc pos = let a = k.lower in omega arith in
+      record {
+        rises = f.rises;
+        short = f.short;
+        falls = let a = f.falls in omega arith;
+        reads =
+            word-append f.since.part (Compensation i c ∷ []) ∙ ap (λ w. w ++ Down i ∷ []) f.reads
+            ∙ append_assoc (up f.from f.top) (down f.top (position_of h)) (Down i ∷ [])
+            ∙ ap (λ w. up f.from f.top ++ w)
+            (ap (λ n. down f.top n ++ Down i ∷ []) above
+            ∙ ap (λ n. down f.top (suc pos) ++ Down n ∷ []) (k.is_last ∙ above)
+            ∙ ap (λ w. down f.top (suc pos) ++ w) (sym (down-one pos))
+            ∙ sym (down-join pos (suc pos) f.top (omega arith) (let a = f.falls in omega arith)));
+      }
+
+  -- the target stays the start or a save-point while the journey is not below it
+  kept-compensation : f.target ≤ position_of next
+      → (f.target ≡ 0) ⊎ IsTrue (is_save_point plan next f.target)
+  kept-compensation low = elim f.kept [
+    | inl e ↦ inl e
+    | inr e ↦ inr (is_save_point-compensation plan h i c f.target low
+        (λ same. let a = k.is_last in let b = f.above in omega arith) e)
+  ]
+
+  -- a compensation is no turn, so the target of the last turn stays
+  turned-compensation : has_turned_to_start next ≡ (0 == f.target)
+  turned-compensation = turned-other h (Compensation i c) refl ∙ f.turned
+
+  -- above its target the journey is still on its way down
+  compensation-on : f.target < position_of next → Falling plan next
+  compensation-on above = record {
+    from = f.from;
+    since = onward;
+    top = f.top;
+    target = f.target;
+    rises = f.rises;
+    short = f.short;
+    falls = part-compensation.falls;
+    reads = part-compensation.reads;
+    going = going_to-compensation h i c ∙ f.going;
+    above = above;
+    turned = turned-compensation;
+    kept = kept-compensation (omega arith);
+  }
+
+  -- at the start it is all the way down
+  compensation-to_start : f.target ≡ 0 → position_of next ≡ 0 → Fallen plan next
+  compensation-to_start start here = record {
+    start = goes_to_start onward f.top
+        (subst (λ n. IsTurnPart plan f.from f.top n onward.part) here part-compensation);
+    low = here;
+    turned = turned-compensation ∙ ap (λ n. 0 == n) start;
+  }
+
+  -- at its target, a save-point, the way down has ended where the journey may turn upward, and it is on its way up again
+  compensation-to_save_point : 0 < f.target → position_of next ≡ f.target → Rising plan next
+  compensation-to_save_point more here =
+      record {
+        from = position_of next;
+        since = record { before = next; part = []; returns = returns; whole = sym (append-nil next) };
+        low = omega arith;
+        within = let a = f.falls in let b = f.short in let d = k.lower in omega arith;
+        reads = sym (up-none (position_of next));
+        unturned = turned-compensation ∙ ne_eqb 0 f.target (λ z. omega arith);
+        arrived = λ q r.
+            let same : Some q ≡ Some f.target = sym r ∙ going_to-compensation h i c ∙ f.going in
+            let n : q ≡ f.target = cc in
+            omega arith;
+      }
+    where
+      saved : (f.target ≡ 0) ⊎ IsTrue (is_save_point plan next f.target)
+          → IsTrue (is_save_point plan next (position_of next))
+      saved (inl z) = absurd (omega arith)
+      saved (inr s) = subst (λ n. IsTrue (is_save_point plan next n)) (sym here) s
+
+      save : IsTrue (is_save_point plan (f.since.before ++ onward.part) (position_of next))
+      save =
+          subst (λ g. IsTrue (is_save_point plan g (position_of next))) onward.whole
+          (saved (kept-compensation (omega arith)))
+
+      returns : Returns plan next (position_of next)
+      returns =
+          subst (λ g. Returns plan g (position_of next)) (sym onward.whole)
+          (goes_on f.since.before onward.part f.from f.top (position_of next) f.since.returns part-compensation (omega arith)
+          (inr (record { front = f.since.part; step = i; option = c; ends = refl; save = save })))
+
+  -- a compensation leads on down, all the way down, or to the target
+  pub falling-compensation : Mode plan (h ++ Compensation i c ∷ [])
+  falling-compensation = elim (cases_lt f.target (position_of next)) [
+    | inl above ↦ falls (compensation-on above)
+    | inr low ↦ (let here : position_of next ≡ f.target = let a = f.above in let b = k.lower in omega arith in
+        elim (cases_eq f.target 0) [
+          | inl start ↦ fell (compensation-to_start start (here ∙ start))
+          | inr more ↦ rises (compensation-to_save_point (omega arith) here)
+        ])
+  ]

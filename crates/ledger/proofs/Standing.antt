@@ -1,5 +1,5 @@
 -- What one more item does to the transactions that stand. For the modes of a journey and for places.
-use Rattle.std.proofs.Common.{◌≡◌, ℕ, zero, suc, ◌+◌, ◌≤◌, List, [], ◌∷◌, ◌++◌, length, map, refl, ap, sym, ◌∙◌, arith, length-append, append-nil, eq-eqb, Bool, true, false, ◌||◌, filter, not, ◌==◌, Some, if◌then◌else◌, cond}
+use Rattle.std.proofs.Common.{◌≡◌, ℕ, zero, suc, ◌+◌, ◌≤◌, List, [], ◌∷◌, ◌++◌, length, map, refl, ap, sym, ◌∙◌, arith, length-append, append-nil, eq-eqb, true, false, filter, not, ◌==◌, Some, cond}
 use Rattle.std.proofs.Math.Bool.{or-false}
 use Rattle.std.proofs.lemmas.Bool.{ne_eqb, not_from_false}
 use Rattle.std.proofs.lemmas.List.{map-append}
@@ -11,7 +11,7 @@ use Rattle.commands.specs.declared.items.Cause.{Cause}
 use Rattle.commands.specs.declared.items.Item.{Item}
 use Rattle.commands.specs.declared.items.Item.TheVariants.{Transaction, Compensation, Turn, Save}
 use Rattle.ledger.specs.History.{last_of, net, position_of, is_compensation_of}
-use Rattle.ledger.proofs.Lists.{last_of-is, last_of-append, front_of, front_of-snoc}
+use Rattle.ledger.proofs.Lists.{last_of-is, snoc-same}
 use Rattle.ledger.proofs.Numbers.{numbers_from-append}
 
 -- the steps that stand
@@ -21,29 +21,15 @@ standing h = map (λ t. t.0) (net h)
 -- an item that does not compensate step i does not change whether one does
 pub compensated-other : (i : ℕ) (later : List Item) (x : Item) → is_compensation_of i x ≡ false
     → list_any (is_compensation_of i) (later ++ x ∷ []) ≡ list_any (is_compensation_of i) later
-compensated-other i later x other =
-    list_any-append (is_compensation_of i) later (x ∷ [])
-    ∙ ap (λ b. list_any (is_compensation_of i) later || (b || false)) other
-    ∙ or-false (list_any (is_compensation_of i) later)
+compensated-other i later x other = simp (list_any-append, other, or-false)
 
 -- What each item does to the list of what stands.
-
--- an append to the list does not change whether the first one stands
-adds-append : (i c : ℕ) (gone : Bool) (rest more : List (ℕ × ℕ))
-    → (if gone then rest ++ more else (i, c) ∷ (rest ++ more))
-    ≡ (if gone then rest else (i, c) ∷ rest) ++ more
-adds-append i c true rest more = refl
-adds-append i c false rest more = refl
 
 -- an item that compensates nothing appends what it adds, since what stood still stands
 net-other : (h : List Item) (x : Item) → ((i : ℕ) → is_compensation_of i x ≡ false)
     → net (h ++ x ∷ []) ≡ net h ++ net (x ∷ [])
 net-other [] x other = refl
-net-other (Transaction i c ∷ h) x other =
-    ap (λ b. if b then net (h ++ x ∷ []) else (i, c) ∷ net (h ++ x ∷ []))
-    (compensated-other i h x (other i))
-    ∙ ap (λ xs. if list_any (is_compensation_of i) h then xs else (i, c) ∷ xs) (net-other h x other)
-    ∙ adds-append i c (list_any (is_compensation_of i) h) (net h) (net (x ∷ []))
+net-other (Transaction i c ∷ h) x other = grind (arith, compensated-other i h x (other i), net-other h x other)
 net-other (_ ∷ h) x other = net-other h x other
 
 -- a transaction is appended
@@ -59,30 +45,12 @@ net-turn h p cause = net-other h (Turn p cause) (λ j. refl) ∙ append-nil (net
 pub net-save : (h : List Item) (p : ℕ) → net (h ++ Save p ∷ []) ≡ net h
 net-save h p = net-other h (Save p) (λ j. refl) ∙ append-nil (net h)
 
--- a transaction that is compensated now, or was before, is left out
-without-step : (keeps : ℕ × ℕ → Bool) (gone now : Bool) (t : ℕ × ℕ) (rest : List (ℕ × ℕ))
-    → keeps t ≡ not now
-    → (if gone || now then filter keeps rest else t ∷ filter keeps rest)
-    ≡ filter keeps (if gone then rest else t ∷ rest)
-without-step keeps true now t rest e = refl
-without-step keeps false true t rest e =
-    sym (ap (λ b. cond b (t ∷ filter keeps rest) (filter keeps rest)) e)
-without-step keeps false false t rest e =
-    sym (ap (λ b. cond b (t ∷ filter keeps rest) (filter keeps rest)) e)
-
 -- a compensation removes every transaction of its step from what stands
 pub net-compensation : (h : List Item) (i c : ℕ)
     → net (h ++ Compensation i c ∷ []) ≡ filter (λ t. not (t.0 == i)) (net h)
 net-compensation [] i c = refl
 net-compensation (Transaction j d ∷ h) i c =
-    ap (λ b. if b then net (h ++ Compensation i c ∷ [])
-    else (j, d) ∷ net (h ++ Compensation i c ∷ []))
-    (list_any-append (is_compensation_of j) h (Compensation i c ∷ [])
-    ∙ ap (λ b. list_any (is_compensation_of j) h || b) (or-false (j == i)))
-    ∙ ap (λ xs. if list_any (is_compensation_of j) h || (j == i) then xs else (j, d) ∷ xs)
-    (net-compensation h i c)
-    ∙ without-step (λ t. not (t.0 == i)) (list_any (is_compensation_of j) h) (j == i) (j, d) (net h)
-    refl
+    grind (arith, list_any-append (is_compensation_of j) h (Compensation i c ∷ []), or-false, net-compensation h i c)
 net-compensation (_ ∷ h) i c = net-compensation h i c
 
 -- Positions.
@@ -133,7 +101,7 @@ standing-transaction h i c is e =
     ∙ ap (numbers_from 1) (sym (position_of-transaction h i c))
 
 -- leaving out a number above all of these changes nothing
-pub filter-above : (xs : List (ℕ × ℕ)) (first n m : ℕ) → map (λ t. t.0) xs ≡ numbers_from first n
+filter-above : (xs : List (ℕ × ℕ)) (first n m : ℕ) → map (λ t. t.0) xs ≡ numbers_from first n
     → first + n ≤ m → filter (λ t. not (t.0 == m)) xs ≡ xs
 filter-above [] first n m e h = refl
 filter-above (x ∷ xs) first zero m e h = cc
@@ -144,24 +112,15 @@ filter-above (x ∷ xs) first (suc n) m e h =
     ap (λ b. cond b (x ∷ filter (λ t. not (t.0 == m)) xs) (filter (λ t. not (t.0 == m)) xs)) differs
     ∙ ap (λ ys. x ∷ ys) (filter-above xs (suc first) n m rest (omega arith))
 
--- if the steps of a list are numbered consecutively, so are those before the last
-pub front-numbered : (front : List (ℕ × ℕ)) (i c : ℕ)
-    → map (λ t. t.0) (front ++ (i, c) ∷ []) ≡ numbers_from 1 (length front + 1)
-    → map (λ t. t.0) front ≡ numbers_from 1 (length front)
-front-numbered front i c e =
-    sym (front_of-snoc (map (λ t. t.0) front) i)
-    ∙ ap front_of
-    (sym (map-append (λ t. t.0) front ((i, c) ∷ [])) ∙ e ∙ numbers_from-append 1 (length front) 1)
-    ∙ front_of-snoc (numbers_from 1 (length front)) (1 + length front)
-
--- what the compensation of the last transaction does: its step was the last that stood, the position is one lower, and
--- the steps up to there stand
+-- what the compensation of the last transaction does: its step was the last that stood, the position is one lower, the
+-- steps up to there stand, and no other transaction is gone
 pub record Compensates (h : List Item) (i c : ℕ) : Type 0 where
   pub is_last : i ≡ position_of h
   pub lower : position_of (h ++ Compensation i c ∷ []) + 1 ≡ position_of h
   pub stands :
       standing (h ++ Compensation i c ∷ [])
       ≡ numbers_from 1 (position_of (h ++ Compensation i c ∷ []))
+  pub left : net h ≡ net (h ++ Compensation i c ∷ []) ++ (i, c) ∷ []
 
 -- where steps 1 to the position stand, the last of them is that of the position, so its compensation removes it alone
 pub compensates : (h : List Item) (i c : ℕ) → standing h ≡ numbers_from 1 (position_of h)
@@ -169,24 +128,20 @@ pub compensates : (h : List Item) (i c : ℕ) → standing h ≡ numbers_from 1 
 compensates h i c stands last =
     let cut = last_of-is (net h) (i, c) last in
     let front = cut.0 in
-    let size : position_of h ≡ length front + 1 =
-    ap length cut.1 ∙ length-append front ((i, c) ∷ []) in
-    let numbered : map (λ t. t.0) (front ++ (i, c) ∷ []) ≡ numbers_from 1 (length front + 1) =
-    ap (map (λ t. t.0)) (sym cut.1) ∙ stands ∙ ap (numbers_from 1) size in
-    let low = front-numbered front i c numbered in
-    let same_last : Some i ≡ Some (1 + length front) =
-    sym (last_of-append (map (λ t. t.0) front) i [])
-    ∙ ap last_of (sym (map-append (λ t. t.0) front ((i, c) ∷ [])) ∙ numbered ∙ numbers_from-append 1 (length front) 1)
-    ∙ last_of-append (numbers_from 1 (length front)) (1 + length front) [] in
-    let i_is : i ≡ 1 + length front = cc in
+    let size : position_of h ≡ length front + 1 = ap length cut.1 ∙ length-append front ((i, c) ∷ []) in
+    let numbered : map (λ t. t.0) front ++ i ∷ [] ≡ numbers_from 1 (length front) ++ (1 + length front) ∷ [] =
+    sym (map-append (λ t. t.0) front ((i, c) ∷ [])) ∙ ap (map (λ t. t.0)) (sym cut.1) ∙ stands
+    ∙ ap (numbers_from 1) size ∙ numbers_from-append 1 (length front) 1 in
+    let same = snoc-same (map (λ t. t.0) front) (numbers_from 1 (length front)) i (1 + length front) numbered in
     let left : net (h ++ Compensation i c ∷ []) ≡ front =
     net-compensation h i c ∙ ap (filter (λ t. not (t.0 == i))) cut.1
     ∙ filter-append (λ t. not (t.0 == i)) front ((i, c) ∷ [])
     ∙ ap (λ xs. xs ++ filter (λ t. not (t.0 == i)) ((i, c) ∷ []))
-    (filter-above front 1 (length front) i low (omega arith))
+    (filter-above front 1 (length front) i same.0 (omega (arith, same.1)))
     ∙ ap (λ b. front ++ cond (not b) ((i, c) ∷ []) []) (eq-eqb i i refl) ∙ append-nil front in
     record {
-      is_last = omega arith;
+      is_last = omega (arith, same.1);
       lower = let size_left = ap length left in omega arith;
-      stands = ap (map (λ t. t.0)) left ∙ low ∙ ap (λ xs. numbers_from 1 (length xs)) (sym left);
+      stands = ap (map (λ t. t.0)) left ∙ same.0 ∙ ap (λ xs. numbers_from 1 (length xs)) (sym left);
+      left = cut.1 ∙ ap (λ ts. ts ++ (i, c) ∷ []) (sym left);
     }

@@ -1,10 +1,10 @@
--- What the turns of recovery do: each is allowed, each running journey turns once, and after them no journey may need
--- more than its bound. For the law of recovery.
-use Rattle.std.proofs.Common.{◌≡◌, ℕ, zero, suc, ◌+◌, ◌*◌, ◌<◌, ◌≤◌, List, [], ◌∷◌, ◌++◌, length, map, refl, ap, sym, ◌∙◌, arith, subst, append-nil, eqb-true, eq-eqb, Bool, true, false, ◌==◌, Option, Some, None, option_map, filter, filter_map, cond, if◌then◌else◌, IsTrue}
-use Rattle.std.proofs.lemmas.Bool.{and_from, ne_eqb, eqb-false}
+-- What the turns of recovery do: each is allowed, each running journey turns once, and with the steps that are left after
+-- them they are within the bound of the ledger. For the law of recovery.
+use Rattle.std.proofs.Common.{◌≡◌, ℕ, zero, suc, ◌+◌, ◌*◌, ◌<◌, ◌≤◌, List, [], ◌∷◌, ◌++◌, length, map, refl, ap, sym, ◌∙◌, arith, append-nil, eq-eqb, Bool, true, false, ◌&&◌, nat_le, nat_lt, Option, Some, None, option_map, filter, filter_map, cond, if◌then◌else◌, IsTrue, sum_by}
+use Rattle.std.proofs.lemmas.Bool.{and_from, ne_eqb, le-leb, lt-ltb}
+use Rattle.std.proofs.lemmas.Bool.Decides.{nat_tests}
 use Rattle.std.proofs.lemmas.List.Elements.{filter_map-append}
 use Rattle.std.specs.Prelude.{unwrap_or}
-use Rattle.std.specs.List.{cons_option}
 use Rattle.allotment.specs.Cells.{numbers_from}
 use Rattle.plan.specs.PlanModel.{Planned, numbered, step_count}
 use Rattle.commands.specs.declared.items.Cause.TheVariants.{Stop}
@@ -13,13 +13,16 @@ use Rattle.commands.specs.declared.items.Item.TheVariants.{Turn}
 use Rattle.commands.specs.declared.items.Phase.{Phase}
 use Rattle.commands.specs.declared.items.Phase.TheVariants.{Run, Back, Ended, Undone}
 use Rattle.ledger.specs.History.{last_save, phase, is_running, is_open}
-use Rattle.ledger.specs.Ledger.{Event, Did, Journey, journeys, journey_at, begun_by, history, item_of, is_in, is_allowed, AreAllowedAfter}
-use Rattle.ledger.specs.Recovery.{last_save_of, stops}
+use Rattle.ledger.specs.Ledger.{Event, Did, Journey, journeys, journey_at, begun_by, history, item_of, is_in, is_allowed, AreAllowedAfter, numbers, IsLegal}
+use Rattle.ledger.specs.Recovery.{last_save_of, stops, bound_of, bound}
 use Rattle.ledger.proofs.Growing.{journeys-did, history-did_other, is_item_allowed-may_do}
-use Rattle.ledger.proofs.Lowering.{way, left_in, steps_left, left_in-most, way-other, way-most}
+use Rattle.ledger.proofs.Working.{way, left_in, steps_left, left_in-most, way-other, way-most, left_to, left_of, work, work-sum}
 use Rattle.ledger.proofs.Modes.{Goes, running-rises, position_of-most}
 use Rattle.ledger.proofs.Phases.{passing}
 use Rattle.ledger.proofs.Standing.{position_of-turn}
+use Rattle.std.proofs.lemmas.List.{length-map}
+use Rattle.std.proofs.lemmas.List.Sums.{sum_by-cons}
+use Rattle.ledger.proofs.Ledgers.{all_go}
 
 -- The turns.
 
@@ -119,80 +122,12 @@ stops-allowed l =
 abbrev pub stop_items : Bool → ℕ → List Item
 stop_items runs p = if runs then Turn p Stop ∷ [] else []
 
--- turns of later journeys append nothing to it
-stops-later : (l : List Event) (j n first : ℕ) → j < first
-    → filter_map (item_of j) (stops_from l first n) ≡ []
-stops-later l j zero first above = refl
-stops-later l j (suc n) first above =
-    go (is_in is_running l first) (stops-later l j n (suc first) (omega arith))
-  where
-    go : (v : Bool) → filter_map (item_of j) (stops_from l (suc first) n) ≡ []
-        → filter_map (item_of j)
-        (map (stop_of l)
-        (cond v (first ∷ filter (is_in is_running l) (numbers_from (suc first) n))
-        (filter (is_in is_running l) (numbers_from (suc first) n))))
-        ≡ []
-    go true rest =
-        ap (λ b. cons_option (if b then Some (Turn (last_save_of l first) Stop) else None)
-        (filter_map (item_of j) (stops_from l (suc first) n)))
-        (ne_eqb j first (λ e. omega arith))
-        ∙ rest
-    go false rest = rest
-
--- the first journey turns if it runs
-stops-first : (l : List Event) (j n : ℕ)
-    → filter_map (item_of j) (stops_from l j (suc n))
-    ≡ stop_items (is_in is_running l j) (last_save_of l j)
-stops-first l j n = go (is_in is_running l j)
-  where
-    rest : filter_map (item_of j) (stops_from l (suc j) n) ≡ []
-    rest = stops-later l j n (suc j) (omega arith)
-
-    go : (v : Bool)
-        → filter_map (item_of j)
-        (map (stop_of l)
-        (cond v (j ∷ filter (is_in is_running l) (numbers_from (suc j) n))
-        (filter (is_in is_running l) (numbers_from (suc j) n))))
-        ≡ stop_items v (last_save_of l j)
-    go true =
-        ap (λ b. cons_option (if b then Some (Turn (last_save_of l j) Stop) else None)
-        (filter_map (item_of j) (stops_from l (suc j) n)))
-        (eq-eqb j j refl)
-        ∙ ap (λ r. Turn (last_save_of l j) Stop ∷ r) rest
-    go false = rest
-
--- each of these journeys turns if it runs
-stops-at : (l : List Event) (j n first : ℕ) → first ≤ j → j < first + n
-    → filter_map (item_of j) (stops_from l first n)
-    ≡ stop_items (is_in is_running l j) (last_save_of l j)
-stops-at l j zero first low high = absurd (omega arith)
-stops-at l j (suc n) first low high =
-    by_first (j == first) refl (λ above. stops-at l j n (suc first) above (omega arith))
-  where
-    past : (v : Bool) → (j == first) ≡ false
-        → filter_map (item_of j)
-        (map (stop_of l)
-        (cond v (first ∷ filter (is_in is_running l) (numbers_from (suc first) n))
-        (filter (is_in is_running l) (numbers_from (suc first) n))))
-        ≡ filter_map (item_of j) (stops_from l (suc first) n)
-    past true other =
-        ap (λ b. cons_option (if b then Some (Turn (last_save_of l first) Stop) else None)
-        (filter_map (item_of j) (stops_from l (suc first) n)))
-        other
-    past false other = refl
-
-    by_first : (v : Bool) → (j == first) ≡ v
-        → (suc first ≤ j → filter_map (item_of j) (stops_from l (suc first) n)
-        ≡ stop_items (is_in is_running l j) (last_save_of l j))
-        → filter_map (item_of j) (stops_from l first (suc n))
-        ≡ stop_items (is_in is_running l j) (last_save_of l j)
-    by_first true e rest =
-        subst (λ k. filter_map (item_of j) (stops_from l k (suc n))
-        ≡ stop_items (is_in is_running l j) (last_save_of l j))
-        (eqb-true _ _ e) (stops-first l j n)
-    by_first false e rest =
-        let other = eqb-false _ _ e in
-        past (is_in is_running l first) e ∙ rest (omega arith)
+-- what an item of each of these journeys that passes appends to the history of one: its item if it is among them and passes
+items-at : (passes : ℕ → Bool) (x : ℕ → Item) (j n first : ℕ)
+    → filter_map (item_of j) (map (λ k. Did k (x k)) (filter passes (numbers_from first n)))
+    ≡ (if nat_le first j && nat_lt j (first + n) && passes j then x j ∷ [] else [])
+items-at passes x j zero first = grind (arith, nat_tests)
+items-at passes x j (suc n) first = let later = items-at passes x j n (suc first) in grind (arith, nat_tests)
 
 -- the history of each journey after the turns
 pub history-stops : (l : List Event) (j : ℕ) → 1 ≤ j → j < 1 + length (journeys l)
@@ -200,7 +135,9 @@ pub history-stops : (l : List Event) (j : ℕ) → 1 ≤ j → j < 1 + length (j
     ≡ history l j ++ stop_items (is_in is_running l j) (last_save_of l j)
 history-stops l j low high =
     filter_map-append (item_of j) l (stops l)
-    ∙ ap (λ r. history l j ++ r) (stops-at l j (length (journeys l)) 1 low high)
+    ∙ ap (λ r. history l j ++ r) (items-at (is_in is_running l) (λ k. Turn (last_save_of l k) Stop) j (length (journeys l)) 1)
+    ∙ ap (λ v. history l j ++ stop_items (v && is_in is_running l j) (last_save_of l j))
+    (and_from _ _ (le-leb 1 j low) (lt-ltb j (1 + length (journeys l)) high))
 
 -- What may come after them.
 
@@ -248,3 +185,93 @@ stop-within plan h p g = go (phase plan h) refl
         omega arith
     go Ended e = let same = kept in let none = ap (left_in plan h) e in omega arith
     go Undone e = let same = kept in let none = ap (left_in plan h) e in omega arith
+
+-- All turns.
+
+-- where each of consecutive numbers needs no more than it may, one for a turn and what is left after it, they need no
+-- more than those that may need something
+turns-within : (turns may : ℕ → Bool) (left most : ℕ → ℕ) (n first : ℕ)
+    → ((j : ℕ) → first ≤ j → j < first + n
+    → turns_of (turns j) + left j ≤ (if may j then most j else 0))
+    → length (filter turns (numbers_from first n)) + sum_by left (numbers_from first n)
+    ≤ sum_by most (filter may (numbers_from first n))
+turns-within turns may left most zero first each = omega arith
+turns-within turns may left most (suc n) first each =
+    go (turns first) (may first) (each first (omega arith) (omega arith))
+    (turns-within turns may left most n (suc first)
+    (λ j low high. each j (omega arith) (omega arith)))
+  where
+    more : sum_by left (first ∷ numbers_from (suc first) n)
+        ≡ left first + sum_by left (numbers_from (suc first) n)
+    more = sum_by-cons left first (numbers_from (suc first) n)
+
+    more_may : sum_by most (first ∷ filter may (numbers_from (suc first) n))
+        ≡ most first + sum_by most (filter may (numbers_from (suc first) n))
+    more_may = sum_by-cons most first (filter may (numbers_from (suc first) n))
+
+    go : (v w : Bool) → turns_of v + left first ≤ (if w then most first else 0)
+        → length (filter turns (numbers_from (suc first) n))
+        + sum_by left (numbers_from (suc first) n)
+        ≤ sum_by most (filter may (numbers_from (suc first) n))
+        → length (cond v (first ∷ filter turns (numbers_from (suc first) n))
+        (filter turns (numbers_from (suc first) n)))
+        + sum_by left (first ∷ numbers_from (suc first) n)
+        ≤ sum_by most (cond w (first ∷ filter may (numbers_from (suc first) n))
+        (filter may (numbers_from (suc first) n)))
+    go true true here rest = let a = more in let b = more_may in omega arith
+    go true false here rest = absurd (omega arith)
+    go false true here rest = let a = more in let b = more_may in omega arith
+    go false false here rest = let a = more in omega arith
+
+-- each journey needs no more than its bound, and nothing where it is finished
+journey-within : (l : List Event) → IsLegal l → (j : ℕ) → 1 ≤ j → j < 1 + length (journeys l)
+    → turns_of (is_in is_running l j) + left_of (l ++ stops l) j
+    ≤ (if is_in is_open l j then bound_of l j else 0)
+journey-within l legal j low high = go (journey_at l j) refl
+  where
+    after : journey_at (l ++ stops l) j ≡ journey_at l j
+    after = ap (λ js. numbered js j) (journeys-stops l)
+
+    go : (o : Option Journey) → journey_at l j ≡ o
+        → turns_of (is_in is_running l j) + left_of (l ++ stops l) j
+        ≤ (if is_in is_open l j then bound_of l j else 0)
+    go None at =
+        let none = ap (λ p. turns_of (passing is_running (history l j) p)) at in
+        let nothing = ap (left_to (history (l ++ stops l) j)) (after ∙ at) in
+        omega arith
+    go (Some a) at =
+        let runs : is_in is_running l j ≡ is_running (phase a.plan (history l j)) =
+        ap (passing is_running (history l j)) at in
+        let is_open_too : is_in is_open l j ≡ is_open (phase a.plan (history l j)) =
+        ap (passing is_open (history l j)) at in
+        let needs : bound_of l j ≡ 2 * step_count a.plan * (a.plan.tries + 2) =
+        ap (λ o. unwrap_or (option_map (λ (b : Journey).
+        2 * step_count b.plan * (b.plan.tries + 2)) o) 0) at in
+        let turns = ap turns_of runs in
+        let left : left_of (l ++ stops l) j
+        ≡ steps_left a.plan
+        (history l j ++ stop_items (is_running (phase a.plan (history l j))) (last_save_of l j)) =
+        ap (λ h. left_to h (journey_at (l ++ stops l) j)) (history-stops l j low high)
+        ∙ ap (left_to (history l j ++ stop_items (is_in is_running l j) (last_save_of l j)))
+        (after ∙ at)
+        ∙ ap (λ v. steps_left a.plan (history l j ++ stop_items v (last_save_of l j))) runs in
+        let may : (if is_in is_open l j then bound_of l j else 0)
+        ≡ need_of a.plan (is_open (phase a.plan (history l j))) =
+        ap (λ v. if v then bound_of l j else 0) is_open_too
+        ∙ ap (λ n. if is_open (phase a.plan (history l j)) then n else 0) needs in
+        let goes = (all_go l legal).go j a at in
+        let within = stop-within a.plan (history l j) (last_save_of l j) goes in
+        omega arith
+
+-- the turns, and what is left after them, are within the bound
+pub stops-within : (l : List Event) → IsLegal l
+    → length (stops l) + work (l ++ stops l) ≤ bound l
+stops-within l legal =
+    let all = turns-within (is_in is_running l) (is_in is_open l) (left_of (l ++ stops l))
+    (bound_of l) (length (journeys l)) 1 (journey-within l legal) in
+    let left : work (l ++ stops l) ≡ sum_by (left_of (l ++ stops l)) (numbers l) =
+    work-sum (l ++ stops l)
+    ∙ ap (λ js. sum_by (left_of (l ++ stops l)) (numbers_from 1 (length js))) (journeys-stops l) in
+    let count : length (stops l) ≡ length (filter (is_in is_running l) (numbers l)) =
+    length-map (filter (is_in is_running l) (numbers l)) (stop_of l) in
+    omega arith

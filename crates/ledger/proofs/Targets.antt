@@ -1,6 +1,6 @@
 -- Where a turn leads: to the start, or to a save-point that stands. Lemmas on the rules by numbers.
-use Rattle.std.proofs.Common.{◌≡◌, ℕ, ◌⊎◌, List, [], ◌∷◌, refl, ap, ◌∙◌, arith, eqb-true, inl, inr, Bool, true, false, ◌||◌, filter, ◌==◌, nat_lt, max, Option, if◌then◌else◌, cond, IsTrue}
-use Rattle.std.proofs.lemmas.Bool.{ltb-true, ltb-false, and_parts, or_cases}
+use Rattle.std.proofs.Common.{◌≡◌, ℕ, ◌⊎◌, List, [], ◌∷◌, refl, ap, ◌∙◌, arith, eqb-true, inl, inr, Bool, true, false, ◌||◌, filter, ◌==◌, nat_lt, max, Option, if◌then◌else◌, IsTrue}
+use Rattle.std.proofs.lemmas.Bool.{and_parts, or_cases}
 use Rattle.allotment.specs.Cells.{numbers_from}
 use Rattle.plan.specs.PlanModel.{Planned, step_count}
 use Rattle.savepoints.specs.Rules.{is_save_point, greatest, last_save, refused_target, is_below_going, may_turn}
@@ -11,28 +11,14 @@ IsTarget plan taken pos p = (p ≡ 0) ⊎ IsTrue (is_save_point plan taken pos p
 
 -- the greater of two numbers is one of them
 max-is : (a b : ℕ) → (max a b ≡ a) ⊎ (max a b ≡ b)
-max-is a b = go (nat_lt a b) refl
-  where
-    go : (v : Bool) → nat_lt a b ≡ v → (max a b ≡ a) ⊎ (max a b ≡ b)
-    go true e = let h = ltb-true _ _ e in inr (omega arith)
-    go false e = let h = ltb-false _ _ e in inl (omega arith)
-
--- with one more number at the head, that number is the greatest, or the greatest stays the same
-greatest-more : (test : ℕ → Bool) (p : ℕ) (rest : List ℕ) (v : Bool) → test p ≡ v
-    → (greatest rest ≡ 0) ⊎ IsTrue (test (greatest rest))
-    → (greatest (cond v (p ∷ rest) rest) ≡ 0) ⊎ IsTrue (test (greatest (cond v (p ∷ rest) rest)))
-greatest-more test p rest false e before = before
-greatest-more test p rest true e before = elim (max-is p (greatest rest)) [
-  | inl m ↦ inr (ap test m ∙ e)
-  | inr m ↦ elim before [ inl z ↦ inl (m ∙ z) | inr t ↦ inr (ap test m ∙ t) ]
-]
+max-is a b = grind arith
 
 -- the greatest of the numbers that pass passes, unless there is none
 greatest-passes : (test : ℕ → Bool) (ps : List ℕ)
     → (greatest (filter test ps) ≡ 0) ⊎ IsTrue (test (greatest (filter test ps)))
 greatest-passes test [] = inl refl
 greatest-passes test (p ∷ ps) =
-    greatest-more test p (filter test ps) (test p) refl (greatest-passes test ps)
+    let before = greatest-passes test ps in let m = max-is p (greatest (filter test ps)) in grind arith
 
 -- the last save-point is a target: the greatest of those that stand
 pub last_save-target : (plan : Planned) (taken : ℕ → Bool) (pos p : ℕ)

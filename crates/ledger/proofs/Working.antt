@@ -1,20 +1,161 @@
--- The steps that are left to all journeys of a ledger, and that each step of one of them leaves fewer. For the bound of
+-- How many more steps a journey may make at most, and all journeys of a ledger; each step leaves fewer. For the bound of
 -- recovery.
-use Rattle.std.proofs.Common.{◌≡◌, ℕ, ◌+◌, ◌<◌, ◌≤◌, List, [], ◌∷◌, ◌++◌, length, refl, ap, sym, ◌∙◌, arith, append_assoc, append-nil, eq-eqb, true, false, ◌==◌, Option, Some, None, option_map, sum_by}
+use Rattle.std.proofs.Common.{◌≡◌, ℕ, ◌+◌, ◌-◌, ◌*◌, ◌<◌, ◌≤◌, List, [], ◌∷◌, ◌++◌, refl, ap, sym, ◌∙◌, arith, Bool, true, false, length, append_assoc, append-nil, eq-eqb, ◌==◌, Option, Some, None, option_map, sum_by}
+use Rattle.std.proofs.Math.Nat.{mul-le-mul_left}
+use Rattle.plan.specs.PlanModel.{Planned, step_count, numbered}
+use Rattle.commands.specs.declared.items.Cause.TheVariants.{Refused}
+use Rattle.commands.specs.declared.items.Item.{Item}
+use Rattle.commands.specs.declared.items.Item.TheVariants.{Transaction, Compensation, Turn}
+use Rattle.commands.specs.declared.items.Phase.{Phase}
+use Rattle.commands.specs.declared.items.Phase.TheVariants.{Run, Back, Ended, Undone}
+use Rattle.ledger.specs.History.{position_of, refusals, is_refused_turn, phase, is_running, is_going_back, may_come, next_want}
+use Rattle.ledger.specs.Recovery.{is_forward, are_items}
+use Rattle.ledger.proofs.Coming.{step-comes, compensation-comes, refused-comes}
+use Rattle.ledger.proofs.Modes.{Goes, upward, runs, ended, running-rises}
+use Rattle.ledger.proofs.Refusing.{refusals-other, refusals-refused}
+use Rattle.ledger.proofs.Rising.{rising-transaction}
+use Rattle.ledger.proofs.Standing.{position_of-transaction, position_of-turn, compensates}
 use Rattle.std.proofs.lemmas.Bool.{and_parts, ne_eqb}
 use Rattle.std.specs.Prelude.{unwrap_or}
 use Rattle.std.specs.List.{list_all}
 use Rattle.allotment.specs.Cells.{numbers_from}
-use Rattle.plan.specs.PlanModel.{numbered}
-use Rattle.commands.specs.declared.items.Item.{Item}
-use Rattle.ledger.specs.History.{next_want}
 use Rattle.ledger.specs.Ledger.{Event, Did, Journey, journeys, journey_at, numbers, history, fits, is_item_allowed, AreAllowedAfter, IsLegal}
-use Rattle.ledger.specs.Recovery.{are_items, is_forward}
 use Rattle.ledger.proofs.Growing.{IsLegal-append, journeys-did, history-did_same, history-did_other, is_item_allowed-may_do, absurd_item}
 use Rattle.ledger.proofs.Ledgers.{all_go}
 use Rattle.ledger.proofs.Lists.{number-within}
-use Rattle.ledger.proofs.Lowering.{steps_left, fewer_left}
-use Rattle.ledger.proofs.Sums.{sum_by-changed}
+use Rattle.ledger.proofs.Numbers.{sum_by-changed}
+
+-- the rounds that are left: one for each try that is left, and one more
+rounds : Planned → List Item → ℕ
+rounds plan h = plan.tries + 1 - refusals h
+
+-- twice the steps of the plan for each round that is left
+pub way : Planned → List Item → ℕ
+way plan h = 2 * step_count plan * rounds plan h
+
+-- how many more steps a journey in this phase may make at most: a running journey has done the steps below its
+-- position, and one that goes back has yet to compensate them
+abbrev pub left_in : Planned → List Item → Phase → ℕ
+left_in plan h Run = way plan h - position_of h
+left_in plan h (Back p) = way plan h + position_of h
+left_in plan h Ended = 0
+left_in plan h Undone = 0
+
+-- how many more steps a journey with this history may make at most
+abbrev pub steps_left : Planned → List Item → ℕ
+steps_left plan h = left_in plan h (phase plan h)
+
+-- in no phase are more left than on the way back
+pub left_in-most : (plan : Planned) (h : List Item) (p : Phase)
+    → left_in plan h p ≤ way plan h + position_of h
+left_in-most plan h Run = omega arith
+left_in-most plan h _ = omega arith
+
+-- what is left while it runs
+left_in-running : (plan : Planned) (h : List Item) (p : Phase) → is_running p ≡ true
+    → left_in plan h p ≡ way plan h - position_of h
+left_in-running plan h Run e = refl
+left_in-running plan h _ e = cc
+
+-- what is left while it goes back
+left_in-back : (plan : Planned) (h : List Item) (p : Phase) → is_going_back p ≡ true
+    → left_in plan h p ≡ way plan h + position_of h
+left_in-back plan h (Back q) e = refl
+left_in-back plan h _ e = cc
+
+-- Rounds.
+
+-- an item that is no refused turn leaves the rounds
+pub way-other : (plan : Planned) (h : List Item) (x : Item) → is_refused_turn x ≡ false
+    → way plan (h ++ x ∷ []) ≡ way plan h
+unfolding way rounds
+way-other plan h x other =
+    ap (λ n. 2 * step_count plan * (plan.tries + 1 - n)) (refusals-other h x other)
+
+-- with a try left a refused turn takes one round, of twice the steps
+way-refused : (plan : Planned) (h : List Item) (p : ℕ) → refusals h ≤ plan.tries
+    → way plan (h ++ Turn p Refused ∷ []) + 2 * step_count plan ≡ way plan h
+unfolding way rounds
+way-refused plan h p within =
+    let used : plan.tries + 1 - refusals (h ++ Turn p Refused ∷ []) ≡ plan.tries - refusals h =
+    let more = refusals-refused h p in omega arith in
+    let round : plan.tries + 1 - refusals h ≡ plan.tries - refusals h + 1 = omega arith in
+    ap (λ n. 2 * step_count plan * n + 2 * step_count plan) used
+    ∙ (let sum : (n t : ℕ) → 2 * n * t + 2 * n ≡ 2 * n * (t + 1) = λ n t. omega arith in
+    sum (step_count plan) (plan.tries - refusals h))
+    ∙ ap (λ n. 2 * step_count plan * n) (sym round)
+
+-- with a try left one round is left at least
+way-least : (plan : Planned) (h : List Item) → refusals h ≤ plan.tries
+    → 2 * step_count plan ≤ way plan h
+way-least plan h within = let whole = way-refused plan h 0 within in omega arith
+
+-- no more rounds are left than there are tries, and one more
+pub way-most : (plan : Planned) (h : List Item)
+    → way plan h ≤ 2 * step_count plan * (plan.tries + 1)
+unfolding way rounds
+way-most plan h =
+    mul-le-mul_left (2 * step_count plan)
+    (let low : plan.tries + 1 - refusals h ≤ plan.tries + 1 = omega arith in low)
+
+-- Steps.
+
+-- a transaction leaves fewer steps
+fewer-transaction : (plan : Planned) (h : List Item) (fits : Bool) (i c : ℕ) → Goes plan h
+    → may_come plan h fits (Transaction i c) ≡ true
+    → steps_left plan (h ++ Transaction i c ∷ []) < steps_left plan h
+fewer-transaction plan h fits i c g may =
+    let comes = step-comes plan h fits i c may in
+    let up = running-rises plan h g.mode comes.running in
+    let below = up.1 in
+    let risen = up.0 in
+    let least = way-least plan h (g.tries risen.unturned) in
+    let before = left_in-running plan h (phase plan h) comes.running in
+    let same = way-other plan h (Transaction i c) refl in
+    let next = position_of-transaction h i c in
+    elim (upward plan (h ++ Transaction i c ∷ [])
+    (rising-transaction plan h i c up.0 up.1 comes.step)) [
+      | runs lower e ↦ (let after = ap (left_in plan (h ++ Transaction i c ∷ [])) e in omega arith)
+      | ended at e ↦ (let after = ap (left_in plan (h ++ Transaction i c ∷ [])) e in omega arith)
+    ]
+
+-- a compensation leaves fewer steps
+fewer-compensation : (plan : Planned) (h : List Item) (fits : Bool) (i c : ℕ) → Goes plan h
+    → may_come plan h fits (Compensation i c) ≡ true
+    → steps_left plan (h ++ Compensation i c ∷ []) < steps_left plan h
+fewer-compensation plan h fits i c g may =
+    let comes = compensation-comes plan h fits i c may in
+    let lower = (compensates h i c g.stands comes.last).lower in
+    let before = left_in-back plan h (phase plan h) comes.back in
+    let same = way-other plan h (Compensation i c) refl in
+    let after = left_in-most plan (h ++ Compensation i c ∷ [])
+    (phase plan (h ++ Compensation i c ∷ [])) in
+    omega arith
+
+-- a refused turn leaves fewer steps, however far it leads back
+fewer-refused : (plan : Planned) (h : List Item) (fits : Bool) (p : ℕ) → Goes plan h
+    → may_come plan h fits (Turn p Refused) ≡ true
+    → steps_left plan (h ++ Turn p Refused ∷ []) < steps_left plan h
+fewer-refused plan h fits p g may =
+    let comes = refused-comes plan h fits p may in
+    let up = running-rises plan h g.mode comes.running in
+    let below = up.1 in
+    let risen = up.0 in
+    let less = way-refused plan h p (g.tries risen.unturned) in
+    let before = left_in-running plan h (phase plan h) comes.running in
+    let here = position_of-turn h p Refused in
+    let after = left_in-most plan (h ++ Turn p Refused ∷ [])
+    (phase plan (h ++ Turn p Refused ∷ [])) in
+    omega arith
+
+-- each step leaves fewer steps
+pub fewer_left : (plan : Planned) (h : List Item) (fits : Bool) (x : Item) → Goes plan h
+    → is_forward x ≡ true → may_come plan h fits x ≡ true
+    → steps_left plan (h ++ x ∷ []) < steps_left plan h
+fewer_left plan h fits (Transaction i c) g forward may = fewer-transaction plan h fits i c g may
+fewer_left plan h fits (Compensation i c) g forward may = fewer-compensation plan h fits i c g may
+fewer_left plan h fits (Turn p Refused) g forward may = fewer-refused plan h fits p g may
+fewer_left plan h fits _ g forward may = cc
 
 -- One journey.
 

@@ -15,12 +15,10 @@ use Rattle.commands.specs.declared.items.Phase.TheVariants.{Run, Back, Ended, Un
 use Rattle.ledger.specs.History.{net, position_of, refusals, phase, phase_at, back_or_run, going_to, has_turned_to_start, is_save_point, is_running, may_come, may_turn}
 use Rattle.ledger.proofs.Coming.{step-comes, compensation-comes, stop-comes, refused-comes}
 use Rattle.ledger.proofs.Going.{going_to-turn, going_to-compensation, going_to-save, turned-other, turned-turn}
-use Rattle.ledger.proofs.Lists.{last_of-is}
 use Rattle.ledger.proofs.Modes.{Goes, Mode, rises, falls, fell, Rising, upward, runs, ended, phase-falling, phase-fallen, running-rises, going_back-falls}
 use Rattle.ledger.proofs.Refusing.{refusals-more, refusals-other}
 use Rattle.ledger.proofs.Rising.{rising-transaction}
-use Rattle.ledger.proofs.Standing.{compensates, filter-above, front-numbered, position_of-transaction, position_of-turn, position_of-save}
-use Rattle.ledger.proofs.Standing as standing
+use Rattle.ledger.proofs.Standing.{compensates, position_of-transaction, position_of-turn, position_of-save}
 use Rattle.ledger_transitions.specs.JourneyChanges.{phase_up, phase_down, phase_back, used_after, cursor_after}
 use Rattle.ledger_transitions.specs.Cursors.{cursor_of}
 use Rattle.ledger_transitions.proofs.Histories.{Follows}
@@ -239,20 +237,4 @@ pub net-compensation : (plan : Planned) (h : List Item) (may_fit : Bool) (i c : 
     → IsTrue (may_come plan h may_fit (Compensation i c))
     → net h ≡ net (h ++ Compensation i c ∷ []) ++ (i, c) ∷ []
 net-compensation plan h may_fit i c f may =
-    let last = (compensation-comes plan h may_fit i c may).last in
-    let k = compensates h i c f.stands last in
-    let step = k.is_last in
-    let cut = last_of-is (net h) (i, c) last in
-    let front = cut.0 in
-    let size : position_of h ≡ length front + 1 =
-    ap length cut.1 ∙ length-append front ((i, c) ∷ []) in
-    let low : map (λ t. t.0) front ≡ numbers_from 1 (length front) =
-    front-numbered front i c
-    (ap (map (λ t. t.0)) (sym cut.1) ∙ f.stands ∙ ap (numbers_from 1) size) in
-    let left : net (h ++ Compensation i c ∷ []) ≡ front =
-    standing.net-compensation h i c ∙ ap (filter (λ t. not (t.0 == i))) cut.1
-    ∙ filter-append (λ t. not (t.0 == i)) front ((i, c) ∷ [])
-    ∙ ap (λ xs. xs ++ filter (λ t. not (t.0 == i)) ((i, c) ∷ []))
-    (filter-above front 1 (length front) i low (omega arith))
-    ∙ ap (λ b. front ++ cond (not b) ((i, c) ∷ []) []) (eq-eqb i i refl) ∙ append-nil front in
-    cut.1 ∙ ap (λ ts. ts ++ (i, c) ∷ []) (sym left)
+    (compensates h i c f.stands (compensation-comes plan h may_fit i c may).last).left

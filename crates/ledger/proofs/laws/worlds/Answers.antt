@@ -1,7 +1,6 @@
 -- A world begins with an empty ledger, which is legal, and with no key.
 use Rattle.ledger.specs.Answer.{start}
-use Rattle.ledger.proofs.Keys.{acts_once}
-use Rattle.ledger.proofs.WorldLemmas.{after-legal, after-ledger}
+use Rattle.ledger.proofs.Outcomes.{after-legal, after-ledger, acts_once}
 use Rattle.ledger.proofs.laws.worlds.Goals as goal
 
 pub returns : goal.returns
