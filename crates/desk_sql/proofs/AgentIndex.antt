@@ -21,8 +21,7 @@ use Rattle.sqlite_catalog.specs.Calls.{RefusesIndex}
 use Rattle.sqlite_resolve.specs.Compile.{index_defined_by}
 use Rattle.sqlite.specs.Table.{Table}
 use Rattle.sqlite.specs.Command.TheVariants.{CreateIndex}
-use Rattle.sqlite.specs.Change.{is_used, is_reserved}
-use Rattle.sqlite_catalog.specs.Change.{indexed}
+use Rattle.sqlite.specs.Change.{is_used, is_reserved, indexed}
 use Rattle.sqlite.specs.Does.{Tally, Does, MakesIndex as Does_index}
 use Rattle.sqlite.specs.declared.error.Error.{Error}
 use Rattle.sqlite.specs.Effect.{Database}
@@ -51,46 +50,27 @@ text = agent_index_text
 abbrev owner : Table
 owner = journey_at 6
 
--- The text is one statement without parameters, which makes this index on the journeys.
-text_meant : command_of (understood desk_schema text) ≡ CreateIndex 3
-unfolding understood everything value_cmp fits_kind is_free_name same_name begins lib.Ieee.is_nan lib.Ieee.lt
-text_meant = refl
+-- What the text computes to: one statement without parameters, which makes this index on the journeys. Its name is new and no word of
+-- the store, and the list of objects can hold it.
+record IsNewIndex : Type 0 where
+  meant : command_of (understood desk_schema text) ≡ CreateIndex 3
+  plain : IsPlain (understood desk_schema text)
+  alone : statement_of text (understood desk_schema text) ≡ text
+  whole : takes (length text) 0 (understood desk_schema text) ≡ true
+  defined : index_defined_by owner text ≡ Ok (agent_index_at 0)
+  unused : is_used desk_schema (codes "journey_agent") ≡ false
+  unreserved : is_reserved (codes "journey_agent") ≡ false
+  listed : is_fit (Text (codes "index")) (Text (codes "journey_agent")) (Text (codes "journey")) (Text text) ≡ true
+  becomes : indexed desk_schema owner (agent_index_at 0) ≡ indexed_schema
 
-text_plain : IsPlain (understood desk_schema text)
+text_is : IsNewIndex
 unfolding understood everything value_cmp fits_kind is_free_name same_name begins lib.Ieee.is_nan lib.Ieee.lt
-text_plain = (refl, refl)
-
-text_alone : statement_of text (understood desk_schema text) ≡ text
-unfolding understood everything value_cmp fits_kind is_free_name same_name begins lib.Ieee.is_nan lib.Ieee.lt
-text_alone = refl
-
-text_whole : takes (length text) 0 (understood desk_schema text) ≡ true
-unfolding understood everything value_cmp fits_kind is_free_name same_name begins lib.Ieee.is_nan lib.Ieee.lt
-text_whole = refl
-
-text_defined : index_defined_by owner text ≡ Ok (agent_index_at 0)
-unfolding understood everything value_cmp fits_kind is_free_name same_name begins lib.Ieee.is_nan lib.Ieee.lt
-text_defined = refl
-
-is_free : is_used desk_schema (codes "journey_agent") ≡ false
-unfolding understood everything value_cmp fits_kind is_free_name same_name begins lib.Ieee.is_nan lib.Ieee.lt
-is_free = refl
-
-is_unreserved : is_reserved (codes "journey_agent") ≡ false
-unfolding understood everything value_cmp fits_kind is_free_name same_name begins lib.Ieee.is_nan lib.Ieee.lt
-is_unreserved = refl
-
-is_listed : is_fit (Text (codes "index")) (Text (codes "journey_agent")) (Text (codes "journey")) (Text text) ≡ true
-unfolding understood everything value_cmp fits_kind is_free_name same_name begins lib.Ieee.is_nan lib.Ieee.lt
-is_listed = refl
-
-becomes : indexed desk_schema owner (agent_index_at 0) ≡ indexed_schema
-unfolding everything
-becomes = refl
+text_is = record { meant = refl; plain = (refl, refl); alone = refl; whole = refl; defined = refl; unused = refl; unreserved = refl;
+    listed = refl; becomes = refl }
 
 -- the index that the text defines
 only : (index : Index) → index_defined_by owner text ≡ Ok index → index ≡ agent_index_at 0
-only index defined = let both : Ok index ≡ Ok (agent_index_at 0) = sym defined ∙ text_defined in same_value both
+only index defined = let both : Ok index ≡ Ok (agent_index_at 0) = sym defined ∙ text_is.defined in same_value both
 
 -- it is one that the desk's tables may have
 is_extra : AllByRecursion IsExtra (agent_index_at 16 ∷ [])
@@ -102,8 +82,8 @@ pub makes_index : (old new : State) (r : Result ℕ Error) → MayIndex old → 
 makes_index old new (Err e) may h = tt
 makes_index old new (Ok count) may h =
     let start = may.bare h.1.was_open in
-    let w = subst (λ t. Writes old new None (CreateIndex 3) t [] count) text_alone
-    (runs_as text [] old new desk_schema start (CreateIndex 3) text_meant text_plain count h.0) in
+    let w = subst (λ t. Writes old new None (CreateIndex 3) t [] count) text_is.alone
+    (runs_as text [] old new desk_schema start (CreateIndex 3) text_is.meant text_is.plain count h.0) in
     let does : Does old.step_limit (mode_of old) [] (record { schema = desk_schema; trees = old.now.trees }) text None (CreateIndex 3) (Ok (w.tally, new.now))
     = subst (λ s. Does old.step_limit (mode_of old) [] (record old.now { schema = s }) text None (CreateIndex 3) (Ok (w.tally, new.now))) start w.changed in
     let all = went does in
@@ -115,7 +95,7 @@ makes_index old new (Ok count) may h =
       was_open = shown.was_open;
       is_open = shown.is_open;
       inside = shown.mode;
-      schema = ap (λ (d : Database). d.schema) now ∙ made.is ∙ ap (indexed desk_schema owner) (only made.index made.defined) ∙ becomes;
+      schema = ap (λ (d : Database). d.schema) now ∙ made.is ∙ ap (indexed desk_schema owner) (only made.index made.defined) ∙ text_is.becomes;
       rows = subst (λ (t : Trees). AllByRecursion (λ x. t x.tree ≡ old.now.trees x.tree) desk_schema.tables)
           (sym (ap (λ (d : Database). d.trees) now)) made.rows;
       sound = w.sound;
@@ -142,13 +122,13 @@ indexed_makes old new t it sees =
 -- Why it fails.
 
 unrefused : (db : Trees) (why : Refusal) → Keeps Unique desk_schema db → ¬ RefusesIndex desk_schema db owner text why
-unrefused db (Invalid e) keeps wrong = let no = sym text_defined ∙ wrong in cc
+unrefused db (Invalid e) keeps wrong = let no = sym text_is.defined ∙ wrong in cc
 unrefused db NameTaken keeps (index, defined, used) =
-    let no = sym used ∙ ap (λ (i : Index). is_used desk_schema i.name) (only index defined) ∙ is_free in cc
+    let no = sym used ∙ ap (λ (i : Index). is_used desk_schema i.name) (only index defined) ∙ text_is.unused in cc
 unrefused db BadName keeps (index, defined, inl (inl no_text)) =
     no_text (subst (λ (i : Index). IsUtf8 i.name) (sym (only index defined)) (as_text (codes "journey_agent") refl))
 unrefused db BadName keeps (index, defined, inl (inr (reserved, own))) =
-    let no = sym reserved ∙ ap (λ (i : Index). is_reserved i.name) (only index defined) ∙ is_unreserved in cc
+    let no = sym reserved ∙ ap (λ (i : Index). is_reserved i.name) (only index defined) ∙ text_is.unreserved in cc
 unrefused db BadName keeps (index, defined, inr no_text) = no_text (as_text (codes "journey") refl)
 unrefused db TooBig keeps (index, defined, inl many) = let no : 65536 ≤ 16 = many in omega (arith, no)
 unrefused db TooBig keeps (index, defined, inr (inl big)) = let no : 2 ^ 64 ≤ 0 = big in omega (arith, no)
@@ -156,9 +136,9 @@ unrefused db TooBig keeps (index, defined, inr (inr big)) =
     let no : 2 ^ 64 ≤ 0 = subst (λ (i : Index). 2 ^ 64 ≤ index_reals (table_reals owner) i.columns) (only index defined) big in omega (arith, no)
 unrefused db BadKey keeps none = none
 unrefused db BadText keeps (index, defined, unfit) =
-    let no = sym unfit ∙ ap (λ (i : Index). is_fit (Text (codes "index")) (Text i.name) (Text owner.name) (Text text)) (only index defined) ∙ is_listed in cc
+    let no = sym unfit ∙ ap (λ (i : Index). is_fit (Text (codes "index")) (Text i.name) (Text owner.name) (Text text)) (only index defined) ∙ text_is.listed in cc
 unrefused db (Violates rule) keeps (index, defined, unique, broken) =
-    broken (subst (λ (s : Schema). Keeps Unique s db) (sym (ap (indexed desk_schema owner) (only index defined) ∙ becomes))
+    broken (subst (λ (s : Schema). Keeps Unique s db) (sym (ap (indexed desk_schema owner) (only index defined) ∙ text_is.becomes))
     (unique_more (agent_index_at 16 ∷ []) is_extra db keeps))
 
 -- and its row fits the list of objects, and each entry the store
@@ -191,6 +171,6 @@ pub index_reason : (old new : State) (e : Error) → MayIndex old → AreShortAg
 index_reason old new e may short up ran =
     let has = may.bare up.is_open in
     let keeps = subst (λ (s : Schema). Keeps Unique s old.now.trees) has ((may.sound up.is_open).obeys.rules Unique) in
-    statement_reason text (CreateIndex 3) [] text_meant text_plain text_whole refl refl old new up has
+    statement_reason text (CreateIndex 3) [] text_is.meant text_is.plain text_is.whole refl refl old new up has
     (λ stop does. goes old stop keeps short
-    (subst (λ t. Does old.step_limit (mode_of old) [] (seen_with desk_schema old) t None (CreateIndex 3) (Err stop)) text_alone does)) e ran
+    (subst (λ t. Does old.step_limit (mode_of old) [] (seen_with desk_schema old) t None (CreateIndex 3) (Err stop)) text_is.alone does)) e ran

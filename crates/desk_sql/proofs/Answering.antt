@@ -1,28 +1,23 @@
 -- The answer of a query over a table of values, as values. For the lemmas of each query.
-use Rattle.std.proofs.Common.{◌≡◌, ◌⊎◌, inl, inr, ℕ, ℤ, List, [], ◌∷◌, map, filter, cond, Bool, true, false, refl, sym, ap, ap₂, subst, ◌∙◌}
+use Rattle.std.proofs.Common.{◌≡◌, ◌⊎◌, inl, inr, ℕ, ℤ, List, [], ◌∷◌, map, filter, Bool, refl, sym, ap, ap₂, subst, ◌∙◌, IsPermutation}
 use Rattle.std.specs.List.{AllByRecursion}
-use Rattle.std.specs.List.Sorted.{IsPermutation}
 use Rattle.std.proofs.lemmas.List.Sorted.{IsPermutation-map}
 use Rattle.sqlite.specs.Order.{Row}
 use Rattle.sqlite.specs.Term.{Term}
 use Rattle.sqlite.specs.Program.{overlay}
 use Rattle.sqlite.specs.Query.{Query, IsAnswer, Output, output, output_cmp}
 use Rattle.sqlite_trees.specs.Tree.{Trees, IsAscending}
-use Rattle.sqlite_trees.proofs.ListLemmas.{ascending_from_map, ascending-map, ascending_weaker}
+use Rattle.sqlite_trees.proofs.ListLemmas.{ascending_from_map, ascending-map, ascending_weaker, filter-map, map-map, all-map}
 use Rattle.sqlite_value.specs.declared.keys.Key.{Key}
 use Rattle.sqlite_rules.specs.Lists.{Has}
-use Rattle.sqlite_rules.proofs.ListLemmas.{all_has}
+use Rattle.sqlite_rules.proofs.ListLemmas.{all_has, all_from}
 use Rattle.desk_sql.proofs.Members.{permutation_from, permutation_to}
 use Rattle.desk_sql.specs.Lists.{numbered_row, IsTableOf, IsNumbered, IsListed}
 use Rattle.desk_sql.specs.Meanings.{sorted_rows}
 use Rattle.desk_sql.proofs.Reading.{passes, env_of, outputs_of, lists}
-use Rattle.desk_sql.proofs.Tables.{value_of, values_pass}
+use Rattle.desk_sql.proofs.Keyed.{value_of}
 use Rattle.desk_sql.proofs.Permuting.{permuted}
 use Rattle.desk_sql.proofs.Ascending.{IsUpTo, ascends, output_total}
-
-map_map : {A B C : Type 0} (f : A → B) (g : B → C) (h : A → C) → ((x : A) → g (f x) ≡ h x) → (xs : List A) → map g (map f xs) ≡ map h xs
-map_map f g h same [] = refl
-map_map f g h same (x ∷ xs) = rw (same x, map_map f g h same xs) refl
 
 -- the rows are those of these values: the values of the table that pass, in the order of the query
 pub record Answers {X : Type 0} (q : Query) (out : X → Output) (passing : List X) (rows : List Row) : Type 0 where
@@ -44,14 +39,9 @@ module _ (tree : ℕ) (tests project : List Term) (order : List (Term × Key)) (
     out_of x = output q (env_of params (f x))
 
     outputs_are : (ys : List X) → outputs_of q params (filter (passes tests params) (map f ys)) ≡ map out_of (filter test ys)
-    outputs_are [] = refl
-    outputs_are (y ∷ ys) = rw (test_is y) (one (outputs_are ys) (test y))
-      where
-        one : outputs_of q params (filter (passes tests params) (map f ys)) ≡ map out_of (filter test ys) → (b : Bool)
-            → outputs_of q params (cond b (f y ∷ filter (passes tests params) (map f ys)) (filter (passes tests params) (map f ys)))
-            ≡ map out_of (cond b (y ∷ filter test ys) (filter test ys))
-        one rest true = ap (λ os. out_of y ∷ os) rest
-        one rest false = rest
+    outputs_are ys =
+        ap (outputs_of q params) (filter-map (passes tests params) f ys ∙ (λ i. map f (filter (λ y. test_is y i) ys)))
+        ∙ ap (map (output q)) (map-map (env_of params) f (filter test ys)) ∙ map-map (output q) (λ y. env_of params (f y)) (filter test ys)
 
     pub answers : Answers q out_of (filter test xs) rows
     answers =
@@ -65,7 +55,7 @@ module _ (tree : ℕ) (tests project : List Term) (order : List (Term × Key)) (
           same = it.2;
           rising = ascending_from_map (IsUpTo (output_cmp q) (output_total q)) out_of it.0
               (subst (λ os. IsAscending (IsUpTo (output_cmp q) (output_total q)) os) it.1 up);
-          rows_are = l.shown ∙ ap (map (λ (o : Output). o.1)) it.1 ∙ map_map out_of (λ (o : Output). o.1) (λ x. (out_of x).1) (λ _. refl) it.0;
+          rows_are = l.shown ∙ ap (map (λ (o : Output). o.1)) it.1 ∙ map-map (λ (o : Output). o.1) out_of it.0;
         }
 
   -- a table whose rowids are its values' own numbers
@@ -89,14 +79,13 @@ module _ (tree : ℕ) (tests project : List Term) (order : List (Term × Key)) (
     table_answers =
         let it = answers (numbered_row columns) table.numbered table.rows_are (λ p. test p.1) test_is in
         let passing : map value_of (filter (λ p. test p.1) table.numbered) ≡ filter test xs
-        = values_pass test table.numbered ∙ ap (filter test) (sym table.values_are) in
+        = sym (filter-map test value_of table.numbered) ∙ ap (filter test) (sym table.values_are) in
         record {
           values = map value_of it.values;
           same = subst (λ ys. IsPermutation ys (map value_of it.values)) passing
               (IsPermutation-map value_of (filter (λ p. test p.1) table.numbered) it.values it.same);
           rising = ascending-map (λ x y. Up (out x) (out y)) value_of it.values (rise_of it.values it.rising);
-          rows_are = it.rows_are ∙ sym (map_map value_of (λ x. (out x).1)
-              (λ p. (output q (env_of params (numbered_row columns p))).1) (λ p. ap (λ (o : Output). o.1) (sym (out_is p))) it.values);
+          rows_are = it.rows_are ∙ (λ i. map (λ p. (out_is p i).1) it.values) ∙ sym (map-map (λ x. (out x).1) value_of it.values);
         }
 
 module _ {X : Type 0} (q : Query) (out : X → Output) (passing : List X) where
@@ -135,12 +124,8 @@ module _ {X : Type 0} (q : Query) (out : X → Output) (passing : List X) where
 -- each row is that of a value that passes
 pub all_shown : {X : Type 0} (q : Query) (out : X → Output) (passing : List X) (rows : List Row) → Answers q out passing rows
     → (P : Row → Type 0) → ((x : X) → Has passing x → P ((out x).1)) → AllByRecursion P rows
-all_shown {X} q out passing rows it P good =
-    subst (AllByRecursion P) (sym it.rows_are) (go it.values (λ x h. good x (permutation_from passing it.values x it.same h)))
-  where
-    go : (xs : List X) → ((x : X) → Has xs x → P ((out x).1)) → AllByRecursion P (map (λ x. (out x).1) xs)
-    go [] each = tt
-    go (x ∷ xs) each = (each x (inl refl), go xs (λ y h. each y (inr h)))
+all_shown q out passing rows it P good = subst (AllByRecursion P) (sym it.rows_are)
+    (all-map P (λ x. (out x).1) it.values (all_from _ it.values (λ x h. good x (permutation_from passing it.values x it.same h))))
 
 first_same : {C : Type 0} {a b : C} {cs ds : List C} → a ∷ cs ≡ b ∷ ds → a ≡ b
 first_same e = cc

@@ -8,7 +8,7 @@ use Rattle.sqlite.specs.declared.error.Error.{Error}
 use Rattle.sqlite.specs.declared.error.Error.TheVariants.{SqliteFailure}
 use Rattle.sqlite.specs.declared.error.ErrorCode.TheVariants.{OutOfMemory as NoMemory}
 use Rattle.sqlite_trees.specs.declared.error.StoreError.{StoreError}
-use Rattle.sqlite_trees.specs.declared.error.StoreError.TheVariants.{OutOfMemory, Io, Corrupt, Full, Broken, Unstorable}
+use Rattle.sqlite_trees.specs.declared.error.StoreError.TheVariants.{OutOfMemory, Broken, Unstorable}
 use Rattle.sqlite_resolve.specs.declared.compiled.Compiled.{Compiled}
 use Rattle.sqlite_resolve.specs.declared.error.CompileError.{CompileError}
 use Rattle.sqlite_value.specs.declared.keys.Key.{Key}
@@ -83,11 +83,9 @@ one_table tree filter project order db params (inr any) = any.4
 pub of_store : (old new : State) → IsUp old → (cause : StoreError) (e : Error) → e ≡ store_error cause → store.HasCause old new ⊥ cause
     → HasReason old new e
 of_store old new up OutOfMemory e is why = inl is
-of_store old new up Io e is why = inr why
-of_store old new up Corrupt e is why = inr why
-of_store old new up Full e is why = inr why
 of_store old new up Broken e is why = absurd (let shut : true ≡ false = sym up.is_open ∙ why in cc)
 of_store old new up Unstorable e is why = absurd why
+of_store old new up _ e is why = inr why
 
 -- Statements under the desk's schema of a version.
 module _ {schema : Schema} (text : List ℕ) (params : Row) (plain : IsPlain (understood schema text))

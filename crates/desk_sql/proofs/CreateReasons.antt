@@ -34,8 +34,7 @@ use Rattle.desk_sql.specs.Texts.{meta_text, stock_text, batch_text, step_text, j
 use Rattle.desk_sql.specs.Calls.{MayBuild, Builds}
 use Rattle.desk_sql.specs.Causes.{IsUp, HasReason}
 use Rattle.desk_sql.proofs.Causing.{takes}
-use Rattle.desk_sql.proofs.Creating.{creates}
-use Rattle.desk_sql.proofs.Making.{schema_1, schema_2, schema_3, schema_5, schema_6, schema_8, builds_then, then_build}
+use Rattle.desk_sql.proofs.Making.{creates, schema_1, schema_2, schema_3, schema_5, schema_6, schema_8, builds_then, then_build}
 use Rattle.desk_sql.proofs.Quieting.{faulted_later, survives_twice}
 use Rattle.desk_sql.proofs.Refusing.{gives_on, seen_with, statement_reason}
 use Rattle.desk_sql.proofs.Writing.{same_value}
@@ -105,8 +104,7 @@ module _ (schema : Schema) (sql : List ℕ) (table : Table) (it : IsNewTable sch
       let no = sym reserved ∙ ap (λ (t : Table). is_reserved t.name) (only made defined) ∙ it.unreserved in cc
   unrefused TooBig (made, defined, inl many) =
       let low : next_tree schema + length table.uniques < 65536 = under (next_tree schema + length table.uniques) 65536 it.few in
-      let high = subst (λ (t : Table). 65536 ≤ next_tree schema + length t.uniques) (only made defined) many in
-      omega (arith, low, high)
+      omega (arith, low, subst (λ (t : Table). 65536 ≤ next_tree schema + length t.uniques) (only made defined) many)
   unrefused TooBig (made, defined, inr (inl big)) =
       no_reals (table_reals table) it.reals (subst (λ (t : Table). 2 ^ 64 ≤ table_reals t) (only made defined) big)
   unrefused TooBig (made, defined, inr (inr (key, among, big))) =
@@ -122,8 +120,7 @@ module _ (schema : Schema) (sql : List ℕ) (table : Table) (it : IsNewTable sch
   unstopped : (db : Trees) (stop : Option Error) → ¬ MakesTable sql (record { schema = schema; trees = db }) (Err stop)
   unstopped db None (made, defined, long) =
       let low : 2 * length table.name + length sql + 200 < 65536 = under (2 * length table.name + length sql + 200) 65536 it.short in
-      let high = subst (λ (t : Table). 10 ^ 9 ≤ 2 * length t.name + length sql + 200) (only made defined) long in
-      omega (arith, low, high)
+      omega (arith, low, subst (λ (t : Table). 10 ^ 9 ≤ 2 * length t.name + length sql + 200) (only made defined) long)
   unstopped db (Some e) (inl no_text) = no_text.0 (as_text sql it.letters)
   unstopped db (Some e) (inr refused) = unrefused refused.0 refused.1
 
@@ -148,6 +145,10 @@ module _ (schema : Schema) (sql : List ℕ) (table : Table) (it : IsNewTable sch
 pub record Stage (a b : State) (before after : Schema) : Type 0 where
   pub survives : Survives a b (λ _. ⊥)
   pub made : HasCleanDisk b → MayBuild before a → Builds a b after
+
+pub staged : {a b : State} {before after : Schema} → Survives a b (λ _. ⊥) → (HasCleanDisk b → MayBuild before a → Builds a b after)
+    → Stage a b before after
+staged survives made = record { survives = survives; made = made }
 
 pub stage_then : {a b c : State} {s t u : Schema} → Stage a b s t → Stage b c t u → Stage a c s u
 stage_then {a = a} {b = b} {c = c} {t = t} {u = u} p q = record {
@@ -192,78 +193,57 @@ text_fails {b = b} {c = c} {at = at} {sql = sql} {table = table} e stage it surv
 
 -- The texts, each beside the tables that those before it created.
 
--- each of these facts is found by computing
-computed : {schema : Schema} {sql : List ℕ} {table : Table}
-    → command_of (understood schema sql) ≡ CreateTable
-    → IsPlain (understood schema sql)
-    → statement_of sql (understood schema sql) ≡ sql
-    → takes (length sql) 0 (understood schema sql) ≡ true
-    → table_defined_by sql ≡ Ok table
-    → is_ascii sql ≡ true
-    → is_ascii table.name ≡ true
-    → is_used schema table.name ≡ false
-    → AllByRecursion (λ (i : Index). is_used schema i.name ≡ false) (automatics table 0 0 table.uniques)
-    → is_reserved table.name ≡ false
-    → nat_lt (next_tree schema + length table.uniques) 65536 ≡ true
-    → table_reals table ≡ 0
-    → AllByRecursion (λ (key : List ℕ). index_reals (table_reals table) key ≡ 0) table.uniques
-    → nat_lt (2 * length table.name + length sql + 200) 65536 ≡ true
-    → is_formed table ≡ true
-    → is_fit (Text (codes "table")) (Text table.name) (Text table.name) (Text sql) ≡ true
-    → lacks_sequence (created schema table) ≡ false
-    → IsNewTable schema sql table
-computed meant plain alone whole defined letters name_letters unused unused_indexes unreserved few reals key_reals short formed listed uncounted = record {
-  meant = meant;
-  plain = plain;
-  alone = alone;
-  whole = whole;
-  defined = defined;
-  letters = letters;
-  name_letters = name_letters;
-  unused = unused;
-  unused_indexes = unused_indexes;
-  unreserved = unreserved;
-  few = few;
-  reals = reals;
-  key_reals = key_reals;
-  short = short;
-  formed = formed;
-  listed = listed;
-  uncounted = uncounted;
-}
-
+-- each of their facts is found by computing
 pub meta_is_new : IsNewTable no_schema meta_text (meta_at 0)
 unfolding understood everything value_cmp fits_kind is_free_name same_name begins lib.Ieee.is_nan lib.Ieee.lt
-meta_is_new = computed refl (refl, refl) refl refl refl refl refl refl tt refl refl refl tt refl refl refl refl
+meta_is_new = record { meant = refl; plain = (refl, refl); alone = refl; whole = refl; defined = refl; letters = refl;
+    name_letters = refl; unused = refl; unused_indexes = tt; unreserved = refl; few = refl; reals = refl; key_reals = tt;
+    short = refl; formed = refl; listed = refl; uncounted = refl }
 
 pub stock_is_new : IsNewTable schema_1 stock_text (stock_at 0)
 unfolding understood everything value_cmp fits_kind is_free_name same_name begins lib.Ieee.is_nan lib.Ieee.lt
-stock_is_new = computed refl (refl, refl) refl refl refl refl refl refl (refl, tt) refl refl refl (refl, tt) refl refl refl refl
+stock_is_new = record { meant = refl; plain = (refl, refl); alone = refl; whole = refl; defined = refl; letters = refl;
+    name_letters = refl; unused = refl; unused_indexes = (refl, tt); unreserved = refl; few = refl; reals = refl;
+    key_reals = (refl, tt); short = refl; formed = refl; listed = refl; uncounted = refl }
 
 pub batch_is_new : IsNewTable schema_2 batch_text (batch_at 0)
 unfolding understood everything value_cmp fits_kind is_free_name same_name begins lib.Ieee.is_nan lib.Ieee.lt
-batch_is_new = computed refl (refl, refl) refl refl refl refl refl refl (refl, (refl, tt)) refl refl refl (refl, (refl, tt)) refl refl refl refl
+batch_is_new = record { meant = refl; plain = (refl, refl); alone = refl; whole = refl; defined = refl; letters = refl;
+    name_letters = refl; unused = refl; unused_indexes = (refl, (refl, tt)); unreserved = refl; few = refl; reals = refl;
+    key_reals = (refl, (refl, tt)); short = refl; formed = refl; listed = refl; uncounted = refl }
 
 pub journey_is_new : IsNewTable schema_3 journey_text (journey_at 0)
 unfolding understood everything value_cmp fits_kind is_free_name same_name begins lib.Ieee.is_nan lib.Ieee.lt
-journey_is_new = computed refl (refl, refl) refl refl refl refl refl refl (refl, tt) refl refl refl (refl, tt) refl refl refl refl
+journey_is_new = record { meant = refl; plain = (refl, refl); alone = refl; whole = refl; defined = refl; letters = refl;
+    name_letters = refl; unused = refl; unused_indexes = (refl, tt); unreserved = refl; few = refl; reals = refl;
+    key_reals = (refl, tt); short = refl; formed = refl; listed = refl; uncounted = refl }
 
 pub step_is_new : IsNewTable first_schema step_text (step_at 0)
 unfolding understood everything value_cmp fits_kind is_free_name same_name begins lib.Ieee.is_nan lib.Ieee.lt
-step_is_new = computed refl (refl, refl) refl refl refl refl refl refl (refl, tt) refl refl refl (refl, tt) refl refl refl refl
+step_is_new = record { meant = refl; plain = (refl, refl); alone = refl; whole = refl; defined = refl; letters = refl;
+    name_letters = refl; unused = refl; unused_indexes = (refl, tt); unreserved = refl; few = refl; reals = refl;
+    key_reals = (refl, tt); short = refl; formed = refl; listed = refl; uncounted = refl }
 
 pub entry_is_new : IsNewTable schema_5 entry_text (entry_at 0)
 unfolding understood everything value_cmp fits_kind is_free_name same_name begins lib.Ieee.is_nan lib.Ieee.lt
-entry_is_new = computed refl (refl, refl) refl refl refl refl refl refl tt refl refl refl tt refl refl refl refl
+entry_is_new = record { meant = refl; plain = (refl, refl); alone = refl; whole = refl; defined = refl; letters = refl;
+    name_letters = refl; unused = refl; unused_indexes = tt; unreserved = refl; few = refl; reals = refl; key_reals = tt;
+    short = refl; formed = refl; listed = refl; uncounted = refl }
 
 pub answer_is_new : IsNewTable schema_6 answer_text (answer_at 0)
 unfolding understood everything value_cmp fits_kind is_free_name same_name begins lib.Ieee.is_nan lib.Ieee.lt
-answer_is_new = computed refl (refl, refl) refl refl refl refl refl refl (refl, tt) refl refl refl (refl, tt) refl refl refl refl
+answer_is_new = record { meant = refl; plain = (refl, refl); alone = refl; whole = refl; defined = refl; letters = refl;
+    name_letters = refl; unused = refl; unused_indexes = (refl, tt); unreserved = refl; few = refl; reals = refl;
+    key_reals = (refl, tt); short = refl; formed = refl; listed = refl; uncounted = refl }
 
 pub entry2_is_new : IsNewTable seven_schema entry2_text (entry2_at 0)
 unfolding understood everything value_cmp fits_kind is_free_name same_name begins lib.Ieee.is_nan lib.Ieee.lt
-entry2_is_new = computed refl (refl, refl) refl refl refl refl refl refl tt refl refl refl tt refl refl refl refl
+entry2_is_new = record { meant = refl; plain = (refl, refl); alone = refl; whole = refl; defined = refl; letters = refl;
+    name_letters = refl; unused = refl; unused_indexes = tt; unreserved = refl; few = refl; reals = refl; key_reals = tt;
+    short = refl; formed = refl; listed = refl; uncounted = refl }
 
 pub mark_is_new : IsNewTable schema_8 mark_text (mark_at 0)
 unfolding understood everything value_cmp fits_kind is_free_name same_name begins lib.Ieee.is_nan lib.Ieee.lt
-mark_is_new = computed refl (refl, refl) refl refl refl refl refl refl (refl, tt) refl refl refl (refl, tt) refl refl refl refl
+mark_is_new = record { meant = refl; plain = (refl, refl); alone = refl; whole = refl; defined = refl; letters = refl;
+    name_letters = refl; unused = refl; unused_indexes = (refl, tt); unreserved = refl; few = refl; reals = refl;
+    key_reals = (refl, tt); short = refl; formed = refl; listed = refl; uncounted = refl }

@@ -1,6 +1,5 @@
 -- What a statement that writes does whenever it is run, and what its contract says of one run. For each statement that writes.
-use Rattle.std.proofs.Common.{◌+◌, subst, ◌≡◌, ℕ, List, length, Bool, true, Ok, Err, Result, OnOk, IsTrue}
-use Rattle.std.specs.Borrow.{MutBor}
+use Rattle.std.proofs.Common.{◌+◌, subst, ◌≡◌, ℕ, List, length, Bool, true, Ok, Err, Result, OnOk, IsTrue, MutBor}
 use Rattle.std.specs.Prelude.{⊤}
 use Rattle.sqlite.specs.declared.error.Error.{Error}
 use Rattle.sqlite.specs.Command.{Command}

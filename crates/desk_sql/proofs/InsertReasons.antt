@@ -8,15 +8,13 @@ use Rattle.sqlite.specs.Order.{Row}
 use Rattle.sqlite.specs.Ops.{fits_i64}
 use Rattle.sqlite.specs.Table.{Table}
 use Rattle.sqlite.specs.Term.{Term}
-use Rattle.sqlite.specs.Tree.{Trees, rowid, put_row}
-use Rattle.sqlite.specs.Edit.{next_rowid}
+use Rattle.sqlite.specs.Tree.{Trees, rowid, put_row, IsTable}
+use Rattle.sqlite.specs.Edit.{next_rowid, is_taken}
 use Rattle.sqlite.specs.State.{State, ExecutesInside}
-use Rattle.sqlite_trees.specs.Tree.{IsTable}
 use Rattle.sqlite_schema.specs.declared.schema.Constraint.TheVariants.{Datatype, NotNull, Check}
 use Rattle.sqlite_schema.specs.declared.schema.Reference.{Reference}
 use Rattle.sqlite_schema.specs.declared.schema.Index.{Index}
 use Rattle.sqlite_schema.specs.Rules.{passes, guards, agree, has_parent, is_key_of, Obeys}
-use Rattle.sqlite_rules.specs.Edit.{is_taken}
 use Rattle.sqlite_rules.proofs.ListLemmas.{has_got}
 use Rattle.sqlite_typing.specs.Types.{accepts_terms}
 use Rattle.desk_sql.specs.Schema.{desk_schema}
@@ -29,7 +27,7 @@ use Rattle.desk_sql.proofs.Refusing.{write_reason, insert_goes, IsSafe}
 use Rattle.desk_sql.proofs.NewRow.{put_edit, put_safe}
 use Rattle.desk_sql.proofs.Writing.{inserts, source_edit, Edits}
 use Rattle.desk_sql.proofs.Framing.{ready_of, makes_at}
-use Rattle.desk_sql.proofs.Tables.{appended, numbered_last}
+use Rattle.desk_sql.proofs.Keyed.{appended, numbered_last}
 use Rattle.desk_sql.proofs.Indexes.{obeys_bare}
 use Rattle.desk_sql.proofs.Storing.{NeverOversized, next_fits, fits_whole, chosen_free, number_free, table_of, table_numbered}
 use Rattle.desk_sql.proofs.Rowids.{rowids_fewer, low_put, rowids_same, rowids_kept}

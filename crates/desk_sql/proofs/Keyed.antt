@@ -1,5 +1,5 @@
--- Tables as lists of values, each with its rowid, in ascending order of rowid. For Tables and Updating.
-use Rattle.std.proofs.Common.{◌≡◌, ◌+ℤ◌, ◌<ℤ◌, ℤ, pos, fold, List, [], ◌∷◌, ◌++◌, map, filter, cond, Bool, true, false, if◌then◌else◌, Less, refl, sym, ap, ap₂, ◌∙◌, arith, inl, inr}
+-- Tables as lists of values, each with its rowid, in ascending order of rowid. For the lemmas of each statement that writes.
+use Rattle.std.proofs.Common.{◌≡◌, ◌+ℤ◌, ◌<ℤ◌, ℤ, pos, fold, List, [], ◌∷◌, ◌++◌, map, Bool, true, false, if◌then◌else◌, Less, refl, sym, ap, ap₂, ◌∙◌, arith, inl, inr, ℕ, ◌<◌, filter}
 use Rattle.std.proofs.lemmas.Int.{ints}
 use Rattle.std.proofs.lemmas.Bool.{cases_Bool}
 use Rattle.std.specs.List.{AllByRecursion}
@@ -10,7 +10,12 @@ use Rattle.sqlite.specs.Order.{Row, value_cmp}
 use Rattle.sqlite_trees.specs.Tree.{rowid, put_row, IsTable, IsAscending}
 use Rattle.sqlite_rules.specs.Lists.{Has}
 use Rattle.sqlite_rules.specs.Edit.{next_rowid, id_in}
-use Rattle.desk_sql.specs.Lists.{changed}
+use Rattle.sqlite_trees.proofs.ListLemmas.{all_weaker, ascending-append, ascending-map, ascending_weaker, ascending-filter, filter-map}
+use Rattle.desk_sql.specs.Lists.{changed, numbered_row, IsTableOf, IsNumbered}
+use Rattle.std.proofs.lemmas.List.{map-append}
+use Rattle.desk_sql.specs.Rows.{whole}
+
+-- Tables as lists of values, each with its rowid, in ascending order of rowid.
 
 -- a smaller rowid comes first
 pub int_below : (a b : ℤ) → a <ℤ b → value_cmp (Int a) (Int b) ≡ Less
@@ -24,15 +29,11 @@ module _ {X : Type 0} (f : X → Row) (id : X → ℤ) (keyed : (x : X) → rowi
   abbrev pub AreBelow : ℤ → List X → Type 0
   AreBelow n xs = AllByRecursion (λ x. id x <ℤ n) xs
 
-  rows_above : (x : X) (xs : List X) → AllByRecursion (λ y. id x <ℤ id y) xs
-      → AllByRecursion (λ r. value_cmp (rowid (f x)) (rowid r) ≡ Less) (map f xs)
-  rows_above x [] above = tt
-  rows_above x (y ∷ xs) above = (rw (keyed x, keyed y) (int_below (id x) (id y) above.0), rows_above x xs above.1)
-
   -- the rows of values whose rowids ascend are a table
   pub is_table : (xs : List X) → Rises xs → IsTable (map f xs)
-  is_table [] rise = tt
-  is_table (x ∷ xs) rise = (rows_above x xs rise.0, is_table xs rise.1)
+  is_table xs rise = ascending-map (λ (a b : Row). value_cmp (rowid a) (rowid b) ≡ Less) f xs
+      (ascending_weaker (λ x y. id x <ℤ id y) (λ x y. value_cmp (rowid (f x)) (rowid (f y)) ≡ Less)
+      (λ x y low. rw (keyed x, keyed y) (int_below (id x) (id y) low)) xs rise)
 
   -- a row whose rowid is above all others is appended
   pub put_last : (xs : List X) (x : X) → AreBelow (id x) xs → put_row (f x) (map f xs) ≡ map f (xs ++ x ∷ [])
@@ -41,14 +42,10 @@ module _ {X : Type 0} (f : X → Row) (id : X → ℤ) (keyed : (x : X) → rowi
       let first : value_cmp (rowid (f y)) (rowid (f x)) ≡ Less = rw (keyed y, keyed x) (int_below (id y) (id x) below.0) in
       rw first (ap (λ rows. f y ∷ rows) (put_last xs x below.1))
 
-  above_last : (y : X) (xs : List X) (x : X) → AllByRecursion (λ z. id y <ℤ id z) xs → id y <ℤ id x
-      → AllByRecursion (λ z. id y <ℤ id z) (xs ++ x ∷ [])
-  above_last y [] x above low = (low, tt)
-  above_last y (z ∷ xs) x above low = (above.0, above_last y xs x above.1 low)
-
   pub rises_last : (xs : List X) (x : X) → Rises xs → AreBelow (id x) xs → Rises (xs ++ x ∷ [])
-  rises_last [] x rise below = (tt, tt)
-  rises_last (y ∷ xs) x rise below = (above_last y xs x rise.0 below.0, rises_last xs x rise.1 below.1)
+  rises_last xs x rise below =
+      ascending-append (λ (a b : X). id a <ℤ id b) xs (x ∷ []) rise (tt, tt)
+      (all_weaker (λ y. id y <ℤ id x) (λ y. AllByRecursion (λ z. id y <ℤ id z) (x ∷ [])) (λ y low. (low, tt)) xs below)
 
   abbrev next_id : ℤ → List Row → ℤ
   next_id = fold (λ _ r. id_in (rowid r) +ℤ pos 1)
@@ -70,17 +67,6 @@ module _ {X : Type 0} (f : X → Row) (id : X → ℤ) (keyed : (x : X) → rowi
   pub next_above : (xs : List X) → Rises xs → AreBelow (next_rowid (map f xs)) xs
   next_above xs rise = all_below (pos 1) xs rise
 
-  -- a test of rows is a test of values
-  pub filter_rows : (p : Row → Bool) (q : X → Bool) → ((x : X) → p (f x) ≡ q x) → (xs : List X)
-      → filter p (map f xs) ≡ map f (filter q xs)
-  filter_rows p q tests [] = refl
-  filter_rows p q tests (x ∷ xs) = rw (tests x) (one (filter_rows p q tests xs) (q x))
-    where
-      one : filter p (map f xs) ≡ map f (filter q xs) → (b : Bool)
-          → cond b (f x ∷ filter p (map f xs)) (filter p (map f xs)) ≡ map f (cond b (x ∷ filter q xs) (filter q xs))
-      one rest true = ap (λ rows. f x ∷ rows) rest
-      one rest false = rest
-
   -- a change of rows is a change of values
   pub changed_rows : (p : Row → Bool) (q : X → Bool) (g : Row → Row) (h : X → X) → ((x : X) → p (f x) ≡ q x)
       → (xs : List X) → ((x : X) → Has xs x → q x ≡ true → g (f x) ≡ f (h x))
@@ -96,13 +82,95 @@ module _ {X : Type 0} (f : X → Row) (id : X → ℤ) (keyed : (x : X) → rowi
   -- a change that keeps rowids keeps their order
   pub changed_rises : (q : X → Bool) (h : X → X) → ((x : X) → id (h x) ≡ id x) → (xs : List X) → Rises xs
       → Rises (changed q h xs)
-  changed_rises q h same [] rise = tt
-  changed_rises q h same (x ∷ xs) rise = (above xs rise.0, changed_rises q h same xs rise.1)
+  changed_rises q h same xs rise =
+      ascending-map (λ (x y : X). id x <ℤ id y) (λ x. if q x then h x else x) xs (ascending_weaker (λ (x y : X). id x <ℤ id y)
+      (λ (x y : X). id (if q x then h x else x) <ℤ id (if q y then h y else y)) (λ x y low. rw (kept x, kept y) low) xs rise)
     where
       kept : (y : X) → id (if q y then h y else y) ≡ id y
       kept y = elim (cases_Bool (q y)) [ inl e ↦ rw e (same y) | inr e ↦ rw e refl ]
 
-      above : (ys : List X) → AllByRecursion (λ y. id x <ℤ id y) ys
-          → AllByRecursion (λ y. id (if q x then h x else x) <ℤ id y) (changed q h ys)
-      above [] up = tt
-      above (y ∷ ys) up = (rw (kept x, kept y) (up.0), above ys up.1)
+-- A table of typed rows after one more row, or after a change.
+
+module _ {X : Type 0} where
+  abbrev pub id_of : ℤ × X → ℤ
+  id_of p = p.0
+
+  abbrev pub value_of : ℤ × X → X
+  value_of p = p.1
+
+  -- a row under the next rowid is appended
+  pub appended : (columns : X → Row) (rows : List Row) (xs : List X) (x : X) → IsTableOf columns rows xs
+      → IsTableOf columns (put_row (numbered_row columns (next_rowid rows, x)) rows) (xs ++ x ∷ [])
+  appended columns rows xs x it =
+      let ps = it.numbered in
+      let next = next_rowid (map (numbered_row columns) ps) in
+      let below = next_above (numbered_row columns) id_of (λ _. refl) ps it.rise in
+      record {
+        numbered = ps ++ (next, x) ∷ [];
+        values_are = ap (λ ys. ys ++ x ∷ []) it.values_are ∙ sym (map-append value_of ps ((next, x) ∷ []));
+        rows_are = ap (λ rs. put_row (numbered_row columns (next_rowid rs, x)) rs) it.rows_are
+            ∙ put_last (numbered_row columns) id_of (λ _. refl) ps (next, x) below;
+        rise = rises_last (numbered_row columns) id_of (λ _. refl) ps (next, x) it.rise below;
+      }
+
+  values_changed : (q : X → Bool) (h : X → X) (ps : List (ℤ × X))
+      → map value_of (changed (λ p. q p.1) (λ p. (p.0, h p.1)) ps) ≡ changed q h (map value_of ps)
+  values_changed q h [] = refl
+  values_changed q h (p ∷ ps) = ap₂ ◌∷◌ (one (q p.1)) (values_changed q h ps)
+    where
+      one : (b : Bool) → value_of (if b then (p.0, h p.1) else p) ≡ (if b then h p.1 else p.1)
+      one true = refl
+      one false = refl
+
+  -- a change leaves each row under its rowid
+  pub replaced_values : (columns : X → Row) (rows new : List Row) (xs : List X) (q : X → Bool) (h : X → X)
+      → (it : IsTableOf columns rows xs)
+      → new ≡ map (numbered_row columns) (changed (λ p. q p.1) (λ p. (p.0, h p.1)) it.numbered)
+      → IsTableOf columns new (changed q h xs)
+  replaced_values columns rows new xs q h it is =
+      let ps = it.numbered in
+      record {
+        numbered = changed (λ p. q p.1) (λ p. (p.0, h p.1)) ps;
+        values_are = ap (changed q h) it.values_are ∙ sym (values_changed q h ps);
+        rows_are = is;
+        rise = changed_rises (numbered_row columns) id_of (λ _. refl) (λ p. q p.1) (λ p. (p.0, h p.1)) (λ _. refl) ps it.rise;
+      }
+
+  -- the rows that are kept are under their rowids
+  pub kept_values : (columns : X → Row) (rows new : List Row) (xs : List X) (test : X → Bool) → (it : IsTableOf columns rows xs)
+      → new ≡ map (numbered_row columns) (filter (λ p. test p.1) it.numbered) → IsTableOf columns new (filter test xs)
+  kept_values columns rows new xs test it is = record {
+    numbered = filter (λ p. test p.1) it.numbered;
+    values_are = ap (filter test) it.values_are ∙ filter-map test value_of it.numbered;
+    rows_are = is;
+    rise = ascending-filter _ (λ p. test p.1) it.numbered it.rise;
+  }
+
+  module _ (number : X → ℕ) (row_of : X → Row) (keyed : (x : X) → rowid (row_of x) ≡ whole (number x)) where
+    abbrev pub own_id : X → ℤ
+    own_id x = pos (number x)
+
+    pub own_rise : (xs : List X) → IsAscending (λ x y. number x < number y) xs → IsAscending (λ x y. own_id x <ℤ own_id y) xs
+    own_rise xs = ascending_weaker (λ (x y : X). number x < number y) (λ (x y : X). own_id x <ℤ own_id y) (λ x y low. omega (arith, ints)) xs
+
+    own_below : (n : ℕ) (xs : List X) → AllByRecursion (λ x. number x < n) xs → AllByRecursion (λ x. own_id x <ℤ pos n) xs
+    own_below n = all_weaker (λ x. number x < n) (λ x. own_id x <ℤ pos n) (λ x low. omega (arith, ints, low))
+
+    back : (xs : List X) → IsAscending (λ x y. own_id x <ℤ own_id y) xs → IsAscending (λ x y. number x < number y) xs
+    back xs = ascending_weaker (λ (x y : X). own_id x <ℤ own_id y) (λ (x y : X). number x < number y) (λ x y low. omega (arith, ints)) xs
+
+    -- a row with a greater number is appended
+    pub numbered_last : (rows : List Row) (xs : List X) (x : X) → IsNumbered number row_of rows xs
+        → AllByRecursion (λ y. number y < number x) xs → IsNumbered number row_of (put_row (row_of x) rows) (xs ++ x ∷ [])
+    numbered_last rows xs x it below = record {
+      rows_are = ap (put_row (row_of x)) it.rows_are ∙ put_last row_of own_id keyed xs x (own_below (number x) xs below);
+      rise = back (xs ++ x ∷ []) (rises_last row_of own_id keyed xs x (own_rise xs it.rise) (own_below (number x) xs below));
+    }
+
+    -- a change that keeps numbers leaves each row under its own number
+    pub numbered_changed : (rows new : List Row) (xs : List X) (q : X → Bool) (h : X → X) → ((x : X) → number (h x) ≡ number x)
+        → IsNumbered number row_of rows xs → new ≡ map row_of (changed q h xs) → IsNumbered number row_of new (changed q h xs)
+    numbered_changed rows new xs q h same it is = record {
+      rows_are = is;
+      rise = back (changed q h xs) (changed_rises row_of own_id keyed q h (λ x. ap pos (same x)) xs (own_rise xs it.rise));
+    }

@@ -1,6 +1,6 @@
 -- The order that ORDER BY gives to columns of numbers or texts. For the lemmas of each query.
-use Rattle.std.proofs.Common.{◌≡◌, ◌⊎◌, inl, inr, ℕ, ◌<◌, ◌≤◌, pos, false, Ordering, Less, Equal, Greater, is_lt, refl, arith}
-use Rattle.std.specs.Ordering.{ordering_then, int_cmp}
+use Rattle.std.proofs.Common.{◌≡◌, ◌⊎◌, inl, inr, ℕ, ◌<◌, ◌≤◌, pos, false, Ordering, Less, Equal, Greater, is_lt, refl, arith, int_cmp}
+use Rattle.std.specs.Ordering.{ordering_then}
 use Rattle.std.proofs.lemmas.Int.{ints}
 use Rattle.std.proofs.lemmas.Bool.Decides.{nat_tests}
 use Rattle.sqlite.specs.Order.{value_cmp}

@@ -16,7 +16,7 @@ use Rattle.desk_sql.specs.Schema.{desk_schema, meta_at, stock_at, batch_at, jour
 use Rattle.desk_sql.specs.Lists.{numbered_row, IsTableOf, IsNumbered, changed}
 use Rattle.desk_sql.specs.Rows.{whole, Tables, Shows, MetaRow, meta_row, stock_columns, batch_columns, JourneyRow, journey_row, step_columns, EntryRow, entry_row, answer_columns, mark_columns}
 use Rattle.desk_sql.proofs.Framing.{with_meta, with_stock, with_batch, with_journey, with_step, with_answer, with_entries, with_mark}
-use Rattle.desk_sql.proofs.Tables.{id_of, value_of, own_rise, replaced_values, numbered_changed}
+use Rattle.desk_sql.proofs.Keyed.{id_of, value_of, own_rise, replaced_values, numbered_changed}
 
 -- How rows are values: each row is that of an element, which has a rowid and a value.
 pub record Codec {X Y : Type 0} (f : Y → Row) (id : Y → ℤ) (value : Y → X) (lift : (X → X) → Y → Y)

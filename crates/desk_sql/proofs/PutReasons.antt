@@ -1,14 +1,10 @@
 -- The upsert of a cell: why it fails, and what it leaves. For `put_cell`.
 use Rattle.std.proofs.Common.{◌≡◌, ◌+◌, ℕ, ℤ, suc, List, [], ◌∷◌, ◌++◌, length, inl, inr, Option, None, Some, Err, Ok, true, false, refl, sym, ap, subst, ◌∙◌, arith, IsSome, not}
 use Rattle.std.specs.Prelude.{⊤}
-use Rattle.std.specs.Ordering.{int_cmp, is_eq}
-use Rattle.std.proofs.lemmas.Bool.{false_from_ne_true}
 use Rattle.sqlite.specs.declared.types.Value.TheVariants.{Null, Int}
 use Rattle.sqlite.specs.declared.error.Error.{Error}
 use Rattle.sqlite.specs.Order.{Row}
 use Rattle.sqlite.specs.Tree.{Trees, rowid}
-use Rattle.sqlite.specs.Query.{IsAnswer}
-use Rattle.sqlite.specs.Program.{overlay}
 use Rattle.sqlite.specs.Source.TheVariants.{Values}
 use Rattle.sqlite.specs.Edit.{Edit, edit_of, edited, next_rowid}
 use Rattle.sqlite.specs.Rowids.TheVariants.{Given}
@@ -17,17 +13,14 @@ use Rattle.sqlite.specs.Listing.{understood}
 use Rattle.sqlite.specs.State.{State, ExecutesInside}
 use Rattle.sqlite_schema.specs.declared.schema.Among.TheVariants.{All}
 use Rattle.sqlite_schema.specs.declared.command.Conflict.TheVariants.{Abort}
-use Rattle.sqlite_schema.specs.declared.program.Program.{Program}
 use Rattle.sqlite_schema.specs.Rules.{Obeys, Refers, agree}
 use Rattle.sqlite_rules.specs.declared.error.Refusal.{Refusal}
 use Rattle.sqlite_rules.specs.declared.error.Refusal.TheVariants.{Violates, Mismatch, NoRowid, BadReference, TooDeep}
 use Rattle.sqlite_schema.specs.declared.schema.Constraint.TheVariants.{Datatype, NotNull, Check, PrimaryKey, Unique, ForeignKey}
-use Rattle.sqlite_rules.specs.Lists.{Has}
-use Rattle.sqlite_rules.specs.Keys.{AreConflicts, conflicts}
+use Rattle.sqlite_rules.specs.Keys.{AreConflicts}
 use Rattle.sqlite_rules.specs.Steps.{IsJudged}
 use Rattle.sqlite_rules.specs.Calls.{ids_of}
-use Rattle.sqlite_rules.proofs.ListLemmas.{all_has, all_from}
-use Rattle.sqlite_rules.proofs.ProbeLemmas.{has_mapped}
+use Rattle.sqlite_rules.proofs.ListLemmas.{all_has}
 use Rattle.sqlite_typing.specs.Types.{accepts_terms, accepts_program}
 use Rattle.sqlite_tied.specs.Compute.{everything}
 use Rattle.std.specs.List.{AllByRecursion}
@@ -44,19 +37,16 @@ use Rattle.desk_sql.specs.Meanings.{put_cell, put_cell_terms, put_cell_query}
 use Rattle.desk_sql.proofs.Effects.{Says, Effect}
 use Rattle.desk_sql.proofs.Framing.{ready_of, makes_at, with_stock}
 use Rattle.desk_sql.proofs.Rowids.{low_fewer, rowids_fewer, rowids_kept}
-use Rattle.desk_sql.proofs.Writing.{went, same_value, task_for, Edits}
-use Rattle.desk_sql.proofs.Inserting.{cast_int}
+use Rattle.desk_sql.proofs.Writing.{same_value, task_for, Edits, target, tries_one, IsPut, upserts, put_tree, clauses}
 use Rattle.desk_sql.proofs.InsertReasons.{obeys_desk}
 use Rattle.desk_sql.proofs.UpdateReasons.{stock_fit, kept_kind, stock_serves, twin_four, value_there, low_fits}
-use Rattle.desk_sql.proofs.Tables.{id_of}
 use Rattle.sqlite_value.proofs.KeyLemmas.{first_key-plain}
 use Rattle.desk_sql.proofs.Testing.{eq_whole, eq_text, and_true}
-use Rattle.desk_sql.proofs.Upserting.{target, Ends, clause, tries_one, IsPut, upserts, put_tree}
-use Rattle.desk_sql.proofs.Putting.{put_params, conflict_is, equal_id, source_is, puts_table, puts_low}
+use Rattle.desk_sql.proofs.Putting.{put_params, source_is, puts_table, puts_low, Sets, conflict_at, sets, sets_at}
 use Rattle.desk_sql.proofs.Refusing.{write_reason, IsSafe, edit_goes, made_refers, rows_go, gives_on, answered, desk_at}
-use Rattle.desk_sql.proofs.NewRow.{IsFit, put_edit, put_safe}
+use Rattle.desk_sql.proofs.NewRow.{IsFit, put_safe}
 use Rattle.desk_sql.proofs.ChangedRows.{update_safe}
-use Rattle.desk_sql.proofs.Storing.{range_holds, next_fits, chosen_free, table_of}
+use Rattle.desk_sql.proofs.Storing.{range_holds, next_fits, chosen_free, table_of, rows_all}
 
 put_says : (s : StockRow) → Says put_cell_text put_cell (put_params s) (λ _. accepts_terms put_cell_terms (put_params s))
 unfolding understood everything
@@ -68,7 +58,7 @@ unfolding everything
 change_typed extra s id there = refl
 
 -- rows agree on the columns of the key where they are of one cell
-agree_cell : (id : ℤ) (s : StockRow) (p : ℤ × StockRow)
+pub agree_cell : (id : ℤ) (s : StockRow) (p : ℤ × StockRow)
     → agree (record { digits = 0 }) target (numbered_row stock_columns p) target (numbered_row stock_columns (id, s)) ≡ is_cell s p.1
 agree_cell id s p = rw first_key-plain (simp (eq_whole, eq_text) (simp and_true))
 
@@ -80,82 +70,53 @@ module _ (extra : List Index) (are : AllByRecursion IsExtra extra) (old : State)
   abbrev new : Row
   new = numbered_row stock_columns (next_rowid (db 1), s)
 
-  abbrev program : Program
-  program = record { lets = []; body = put_cell_query }
-
   fit : IsFit (stock_at 1) db new
   fit = stock_fit db (next_rowid (db 1)) s (next_fits (db 1) rowids.stock) (ap not (range_holds s.kind 0 3 (omega arith) fits.kind)) fits.free fits.short
 
-  -- the insertion where no row conflicts
-  new_safe : AreConflicts (Some target) desk_schema.indexes (stock_at 1) (db 1) new [] → IsSafe db (edit_of db (stock_at 1) [] Given 0 (new ∷ []))
-  new_safe none = subst (IsSafe db) (sym edit_is)
+  -- each edit that puts the row is allowed
+  safe : (edit : Edit) → Sets db t.stock it s edit → IsSafe db edit
+  safe edit (inl (none, is)) = subst (IsSafe db) (sym is)
       (put_safe db (stock_at 1) new (inr (inl refl)) (table_of stock_columns (db 1) t.stock it) obeys fit (chosen_free stock_columns (db 1) t.stock s it)
-      (all_from _ (db 1) alone, tt) refl tt)
-    where
-      edit_is : edit_of db (stock_at 1) [] Given 0 (new ∷ []) ≡ put_edit (stock_at 1) new
-      edit_is = simp cast_int
-
-      alone : (r : Row) → Has (db 1) r → agree (record { digits = 0 }) target r target new ≡ false
-      alone r there = false_from_ne_true (agree (record { digits = 0 }) target r target new) (λ same.
-          let p = has_mapped (numbered_row stock_columns) it.numbered r (subst (λ rs. Has rs r) it.rows_are there) in
-          let cell : is_cell s p.0.1 ≡ true
-          = sym (agree_cell (next_rowid (db 1)) s p.0) ∙ ap (λ x. agree (record { digits = 0 }) target x target new) (sym p.2) ∙ same in
-          none.complete r there (ap (conflicts (Some target) desk_schema.indexes (stock_at 1) new) p.2 ∙ conflict_is (next_rowid (db 1)) s p.0 ∙ cell))
-
-  -- the update of the row that conflicts
-  changed_safe : (q : ℤ × StockRow) (rows : List Row) → IsAnswer put_cell_query (overlay db []) (put_params s ++ Int q.0 ∷ shown (stock_at 1) new) rows
-      → IsSafe db (edit_of db (stock_at 1) (ids_of rows) Given 1 rows)
-  changed_safe q rows asked =
-      update_safe (numbered_row stock_columns) id_of (λ _. refl) db (stock_at 1) it.numbered it.rise it.rows_are refl
-      put_cell_query.filter put_cell_query.project (put_params s ++ Int q.0 ∷ shown (stock_at 1) new) rows
-      (λ p. is_eq (int_cmp p.0 q.0)) (λ p. (p.0, with_places s p.1)) (λ p. and_true _ ∙ equal_id p.0 q.0) (λ _. refl) (λ _. refl)
-      (λ p _ _. simp cast_int) (inr (inl refl)) obeys
+      (rows_all stock_columns (db 1) t.stock _ (λ k. is_cell s k ≡ false) it (λ p other. agree_cell (next_rowid (db 1)) s p ∙ other) none, tt) refl tt)
+  safe edit (inr (q, there, here, rows, asked, is)) = subst (IsSafe db) (sym is)
+      (update_safe (sets_at db t.stock it s q) (inr (inl refl)) obeys
       (λ p known same.
       let at = value_there stock_columns (db 1) t.stock it p known in
       stock_fit db p.0 (with_places s p.1) (low_fits (db 1) (numbered_row stock_columns p) p.0 (low_fewer 0 1 (db 1) (omega arith) rowids.stock) at.1 refl) (kept_kind db p.0 p.1 obeys at.1) fits.free
       (all_has (λ (x : StockRow). IsShort (length x.supplier + length x.product)) t.stock p.1 fits.others at.0))
       (λ p. twin_four (stock_at 1) (numbered_row stock_columns p) (numbered_row stock_columns (p.0, with_places s p.1)) refl refl refl refl refl tt)
-      refl stock_serves asked
+      refl stock_serves rows asked)
 
-  -- the row that is there has a rowid
-  place_of : (found : List Row) (there : Row) → AreConflicts (Some target) desk_schema.indexes (stock_at 1) (db 1) new found → Has found there
-      → (q : ℤ × StockRow) × (rowid there ≡ Int q.0)
-  place_of found there conflict has =
-      let row = conflict.sound there has in
-      let q = has_mapped (numbered_row stock_columns) it.numbered row.0 (subst (λ rs. Has rs row.0) it.rows_are row.1) in
-      (q.0, ap rowid row.3 ∙ ap rowid q.2)
-
-  update_at : (found : List Row) (there : Row) → AreConflicts (Some target) desk_schema.indexes (stock_at 1) (db 1) new found → Has found there
-      → (rows : List Row) → IsAnswer put_cell_query (overlay db []) (put_params s ++ rowid there ∷ shown (stock_at 1) new) rows
-      → IsSafe db (edit_of db (stock_at 1) (ids_of rows) Given 1 rows)
-  update_at found there conflict has rows asked =
-      let q = place_of found there conflict has in
-      changed_safe q.0 rows (subst (λ v. IsAnswer put_cell_query (overlay db []) (put_params s ++ v ∷ shown (stock_at 1) new) rows) q.1 asked)
+  puts_safe : (edit : Edit) → IsPut db (put_params s) put_cell_query new edit → IsSafe db edit
+  puts_safe edit put = safe edit (sets db t.stock it s edit put)
 
   puts_on : (conflict : AreConflicts (Some target) desk_schema.indexes (stock_at 1) (db 1) new []) (stop : Option Error)
       → ¬ Puts (task_for extra old (stock_at 1) (put_params s)) new db (Err stop)
-  puts_on none stop (inl k) = edit_goes extra are db (edit_of db (stock_at 1) [] Given 0 (new ∷ [])) (new_safe none) k.0 k.1
+  puts_on none stop (inl k) =
+      edit_goes extra are db (edit_of db (stock_at 1) [] Given 0 (new ∷ [])) (puts_safe _ ([], none, inl (refl, refl))) k.0 k.1
   puts_on none stop (inr k) = gives_on stop k.2
 
-  changes_on : (found : List Row) (there : Row) → AreConflicts (Some target) desk_schema.indexes (stock_at 1) (db 1) new found → Has found there
-      → (stop : Option Error) → ¬ Updates (task_for extra old (stock_at 1) (put_params s)) program (put_params s ++ rowid there ∷ shown (stock_at 1) new) db (Err stop)
-  changes_on found there conflict has stop (inl k) =
-      let q = place_of found there conflict has in
+  changes_on : (there : Row) (more : List Row) → AreConflicts (Some target) desk_schema.indexes (stock_at 1) (db 1) new (there ∷ more) → (stop : Option Error)
+      → ¬ Updates (task_for extra old (stock_at 1) (put_params s)) (record { lets = []; body = put_cell_query })
+      (put_params s ++ rowid there ∷ shown (stock_at 1) new) db (Err stop)
+  changes_on there more conflict stop (inl k) =
+      let q = conflict_at db t.stock it s (there ∷ more) there conflict (inl refl) in
       answered extra are old (put_params s ++ rowid there ∷ shown (stock_at 1) new) (stock_at 1) 1 put_cell_query.filter put_cell_query.project unlimited
-      (subst (λ v. accepts_program (desk_with extra) [] put_cell_query (put_params s ++ v ∷ shown (stock_at 1) new) ≡ true) (sym q.1)
+      (subst (λ v. accepts_program (desk_with extra) [] put_cell_query (put_params s ++ v ∷ shown (stock_at 1) new) ≡ true) (sym q.3)
       (change_typed extra s (next_rowid (db 1)) q.0.0)) k.0 k.1
-  changes_on found there conflict has stop (inr (rows, given, inl k)) =
-      edit_goes extra are db (edit_of db (stock_at 1) (ids_of rows) Given 1 rows) (update_at found there conflict has rows (given.answer Null)) k.0 k.1
-  changes_on found there conflict has stop (inr (rows, given, inr k)) = gives_on stop k.2
+  changes_on there more conflict stop (inr (rows, given, inl k)) =
+      edit_goes extra are db (edit_of db (stock_at 1) (ids_of rows) Given 1 rows)
+      (puts_safe _ (there ∷ more, conflict, inr (there, more, refl, rows, given.answer Null, refl))) k.0 k.1
+  changes_on there more conflict stop (inr (rows, given, inr k)) = gives_on stop k.2
 
   upserts_on : (stop : Option Error)
-      → ¬ Upserts (task_for extra old (stock_at 1) (put_params s)) Abort new db (clause program ∷ []) (Err stop)
+      → ¬ Upserts (task_for extra old (stock_at 1) (put_params s)) Abort new db (clauses put_cell_query) (Err stop)
   upserts_on stop ([], conflict, ([], conflict_too, h)) = puts_on (are_conflicts extra are conflict) stop h
   upserts_on stop ([], conflict, (x ∷ more, conflict_too, h)) = puts_on (are_conflicts extra are conflict) stop h
-  upserts_on stop (there ∷ more, conflict, h) = changes_on (there ∷ more) there (are_conflicts extra are conflict) (inl refl) stop h
+  upserts_on stop (there ∷ more, conflict, h) = changes_on there more (are_conflicts extra are conflict) stop h
 
   judged_on : (verdict : Option Refusal) (stop : Option Error) → IsJudged (stock_at 1) new verdict
-      → ¬ Judged (task_for extra old (stock_at 1) (put_params s)) Abort (clause program ∷ []) new db verdict (Err stop)
+      → ¬ Judged (task_for extra old (stock_at 1) (put_params s)) Abort (clauses put_cell_query) new db verdict (Err stop)
   judged_on None stop judged h = upserts_on stop h
   judged_on (Some Mismatch) stop judged h = let bad : true ≡ false = judged in cc
   judged_on (Some NoRowid) stop judged h = judged
@@ -168,7 +129,7 @@ module _ (extra : List Index) (are : AllByRecursion IsExtra extra) (old : State)
   judged_on (Some (Violates Unique)) stop judged h = judged
   judged_on (Some (Violates ForeignKey)) stop judged h = judged
 
-  tries_on : (stop : Option Error) → ¬ Tries (task_for extra old (stock_at 1) (put_params s)) Abort (clause program ∷ []) new db (Err stop)
+  tries_on : (stop : Option Error) → ¬ Tries (task_for extra old (stock_at 1) (put_params s)) Abort (clauses put_cell_query) new db (Err stop)
   tries_on stop (inl h) = let bad = sym (next_fits (db 1) rowids.stock) ∙ h.0 in cc
   tries_on stop (inr h) = judged_on h.0 stop h.1 h.2
 
@@ -177,38 +138,25 @@ module _ (extra : List Index) (are : AllByRecursion IsExtra extra) (old : State)
   sourced_on (Some e) (inl (is, wrong)) = let bad : true ≡ false = sym ((put_says s).types extra) ∙ wrong in cc
   sourced_on (Some e) (inr (is, limit)) = let none : false ≡ true = subst (λ l. IsSome l) unlimited limit in cc
 
-  each_on : (stop : Option Error) → ¬ TriesEach (task_for extra old (stock_at 1) (put_params s)) Abort (clause program ∷ []) ((Null ∷ put_params s) ∷ []) (count_of None) (nothing db) (Err stop)
+  each_on : (stop : Option Error) → ¬ TriesEach (task_for extra old (stock_at 1) (put_params s)) Abort (clauses put_cell_query) ((Null ∷ put_params s) ∷ []) (count_of None) (nothing db) (Err stop)
   each_on stop (inl k) =
-      tries_on k.0 (subst (λ n. Tries (task_for extra old (stock_at 1) (put_params s)) Abort (clause program ∷ []) n db (Err k.0)) (source_is (db 1) s) k.1)
+      tries_on k.0 (subst (λ n. Tries (task_for extra old (stock_at 1) (put_params s)) Abort (clauses put_cell_query) n db (Err k.0)) (source_is (db 1) s) k.1)
   each_on stop (inr k) = gives_on stop k.2
 
-  goes : (stop : Option Error) → ¬ InsertsOr (task_for extra old (stock_at 1) (put_params s)) Abort (clause program ∷ []) (Values put_cell_terms 7) db (Err stop)
+  goes : (stop : Option Error) → ¬ InsertsOr (task_for extra old (stock_at 1) (put_params s)) Abort (clauses put_cell_query) (Values put_cell_terms 7) db (Err stop)
   goes stop (inl k) = sourced_on k.0 k.1
   goes stop (inr (rows, given, inl k)) = gives_on k.0 k.1
   goes stop (inr (rows, given, inr (counted, known, inl k))) =
       let none : counted ≡ None = same_value known in
-      each_on k.0 (subst (λ c. TriesEach (task_for extra old (stock_at 1) (put_params s)) Abort (clause program ∷ []) ((Null ∷ put_params s) ∷ []) (count_of c) (nothing db) (Err k.0)) none
-      (subst (λ rs. TriesEach (task_for extra old (stock_at 1) (put_params s)) Abort (clause program ∷ []) rs (count_of counted) (nothing db) (Err k.0)) given.1 k.1))
+      each_on k.0 (subst (λ c. TriesEach (task_for extra old (stock_at 1) (put_params s)) Abort (clauses put_cell_query) ((Null ∷ put_params s) ∷ []) (count_of c) (nothing db) (Err k.0)) none
+      (subst (λ rs. TriesEach (task_for extra old (stock_at 1) (put_params s)) Abort (clauses put_cell_query) rs (count_of counted) (nothing db) (Err k.0)) given.1 k.1))
   goes stop (inr (rows, given, inr (counted, known, inr (done, tried, inl k)))) = gives_on k.0 k.1
   goes stop (inr (rows, given, inr (counted, known, inr (done, tried, inr k)))) = gives_on stop k.2
 
-  refers : (w : Written) → InsertsOr (task_for extra old (stock_at 1) (put_params s)) Abort (clause program ∷ []) (Values put_cell_terms 7) db (Ok w) → Refers All desk_schema w.trees
+  refers : (w : Written) → InsertsOr (task_for extra old (stock_at 1) (put_params s)) Abort (clauses put_cell_query) (Values put_cell_terms 7) db (Ok w) → Refers All desk_schema w.trees
   refers w done =
-      let one = tries_one extra are old (put_params s) program put_cell_terms 7 db (Null ∷ put_params s) w refl refl done in
-      subst (Refers All desk_schema) (sym one.2)
-      (ended one.0 (subst (λ n. Ends extra are old (put_params s) program n db (Ok one.0)) (source_is (db 1) s) one.1))
-    where
-      ended : (x : Written) → Ends extra are old (put_params s) program new db (Ok x) → Refers All desk_schema x.trees
-      ended x ([], conflict, h) =
-          let put = went h in
-          subst (Refers All desk_schema) (sym (ap (λ (it : Written). it.trees) (same_value put.2)))
-          (made_refers extra are db put.0 (edit_of db (stock_at 1) [] Given 0 (new ∷ [])) (new_safe conflict) put.1)
-      ended x (there ∷ more, conflict, h) =
-          let found = went h in
-          let written = went found.2 in
-          subst (Refers All desk_schema) (sym (ap (λ (it : Written). it.trees) (same_value written.2)))
-          (made_refers extra are db written.0 (edit_of db (stock_at 1) (ids_of found.0) Given 1 found.0)
-          (update_at (there ∷ more) there conflict (inl refl) found.0 (found.1.answer Null)) written.1)
+      let put = tries_one extra are old (put_params s) put_cell_query put_cell_terms 7 db (Null ∷ put_params s) w refl refl done in
+      made_refers extra are db w.trees put.0 (puts_safe put.0 (subst (λ n. IsPut db (put_params s) put_cell_query n put.0) (source_is (db 1) s) put.1)) put.2
 
 -- the row is put by one edit
 put_by : (old new : State) (t : Tables) (s : StockRow) (count : ℕ) → MayRun old t → ExecutesInside 0 put_cell_text (put_params s) old new (Ok count)
@@ -226,7 +174,7 @@ sets_cell s = record {
       let shown_rows = (may.sees ran.1.was_open).rows in
       let it = put_by old new t s count may ran in
       makes_at old new it.0 it.2 1 (edited db it.0) (puts_cell s t) (put_tree db (put_params s) put_cell_query _ it.0 it.1) refl
-      (with_stock db t shown_rows (edited db it.0) (put s t.stock) (puts_table db t.stock s it.0 shown_rows.stock apart it.1 it.2.applies.fresh)));
+      (with_stock db t shown_rows (edited db it.0) (put s t.stock) (puts_table db t.stock shown_rows.stock s it.0 apart (sets db t.stock shown_rows.stock s it.0 it.1) it.2.applies.fresh)));
   reason = λ old new t e rowids may fits up ran. (
       let sees = may.sees up.is_open in
       let obeys = obeys_desk old t sees in
@@ -235,7 +183,8 @@ sets_cell s = record {
       (goes sees.schema.extra sees.schema.are old t s rowids sees.rows.stock obeys fits up.unlimited)
       (refers sees.schema.extra sees.schema.are old t s rowids sees.rows.stock obeys fits up.unlimited) h) e ran);
   rowids = λ old new t count may any ran n has. (
+      let shown_rows = (may.sees ran.1.was_open).rows.stock in
       let it = put_by old new t s count may ran in
       rowids_kept old new it.0 it.2 n (rowids_fewer n (suc n) old.now.trees (omega arith) has)
-      (puts_low old.now.trees t.stock s it.0 n (may.sees ran.1.was_open).rows.stock it.1 it.2.applies.fresh has.few has.stock));
+      (puts_low old.now.trees t.stock shown_rows s it.0 n (sets old.now.trees t.stock shown_rows s it.0 it.1) it.2.applies.fresh has.few has.stock));
 }

@@ -1,7 +1,6 @@
 -- The upsert of a cell. For `put_cell`.
-use Rattle.std.proofs.Common.{◌≡◌, ◌<◌, ◌^◌, inl, inr, ℕ, ℤ, suc, eq-eqb, eqb-true, List, [], ◌∷◌, ◌++◌, map, Bool, true, false, if◌then◌else◌, Some, is_eq, refl, sym, ap, ap₂, subst, ◌∙◌, arith}
-use Rattle.std.specs.List.{list_any}
-use Rattle.std.specs.Ordering.{int_cmp}
+use Rattle.std.proofs.Common.{◌≡◌, ◌<◌, ◌^◌, inl, inr, ℕ, ℤ, suc, eq-eqb, eqb-true, List, [], ◌∷◌, ◌++◌, map, Bool, true, false, if◌then◌else◌, Some, is_eq, refl, sym, ap, ap₂, subst, ◌∙◌, arith, ◌⊎◌, int_cmp}
+use Rattle.std.specs.List.{list_any, AllByRecursion}
 use Rattle.std.proofs.lemmas.Int.{ints}
 use Rattle.std.proofs.lemmas.Bool.{cases_Bool, and_parts, and_from, false_from_ne_true}
 use Rattle.std.proofs.lemmas.Slice.Eq.{bytes_eq-Decides}
@@ -13,20 +12,18 @@ use Rattle.sqlite_value.specs.declared.keys.Collation.TheVariants.{Binary}
 use Rattle.sqlite_value.proofs.OrderLemmas.{value_cmp-Int}
 use Rattle.sqlite_value.proofs.KeyLemmas.{first_key-plain}
 use Rattle.sqlite.specs.Order.{Row}
-use Rattle.sqlite.specs.Tree.{Trees, put_row}
+use Rattle.sqlite.specs.Tree.{Trees, IsAscending, rowid}
 use Rattle.sqlite.specs.Program.{overlay}
 use Rattle.sqlite.specs.Query.{IsAnswer}
 use Rattle.sqlite.specs.Cast.{cast_row}
-use Rattle.sqlite.specs.Edit.{Edit, edit_of, edited, next_rowid, with_rowid}
+use Rattle.sqlite.specs.Edit.{Edit, edit_of, edited, next_rowid, with_rowid, are_fresh, left_by}
 use Rattle.sqlite.specs.Rowids.TheVariants.{Chosen, Given}
 use Rattle.sqlite.specs.Rows.{shown}
 use Rattle.sqlite_rules.specs.Lists.{Has}
-use Rattle.sqlite_rules.specs.Keys.{conflicts}
-use Rattle.sqlite_rules.specs.Edit.{are_fresh, left_by}
+use Rattle.sqlite_rules.specs.Keys.{conflicts, AreConflicts}
 use Rattle.sqlite_rules.specs.Calls.{ids_of}
-use Rattle.sqlite_rules.proofs.ListLemmas.{all_has, some_from}
+use Rattle.sqlite_rules.proofs.ListLemmas.{all_has, some_from, all_from}
 use Rattle.sqlite_rules.proofs.ProbeLemmas.{has_mapped, mapped_has}
-use Rattle.sqlite_trees.specs.Tree.{IsAscending, rowid}
 use Rattle.sqlite_trees.proofs.ListLemmas.{ascending_from_map}
 use Rattle.desk_sql.specs.Schema.{desk_schema, stock_at}
 use Rattle.desk_sql.specs.Lists.{numbered_row, IsTableOf, changed}
@@ -34,24 +31,24 @@ use Rattle.desk_sql.specs.Rows.{whole, StockRow, stock_columns}
 use Rattle.desk_sql.specs.Stock.{is_cell, with_places, put}
 use Rattle.desk_sql.specs.Writable.{AreLow}
 use Rattle.desk_sql.specs.Meanings.{put_cell_query}
-use Rattle.desk_sql.proofs.Writing.{cast_null}
+use Rattle.desk_sql.proofs.Writing.{cast_null, target, IsPut}
 use Rattle.desk_sql.proofs.Inserting.{cast_int}
 use Rattle.desk_sql.proofs.Testing.{truth_is, eq_whole, eq_text, and_true, or_false}
 use Rattle.desk_sql.proofs.Rowids.{low_fewer, low_put, low_changed}
-use Rattle.desk_sql.proofs.Tables.{id_of, value_of, appended, replaced_values}
-use Rattle.desk_sql.proofs.Updating.{updated}
-use Rattle.desk_sql.proofs.Upserting.{target, IsPut}
+use Rattle.desk_sql.proofs.Keyed.{id_of, value_of, appended, replaced_values}
+use Rattle.desk_sql.proofs.Updating.{updated, Changes}
+use Rattle.desk_sql.proofs.NewRow.{put_edit}
 
 -- Keys of cells.
 
 -- two rows of one cell have the same key
-record SameKey (a b : StockRow) : Type 0 where
+pub record SameKey (a b : StockRow) : Type 0 where
   pub kind : b.kind ≡ a.kind
   pub supplier : b.supplier ≡ a.supplier
   pub product : b.product ≡ a.product
   pub night : b.night ≡ a.night
 
-key_of : (a b : StockRow) → is_cell a b ≡ true → SameKey a b
+pub key_of : (a b : StockRow) → is_cell a b ≡ true → SameKey a b
 key_of a b e =
     let one = and_parts _ _ e in
     let two = and_parts _ _ one.1 in
@@ -63,13 +60,13 @@ key_of a b e =
       night = eqb-true _ _ three.1;
     }
 
-cell_of : (a b : StockRow) → SameKey a b → is_cell a b ≡ true
+pub cell_of : (a b : StockRow) → SameKey a b → is_cell a b ≡ true
 cell_of a b k =
     and_from _ _ (eq-eqb _ _ k.kind) (and_from _ _ ((bytes_eq-Decides _ _).1 k.supplier)
     (and_from _ _ ((bytes_eq-Decides _ _).1 k.product) (eq-eqb _ _ k.night)))
 
 -- two rows of the cell of a third row are of one cell
-both_cells : (s a b : StockRow) → is_cell s a ≡ true → is_cell s b ≡ true → is_cell a b ≡ true
+pub both_cells : (s a b : StockRow) → is_cell s a ≡ true → is_cell s b ≡ true → is_cell a b ≡ true
 both_cells s a b e f =
     let k = key_of s a e in
     let l = key_of s b f in
@@ -95,9 +92,9 @@ same_changed p q g [] same = refl
 same_changed p q g (x ∷ xs) same =
     ap₂ ◌∷◌ (ap (λ b. if b then g x else x) (same x (inl refl))) (same_changed p q g xs (λ y h. same y (inr h)))
 
-has_none : (s : StockRow) (cells : List StockRow) → ((x : StockRow) → Has cells x → is_cell s x ≡ false) → list_any (is_cell s) cells ≡ false
+has_none : (s : StockRow) (cells : List StockRow) → AllByRecursion (λ c. is_cell s c ≡ false) cells → list_any (is_cell s) cells ≡ false
 has_none s [] none = refl
-has_none s (c ∷ cells) none = rw (none c (inl refl)) (has_none s cells (λ x h. none x (inr h)))
+has_none s (c ∷ cells) none = rw none.0 (has_none s cells none.1)
 
 -- Conflicts.
 
@@ -124,8 +121,16 @@ pub source_is : (rows : List Row) (s : StockRow)
 source_is rows s = simp (cast_int, cast_null)
 
 module _ (db : Trees) (cells : List StockRow) (it : IsTableOf stock_columns (db 1) cells) (s : StockRow) where
-  abbrev new_row : Row
+  abbrev pub new_row : Row
   new_row = numbered_row stock_columns (next_rowid (db 1), s)
+
+  -- the edit inserts the row where no row is of the cell, and replaces the row of the cell where there is one
+  abbrev pub Sets : Edit → Type 0
+  Sets edit =
+      (AllByRecursion (λ c. is_cell s c ≡ false) cells × (edit ≡ put_edit (stock_at 1) new_row))
+      ⊎ ((q : ℤ × StockRow) × Has it.numbered q × (is_cell s q.1 ≡ true) × (rows : List Row)
+      × IsAnswer put_cell_query (overlay db []) (put_params s ++ Int q.0 ∷ shown (stock_at 1) new_row) rows
+      × (edit ≡ edit_of db (stock_at 1) (ids_of rows) Given 1 rows))
 
   value_has : (p : ℤ × StockRow) → Has it.numbered p → Has cells p.1
   value_has p h = subst (λ ys. Has ys p.1) (sym it.values_are) (mapped_has value_of it.numbered p h)
@@ -133,85 +138,81 @@ module _ (db : Trees) (cells : List StockRow) (it : IsTableOf stock_columns (db 
   row_has : (p : ℤ × StockRow) → Has it.numbered p → Has (db 1) (numbered_row stock_columns p)
   row_has p h = subst (λ rs. Has rs (numbered_row stock_columns p)) (sym it.rows_are) (mapped_has (numbered_row stock_columns) it.numbered p h)
 
-  pub put_new : edited db (edit_of db (stock_at 1) [] Given 0 (new_row ∷ [])) ≡ put_row new_row (db 1)
-  put_new = simp (cast_int, cast_null)
+  -- a row that conflicts is that of a cell, under its rowid
+  pub conflict_at : (found : List Row) (x : Row) → AreConflicts (Some target) desk_schema.indexes (stock_at 1) (db 1) new_row found → Has found x
+      → (q : ℤ × StockRow) × Has it.numbered q × (is_cell s q.1 ≡ true) × (rowid x ≡ Int q.0)
+  conflict_at found x they there =
+      let row = they.sound x there in
+      let q = has_mapped (numbered_row stock_columns) it.numbered row.0 (subst (λ rs. Has rs row.0) it.rows_are row.1) in (
+        q.0,
+        q.1,
+        sym (conflict_is (next_rowid (db 1)) s q.0) ∙ ap (conflicts (Some target) desk_schema.indexes (stock_at 1) new_row) (sym q.2) ∙ row.2,
+        ap rowid row.3 ∙ ap rowid q.2,
+      )
 
-  module _ (apart : IsAscending (λ (a b : StockRow). is_cell a b ≡ false) cells) (q : ℤ × StockRow) (there : Has it.numbered q)
-      (here : is_cell s q.1 ≡ true) where
-    -- the row of the cell is the one with this rowid
-    one_row : (p : ℤ × StockRow) → Has it.numbered p → is_eq (int_cmp p.0 q.0) ≡ is_cell s p.1
-    one_row p h = elim (cases_Bool (is_cell s p.1)) [
-      | inl e ↦ (
-          let pairs = ascending_from_map (λ (a b : StockRow). is_cell a b ≡ false) value_of it.numbered
-          (subst (λ ys. IsAscending (λ (a b : StockRow). is_cell a b ≡ false) ys) it.values_are apart) in
-          let same = one_element _ it.numbered p q pairs h there
-          (λ off. let on = both_cells s p.1 q.1 e here in cc) (λ off. let on = both_cells s q.1 p.1 here e in cc) in
-          eq_id p.0 q.0 (ap id_of same) ∙ sym e)
-      | inr e ↦ false_from_ne_true (is_eq (int_cmp p.0 q.0)) (λ tied.
-          let at = id_eq p.0 q.0 tied in
-          let same = one_element _ it.numbered p q it.rise h there (λ low. omega (arith, ints, low, at)) (λ low. omega (arith, ints, low, at)) in
-          let on : is_cell s p.1 ≡ true = ap (λ (x : ℤ × StockRow). is_cell s x.1) same ∙ here in cc) ∙ sym e
-    ]
+  put_is : edit_of db (stock_at 1) [] Given 0 (new_row ∷ []) ≡ put_edit (stock_at 1) new_row
+  put_is = simp cast_int
 
-    put_there : (rows : List Row) → IsAnswer put_cell_query (overlay db []) (put_params s ++ Int q.0 ∷ shown (stock_at 1) new_row) rows
-        → are_fresh (left_by db (edit_of db (stock_at 1) (ids_of rows) Given 1 rows)) (edit_of db (stock_at 1) (ids_of rows) Given 1 rows).news ≡ true
-        → IsTableOf stock_columns (edited db (edit_of db (stock_at 1) (ids_of rows) Given 1 rows)) (changed (is_cell s) (with_places s) cells)
-    put_there rows answer fresh =
-        let params = put_params s ++ Int q.0 ∷ shown (stock_at 1) new_row in
-        let test : ℤ × StockRow → Bool = λ p. is_eq (int_cmp p.0 q.0) in
-        let change : ℤ × StockRow → ℤ × StockRow = λ p. (p.0, with_places s p.1) in
-        let all = updated (numbered_row stock_columns) id_of (λ _. refl) db (stock_at 1) it.numbered it.rise it.rows_are refl
-        put_cell_query.filter put_cell_query.project params rows test change (λ p. and_true _ ∙ equal_id p.0 q.0) (λ _. refl) (λ _. refl)
-        (λ p _ _. simp cast_int) answer fresh in
-        replaced_values stock_columns (db 1) _ cells (is_cell s) (with_places s) it
-        (all ∙ ap (map (numbered_row stock_columns)) (same_changed test (λ p. is_cell s p.1) change it.numbered one_row))
+  pub sets : (edit : Edit) → IsPut db (put_params s) put_cell_query new_row edit → Sets edit
+  sets edit (found, they, inl (none, is)) = inl (all_from (λ c. is_cell s c ≡ false) cells (λ x h. false_from_ne_true (is_cell s x) (λ e.
+      let p = has_mapped value_of it.numbered x (subst (λ ys. Has ys x) it.values_are h) in
+      let on : is_cell s p.0.1 ≡ true = ap (is_cell s) (sym p.2) ∙ e in
+      let bad = they.complete (numbered_row stock_columns p.0) (row_has p.0 p.1) (conflict_is (next_rowid (db 1)) s p.0 ∙ on) in
+      subst (λ rs. Has rs (Int p.0.0 ∷ [])) none bad)), is ∙ put_is)
+  sets edit (found, they, inr (first, more, several, rows, answer, is)) =
+      let q = conflict_at found first they (subst (λ rs. Has rs first) (sym several) (inl refl)) in
+      inr (q.0, q.1, q.2, rows, subst (λ v. IsAnswer put_cell_query (overlay db []) (put_params s ++ v ∷ shown (stock_at 1) new_row) rows) q.3 answer, is)
 
--- the cells after the upsert
-pub puts_table : (db : Trees) (cells : List StockRow) (s : StockRow) (edit : Edit) → IsTableOf stock_columns (db 1) cells
-    → IsAscending (λ (a b : StockRow). is_cell a b ≡ false) cells
-    → IsPut db (put_params s) put_cell_query (numbered_row stock_columns (next_rowid (db 1), s)) edit
-    → are_fresh (left_by db edit) edit.news ≡ true → IsTableOf stock_columns (edited db edit) (put s cells)
-puts_table db cells s edit it apart (found, they, inl (none, is)) fresh =
-    let no : list_any (is_cell s) cells ≡ false = has_none s cells (λ x h. false_from_ne_true (is_cell s x) (λ e.
-    let p = has_mapped value_of it.numbered x (subst (λ ys. Has ys x) it.values_are h) in
-    let on : is_cell s p.0.1 ≡ true = ap (is_cell s) (sym p.2) ∙ e in
-    let bad = they.complete (numbered_row stock_columns p.0) (row_has db cells it s p.0 p.1) (conflict_is (next_rowid (db 1)) s p.0 ∙ on) in
-    subst (λ rs. Has rs (Int p.0.0 ∷ [])) none bad)) in
-    rw no (subst (λ rs. IsTableOf stock_columns rs (cells ++ s ∷ [])) (sym (ap (edited db) is ∙ put_new db cells it s))
-    (appended stock_columns (db 1) cells s it))
-puts_table db cells s edit it apart (found, they, inr (first, more, several, rows, answer, is)) fresh =
-    let row = they.sound first (subst (λ rs. Has rs first) (sym several) (inl refl)) in
-    let q = has_mapped (numbered_row stock_columns) it.numbered row.0 (subst (λ rs. Has rs row.0) it.rows_are row.1) in
-    let new = numbered_row stock_columns (next_rowid (db 1), s) in
-    let here : is_cell s q.0.1 ≡ true
-    = sym (conflict_is (next_rowid (db 1)) s q.0) ∙ ap (conflicts (Some target) desk_schema.indexes (stock_at 1) new) (sym q.2) ∙ row.2 in
-    let at : rowid first ≡ Int q.0.0 = ap rowid row.3 ∙ ap rowid q.2 in
-    let asked = subst (λ v. IsAnswer put_cell_query (overlay db []) (put_params s ++ v ∷ shown (stock_at 1) new) rows) at answer in
-    let fresh_at = subst (λ (e : Edit). are_fresh (left_by db e) e.news ≡ true) is fresh in
-    let some : list_any (is_cell s) cells ≡ true = some_from (is_cell s) cells q.0.1 (value_has db cells it s q.0 q.1) here in
-    rw some (subst (λ (e : Edit). IsTableOf stock_columns (edited db e) (changed (is_cell s) (with_places s) cells)) (sym is)
-    (put_there db cells it s apart q.0 q.1 here rows asked fresh_at))
+  -- the row under this rowid is given the places
+  pub sets_at : (q : ℤ × StockRow) → Changes (numbered_row stock_columns) id_of db (stock_at 1) it.numbered put_cell_query.filter put_cell_query.project
+      (put_params s ++ Int q.0 ∷ shown (stock_at 1) new_row) (λ p. is_eq (int_cmp p.0 q.0)) (λ p. (p.0, with_places s p.1))
+  sets_at q = record {
+    keyed = λ _. refl;
+    rise = it.rise;
+    has = it.rows_are;
+    seen = refl;
+    test_is = λ p. and_true _ ∙ equal_id p.0 q.0;
+    id_shown = λ _. refl;
+    id_kept = λ _. refl;
+    change_is = λ p _ _. simp cast_int;
+  }
 
--- the cells after the upsert have at most one rowid more
-pub puts_low : (db : Trees) (cells : List StockRow) (s : StockRow) (edit : Edit) (n : ℕ) → IsTableOf stock_columns (db 1) cells
-    → IsPut db (put_params s) put_cell_query (numbered_row stock_columns (next_rowid (db 1), s)) edit
-    → are_fresh (left_by db edit) edit.news ≡ true → suc n < 2 ^ 63 → AreLow (suc n) (db 1) → AreLow n (edited db edit)
-puts_low db cells s edit n it (found, they, inl (none, is)) fresh few low =
-    let new = numbered_row stock_columns (next_rowid (db 1), s) in
-    subst (λ e. AreLow n (edited db e)) (sym is) (subst (AreLow n) (sym (put_new db cells it s)) (low_put n (db 1) new refl few low))
-puts_low db cells s edit n it (found, they, inr (first, more, several, rows, answer, is)) fresh few low =
-    let new = numbered_row stock_columns (next_rowid (db 1), s) in
-    let row = they.sound first (subst (λ rs. Has rs first) (sym several) (inl refl)) in
-    let q = has_mapped (numbered_row stock_columns) it.numbered row.0 (subst (λ rs. Has rs row.0) it.rows_are row.1) in
-    let at : rowid first ≡ Int q.0.0 = ap rowid row.3 ∙ ap rowid q.2 in
-    let params = put_params s ++ Int q.0.0 ∷ shown (stock_at 1) new in
-    let asked = subst (λ v. IsAnswer put_cell_query (overlay db []) (put_params s ++ v ∷ shown (stock_at 1) new) rows) at answer in
-    let fresh_at = subst (λ (e : Edit). are_fresh (left_by db e) e.news ≡ true) is fresh in
-    let test : ℤ × StockRow → Bool = λ p. is_eq (int_cmp p.0 q.0.0) in
-    let change : ℤ × StockRow → ℤ × StockRow = λ p. (p.0, with_places s p.1) in
-    let all = updated (numbered_row stock_columns) id_of (λ _. refl) db (stock_at 1) it.numbered it.rise it.rows_are refl
-    put_cell_query.filter put_cell_query.project params rows test change (λ p. and_true _ ∙ equal_id p.0 q.0.0) (λ _. refl) (λ _. refl)
-    (λ p _ _. simp cast_int) asked fresh_at in
-    subst (λ e. AreLow n (edited db e)) (sym is) (subst (AreLow n) (sym all)
-    (low_changed (numbered_row stock_columns) n test change (λ _. refl) it.numbered
-    (subst (AreLow n) it.rows_are (low_fewer n (suc n) (db 1) (omega arith) low))))
+  -- it is the row of the cell
+  one_row : (apart : IsAscending (λ (a b : StockRow). is_cell a b ≡ false) cells) (q : ℤ × StockRow) → Has it.numbered q → is_cell s q.1 ≡ true
+      → (p : ℤ × StockRow) → Has it.numbered p → is_eq (int_cmp p.0 q.0) ≡ is_cell s p.1
+  one_row apart q there here p h = elim (cases_Bool (is_cell s p.1)) [
+    | inl e ↦ (
+        let pairs = ascending_from_map (λ (a b : StockRow). is_cell a b ≡ false) value_of it.numbered
+        (subst (λ ys. IsAscending (λ (a b : StockRow). is_cell a b ≡ false) ys) it.values_are apart) in
+        let same = one_element _ it.numbered p q pairs h there
+        (λ off. let on = both_cells s p.1 q.1 e here in cc) (λ off. let on = both_cells s q.1 p.1 here e in cc) in
+        eq_id p.0 q.0 (ap id_of same) ∙ sym e)
+    | inr e ↦ false_from_ne_true (is_eq (int_cmp p.0 q.0)) (λ tied.
+        let at = id_eq p.0 q.0 tied in
+        let same = one_element _ it.numbered p q it.rise h there (λ low. omega (arith, ints, low, at)) (λ low. omega (arith, ints, low, at)) in
+        let on : is_cell s p.1 ≡ true = ap (λ (x : ℤ × StockRow). is_cell s x.1) same ∙ here in cc) ∙ sym e
+  ]
+
+  -- the cells after the upsert
+  pub puts_table : (edit : Edit) → IsAscending (λ (a b : StockRow). is_cell a b ≡ false) cells → Sets edit → are_fresh (left_by db edit) edit.news ≡ true
+      → IsTableOf stock_columns (edited db edit) (put s cells)
+  puts_table edit apart (inl (none, is)) fresh =
+      let no = has_none s cells none in
+      rw no (subst (λ (e : Edit). IsTableOf stock_columns (edited db e) (cells ++ s ∷ [])) (sym is) (appended stock_columns (db 1) cells s it))
+  puts_table edit apart (inr (q, there, here, rows, asked, is)) fresh =
+      let some : list_any (is_cell s) cells ≡ true = some_from (is_cell s) cells q.1 (value_has q there) here in
+      let all = updated (sets_at q) rows asked (subst (λ (e : Edit). are_fresh (left_by db e) e.news ≡ true) is fresh) in
+      rw some (subst (λ (e : Edit). IsTableOf stock_columns (edited db e) (changed (is_cell s) (with_places s) cells)) (sym is)
+      (replaced_values stock_columns (db 1) _ cells (is_cell s) (with_places s) it
+      (all ∙ ap (map (numbered_row stock_columns)) (same_changed (λ (p : ℤ × StockRow). is_eq (int_cmp p.0 q.0)) (λ p. is_cell s p.1) (λ p. (p.0, with_places s p.1)) it.numbered
+      (one_row apart q there here)))))
+
+  -- they have at most one rowid more
+  pub puts_low : (edit : Edit) (n : ℕ) → Sets edit → are_fresh (left_by db edit) edit.news ≡ true → suc n < 2 ^ 63 → AreLow (suc n) (db 1)
+      → AreLow n (edited db edit)
+  puts_low edit n (inl (none, is)) fresh few low = subst (λ (e : Edit). AreLow n (edited db e)) (sym is) (low_put n (db 1) new_row refl few low)
+  puts_low edit n (inr (q, there, here, rows, asked, is)) fresh few low =
+      let all = updated (sets_at q) rows asked (subst (λ (e : Edit). are_fresh (left_by db e) e.news ≡ true) is fresh) in
+      subst (λ (e : Edit). AreLow n (edited db e)) (sym is) (subst (AreLow n) (sym all)
+      (low_changed (numbered_row stock_columns) n (λ (p : ℤ × StockRow). is_eq (int_cmp p.0 q.0)) (λ p. (p.0, with_places s p.1)) (λ _. refl) it.numbered
+      (subst (AreLow n) it.rows_are (low_fewer n (suc n) (db 1) (omega arith) low))))

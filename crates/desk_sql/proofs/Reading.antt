@@ -1,7 +1,6 @@
 -- The answer of a query over one table. For Answering and Updating.
-use Rattle.std.proofs.Common.{◌≡◌, ℕ, List, [], ◌∷◌, ◌++◌, map, Bool, true, false, cond, refl, sym, ap, subst, ◌∙◌}
-use Rattle.std.specs.List.{flat_map, filter, list_all}
-use Rattle.std.specs.List.Sorted.{IsPermutation, IsSorted}
+use Rattle.std.proofs.Common.{◌≡◌, ℕ, List, [], ◌∷◌, ◌++◌, map, Bool, true, false, cond, refl, sym, ap, subst, ◌∙◌, flat_map, filter, IsPermutation, IsSorted}
+use Rattle.std.specs.List.{list_all}
 use Rattle.std.proofs.lemmas.List.Sorted.{IsPermutation-map}
 use Rattle.sqlite.specs.declared.types.Value.TheVariants.{Null}
 use Rattle.sqlite.specs.Order.{Row}
@@ -9,7 +8,9 @@ use Rattle.sqlite.specs.Term.{Term, Env, eval_all, holds}
 use Rattle.sqlite.specs.Query.{Query, IsAnswer, end, matches_as, output, Output, output_cmp}
 use Rattle.sqlite.specs.Tree.{Trees}
 use Rattle.sqlite_value.specs.declared.keys.Key.{Key}
-use Rattle.desk_sql.specs.Meanings.{sorted_rows}
+use Rattle.sqlite.specs.Program.{overlay}
+use Rattle.sqlite_trees.proofs.ListLemmas.{map-map}
+use Rattle.desk_sql.specs.Meanings.{sorted_rows, every_row}
 
 -- the row passes each test of WHERE
 abbrev pub passes : List Term → Row → Row → Bool
@@ -34,8 +35,8 @@ abbrev pub outputs_of : Query → Row → List Row → List Output
 outputs_of q params rows = map (output q) (map (env_of params) rows)
 
 map_shown : (q : Query) (params : Row) (rows : List Row) → map (λ (o : Output). o.1) (outputs_of q params rows) ≡ map (shown_of q.project params) rows
-map_shown q params [] = refl
-map_shown q params (r ∷ rows) = ap (λ more. shown_of q.project params r ∷ more) (map_shown q params rows)
+map_shown q params rows =
+    ap (map (λ (o : Output). o.1)) (map-map (output q) (env_of params) rows) ∙ map-map (λ (o : Output). o.1) (λ (r : Row). output q (env_of params r)) rows
 
 -- the rows that the query shows of those that pass, in an order that ORDER BY allows
 pub record Lists (q : Query) (params : Row) (found : List Row) (rows : List Row) : Type 0 where
@@ -54,3 +55,11 @@ lists tree tests project order db params rows a =
 pub lists_any : (q : Query) (params : Row) (found rows : List Row) → Lists q params found rows → IsPermutation (map (shown_of q.project params) found) rows
 lists_any q params found rows l =
     subst (λ xs. IsPermutation xs rows) (map_shown q params found) (subst (IsPermutation (map (λ (o : Output). o.1) (outputs_of q params found))) (sym l.shown) (IsPermutation-map (λ (o : Output). o.1) (outputs_of q params found) l.ordered l.same))
+
+-- the rows that a query shows, in any order
+pub shows_any : (tree : ℕ) (tests project : List Term) (db : Trees) (params : Row) (rows answer : List Row)
+    → IsAnswer (every_row tree tests project) (overlay db []) params answer → overlay db [] tree ≡ rows
+    → IsPermutation (map (shown_of project params) (filter (passes tests params) rows)) answer
+shows_any tree tests project db params rows answer a is =
+    subst (λ rs. IsPermutation (map (shown_of project params) (filter (passes tests params) rs)) answer) is
+    (lists_any (every_row tree tests project) params _ answer (lists tree tests project [] (overlay db []) params answer a))

@@ -12,7 +12,7 @@ use Rattle.sqlite_schema.specs.Rules.{Refers}
 use Rattle.sqlite_rules.specs.declared.error.Refusal.{Refusal}
 use Rattle.sqlite_rules.specs.Lists.{Has}
 use Rattle.sqlite_rules.specs.Calls.{ids_of}
-use Rattle.sqlite_rules.specs.Edit.{IsRefused}
+use Rattle.sqlite_rules.specs.Edit.{IsRefused, Edit, edit_of, taken_by}
 use Rattle.sqlite_rules.specs.Action.{Leads}
 use Rattle.sqlite_typing.specs.Types.{accepts_terms, accepts_program}
 use Rattle.sqlite.specs.Order.{Row}
@@ -24,9 +24,8 @@ use Rattle.sqlite.specs.Program.{overlay}
 use Rattle.sqlite.specs.Source.TheVariants.{Values}
 use Rattle.sqlite.specs.Command.{Command}
 use Rattle.sqlite.specs.Command.TheVariants.{Insert, InsertOr, Update, Delete, CreateTable, CreateIndex}
-use Rattle.sqlite.specs.Edit.{Edit, edit_of, taken_by}
 use Rattle.sqlite.specs.Rowids.TheVariants.{Chosen, Above, Given}
-use Rattle.sqlite.specs.Rows.{Outcome, Written, Inserts, Updates, Deletes, Edited, Sourced, Queried, Counter, Counts, stamped, count_of, rowids_for}
+use Rattle.sqlite.specs.Rows.{Outcome, Written, Inserts, Then, Gives, Edited, Sourced, Queried, Counter, Counts, stamped, count_of, rowids_for}
 use Rattle.sqlite.specs.Does.{Does, OnRows, WritesRows, Concludes}
 use Rattle.sqlite.specs.Effect.{Database, is_query, value_rows}
 use Rattle.sqlite.specs.Listing.{understood}
@@ -247,42 +246,39 @@ module _ (extra : List Index) (are : AllByRecursion IsExtra extra) where
     answered (Some e) (inr (inl (is, over))) = one_table tree filter project [] (overlay old.now.trees []) params over
     answered (Some e) (inr (inr (is, limit))) = let none : false ≡ true = subst (λ l. IsSome l) unlimited limit in cc
 
+    -- a command that makes a safe edit of the rows that are found
+    found_goes : (command : Command) (edit : List Row → Edit) (tell : List Row → List Row)
+        → ((out : Result Written (Option Error)) → WritesRows (task_for extra old table params) old.now.trees command out
+        → Then (Queried old.step_limit (desk_at extra old) program params) (λ rows. Then (Edited (desk_with extra) Enforced old.now.trees (edit rows))
+        (λ next. Gives (record { trees = next; rows = tell rows; last = None }))) out)
+        → ((rows : List Row) → IsAnswer (sorted_rows tree filter project []) (overlay old.now.trees []) params rows → IsSafe old.now.trees (edit rows))
+        → (stop : Option Error) → ¬ OnRows (task_for extra old table params) (mode_of old) None command old.now.trees (Err stop)
+    found_goes command edit tell does safe stop = rows_go old params table command stop (λ s h. goes s (does (Err s) h)) (λ w done.
+        let found = went (does (Ok w) done) in
+        let made = went found.2 in
+        subst (Refers All desk_schema) (sym (ap (λ (it : Written). it.trees) (same_value made.2)))
+        (made_refers extra are old.now.trees made.0 (edit found.0) (safe found.0 (found.1.answer Null)) made.1))
+      where
+        goes : (s : Option Error) → ¬ Then {B = Written} (Queried old.step_limit (desk_at extra old) program params) (λ rows.
+            Then (Edited (desk_with extra) Enforced old.now.trees (edit rows)) (λ next. Gives (record { trees = next; rows = tell rows; last = None }))) (Err s)
+        goes s (inl k) = answered k.0 k.1
+        goes s (inr (rows, given, inl k)) = edit_goes extra are old.now.trees (edit rows) (safe rows (given.answer Null)) k.0 k.1
+        goes s (inr (rows, given, inr k)) = gives_on s k.2
+
     -- an UPDATE whose edit is safe
     pub update_goes : (at : ℕ) → slice_get desk_schema.tables at ≡ Some table
         → ((rows : List Row) → IsAnswer (sorted_rows tree filter project []) (overlay old.now.trees []) params rows
         → IsSafe old.now.trees (edit_of old.now.trees table (ids_of rows) Given 1 rows))
         → (t : List ℕ) (stop : Option Error) → ¬ Does old.step_limit (mode_of old) params (desk_at extra old) t None (Update at program) (Err stop)
-    update_goes at there safe t stop h = rows_go old params table (Update at program) stop goes refers (rw there at h)
-      where
-        goes : (s : Option Error) → ¬ Updates (task_for extra old table params) program params old.now.trees (Err s)
-        goes s (inl k) = answered k.0 k.1
-        goes s (inr (rows, given, inl k)) =
-            edit_goes extra are old.now.trees (edit_of old.now.trees table (ids_of rows) Given 1 rows) (safe rows (given.answer Null)) k.0 k.1
-        goes s (inr (rows, given, inr k)) = gives_on s k.2
-
-        refers : (w : Written) → Updates (task_for extra old table params) program params old.now.trees (Ok w) → Refers All desk_schema w.trees
-        refers w done =
-            let found = went done in
-            let written = went found.2 in
-            subst (Refers All desk_schema) (sym (ap (λ (it : Written). it.trees) (same_value written.2)))
-            (made_refers extra are old.now.trees written.0 (edit_of old.now.trees table (ids_of found.0) Given 1 found.0) (safe found.0 (found.1.answer Null)) written.1)
+    update_goes at there safe t stop h =
+        found_goes (Update at program) (λ rows. edit_of old.now.trees table (ids_of rows) Given 1 rows)
+        (λ rows. (edit_of old.now.trees table (ids_of rows) Given 1 rows).news) (λ out did. did) safe stop (rw there at h)
 
     -- a DELETE whose edit is safe
     pub delete_goes : (at : ℕ) → slice_get desk_schema.tables at ≡ Some table
         → ((rows : List Row) → IsAnswer (sorted_rows tree filter project []) (overlay old.now.trees []) params rows
         → IsSafe old.now.trees (edit_of old.now.trees table (ids_of rows) Given 0 []))
         → (t : List ℕ) (stop : Option Error) → ¬ Does old.step_limit (mode_of old) params (desk_at extra old) t None (Delete at program) (Err stop)
-    delete_goes at there safe t stop h = rows_go old params table (Delete at program) stop goes refers (rw there at h)
-      where
-        goes : (s : Option Error) → ¬ Deletes (task_for extra old table params) program old.now.trees (Err s)
-        goes s (inl k) = answered k.0 k.1
-        goes s (inr (rows, given, inl k)) =
-            edit_goes extra are old.now.trees (edit_of old.now.trees table (ids_of rows) Given 0 []) (safe rows (given.answer Null)) k.0 k.1
-        goes s (inr (rows, given, inr k)) = gives_on s k.2
-
-        refers : (w : Written) → Deletes (task_for extra old table params) program old.now.trees (Ok w) → Refers All desk_schema w.trees
-        refers w done =
-            let found = went done in
-            let written = went found.2 in
-            subst (Refers All desk_schema) (sym (ap (λ (it : Written). it.trees) (same_value written.2)))
-            (made_refers extra are old.now.trees written.0 (edit_of old.now.trees table (ids_of found.0) Given 0 []) (safe found.0 (found.1.answer Null)) written.1)
+    delete_goes at there safe t stop h =
+        found_goes (Delete at program) (λ rows. edit_of old.now.trees table (ids_of rows) Given 0 [])
+        (λ rows. taken_by old.now.trees (edit_of old.now.trees table (ids_of rows) Given 0 [])) (λ out did. did) safe stop (rw there at h)

@@ -4,12 +4,12 @@ use Rattle.std.proofs.lemmas.Int.{ints}
 use Rattle.std.proofs.lemmas.Bool.{cases_Bool, eqb-false}
 use Rattle.sqlite.specs.declared.types.Value.TheVariants.{Int}
 use Rattle.sqlite.specs.Order.{Row}
-use Rattle.sqlite.specs.Edit.{Edit, edited, next_rowid}
+use Rattle.sqlite.specs.Edit.{Edit, edited, next_rowid, id_in, without_all}
 use Rattle.sqlite.specs.State.{State}
 use Rattle.sqlite_trees.specs.Tree.{Trees, rowid, put_row}
-use Rattle.sqlite_rules.specs.Edit.{id_in, without_all}
 use Rattle.sqlite_rules.proofs.ListLemmas.{all_has, all_from}
 use Rattle.sqlite_rules.proofs.TableLemmas.{put_has, without_all_has}
+use Rattle.sqlite_trees.proofs.ListLemmas.{all_weaker}
 use Rattle.desk_sql.specs.Lists.{changed}
 use Rattle.desk_sql.specs.Writable.{AreLow, HasRowids}
 use Rattle.desk_sql.proofs.Writing.{Edits}
@@ -20,8 +20,7 @@ IsLow n r = (pos 0 <ℤ id_in (rowid r)) × ((id_in (rowid r) +ℤ pos n) <ℤ p
 
 -- fewer rowids are left where more are
 pub low_fewer : (n m : ℕ) (rows : List Row) → n ≤ m → AreLow m rows → AreLow n rows
-low_fewer n m [] less low = tt
-low_fewer n m (r ∷ rows) less low = ((low.0.0, omega (arith, ints, low.0.1, less)), low_fewer n m rows less low.1)
+low_fewer n m rows less = all_weaker (IsLow m) (IsLow n) (λ r low. (low.0, omega (arith, ints, low.1, less))) rows
 
 pub rowids_fewer : (n m : ℕ) (db : Trees) → n ≤ m → HasRowids m db → HasRowids n db
 rowids_fewer n m db less it = record {

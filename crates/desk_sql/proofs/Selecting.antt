@@ -14,7 +14,7 @@ use Rattle.sqlite.specs.Listing.{understood, reads_listing, if_select, listing_s
 use Rattle.sqlite.specs.declared.error.Error.{Error}
 use Rattle.sqlite.specs.declared.error.Error.TheVariants.{QueryReturnedNoRows}
 use Rattle.sqlite_trees.specs.declared.error.StoreError.{StoreError}
-use Rattle.sqlite_trees.specs.declared.error.StoreError.TheVariants.{OutOfMemory, Io, Corrupt, Full, Broken, Unstorable}
+use Rattle.sqlite_trees.specs.declared.error.StoreError.TheVariants.{OutOfMemory}
 use Rattle.sqlite.specs.Order.{Row}
 use Rattle.sqlite.specs.Tree.{Trees}
 use Rattle.sqlite.specs.State.{State, store_error, QueriesRow, FailsToQuery, FailsToShow, IsNotRun, Shown, ShowsRows, IsUnchanged, IsRolledBack, Survives, CommitsShowing}
@@ -115,11 +115,7 @@ row_fails text params old new e other (inr h) = absurd (other h.0)
 
 pub not_store : (cause : StoreError) → store_error cause ≢ QueryReturnedNoRows
 not_store OutOfMemory e = cc
-not_store Io e = cc
-not_store Corrupt e = cc
-not_store Full e = cc
-not_store Broken e = cc
-not_store Unstorable e = cc
+not_store _ e = cc
 
 module _ (text : List ℕ) (selects : IsSelect text) (params : Row) (old new : State) where
   not_run_same : (e : Error) → e ≡ QueryReturnedNoRows → IsNotRun old new text params e → IsUnchanged old new

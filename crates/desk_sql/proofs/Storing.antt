@@ -1,31 +1,29 @@
 -- Rows that the store can hold, rowids that are free, and keys that are new. For the lemmas of each statement that writes.
-use Rattle.std.proofs.Common.{◌≡◌, ◌<◌, ◌≤◌, ◌^◌, ◌+◌, ◌+ℤ◌, ◌<ℤ◌, ℕ, ℤ, pos, negsuc, zero, suc, ◌⊎◌, inl, inr, Some, List, [], ◌∷◌, ◌++◌, map, filter, length, fold, Bool, true, false, not, ◌&&◌, ◌||◌, Less, is_eq, refl, sym, ap, ap₂, subst, ◌∙◌, arith, nat_lt, nat_le, bytes_eq, ◌==◌, sum_by}
+use Rattle.std.proofs.Common.{◌≡◌, ◌<◌, ◌≤◌, ◌^◌, ◌+◌, ◌+ℤ◌, ◌<ℤ◌, ℕ, ℤ, pos, negsuc, zero, suc, inl, inr, Some, List, [], ◌∷◌, map, filter, length, fold, Bool, true, false, not, ◌&&◌, Less, is_eq, refl, sym, ap, ap₂, subst, ◌∙◌, arith, nat_lt, nat_le, bytes_eq, ◌==◌, sum_by, ◌||◌, is_ge, is_le}
 use Rattle.std.specs.Float.{NotNan}
 use Rattle.std.specs.Float.Ieee
 use Rattle.std.specs.List.{AllByRecursion, list_all}
 use Rattle.std.proofs.lemmas.Int.{ints}
-use Rattle.std.proofs.lemmas.Bool.{and_parts}
+use Rattle.std.proofs.lemmas.Bool.{and_parts, not-true}
 use Rattle.std.proofs.lemmas.Bool.Decides.{nat_tests}
 use Rattle.std.proofs.lemmas.List.Elements.{All-from_recursion}
 use Rattle.std.proofs.lemmas.Nat.Bits.{bit_at-zero}
 use Rattle.std.specs.Int.{bit_at}
 use Rattle.sqlite_value.specs.declared.value.Value.{Value}
-use Rattle.sqlite_value.specs.declared.value.Value.TheVariants.{Null, Int, Real, Text, Blob}
+use Rattle.sqlite_value.specs.declared.value.Value.TheVariants.{Int, Real, Text}
 use Rattle.sqlite_value.specs.Order.{Row, number, bytes, exact, value_cmp}
 use Rattle.sqlite_value.specs.Keys.{first_key, plain}
 use Rattle.sqlite_trees.specs.Tree.{Trees, rowid, IsTable}
 use Rattle.sqlite_trees.specs.View.{IsStorable, IsStorableRow}
 use Rattle.sqlite_schema.specs.Rules.{equal, has_parent, table_reals, index_reals}
 use Rattle.sqlite_rules.specs.Edit.{id_in, is_taken, next_rowid, IsOversized}
-use Rattle.sqlite_rules.specs.Lists.{Has}
-use Rattle.sqlite_rules.proofs.ListLemmas.{some_from, all_has, has_kept}
+use Rattle.sqlite_rules.proofs.ListLemmas.{some_from, all_has, all_from, test_has, has_kept, has_either}
 use Rattle.sqlite_rules.proofs.ProbeLemmas.{mapped_has}
 use Rattle.sqlite.specs.Ops.{fits_i64, binary, is_false, from_truth}
 use Rattle.sqlite_sql.specs.declared.ops.BinaryOp.TheVariants.{Compare, And, Or}
 use Rattle.sqlite_sql.specs.declared.ops.CompareOp.TheVariants.{Eq, Ge, Le}
 use Rattle.sqlite_value.specs.declared.keys.Collation.TheVariants.{Binary}
 use Rattle.sqlite_value.proofs.OrderLemmas.{value_cmp-Int}
-use Rattle.std.specs.Ordering.{is_ge, is_le}
 use Rattle.sqlite.specs.Table.{Table}
 use Rattle.sqlite_sql.specs.Catalog.{entry_of}
 use Rattle.sqlite_schema.specs.declared.schema.Index.{Index}
@@ -34,9 +32,9 @@ use Rattle.desk_sql.specs.Lists.{numbered_row, IsTableOf, IsNumbered}
 use Rattle.desk_sql.specs.Rows.{whole, Tables, journey_row, Shows}
 use Rattle.desk_sql.specs.Schema.{desk_schema, index_places, desk_with, IsExtra, to_journey}
 use Rattle.desk_sql.specs.Writable.{AreLow, HasJourney}
-use Rattle.desk_sql.proofs.Keyed.{int_below, next_above, is_table}
-use Rattle.desk_sql.proofs.Tables.{id_of, value_of, own_rise}
+use Rattle.desk_sql.proofs.Keyed.{int_below, next_above, is_table, id_of, value_of, own_rise}
 use Rattle.desk_sql.proofs.Testing.{eq_whole, eq_text, int_eq, int_ge, int_le}
+use Rattle.sqlite_trees.proofs.ListLemmas.{all-map, all_from_map, all_weaker}
 
 -- Sizes.
 
@@ -51,21 +49,12 @@ int_number (negsuc n) = tt
 
 number_is : (v : Value) → is_real v ≡ false → NotNan (number v)
 unfolding Ieee.is_nan
-number_is Null e = tt
 number_is (Int n) e = int_number n
 number_is (Real x) e = absurd (cc)
-number_is (Text t) e = tt
-number_is (Blob b) e = tt
+number_is _ e = tt
 
 numbers_are : (row : Row) → list_all (λ v. not (is_real v)) row ≡ true → AllByRecursion (λ v. NotNan (number v)) row
-numbers_are [] all = tt
-numbers_are (v ∷ row) all =
-    let parts = and_parts (not (is_real v)) (list_all (λ v. not (is_real v)) row) all in
-    (number_is v (not_true (is_real v) parts.0), numbers_are row parts.1)
-  where
-    not_true : (b : Bool) → not b ≡ true → b ≡ false
-    not_true true e = absurd (cc)
-    not_true false e = refl
+numbers_are row all = all_from (λ v. NotNan (number v)) row (λ v there. number_is v (not-true (is_real v) (test_has (λ v. not (is_real v)) row v all there)))
 
 -- the row has from one to 2000 values and none is a float
 abbrev is_plain : Row → Bool
@@ -108,11 +97,6 @@ extra_fits : (table : Table) (row : Row) (i : Index) → IsExtra i → i.table �
 extra_fits table row i it of entries =
     all_has (λ (p : ℕ × List ℕ). EntryFits table row p.1) (filter (λ (p : ℕ × List ℕ). p.0 == table.tree) index_places) (i.table, i.columns) entries
     (has_kept (λ (p : ℕ × List ℕ). p.0 == table.tree) index_places (i.table, i.columns) it.place (alike i.table table.tree of))
-
-has_either : {X : Type 0} (xs ys : List X) (x : X) → Has (xs ++ ys) x → Has xs x ⊎ Has ys x
-has_either [] ys x there = inr there
-has_either (y ∷ xs) ys x (inl is) = inl (inl is)
-has_either (y ∷ xs) ys x (inr later) = elim (has_either xs ys x later) [ inl one ↦ inl (inr one) | inr two ↦ inr two ]
 
 pub held_from : (table : Table) (row : Row) → IsStorableRow (table_reals table) row
     → AllByRecursion (λ (i : Index). EntryFits table row i.columns) (filter (λ (i : Index). i.table == table.tree) desk_schema.indexes)
@@ -166,11 +150,8 @@ chosen_free columns rows xs x it =
 pub number_free : {X : Type 0} (number : X → ℕ) (row_of : X → Row) (keyed : (x : X) → rowid (row_of x) ≡ whole (number x)) (rows : List Row)
     (xs : List X) (x : X) → IsNumbered number row_of rows xs → AllByRecursion (λ y. number y < number x) xs → is_taken rows (row_of x) ≡ false
 number_free number row_of keyed rows xs x it below =
-    rw it.rows_are (untaken row_of (λ y. pos (number y)) keyed xs (pos (number x)) (ints_below xs below) (row_of x) (keyed x))
-  where
-    ints_below : (ys : List _) → AllByRecursion (λ y. number y < number x) ys → AllByRecursion (λ y. pos (number y) <ℤ pos (number x)) ys
-    ints_below [] low = tt
-    ints_below (y ∷ ys) low = (omega (arith, ints, low.0), ints_below ys low.1)
+    rw it.rows_are (untaken row_of (λ y. pos (number y)) keyed xs (pos (number x))
+    (all_weaker (λ y. number y < number x) (λ y. pos (number y) <ℤ pos (number x)) (λ y low. omega (arith, ints, low)) xs below) (row_of x) (keyed x))
 
 pub table_of : {X : Type 0} (columns : X → Row) (rows : List Row) (xs : List X) → IsTableOf columns rows xs → IsTable rows
 table_of columns rows xs it = rw it.rows_are (is_table (numbered_row columns) id_of (λ _. refl) it.numbered it.rise)
@@ -185,19 +166,12 @@ table_numbered number row_of keyed rows xs it =
 -- what holds of each value holds of each row
 pub rows_all : {X : Type 0} (columns : X → Row) (rows : List Row) (xs : List X) (Q : Row → Type 0) (R : X → Type 0) → IsTableOf columns rows xs
     → ((p : ℤ × X) → R p.1 → Q (numbered_row columns p)) → AllByRecursion R xs → AllByRecursion Q rows
-rows_all columns rows xs Q R it so all = subst (AllByRecursion Q) (sym it.rows_are) (go it.numbered (subst (AllByRecursion R) it.values_are all))
-  where
-    go : (ps : List (ℤ × _)) → AllByRecursion R (map value_of ps) → AllByRecursion Q (map (numbered_row columns) ps)
-    go [] h = tt
-    go (p ∷ ps) h = (so p h.0, go ps h.1)
+rows_all columns rows xs Q R it so all = subst (AllByRecursion Q) (sym it.rows_are) (all-map Q (numbered_row columns) it.numbered
+    (all_weaker (λ p. R (value_of p)) _ so it.numbered (all_from_map R value_of it.numbered (subst (AllByRecursion R) it.values_are all))))
 
 pub numbered_all : {X : Type 0} (row_of : X → Row) (rows : List Row) (xs : List X) (Q : Row → Type 0) (R : X → Type 0) → rows ≡ map row_of xs
     → ((x : X) → R x → Q (row_of x)) → AllByRecursion R xs → AllByRecursion Q rows
-numbered_all row_of rows xs Q R are so all = subst (AllByRecursion Q) (sym are) (go xs all)
-  where
-    go : (ys : List _) → AllByRecursion R ys → AllByRecursion Q (map row_of ys)
-    go [] h = tt
-    go (y ∷ ys) h = (so y h.0, go ys h.1)
+numbered_all row_of rows xs Q R are so all = subst (AllByRecursion Q) (sym are) (all-map Q row_of xs (all_weaker R _ so xs all))
 
 pub key_text : (a b : List ℕ) → equal (first_key plain).collation (Text a) (Text b) ≡ bytes_eq a b
 unfolding first_key
@@ -207,23 +181,20 @@ pub key_whole : (a b : ℕ) → equal (first_key plain).collation (whole a) (who
 unfolding first_key
 key_whole a b = eq_whole a b
 
-same_is : (a b : ℕ) → a ≡ b → (a == b) ≡ true
-same_is a b same = grind (arith, nat_tests)
-
 -- a row that names a journey in its first column has its parent
 pub parent_first : (db : Trees) (t : Tables) (id : ℕ) (v : Value) (rest : Row) → Shows db t → HasJourney id t
     → has_parent desk_schema.tables db (v ∷ whole id ∷ rest) (to_journey 1) ≡ true
 unfolding everything first_key
 parent_first db t id v rest shown (j, there, is) =
     some_from _ (db 6) (journey_row j) (rw shown.journey.rows_are (mapped_has journey_row t.journey j there))
-    (rw (eq_whole j.id id, same_is j.id id is) refl)
+    (rw (eq_whole j.id id, alike j.id id is) refl)
 
 pub parent_second : (db : Trees) (t : Tables) (id : ℕ) (v w : Value) (rest : Row) → Shows db t → HasJourney id t
     → has_parent desk_schema.tables db (v ∷ w ∷ whole id ∷ rest) (to_journey 2) ≡ true
 unfolding everything first_key
 parent_second db t id v w rest shown (j, there, is) =
     some_from _ (db 6) (journey_row j) (rw shown.journey.rows_are (mapped_has journey_row t.journey j there))
-    (rw (eq_whole j.id id, same_is j.id id is) refl)
+    (rw (eq_whole j.id id, alike j.id id is) refl)
 
 -- Checks.
 

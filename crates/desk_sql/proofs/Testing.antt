@@ -1,6 +1,5 @@
 -- The tests of WHERE, on the values that the desk stores. For the lemmas of each statement.
-use Rattle.std.proofs.Common.{◌≡◌, ℕ, ◌==◌, ◌&&◌, ◌||◌, pos, List, Bool, true, false, Some, is_eq, refl, ap, ◌∙◌, arith, bytes_eq, nat_le, nat_lt}
-use Rattle.std.specs.Ordering.{int_cmp, is_gt, is_ge, is_le}
+use Rattle.std.proofs.Common.{◌≡◌, ℕ, ◌==◌, ◌&&◌, ◌||◌, pos, List, Bool, true, false, Some, is_eq, refl, ap, ◌∙◌, arith, bytes_eq, nat_le, nat_lt, int_cmp, is_gt, is_ge, is_le}
 use Rattle.std.proofs.lemmas.Int.{ints}
 use Rattle.std.proofs.lemmas.Bool.Decides.{nat_tests}
 use Rattle.std.proofs.lemmas.Map.Text.{is_eq-slice_cmp}

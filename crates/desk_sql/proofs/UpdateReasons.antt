@@ -1,52 +1,60 @@
--- The effect of an UPDATE, from what its text means and what its rows obey. For each statement that updates.
-use Rattle.std.proofs.Common.{◌≡◌, ◌≤◌, ◌^◌, ◌+◌, ◌+ℤ◌, ◌<ℤ◌, ◌⊎◌, ℕ, ℤ, pos, List, [], map, drop, length, inl, inr, Ok, Bool, true, ◌&&◌, refl, sym, ap, subst, ◌∙◌, arith}
-use Rattle.std.specs.List.{AllByRecursion, list_all}
+-- The effect of an UPDATE and of the DELETE of a save-point, from what the text means and what its rows obey. For each statement that updates,
+-- and for `delete_mark`.
+use Rattle.std.proofs.Common.{◌≡◌, ◌≤◌, ◌^◌, ◌+◌, ◌+ℤ◌, ◌<ℤ◌, ◌⊎◌, ℕ, ℤ, pos, List, [], drop, length, inl, inr, Ok, Bool, true, ◌&&◌, refl, sym, ap, subst, ◌∙◌, arith, ◌∷◌, filter, not, nat_lt, ◌||◌}
+use Rattle.std.specs.List.{AllByRecursion, list_all, list_any}
 use Rattle.std.proofs.lemmas.Int.{ints}
-use Rattle.std.proofs.lemmas.Bool.{and_parts, and_from, eqb-false}
+use Rattle.std.proofs.lemmas.Bool.{and_parts, and_from, eqb-false, or_right}
 use Rattle.sqlite.specs.declared.types.Value.TheVariants.{Int}
 use Rattle.sqlite.specs.Order.{Row, column}
 use Rattle.sqlite.specs.Ops.{fits_i64}
 use Rattle.sqlite.specs.Table.{Table}
 use Rattle.sqlite.specs.Term.{Term}
-use Rattle.sqlite.specs.Tree.{Trees}
+use Rattle.sqlite.specs.Tree.{Trees, rowid, IsTable}
 use Rattle.sqlite.specs.Query.{Query, IsAnswer}
 use Rattle.sqlite.specs.Program.{overlay}
 use Rattle.sqlite.specs.Cast.{cast_row}
-use Rattle.sqlite.specs.Edit.{Edit, edit_of, edited}
+use Rattle.sqlite.specs.Edit.{Edit, edit_of, edited, id_in}
 use Rattle.sqlite.specs.Rowids.TheVariants.{Given}
 use Rattle.sqlite.specs.State.{State, ExecutesInside}
-use Rattle.sqlite_trees.specs.Tree.{rowid}
 use Rattle.sqlite_schema.specs.declared.schema.Constraint.TheVariants.{Check}
 use Rattle.sqlite_schema.specs.declared.schema.Reference.{Reference}
-use Rattle.sqlite_schema.specs.Rules.{Obeys, is_key_if_to}
+use Rattle.sqlite_schema.specs.Rules.{Obeys, is_key_if_to, agree, has_null, has_parent}
 use Rattle.sqlite_rules.specs.Lists.{Has}
 use Rattle.sqlite_rules.specs.InPlace.{AgreeAt, Twins}
 use Rattle.sqlite_rules.specs.Calls.{ids_of}
-use Rattle.sqlite_rules.specs.Edit.{id_in, are_fresh, left_by}
 use Rattle.sqlite_rules.proofs.ListLemmas.{all_has, has_got}
 use Rattle.sqlite_rules.proofs.ProbeLemmas.{mapped_has}
 use Rattle.sqlite_rules.proofs.RuleLemmas.{keeps_at}
 use Rattle.sqlite_typing.specs.Types.{accepts_program}
-use Rattle.desk_sql.specs.Schema.{desk_schema, desk_with, stock_at}
+use Rattle.desk_sql.specs.Schema.{desk_schema, desk_with, stock_at, to_journey, mark_at}
 use Rattle.desk_sql.specs.Lists.{numbered_row, IsTableOf, changed}
-use Rattle.desk_sql.specs.Rows.{Tables, Shows, StockRow, stock_columns}
+use Rattle.desk_sql.specs.Rows.{Tables, Shows, StockRow, stock_columns, whole, MarkRow, mark_columns}
 use Rattle.desk_sql.specs.Calls.{Sees, MayRun}
 use Rattle.desk_sql.specs.Writable.{AreLow, HasRowids, IsShort}
-use Rattle.desk_sql.specs.Meanings.{update, every_row}
-use Rattle.desk_sql.proofs.Refusing.{write_reason, update_goes, IsSafe}
-use Rattle.desk_sql.proofs.NewRow.{IsFit}
+use Rattle.desk_sql.specs.Meanings.{update, every_row, delete, delete_mark_query}
+use Rattle.desk_sql.proofs.Refusing.{write_reason, update_goes, IsSafe, delete_goes}
+use Rattle.desk_sql.proofs.NewRow.{IsFit, turn_safe}
 use Rattle.desk_sql.proofs.ChangedRows.{update_safe}
-use Rattle.desk_sql.proofs.Writing.{updates, Edits}
-use Rattle.desk_sql.proofs.Framing.{ready_of, makes_at}
+use Rattle.desk_sql.proofs.Writing.{updates, Edits, Lands, deletes}
+use Rattle.desk_sql.proofs.Framing.{ready_of, makes_at, with_mark}
 use Rattle.desk_sql.proofs.InsertReasons.{obeys_desk}
 use Rattle.desk_sql.proofs.Reading.{passes, shown_of}
-use Rattle.desk_sql.proofs.Tables.{value_of}
-use Rattle.desk_sql.proofs.Updating.{updated}
-use Rattle.desk_sql.proofs.Rowids.{low_changed, rowids_same, rowids_kept}
-use Rattle.desk_sql.proofs.Storing.{storable, held_from, fits_int, is_between, range_holds, range_ends}
+use Rattle.desk_sql.proofs.Keyed.{value_of}
+use Rattle.desk_sql.proofs.Updating.{Changes, updated, table_deleted}
+use Rattle.desk_sql.proofs.Rowids.{low_changed, rowids_same, rowids_kept, low_without}
+use Rattle.desk_sql.proofs.Storing.{storable, held_from, fits_int, is_between, range_holds, range_ends, table_of}
 use Rattle.desk_sql.proofs.Effects.{Says, Effect}
 use Rattle.desk_sql.proofs.Places.{Codec, Place, IsOwn}
 use Rattle.desk_sql.proofs.Places
+use Rattle.std.specs.Prelude.{⊤}
+use Rattle.sqlite.specs.Listing.{understood}
+use Rattle.sqlite_value.specs.Keys.{first_key, joined, plain}
+use Rattle.sqlite_tied.specs.Compute.{everything}
+use Rattle.desk_sql.specs.Changes.{drops_mark, is_mark_at}
+use Rattle.desk_sql.specs.Texts.{delete_mark_text}
+use Rattle.desk_sql.proofs.Testing.{eq_whole, and_true}
+
+-- The effect of an UPDATE, from what its text means and what its rows obey.
 
 -- the text replaces the rows of the tree that pass the tests by those that it shows
 abbrev pub SaysUpdate : List ℕ → ℕ → ℕ → List Term → List Term → Row → Type 0
@@ -84,14 +92,20 @@ module _ {X Y : Type 0} {at : ℕ} {table : Table} {f : Y → Row} {id : Y → �
   asks old new t count may ran =
       updates text params old new at table q count says.means place.there (ready_of old t may ran.1.was_open) ran.0
 
-  rows_after : (db : Trees) (t : Tables) (shows : Shows db t) → Seen t → (rows : List Row) → IsAnswer q (overlay db []) params rows
-      → are_fresh (left_by db (edit db rows)) (edit db rows).news ≡ true
-      → edited db (edit db rows) ≡ map f (changed (λ (y : Y). test (value y)) (lift change) (elements db t shows))
-  rows_after db t shows seen rows asked fresh =
+  changes : (db : Trees) (t : Tables) (shows : Shows db t) → Seen t
+      → Changes f id db table (elements db t shows) tests project params (λ (y : Y). test (value y)) (lift change)
+  changes db t shows seen =
       let it = place.shown db t shows in
-      updated f id codec.keyed db table (elements db t shows) (codec.rise (db table.tree) (values t) it) (codec.rows_are (db table.tree) (values t) it)
-      (place.seen db) tests project params rows (λ y. test (value y)) (lift change) test_is id_shown id_kept
-      (λ y there is. change_is t seen y (codec.has (db table.tree) (values t) it y there) is) asked fresh
+      record {
+        keyed = codec.keyed;
+        rise = codec.rise (db table.tree) (values t) it;
+        has = codec.rows_are (db table.tree) (values t) it;
+        seen = place.seen db;
+        test_is = test_is;
+        id_shown = id_shown;
+        id_kept = id_kept;
+        change_is = λ y there is. change_is t seen y (codec.has (db table.tree) (values t) it y there) is;
+      }
 
   safe : (s : State) (t : Tables) → Room s.now.trees → Fits t → Sees s t → (rows : List Row) → IsAnswer q (overlay s.now.trees []) params rows
       → IsSafe s.now.trees (edit s.now.trees rows)
@@ -99,13 +113,10 @@ module _ {X Y : Type 0} {at : ℕ} {table : Table} {f : Y → Row} {id : Y → �
       let db = s.now.trees in
       let it = place.shown db t sees.rows in
       let obeys = obeys_desk s t sees in
-      let has = codec.has (db table.tree) (values t) it in
-      update_safe f id codec.keyed db table (elements db t sees.rows) (codec.rise (db table.tree) (values t) it) (codec.rows_are (db table.tree) (values t) it)
-      (place.seen db) tests project params rows (λ y. test (value y)) (lift change) test_is id_shown id_kept
-      (λ y there is. change_is t (fits_seen t fits) y (has y there) is) (has_got desk_schema.tables at table place.there) obeys
-      (λ y there is. fit db t room fits obeys y (has y there)
+      update_safe (changes db t sees.rows (fits_seen t fits)) (has_got desk_schema.tables at table place.there) obeys
+      (λ y there is. fit db t room fits obeys y (codec.has (db table.tree) (values t) it y there)
       (subst (λ rs. Has rs (f y)) (sym (codec.rows_are (db table.tree) (values t) it)) (mapped_has f (elements db t sees.rows) y there)) is)
-      twin place.owns place.serves asked
+      twin place.owns place.serves rows asked
 
   pub changes_rows : Effect text params Seen (λ t. with_values t (changed test change (values t))) Room Fits Seen (λ n. n)
   changes_rows = record {
@@ -116,7 +127,7 @@ module _ {X Y : Type 0} {at : ℕ} {table : Table} {f : Y → Row} {id : Y → �
         makes_at old new (edit db it.0) it.2 table.tree (edited db (edit db it.0)) (with_values t (changed test change (values t))) refl refl
         (place.with_rows db t shows (edited db (edit db it.0)) (changed test change (values t))
         (codec.replaced (db table.tree) (edited db (edit db it.0)) (values t) (place.shown db t shows) test change id_kept
-        (rows_after db t shows seen it.0 it.1 it.2.applies.fresh))));
+        (updated (changes db t shows seen) it.0 it.1 it.2.applies.fresh))));
     reason = λ old new t e room may fits up ran. (
         let sees = may.sees up.is_open in
         write_reason text (update at q) params says.means says.whole refl refl old new up sees.schema
@@ -127,7 +138,7 @@ module _ {X Y : Type 0} {at : ℕ} {table : Table} {f : Y → Row} {id : Y → �
         let shows = (may.sees ran.1.was_open).rows in
         let it = asks old new t count may ran in
         elim rowids [
-          | inl low ↦ rowids_kept old new (edit db it.0) it.2 n has (subst (AreLow n) (sym (rows_after db t shows seen it.0 it.1 it.2.applies.fresh))
+          | inl low ↦ rowids_kept old new (edit db it.0) it.2 n has (subst (AreLow n) (sym (updated (changes db t shows seen) it.0 it.1 it.2.applies.fresh))
               (low_changed f n (λ y. test (value y)) (lift change) (λ y. codec.keyed (lift change y) ∙ ap Int (id_kept y) ∙ sym (codec.keyed y))
               (elements db t shows) (subst (AreLow n) (codec.rows_are (db table.tree) (values t) (place.shown db t shows)) (low n db has))))
           | inr its_own ↦ rowids_same old new (edit db it.0) it.2 n has (eqb-false 1 table.tree its_own.0) (eqb-false 3 table.tree its_own.1.0)
@@ -206,3 +217,75 @@ pub allotted : (db : Trees) (id : ℤ) (s : StockRow) → Obeys desk_schema db �
 allotted db id s obeys there =
     let was = keeps_at Check desk_schema db (stock_at 1) (numbered_row stock_columns (id, s)) (obeys.rules Check) (inr (inl refl)) there in
     range_ends s.free 0 s.allot (and_parts (is_between s.free 0 s.allot) true (and_parts (is_between s.kind 0 3) (is_between s.free 0 s.allot && true) was).1).0
+
+-- The DELETE of a save-point: no rule refuses the removal of a row that no other row refers to.
+
+-- only journeys are parents
+parent_same : (one two : Trees) (row : Row) (at : ℕ) → one 6 ≡ two 6
+    → has_parent desk_schema.tables one row (to_journey at) ≡ has_parent desk_schema.tables two row (to_journey at)
+unfolding everything first_key joined
+parent_same one two row at same = ap (λ rows. has_null (at ∷ []) row || list_any (λ parent. agree plain (0 ∷ []) parent (at ∷ []) row) rows) same
+
+parents_same : (one two : Trees) (row : Row) → one 6 ≡ two 6
+    → AllByRecursion (λ (t : Table). AllByRecursion (λ (ref : Reference). has_parent desk_schema.tables one row ref ≡ has_parent desk_schema.tables two row ref) t.references) desk_schema.tables
+parents_same one two row same =
+    let first = parent_same one two row 1 same in
+    let second = parent_same one two row 2 same in
+    (tt, (tt, (tt, (tt, ((first, tt), ((second, tt), (tt, ((second, tt), ((first, tt), tt)))))))))
+
+-- these save-points are deleted
+abbrev mark_edit : Trees → List Row → Edit
+mark_edit db rows = edit_of db (mark_at 14) (ids_of rows) Given 0 []
+
+module _ (db : Trees) (rows : List Row) (ordered : IsTable (db 14)) (obeys : Obeys desk_schema db) where
+  mark_held : (next : Trees) → Lands db (mark_edit db rows) next → (t : Table) (ref : Reference) (row : Row) → Has desk_schema.tables t → Has t.references ref
+      → has_parent desk_schema.tables db row ref ≡ true → has_parent desk_schema.tables next row ref ≡ true
+  mark_held next made t ref row known of had =
+      let journeys : next 6 ≡ db 6 = made.tables.1.1.1.0 (λ same. (let bad : 6 ≡ 14 = same in omega (arith, bad))) in
+      all_has (λ (r : Reference). has_parent desk_schema.tables next row r ≡ has_parent desk_schema.tables db row r) t.references ref
+      (all_has (λ (u : Table). AllByRecursion (λ (r : Reference). has_parent desk_schema.tables next row r ≡ has_parent desk_schema.tables db row r) u.references)
+      desk_schema.tables t (parents_same next db row journeys) known) of ∙ had
+
+  pub delete_safe : IsSafe db (mark_edit db rows)
+  delete_safe = turn_safe db (mark_edit db rows) (inr (inr (inr (inr (inr (inr (inr (inr (inl refl))))))))) ordered obeys (λ r none. absurd none) refl
+      (or_right (not (nat_lt 0 (length (ids_of rows)))) _ Places.marks.serves) (λ i known r new there none. absurd none) (λ new none. absurd none)
+      (λ next made turn. mark_held next made)
+
+abbrev place_params : ℕ → ℕ → Row
+place_params journey at = whole journey ∷ whole at ∷ []
+
+place_test : (journey at : ℕ) (p : ℤ × MarkRow)
+    → passes delete_mark_query.filter (place_params journey at) (numbered_row mark_columns p) ≡ is_mark_at journey at p.1
+place_test journey at p = simp eq_whole (simp and_true)
+
+place_says : (journey at : ℕ) → Says delete_mark_text (delete 8 delete_mark_query) (place_params journey at)
+    (λ extra. accepts_program (desk_with extra) [] delete_mark_query (place_params journey at))
+unfolding understood everything
+place_says journey at = record { means = λ _. record { is = refl; plain = (refl, refl) }; whole = λ _. refl; types = λ _. refl }
+
+pub drops : (journey at : ℕ) → Effect delete_mark_text (place_params journey at) (λ _. ⊤) (drops_mark journey at) (λ _. ⊤) (λ _. ⊤) (λ _. ⊤) (λ n. n)
+drops journey at =
+    let params = place_params journey at in
+    let says = place_says journey at in
+    record {
+      made = λ old new t count may any ran. (
+          let db = old.now.trees in
+          let shown = (may.sees ran.1.was_open).rows in
+          let it = deletes delete_mark_text params old new 8 (mark_at 14) delete_mark_query count says.means refl
+          (ready_of old t may ran.1.was_open) ran.0 in
+          makes_at old new (mark_edit db it.0) it.2 14 (edited db (mark_edit db it.0)) (drops_mark journey at t) refl refl
+          (with_mark db t shown (edited db (mark_edit db it.0)) (filter (λ m. not (is_mark_at journey at m)) t.mark)
+          (table_deleted mark_columns db (mark_at 14) t.mark shown.mark refl delete_mark_query.filter delete_mark_query.project params it.0
+          (is_mark_at journey at) (place_test journey at) (λ _. refl) it.1)));
+      reason = λ old new t e room may any up ran. (
+          let sees = may.sees up.is_open in
+          write_reason delete_mark_text (delete 8 delete_mark_query) params says.means says.whole refl refl old new up sees.schema
+          (delete_goes sees.schema.extra sees.schema.are old params (mark_at 14) 14 delete_mark_query.filter delete_mark_query.project up.unlimited
+          (says.types sees.schema.extra) 8 refl
+          (λ rows asked. delete_safe old.now.trees rows (table_of mark_columns (old.now.trees 14) t.mark sees.rows.mark) (obeys_desk old t sees))) e ran);
+      rowids = λ old new t count may any ran n has. (
+          let db = old.now.trees in
+          let it = deletes delete_mark_text params old new 8 (mark_at 14) delete_mark_query count says.means refl
+          (ready_of old t may ran.1.was_open) ran.0 in
+          rowids_kept old new (mark_edit db it.0) it.2 n has (low_without n (db 14) (ids_of it.0) has.mark));
+    }

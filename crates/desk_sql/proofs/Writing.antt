@@ -1,25 +1,23 @@
 -- The effect of a statement that writes on the desk's tables, by its meaning. For the lemmas of each statement.
-use Rattle.std.proofs.Common.{◌≡◌, ◌≢◌, ◌<◌, ◌^◌, pos, to_z, w64, fold, MatchBool, if◌then◌else◌, subst₂, ◌⊎◌, inl, inr, ℕ, ◌/◌, List, [], length, slice_get, Bool, true, false, cond, Some, None, Ok, Err, Result, refl, sym, ap, subst, ◌∙◌, arith}
+use Rattle.std.proofs.Common.{◌≡◌, ◌≢◌, ◌<◌, ◌^◌, pos, to_z, w64, fold, MatchBool, if◌then◌else◌, subst₂, ◌⊎◌, inl, inr, ℕ, ◌/◌, List, [], length, slice_get, Bool, true, false, cond, Some, None, Ok, Err, Result, refl, sym, ap, subst, ◌∙◌, arith, ℤ, ◌∷◌, ◌++◌, Option, is_lt, int_cmp}
 use Rattle.sqlite.specs.declared.types.Value.{Value}
 use Rattle.sqlite.specs.declared.types.Value.TheVariants.{Null}
 use Rattle.std.proofs.lemmas.Int.{ints}
 use Rattle.sqlite.specs.Kind.TheVariants.{Integer}
-use Rattle.sqlite.specs.Cast.{cast}
+use Rattle.sqlite.specs.Cast.{cast, cast_row}
 use Rattle.sqlite.specs.Ops.{unary}
 use Rattle.sqlite.specs.Order.{Row}
 use Rattle.sqlite.specs.Term.{Term}
 use Rattle.sqlite.specs.Table.{Table}
-use Rattle.std.specs.Ordering.{is_lt, int_cmp}
-use Rattle.sqlite.specs.Tree.{Trees}
+use Rattle.sqlite.specs.Tree.{Trees, rowid}
 use Rattle.sqlite.specs.Source.TheVariants.{Values}
 use Rattle.sqlite.specs.Command.{Command}
-use Rattle.sqlite.specs.Command.TheVariants.{Insert, Update, Delete}
-use Rattle.sqlite.specs.Edit.{Edit, edit_of, edited, taken_by, Applies}
+use Rattle.sqlite.specs.Command.TheVariants.{Insert, Update, Delete, InsertOr}
+use Rattle.sqlite.specs.Edit.{Edit, edit_of, edited, taken_by, Applies, with_rowid, are_fresh, left_by}
 use Rattle.sqlite.specs.Rowids.TheVariants.{Chosen, Above, Given}
 use Rattle.sqlite.specs.Query.{Query, IsAnswer}
 use Rattle.sqlite.specs.Program.{overlay}
 use Rattle.sqlite_rules.specs.Calls.{ids_of}
-use Rattle.sqlite_rules.specs.Edit.{are_fresh, left_by}
 use Rattle.sqlite_schema.specs.declared.schema.Index.{Index}
 use Rattle.std.specs.List.{AllByRecursion}
 use Rattle.sqlite_schema.specs.declared.schema.Action.TheVariants.{NoAction}
@@ -27,15 +25,23 @@ use Rattle.sqlite_schema.specs.declared.schema.Keys.TheVariants.{Enforced}
 use Rattle.sqlite_rules.specs.Action.{works}
 use Rattle.sqlite.specs.Does.{Tally, Does, OnRows, WritesRows, Concludes}
 use Rattle.sqlite.specs.declared.run.Mode.{Mode}
-use Rattle.sqlite.specs.Rows.{Written, Task, Inserts, Edited, CountsIn, Gives, stamped, sequence, count_of, higher, rowids_for}
-use Rattle.sqlite.specs.Effect.{Database, IsDatabase, value_rows}
+use Rattle.sqlite.specs.Rows.{Written, Task, Inserts, Edited, CountsIn, Gives, stamped, sequence, count_of, higher, rowids_for, Puts, Clears, Upserts, Judged, Tries, TriesEach, InsertsOr, shown, nothing}
+use Rattle.sqlite.specs.Effect.{Database, IsDatabase, value_rows, edit_error}
 use Rattle.sqlite.specs.Listing.{understood}
 use Rattle.sqlite.specs.State.{State, mode_of, Executes, Shows, Writes, Runs}
 use Rattle.sqlite.proofs.Callers.{statement_of, runs_as, one_step}
 use Rattle.desk_sql.specs.declared.versions.Version.TheVariants.{Two}
-use Rattle.desk_sql.specs.Schema.{desk_schema, desk_with, IsSchemaOf}
+use Rattle.desk_sql.specs.Schema.{desk_schema, desk_with, IsSchemaOf, IsExtra, stock_at}
 use Rattle.desk_sql.specs.Calls.{IsReady}
 use Rattle.desk_sql.proofs.Meaning.{Means}
+use Rattle.sqlite_schema.specs.declared.command.Conflict.TheVariants.{Abort}
+use Rattle.sqlite_schema.specs.declared.command.Upsert.{Upsert}
+use Rattle.sqlite_rules.specs.Keys.{AreConflicts}
+use Rattle.sqlite_rules.specs.declared.error.Refusal.{Refusal}
+use Rattle.sqlite.specs.declared.error.Error.{Error}
+use Rattle.desk_sql.proofs.Indexes.{are_conflicts}
+
+-- The effect of a statement that writes on the desk's tables, by its meaning.
 
 either : (b : Bool) (x : Value) → cond b x x ≡ x
 either true x = refl
@@ -137,6 +143,16 @@ module _ (text : List ℕ) (params : Row) (old new : State) (command : Command) 
         sound = ran.sound;
       }
 
+  -- and ran on the rows of a table: what it wrote, and that its one edit was made
+  pub ran_rows : (table : Table)
+      → (Does old.step_limit (mode_of old) params (record { schema = desk_with extra; trees = old.now.trees }) text None command (Ok (ran.tally, new.now))
+      → OnRows (task_for extra old table params) (mode_of old) None command old.now.trees (Ok (ran.tally, new.now)))
+      → (w : Written) × WritesRows (task_for extra old table params) old.now.trees command (Ok w)
+      × ((edit : Edit) (mid : Trees) → w.trees ≡ mid → Edited (desk_with extra) Enforced old.now.trees edit (Ok mid) → Edits old new edit)
+  ran_rows table on =
+      let done = on_rows extra old params text table ran.tally new.now command (on does_so) in
+      (done.0, done.1, λ edit mid is edited. edits_so edit done.0 done.2 mid is edited)
+
 -- the text of a statement that was run, and what it did
 pub runs_ready : (sql : List ℕ) (params : Row) (old new : State) (command : Command) (count : ℕ) → Means sql command → (ready : IsReady old)
     → Executes sql params old new (Ok count)
@@ -151,12 +167,9 @@ pub inserts : (sql : List ℕ) (params : Row) (old new : State) (at : ℕ) (tabl
     → IsReady old → Executes sql params old new (Ok count) → Edits old new (source_edit table terms width params old.now.trees)
 inserts sql params old new at table terms width count means there uncounted unstamped ready h =
     let command = Insert at (Values terms width) in
-    let extra = ready.schema.extra in
-    let text = statement_of sql (understood (desk_with extra) sql) in
-    let ran = runs_ready sql params old new command count means ready h in
-    let done = on_rows extra old params text table ran.tally new.now command (rw there at (does_so text params old new command count ready ran)) in
-    edits_so text params old new command count ready ran (source_edit table terms width params old.now.trees) done.0 done.2 done.0.trees refl
-    (insert_edits (task_for extra old table params) terms width old.now.trees done.0 uncounted unstamped done.1)
+    let it = ran_rows _ params old new command count ready (runs_ready sql params old new command count means ready h) table (λ did. rw there at did) in
+    it.2 (source_edit table terms width params old.now.trees) it.0.trees refl
+    (insert_edits (task_for ready.schema.extra old table params) terms width old.now.trees it.0 uncounted unstamped it.1)
 
 -- an UPDATE deletes the rows that its query names, and inserts those that it shows
 pub updates : (sql : List ℕ) (params : Row) (old new : State) (at : ℕ) (table : Table) (q : Query) (count : ℕ)
@@ -165,17 +178,11 @@ pub updates : (sql : List ℕ) (params : Row) (old new : State) (at : ℕ) (tabl
     → (rows : List Row) × IsAnswer q (overlay old.now.trees []) params rows × Edits old new (edit_of old.now.trees table (ids_of rows) Given 1 rows)
 updates sql params old new at table q count means there ready h =
     let command = Update at (record { lets = []; body = q }) in
-    let extra = ready.schema.extra in
-    let text = statement_of sql (understood (desk_with extra) sql) in
-    let ran = runs_ready sql params old new command count means ready h in
-    let done = on_rows extra old params text table ran.tally new.now command (rw there at (does_so text params old new command count ready ran)) in
-    let found = went done.1 in
-    let written = went found.2 in (
-      found.0,
-      found.1.answer Null,
-      edits_so text params old new command count ready ran (edit_of old.now.trees table (ids_of found.0) Given 1 found.0) done.0 done.2 written.0
-          (ap (λ (it : Written). it.trees) (same_value written.2)) written.1,
-    )
+    let it = ran_rows _ params old new command count ready (runs_ready sql params old new command count means ready h) table (λ did. rw there at did) in
+    let found = went it.1 in
+    let made = went found.2 in
+    let edit = edit_of old.now.trees table (ids_of found.0) Given 1 found.0 in
+    (found.0, found.1.answer Null, it.2 edit made.0 (ap (λ (w : Written). w.trees) (same_value made.2)) made.1)
 
 -- a DELETE deletes the rows that its query names
 pub deletes : (sql : List ℕ) (params : Row) (old new : State) (at : ℕ) (table : Table) (q : Query) (count : ℕ)
@@ -184,14 +191,100 @@ pub deletes : (sql : List ℕ) (params : Row) (old new : State) (at : ℕ) (tabl
     → (rows : List Row) × IsAnswer q (overlay old.now.trees []) params rows × Edits old new (edit_of old.now.trees table (ids_of rows) Given 0 [])
 deletes sql params old new at table q count means there ready h =
     let command = Delete at (record { lets = []; body = q }) in
-    let extra = ready.schema.extra in
-    let text = statement_of sql (understood (desk_with extra) sql) in
-    let ran = runs_ready sql params old new command count means ready h in
-    let done = on_rows extra old params text table ran.tally new.now command (rw there at (does_so text params old new command count ready ran)) in
-    let found = went done.1 in
-    let written = went found.2 in (
-      found.0,
-      found.1.answer Null,
-      edits_so text params old new command count ready ran (edit_of old.now.trees table (ids_of found.0) Given 0 []) done.0 done.2 written.0
-          (ap (λ (it : Written). it.trees) (same_value written.2)) written.1,
-    )
+    let it = ran_rows _ params old new command count ready (runs_ready sql params old new command count means ready h) table (λ did. rw there at did) in
+    let found = went it.1 in
+    let made = went found.2 in
+    let edit = edit_of old.now.trees table (ids_of found.0) Given 0 [] in
+    (found.0, found.1.answer Null, it.2 edit made.0 (ap (λ (w : Written). w.trees) (same_value made.2)) made.1)
+
+-- The effect of an upsert on stock, for any query of its DO UPDATE.
+
+-- the columns of the key
+abbrev pub target : List ℕ
+target = 1 ∷ 2 ∷ 3 ∷ 4 ∷ []
+
+-- the existing row is replaced, under its rowid, by the row that the query shows
+abbrev pub Replaces : Trees → Row → Query → Row → List Row → Edit → Type 0
+Replaces db params q new found edit =
+    (there : Row) × (more : List Row) × (found ≡ there ∷ more) × (rows : List Row)
+    × IsAnswer q (overlay db []) (params ++ rowid there ∷ shown (stock_at 1) new) rows
+    × (edit ≡ edit_of db (stock_at 1) (ids_of rows) Given 1 rows)
+
+-- the row is inserted, or replaces the row with its key
+abbrev pub IsPut : Trees → Row → Query → Row → Edit → Type 0
+IsPut db params q new edit =
+    (found : List Row) × AreConflicts (Some target) desk_schema.indexes (stock_at 1) (db 1) new found
+    × (((found ≡ []) × (edit ≡ edit_of db (stock_at 1) [] Given 0 (new ∷ []))) ⊎ Replaces db params q new found edit)
+
+abbrev pub task_of : List Index → State → Row → Task
+task_of extra old params = task_for extra old (stock_at 1) params
+
+-- an edit that puts the row leaves these trees
+abbrev pub IsPutBy : List Index → Trees → Row → Query → Row → Trees → Type 0
+IsPutBy extra db params q new next = (edit : Edit) × IsPut db params q new edit × Edited (desk_with extra) Enforced db edit (Ok next)
+
+abbrev pub clauses : Query → List Upsert
+clauses q = record { target = Some target; update = Some (record { lets = []; body = q }) } ∷ []
+
+module _ (extra : List Index) (are : AllByRecursion IsExtra extra) (old : State) (params : Row) (q : Query) where
+  clears : (new : Row) (db : Trees) (found : List Row) (out : Result Written (Option Error)) → Clears (task_of extra old params) Abort new db found out → Puts (task_of extra old params) new db out
+  clears new db [] out h = h
+  clears new db (x ∷ more) out h = h
+
+  -- the row is inserted, or the rows of the query replace those with its key
+  ends : (new : Row) (db : Trees) (w : Written) → Upserts (task_of extra old params) Abort new db (clauses q) (Ok w) → IsPutBy extra db params q new w.trees
+  ends new db w ([], conflicts, h) =
+      let edit = edit_of db (stock_at 1) [] Given 0 (new ∷ []) in
+      let all = went (clears new db h.0 (Ok w) h.2) in (
+        edit,
+        ([], are_conflicts extra are conflicts, inl (refl, refl)),
+        subst (λ (t : Trees). Edited (desk_with extra) Enforced db edit (Ok t)) (sym (ap (λ (it : Written). it.trees) (same_value all.2))) all.1,
+      )
+  ends new db w (there ∷ more, conflicts, h) =
+      let found = went h in
+      let written = went found.2 in
+      let edit = edit_of db (stock_at 1) (ids_of found.0) Given 1 found.0 in (
+        edit,
+        (there ∷ more, are_conflicts extra are conflicts, inr (there, more, refl, found.0, found.1.answer Null, refl)),
+        subst (λ (t : Trees). Edited (desk_with extra) Enforced db edit (Ok t)) (sym (ap (λ (it : Written). it.trees) (same_value written.2))) written.1,
+      )
+
+  judged : (new : Row) (db : Trees) (w : Written) (verdict : Option Refusal) → Judged (task_of extra old params) Abort (clauses q) new db verdict (Ok w)
+      → IsPutBy extra db params q new w.trees
+  judged new db w None h = ends new db w h
+  judged new db w (Some why) h = absurd (let e : ◌≡◌ {A = Result Written (Option Error)} (Ok w) (Err (Some (edit_error why))) = h in cc)
+
+  tried : (new : Row) (db : Trees) (w : Written) → Tries (task_of extra old params) Abort (clauses q) new db (Ok w) → IsPutBy extra db params q new w.trees
+  tried new db w (inl h) = absurd (let e = h.1 in cc)
+  tried new db w (inr h) = judged new db w h.0 h.2
+
+-- one row of VALUES is tried, and no count is kept
+pub tries_one : (extra : List Index) (are : AllByRecursion IsExtra extra) (old : State) (params : Row) (q : Query) (terms : List Term) (width : ℕ) (db : Trees) (source : Row) (w : Written)
+    → stamped (stock_at 1) params ≡ params → value_rows params width (length terms / width) terms ≡ source ∷ []
+    → InsertsOr (task_of extra old params) Abort (clauses q) (Values terms width) db (Ok w)
+    → IsPutBy extra db params q (with_rowid Chosen (db 1) (cast_row (stock_at 1) source)) w.trees
+tries_one extra are old params q terms width db source w unstamped rows h =
+    let given = went h in
+    let counted = went given.2 in
+    let each = went counted.2 in
+    let noted = went each.2 in
+    let first : given.0 ≡ source ∷ [] = given.1.1 ∙ ap (λ ps. value_rows ps width (length terms / width) terms) unstamped ∙ rows in
+    let tries = went (subst (λ rs. TriesEach (task_of extra old params) Abort (clauses q) rs (count_of counted.0) (nothing db) (Ok each.0)) first each.1) in
+    let new = with_rowid Chosen (db 1) (cast_row (stock_at 1) source) in
+    let trees : w.trees ≡ tries.0.trees = ap (λ (it : Written). it.trees) (same_value noted.2) ∙ same_value noted.1 ∙ ap (λ (p : Written × ℤ). p.0.trees) (same_value tries.2) in
+    subst (IsPutBy extra db params q new) (sym trees) (tried extra are old params q new db tries.0 tries.1)
+
+pub upserts : (sql : List ℕ) (params : Row) (old new : State) (terms : List Term) (width : ℕ) (q : Query) (source : Row) (count : ℕ)
+    → Means sql (InsertOr 1 Abort (Values terms width) (clauses q))
+    → stamped (stock_at 1) params ≡ params → value_rows params width (length terms / width) terms ≡ source ∷ []
+    → IsReady old → Executes sql params old new (Ok count)
+    → (edit : Edit) × IsPut old.now.trees params q (with_rowid Chosen (old.now.trees 1) (cast_row (stock_at 1) source)) edit × Edits old new edit
+upserts sql params old new terms width q source count means unstamped rows ready h =
+    let command = InsertOr 1 Abort (Values terms width) (clauses q) in
+    let it = ran_rows _ params old new command count ready (runs_ready sql params old new command count means ready h) (stock_at 1) (λ did. did) in
+    let put = tries_one ready.schema.extra ready.schema.are old params q terms width old.now.trees source it.0 unstamped rows it.1 in
+    (put.0, put.1, it.2 put.0 it.0.trees refl put.2)
+
+pub put_tree : (db : Trees) (params : Row) (q : Query) (new : Row) (edit : Edit) → IsPut db params q new edit → edit.table.tree ≡ 1
+put_tree db params q new edit (found, conflicts, inl h) = ap (λ (e : Edit). e.table.tree) h.1
+put_tree db params q new edit (found, conflicts, inr h) = ap (λ (e : Edit). e.table.tree) h.5

@@ -1,7 +1,6 @@
 -- What the rows of a step imply for the answer of the rules. For `step_outcome`.
-use Rattle.std.proofs.Common.{◌≡◌, ℕ, ◌+◌, ◌<◌, ◌≤◌, List, Option, Some, None, true, false, Bool, refl, sym, ap, subst, ◌∙◌, arith, option_map, if◌then◌else◌, nat_lt, Result, Ok}
+use Rattle.std.proofs.Common.{◌≡◌, ℕ, ◌+◌, ◌<◌, ◌≤◌, List, Option, Some, None, true, false, Bool, refl, sym, ap, subst, ◌∙◌, arith, option_map, if◌then◌else◌, nat_lt, Result, Ok, nat_cmp}
 use Rattle.std.specs.FinSet as set
-use Rattle.std.specs.Ordering.{nat_cmp}
 use Rattle.plan.specs.PlanModel.{Planned, step_count, want_at}
 use Rattle.savepoints.specs.Marks.{is_taken_in}
 use Rattle.savepoints.specs.Rules as rules
@@ -47,8 +46,7 @@ use Rattle.sql_commands.specs.Placing.{begun_as, IsSeen, SeesStand, StandsAt}
 use Rattle.sql_commands.specs.declared.step_outcome.Coming.TheVariants as coming
 use Rattle.sql_commands.specs.declared.moves.Made.{Made}
 use Rattle.sql_reads.specs.declared.plan_rows.Choice.{Choice}
-use Rattle.sql_commands.proofs.NextLemmas.{abort_next, record_seen, record_unseen, none_seen}
-use Rattle.sql_commands.proofs.StepLemmas.{IsSaid, step_next}
+use Rattle.sql_commands.proofs.StepLemmas.{abort_next, record_seen, record_unseen, none_seen, IsSaid, step_next}
 
 -- The cursor of a journey.
 
@@ -273,8 +271,7 @@ record_there s who id r is =
 
 -- the journey that a caller sees has this agent, these steps and tries, and this cursor
 pub has_stand : (s : State) (who : Option (List ℕ)) (id : ℕ) (stand : Stand) → SeesStand who id s (Some stand) → HasStand id stand s
-has_stand s who id stand here =
-    sym (ap (option_map stand_of) (record_there s who id here.0 here.1) ∙ ap Some here.2)
+has_stand s who id stand here = sym (ap (option_map stand_of) (record_there s who id here.0 here.1) ∙ ap Some here.2)
 
 -- the record that is read of it is the one that the caller sees
 pub read_seen : (s : State) (who : Option (List ℕ)) (id : ℕ) (stand : Stand) (r : Record) → SeesStand who id s (Some stand)

@@ -1,5 +1,5 @@
--- The rows of an event lead to the state with it. For the lemmas of each request.
-use Rattle.std.proofs.Common.{◌≡◌, ℕ, ◌+◌, length, Option, Some, None, IsTrue, sym, ap, subst, ◌∙◌}
+-- The rows of an event lead to the state with it, and a move to the outcome that the rules answer. For the lemmas of each request.
+use Rattle.std.proofs.Common.{◌≡◌, ℕ, ◌+◌, length, Option, Some, None, IsTrue, sym, ap, subst, ◌∙◌, ◌<◌, ◌≤◌, refl, Ok, Err}
 use Rattle.allotment.specs.Want.{Wanted}
 use Rattle.plan.specs.PlanModel.{want_at}
 use Rattle.commands.specs.Asks.{Asked}
@@ -9,8 +9,8 @@ use Rattle.commands.specs.declared.items.Cursor.{Cursor}
 use Rattle.commands.specs.declared.items.Item.{Item}
 use Rattle.commands.specs.declared.items.Item.TheVariants as item
 use Rattle.commands.specs.declared.replies.Reply.{Reply}
-use Rattle.ledger.specs.Answer.{State, kept_for, state_with}
-use Rattle.ledger.specs.Ledger.{Did, Journey, journeys, journey_at, history, is_allowed}
+use Rattle.ledger.specs.Answer.{State, kept_for, state_with, Outcome, asker, answer_within, is_request, most_events, carried_out, outcome}
+use Rattle.ledger.specs.Ledger.{Did, Journey, journeys, journey_at, history, is_allowed, fits}
 use Rattle.ledger_transitions.specs.JourneyChanges.{cursor_after}
 use Rattle.ledger_transitions.specs.Cursors.{cursor_of}
 use Rattle.ledger_transitions.proofs.Places.{transaction_fits}
@@ -23,12 +23,24 @@ use Rattle.sql_transitions.proofs.Plans.{wanted_nights, wanted_count}
 use Rattle.sql_transitions.proofs.Saving.{save_stands}
 use Rattle.sql_transitions.proofs.Taking.{transaction_stands}
 use Rattle.sql_transitions.proofs.Turning.{turn_stands}
-use Rattle.ledger.specs.Ledger.{fits}
 use Rattle.sql_writes.specs.Kinds.{Fits, LeadsTo, rows_after}
 use Rattle.sql_writes.specs.declared.events.Numbers.{Numbers}
 use Rattle.sql_writes.specs.declared.events.Event.{Event}
 use Rattle.sql_writes.specs.declared.events.Event.TheVariants.{Transaction, Compensation, Turn, Save}
-use Rattle.sql_commands.specs.Moving.{Says}
+use Rattle.sql_commands.specs.Moving.{Says, asked_for, IsDue, IsEventOf}
+use Rattle.commands.specs.declared.replies.Refusal.{Refusal}
+use Rattle.commands.specs.declared.replies.Refusal.TheVariants.{NoJourney, NoSavePoint, NoSave, Limit}
+use Rattle.commands.specs.declared.replies.Reply.TheVariants as reply
+use Rattle.ledger.specs.Replies.{Answer, refused, seen_journey, answer_move, step_choices, abort_choices, stop_choices, save_choices}
+use Rattle.saga_core.specs.declared.records.Record.{Record}
+use Rattle.desk_sql.specs.declared.meta.Meta.{Meta}
+use Rattle.sql_transitions.proofs.Keeping.{outcome-room, outcome-no_event, outcome-full, outcome-event}
+use Rattle.sql_commands.specs.Placing.{begun_as}
+use Rattle.sql_commands.specs.declared.moves.Motion.{Motion}
+use Rattle.sql_commands.specs.declared.moves.Motion.TheVariants as motion
+use Rattle.sql_commands.proofs.Executing.{IsUnmoved}
+
+-- The rows of an event lead to the state with it.
 
 -- the rows of an event, and that of its reply if there is an ask, lead to the next state
 pub leads_of : (n : Numbers) (e : Event) (ask : Option Asked) (reply : Reply) {s next : State} → ((t : Tables) → StandsFor t s → Fits n e t)
@@ -108,3 +120,99 @@ module _ (s : State) (ask : Option Asked) (reply : Reply) (id : ℕ) (a : Journe
   item_leads (item.Save p) e says is =
       subst (λ v. LeadsTo n v ask (reply_line reply) s (state_with s ask reply (Some (Did id (item.Save p)))))
       (sym says) (save_leads p is)
+
+-- The outcome of a move of a journey, by the answer of the rules.
+
+-- each request for a move keeps the limits
+move_request : (id : ℕ) (why : Motion) → IsTrue (is_request (asked_for id why))
+move_request id motion.Refused = refl
+move_request id _ = refl
+
+-- the outcome of a refused request: its reply, and that nothing changes
+abbrev pub IsRefused : State → Option Asked → ℕ → Motion → Refusal → Type 0
+IsRefused s ask id why refusal = IsUnmoved s ask (asked_for id why) (reply.Refused refusal)
+
+by_outcome : (s : State) (ask : Option Asked) (id : ℕ) (why : Motion) (refusal : Refusal)
+    → outcome s ask (asked_for id why) ≡ carried_out s ask (refused refusal) → IsRefused s ask id why refusal
+by_outcome s ask id why refusal e = record {
+  replied = sym (ap (λ (o : Outcome). o.reply) e);
+  same = ap (λ (o : Outcome). o.state) e;
+}
+
+-- a refusal of the rules is the reply, and nothing changes
+pub answered_refused : (s : State) (ask : Option Asked) (id : ℕ) (why : Motion) (refusal : Refusal) → kept_for s ask ≡ None
+    → answer_within s.ledger (asker ask) (asked_for id why) ≡ refused refusal → IsRefused s ask id why refusal
+answered_refused s ask id why refusal new answered =
+    by_outcome s ask id why refusal (outcome-no_event s ask (asked_for id why) new (ap (λ (a : Answer). a.event) answered)
+    ∙ ap (carried_out s ask) answered)
+
+-- a move of a journey that the caller does not see is refused
+unseen_answer : (s : State) (ask : Option Asked) (id : ℕ) (why : Motion) → seen_journey s.ledger (asker ask) id ≡ None
+    → answer_within s.ledger (asker ask) (asked_for id why) ≡ refused NoJourney
+unseen_answer s ask id motion.Refused e = ap (λ o. answer_move s.ledger id step_choices NoSavePoint o) e
+unseen_answer s ask id (motion.Abort p) e = ap (λ o. answer_move s.ledger id (abort_choices p) NoSavePoint o) e
+unseen_answer s ask id motion.Stop e = ap (λ o. answer_move s.ledger id stop_choices NoSavePoint o) e
+unseen_answer s ask id motion.Save e = ap (λ o. answer_move s.ledger id save_choices NoSave o) e
+
+pub unseen_refused : (s : State) (ask : Option Asked) (id : ℕ) (why : Motion) → kept_for s ask ≡ None
+    → seen_journey s.ledger (asker ask) id ≡ None → IsRefused s ask id why NoJourney
+unseen_refused s ask id why new e = answered_refused s ask id why NoJourney new (unseen_answer s ask id why e)
+
+module _ (s : State) (ask : Option Asked) (why : Motion) (counts : Meta) (id : ℕ) (r : Record) where
+  -- a refusal of the rules
+  pub due_refused : (refusal : Refusal) → IsDue s ask (asked_for id why) counts id r (Err refusal)
+      → IsRefused s ask id why refusal
+  due_refused refusal due = answered_refused s ask id why refusal due.new due.answered
+
+  -- an item for which the ledger has no room
+  pub due_full : (x : Item) → IsDue s ask (asked_for id why) counts id r (Ok x) → most_events ≤ length s.ledger
+      → IsRefused s ask id why Limit
+  due_full x due full =
+      by_outcome s ask id why Limit
+      (outcome-full s ask (asked_for id why) due.new (Did id x) (ap (λ (a : Answer). a.event) due.answered) full)
+
+  -- the cursor of the journey after an item
+  abbrev then_at : Item → Cursor
+  then_at x = cursor_after r.plan r.cursor x
+
+  -- if the ledger has room, the reply is the item
+  pub due_replied : (x : Item) → IsDue s ask (asked_for id why) counts id r (Ok x) → length s.ledger < most_events
+      → reply.Moved id x (then_at x).pos (then_at x).phase ≡ (outcome s ask (asked_for id why)).reply
+  due_replied x due room =
+      sym (ap (λ (o : Outcome). o.reply) (outcome-room s ask (asked_for id why) due.new room)
+      ∙ ap (λ (a : Answer). a.reply) due.answered)
+
+  -- the rows of an item lead to the state of the outcome
+  pub due_leads : (x : Item) (n : Numbers) (e : Event) → IsDue s ask (asked_for id why) counts id r (Ok x)
+      → length s.ledger < most_events → n.num ≡ counts.events + 1 → n.journeys ≡ counts.journeys
+      → IsEventOf id r.plan r.cursor x e
+      → LeadsTo n e ask (reply_line (reply.Moved id x (then_at x).pos (then_at x).phase)) s (outcome s ask (asked_for id why)).state
+  due_leads x n e due room num journeys_are says =
+      let within = answer_within s.ledger (asker ask) (asked_for id why) in
+      let answer : reply.Moved id x (then_at x).pos (then_at x).phase ≡ within.reply =
+      sym (ap (λ (a : Answer). a.reply) due.answered) in
+      let comes = outcome-event s ask (asked_for id why) due.new (Did id x) (move_request id why) room
+      (ap (λ (a : Answer). a.event) due.answered) in
+      let state : (outcome s ask (asked_for id why)).state
+      ≡ state_with s ask (reply.Moved id x (then_at x).pos (then_at x).phase) (Some (Did id x)) =
+      comes.1 ∙ ap (λ v. state_with s ask v (Some (Did id x))) (sym answer) in
+      subst (λ next. LeadsTo n e ask (reply_line (reply.Moved id x (then_at x).pos (then_at x).phase)) s next) (sym state)
+      (item_leads s ask (reply.Moved id x (then_at x).pos (then_at x).phase) id (begun_as r) n (then_at x) x e says
+      (record {
+        desk = due.desk;
+        new = due.new;
+        at = due.here.at;
+        may = comes.0;
+        num = num ∙ ap (λ k. k + 1) due.counted.events;
+        journeys_are = journeys_are ∙ due.counted.journeys_are;
+        cursor = ap (λ c. cursor_after r.plan c x) due.here.cursor;
+      }))
+
+  -- the same, if the cursor after the item is known
+  pub due_leads_at : (x : Item) (n : Numbers) (e : Event) (then : Cursor) → then ≡ then_at x
+      → IsDue s ask (asked_for id why) counts id r (Ok x) → length s.ledger < most_events
+      → n.num ≡ counts.events + 1 → n.journeys ≡ counts.journeys → IsEventOf id r.plan r.cursor x e
+      → LeadsTo n e ask (reply_line (reply.Moved id x then.pos then.phase)) s (outcome s ask (asked_for id why)).state
+  due_leads_at x n e then is due room num journeys_are says =
+      subst (λ (a : Cursor). LeadsTo n e ask (reply_line (reply.Moved id x a.pos a.phase)) s (outcome s ask (asked_for id why)).state)
+      (sym is) (due_leads x n e due room num journeys_are says)

@@ -1,7 +1,6 @@
 -- An item that the rules answer is allowed, and may be made at the cursor of its journey as far as numbers show. For `make`
 -- and `make_event`.
-use Rattle.std.proofs.Common.{◌≡◌, ◌+◌, ◌≤◌, ◌==◌, ℕ, List, [], ◌∷◌, Bool, true, false, if◌then◌else◌, Option, Some, None, inl, inr, refl, sym, ap, subst, ◌∙◌, arith, eqb-true, leb-true, ◌&&◌, find, min, nat_le, nat_lt, not, option_map, Ok}
-use Rattle.std.specs.Prelude.{unwrap_or}
+use Rattle.std.proofs.Common.{◌≡◌, ◌+◌, ◌≤◌, ◌==◌, ℕ, List, [], ◌∷◌, Bool, true, false, if◌then◌else◌, Option, Some, None, inl, inr, refl, sym, ap, subst, ◌∙◌, arith, eqb-true, leb-true, ◌&&◌, find, min, nat_le, nat_lt, not, option_map, Ok, unwrap_or}
 use Rattle.std.proofs.lemmas.Bool.{and_parts, or_cases}
 use Rattle.sqlite_rules.specs.Lists.{Has}
 use Rattle.sqlite_rules.proofs.ListLemmas.{has_right, test_has}
@@ -11,7 +10,7 @@ use Rattle.commands.specs.declared.items.Cause.TheVariants as cause
 use Rattle.commands.specs.declared.items.Item.{Item}
 use Rattle.commands.specs.declared.items.Item.TheVariants as item
 use Rattle.commands.specs.declared.items.Phase.{Phase}
-use Rattle.commands.specs.declared.items.Phase.TheVariants.{Run, Back, Ended, Undone}
+use Rattle.commands.specs.declared.items.Phase.TheVariants.{Run, Back}
 use Rattle.commands.specs.declared.replies.Refusal.{Refusal}
 use Rattle.commands.specs.declared.replies.Refusal.TheVariants.{Finished, NoSavePoint, NoSave}
 use Rattle.ledger.specs.Answer.{State, answer_within}
@@ -92,8 +91,7 @@ module _ (plan : Planned) (h : List Item) (f : Follows plan h) where
   asked_within : (p : ℕ) (ph : Phase) → may_turn plan h ph p ≡ true → p ≤ step_count plan
   asked_within p Run may = target_within p (asked-target plan (is_taken h) (position_of h) p None may)
   asked_within p (Back q) may = target_within p (asked-target plan (is_taken h) (position_of h) p (Some q) may)
-  asked_within p Ended may = cc
-  asked_within p Undone may = cc
+  asked_within p _ may = cc
 
   -- an item that may come
   possible : (fit : Bool) (x : Item) → may_come plan h fit x ≡ true → MayBeMade plan (cursor_of plan h) x

@@ -9,7 +9,7 @@ use Rattle.commands.specs.Limits.{most_events}
 use Rattle.commands.specs.declared.items.Item.{Item}
 use Rattle.commands.specs.declared.items.Cursor.{Cursor}
 use Rattle.commands.specs.declared.items.Phase.{Phase}
-use Rattle.commands.specs.declared.items.Phase.TheVariants.{Run, Back, Ended, Undone}
+use Rattle.commands.specs.declared.items.Phase.TheVariants.{Run, Back}
 use Rattle.ledger.specs.Answer.{State}
 use Rattle.ledger.specs.History.{is_open, is_refused_turn, phase, position_of}
 use Rattle.ledger.specs.Ledger.{Event, Loaded, Began, Did, Journey, journeys, journey_at, history, IsLegal}
@@ -44,8 +44,7 @@ below_last : (plan : Planned) (h : List Item) → Follows plan h → (p : Phase)
     → position_of h < step_count plan
 below_last plan h f Run e opened = running_below plan h f e
 below_last plan h f (Back q) e opened = (back_above plan h q f e).1
-below_last plan h f Ended e opened = cc
-below_last plan h f Undone e opened = cc
+below_last plan h f _ e opened = cc
 
 -- a journey of a legal ledger is where one may be
 pub placed : (l : List Event) → IsLegal l → length l ≤ most_events → (id : ℕ) (a : Journey) → journey_at l id ≡ Some a
@@ -65,9 +64,7 @@ placed l legal few id a at =
 -- the number of a journey is in range
 pub low_number : (l : List Event) → length l ≤ most_events → (id : ℕ) (a : Journey) → journey_at l id ≡ Some a → id ≤ most_events
 low_number l few id a at =
-    let within = (number-within (journeys l) id a at).1 in
-    let fewer = few_journeys l in
-    omega (arith, within, fewer, few)
+    omega (arith, (number-within (journeys l) id a at).1, few_journeys l, few)
 
 -- where a journey that is found is
 pub record IsInPlace (id : ℕ) (stand : Stand) : Type 0 where

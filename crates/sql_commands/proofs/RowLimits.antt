@@ -153,8 +153,7 @@ module _ (t : Tables) (s : State) (st : StandsFor t s) where
       let own : r.journey ≡ p.0 = ap (λ (x : StepRow). x.journey) told.is in
       false_from_ne_true (r.journey == length (journeys s.ledger) + 1)
       (λ on.
-      let same = eqb-true r.journey (length (journeys s.ledger) + 1) on in
-      omega (arith, same, own, number, within))))))
+      omega (arith, eqb-true r.journey (length (journeys s.ledger) + 1) on, own, number, within))))))
 
   module _ (desk : IsDesk s) where
     -- the texts of each cell fit

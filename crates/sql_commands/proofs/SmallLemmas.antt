@@ -3,7 +3,7 @@ use Rattle.std.proofs.Common.{◌≡◌, ℕ, ◌+◌, ◌-◌, ◌<◌, ◌≤�
 use Rattle.plan.specs.Limits.{most_steps}
 use Rattle.plan.specs.PlanModel.{Planned, step_count, is_plan}
 use Rattle.commands.specs.declared.items.Cause.{Cause}
-use Rattle.commands.specs.declared.items.Cause.TheVariants.{Stop, Refused, Asked}
+use Rattle.commands.specs.declared.items.Cause.TheVariants.{Refused}
 use Rattle.commands.specs.declared.items.Cursor.{Cursor}
 use Rattle.commands.specs.declared.items.Item.{Item}
 use Rattle.commands.specs.declared.items.Item.TheVariants as item
@@ -22,18 +22,15 @@ use Rattle.plan.proofs.LimitLemmas.{few_options, few_steps}
 
 -- an item that may come at a cursor is within the numbers of the plan
 pub may_within : (plan : Planned) (c : Cursor) (x : Item) → MayBeMade plan c x → IsWithin (step_count plan) c x
-may_within plan c (item.Transaction i k) may = let last = may.1.in_plan in omega arith
-may_within plan c (item.Compensation i k) may = let first = may.1.from_one in omega arith
-may_within plan c (item.Turn p cause) may = tt
-may_within plan c (item.Save p) may = tt
+may_within plan c (item.Transaction i k) may = omega (arith, may.1.in_plan)
+may_within plan c (item.Compensation i k) may = omega (arith, may.1.from_one)
+may_within plan c _ may = tt
 
 -- small numbers are stored as small numbers
 numbers_small : (pos used : ℕ) (p : Phase) → pos ≤ 2 ^ 62 → target_of p ≤ 2 ^ 62 → used ≤ 2 ^ 62
     → IsSmallCursor (cursor_written (record { pos = pos; phase = p; used = used }))
-numbers_small pos used Run a b d = (omega arith, (omega arith, (omega arith, (omega arith, tt))))
 numbers_small pos used (Back p) a b d = (omega arith, (omega arith, (omega arith, (omega arith, tt))))
-numbers_small pos used Ended a b d = (omega arith, (omega arith, (omega arith, (omega arith, tt))))
-numbers_small pos used Undone a b d = (omega arith, (omega arith, (omega arith, (omega arith, tt))))
+numbers_small pos used _ a b d = (omega arith, (omega arith, (omega arith, (omega arith, tt))))
 
 -- after a step the target is small
 up_small : (n pos : ℕ) → target_of (phase_up n pos) ≤ 2 ^ 62
@@ -55,121 +52,70 @@ down_small p pos low = go (nat_lt p pos) (p == 0)
 -- the target of a journey is small, since it is below the position
 phase_small : (c : Cursor) (p : Phase) → c.phase ≡ p → ((q : ℕ) → c.phase ≡ Back q → q < c.pos) → c.pos ≤ most_steps
     → target_of p ≤ 2 ^ 62
-phase_small c Run e above low = omega arith
-phase_small c (Back q) e above low = let below = above q e in omega arith
-phase_small c Ended e above low = omega arith
-phase_small c Undone e above low = omega arith
+phase_small c (Back q) e above low = omega (arith, above q e)
+phase_small c _ e above low = omega arith
 
 -- the target of a journey after a compensation is small
 back_small : (c : Cursor) (p : Phase) (pos : ℕ) → c.phase ≡ p → ((q : ℕ) → c.phase ≡ Back q → q < c.pos) → c.pos ≤ most_steps
     → target_of (phase_back p pos) ≤ 2 ^ 62
-back_small c Run pos e above low = omega arith
-back_small c (Back q) pos e above low = let below = above q e in down_small q pos (omega arith)
-back_small c Ended pos e above low = omega arith
-back_small c Undone pos e above low = omega arith
+back_small c (Back q) pos e above low = down_small q pos (omega (arith, above q e))
+back_small c _ pos e above low = omega arith
+
+-- the cursors after a step, after a compensation and after a turn have small numbers
+pub stepped_up_small : (steps : ℕ) (c : Cursor) → steps ≤ most_steps → IsPlacedIn steps c → c.pos < steps
+    → IsSmallCursor (cursor_written (stepped_up steps c))
+stepped_up_small steps c few placed below =
+    numbers_small (c.pos + 1) c.used (phase_up steps (c.pos + 1)) (omega arith) (up_small steps (c.pos + 1)) (omega (arith, placed.counted))
+
+pub stepped_down_small : (steps : ℕ) (c : Cursor) → steps ≤ most_steps → IsPlacedIn steps c
+    → IsSmallCursor (cursor_written (stepped_down c))
+stepped_down_small steps c few placed =
+    numbers_small (c.pos - 1) c.used (phase_back c.phase (c.pos - 1)) (omega (arith, placed.within))
+    (back_small c c.phase (c.pos - 1) refl placed.above (omega (arith, placed.within))) (omega (arith, placed.counted))
+
+turned_small : (c : Cursor) (p : ℕ) (cause : Cause) → c.pos ≤ 2 ^ 62 → c.used < 2 ^ 62 → p ≤ 2 ^ 62
+    → IsSmallCursor (cursor_written (turned_to p cause c))
+turned_small c p Refused pos used low = numbers_small c.pos (c.used + 1) (phase_down p c.pos) pos (down_small p c.pos low) (omega arith)
+turned_small c p _ pos used low = numbers_small c.pos c.used (phase_down p c.pos) pos (down_small p c.pos low) (omega arith)
+
+-- and so has the cursor after a turn to the start
+pub turned_to_start_small : (steps : ℕ) (c : Cursor) (cause : Cause) → steps ≤ most_steps → IsPlacedIn steps c
+    → IsSmallCursor (cursor_written (turned_to 0 cause c))
+turned_to_start_small steps c cause few placed = turned_small c 0 cause (omega (arith, placed.within)) placed.counted (omega arith)
 
 -- the cursor of a journey after an item has small numbers
 cursor_small : (plan : Planned) (at : Cursor) (x : Item) → IsTrue (is_plan plan) → IsPlaced plan at → MayBeMade plan at x
     → IsSmallCursor (cursor_written (cursor_after plan at x))
 cursor_small plan at (item.Transaction i c) good placed may =
-    let few = few_steps plan good in
-    let within = placed.within in
-    let counted = placed.counted in
-    numbers_small (at.pos + 1) at.used (phase_up (step_count plan) (at.pos + 1)) (omega arith)
-    (up_small (step_count plan) (at.pos + 1)) (omega arith)
+    numbers_small (at.pos + 1) at.used (phase_up (step_count plan) (at.pos + 1)) (omega (arith, few_steps plan good, placed.within))
+    (up_small (step_count plan) (at.pos + 1)) (omega (arith, placed.counted))
 cursor_small plan at (item.Compensation i c) good placed may =
-    let few = few_steps plan good in
-    let within = placed.within in
-    let counted = placed.counted in
-    numbers_small (at.pos - 1) at.used (phase_back at.phase (at.pos - 1)) (omega arith)
-    (back_small at at.phase (at.pos - 1) refl placed.above (omega arith)) (omega arith)
-cursor_small plan at (item.Turn p Stop) good placed may =
-    let few = few_steps plan good in
-    let within = placed.within in
-    let counted = placed.counted in
-    numbers_small at.pos at.used (phase_down p at.pos) (omega arith) (down_small p at.pos (omega arith)) (omega arith)
-cursor_small plan at (item.Turn p Asked) good placed may =
-    let few = few_steps plan good in
-    let within = placed.within in
-    let counted = placed.counted in
-    numbers_small at.pos at.used (phase_down p at.pos) (omega arith) (down_small p at.pos (omega arith)) (omega arith)
-cursor_small plan at (item.Turn p Refused) good placed may =
-    let few = few_steps plan good in
-    let within = placed.within in
-    let counted = placed.counted in
-    numbers_small at.pos (at.used + 1) (phase_down p at.pos) (omega arith) (down_small p at.pos (omega arith)) (omega arith)
+    stepped_down_small (step_count plan) at (omega (arith, few_steps plan good)) placed
+cursor_small plan at (item.Turn p cause) good placed may =
+    turned_small at p cause (omega (arith, few_steps plan good, placed.within)) placed.counted (omega (arith, few_steps plan good, placed.within))
 cursor_small plan at (item.Save p) good placed may =
-    let few = few_steps plan good in
-    let within = placed.within in
-    let counted = placed.counted in
-    numbers_small at.pos at.used at.phase (omega arith) (phase_small at at.phase refl placed.above (omega arith)) (omega arith)
+    numbers_small at.pos at.used at.phase (omega (arith, few_steps plan good, placed.within))
+    (phase_small at at.phase refl placed.above (omega (arith, few_steps plan good, placed.within))) (omega (arith, placed.counted))
 
 -- the numbers of an event are small
 pub event_small : (id : ℕ) (plan : Planned) (at : Cursor) (x : Item) (e : Event) → id < 2 ^ 63 → IsTrue (is_plan plan)
     → IsPlaced plan at → MayBeMade plan at x → IsEventOf id plan at x e → IsSmall e
-event_small id plan at (item.Transaction i c) e low good placed may says =
-    let few = few_steps plan good in
-    let options = few_options plan i good in
-    let has = may.1 in
-    let step = has.in_plan in
-    let last = has.last in
-    subst IsSmall (sym says.2) (record {
-      journey = low;
-      step = omega arith;
-      option = omega arith;
-      cursor = cursor_small plan at (item.Transaction i c) good placed may;
-    })
-event_small id plan at (item.Compensation i c) e low good placed may says =
-    let few = few_steps plan good in
-    let options = few_options plan i good in
-    let has = may.1 in
-    let step = has.in_plan in
-    let last = has.last in
-    subst IsSmall (sym says.2) (record {
-      journey = low;
-      step = omega arith;
-      option = omega arith;
-      cursor = cursor_small plan at (item.Compensation i c) good placed may;
-    })
-event_small id plan at (item.Turn p cause) e low good placed may says =
-    let few = few_steps plan good in
-    subst IsSmall (sym says) (record {
-      journey = low;
-      target = omega arith;
-      cursor = cursor_small plan at (item.Turn p cause) good placed may;
-    })
+event_small id plan at (item.Transaction i c) e low good placed may says = subst IsSmall (sym says.2) (record {
+  journey = low;
+  step = omega (arith, few_steps plan good, may.1.in_plan);
+  option = omega (arith, few_options plan i good, may.1.last);
+  cursor = cursor_small plan at (item.Transaction i c) good placed may;
+})
+event_small id plan at (item.Compensation i c) e low good placed may says = subst IsSmall (sym says.2) (record {
+  journey = low;
+  step = omega (arith, few_steps plan good, may.1.in_plan);
+  option = omega (arith, few_options plan i good, may.1.last);
+  cursor = cursor_small plan at (item.Compensation i c) good placed may;
+})
+event_small id plan at (item.Turn p cause) e low good placed may says = subst IsSmall (sym says) (record {
+  journey = low;
+  target = omega (arith, few_steps plan good, placed.within);
+  cursor = cursor_small plan at (item.Turn p cause) good placed may;
+})
 event_small id plan at (item.Save p) e low good placed may says =
-    let few = few_steps plan good in
-    let within = placed.within in
-    subst IsSmall (sym says) (record { journey = low; position = omega arith })
-
--- the cursors after a step and after a compensation have small numbers
-pub stepped_up_small : (steps : ℕ) (c : Cursor) → steps ≤ most_steps → IsPlacedIn steps c → c.pos < steps
-    → IsSmallCursor (cursor_written (stepped_up steps c))
-stepped_up_small steps c few placed below =
-    let counted = placed.counted in
-    numbers_small (c.pos + 1) c.used (phase_up steps (c.pos + 1)) (omega arith) (up_small steps (c.pos + 1)) (omega arith)
-
-pub stepped_down_small : (steps : ℕ) (c : Cursor) → steps ≤ most_steps → IsPlacedIn steps c
-    → IsSmallCursor (cursor_written (stepped_down c))
-stepped_down_small steps c few placed =
-    let within = placed.within in
-    let counted = placed.counted in
-    numbers_small (c.pos - 1) c.used (phase_back c.phase (c.pos - 1)) (omega arith)
-    (back_small c c.phase (c.pos - 1) refl placed.above (omega arith)) (omega arith)
-
--- and so has the cursor after a turn to the start
-pub turned_to_start_small : (steps : ℕ) (c : Cursor) (cause : Cause) → steps ≤ most_steps → IsPlacedIn steps c
-    → IsSmallCursor (cursor_written (turned_to 0 cause c))
-turned_to_start_small steps c Stop few placed =
-    let within = placed.within in
-    let counted = placed.counted in
-    numbers_small c.pos c.used (phase_down 0 c.pos) (omega arith) (down_small 0 c.pos (omega arith)) (omega arith)
-turned_to_start_small steps c Asked few placed =
-    let within = placed.within in
-    let counted = placed.counted in
-    numbers_small c.pos c.used (phase_down 0 c.pos) (omega arith) (down_small 0 c.pos (omega arith)) (omega arith)
-turned_to_start_small steps c Refused few placed =
-    let within = placed.within in
-    let counted = placed.counted in
-    numbers_small c.pos (c.used + 1) (phase_down 0 c.pos) (omega arith) (down_small 0 c.pos (omega arith)) (omega arith)
+    subst IsSmall (sym says) (record { journey = low; position = omega (arith, few_steps plan good, placed.within) })

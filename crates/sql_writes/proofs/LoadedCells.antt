@@ -40,14 +40,13 @@ use Rattle.desk_sql.specs.Writable.{HasRowids, IsShort}
 use Rattle.desk_sql.specs.Meanings.{update}
 use Rattle.desk_sql.specs.declared.stock.NightRange.{NightRange}
 use Rattle.desk_sql.proofs.Meaning.{Means}
-use Rattle.desk_sql.proofs.Writing.{went, same_value, task_for, cast_null, does_so, runs_ready}
+use Rattle.desk_sql.proofs.Writing.{went, same_value, target, task_for, cast_null, does_so, runs_ready}
 use Rattle.desk_sql.proofs.Inserting.{cast_int}
 use Rattle.desk_sql.proofs.Reading.{passes, shown_of, lists, lists_any}
 use Rattle.desk_sql.proofs.Testing.{eq_whole, eq_text, ge_whole, le_whole, and_true}
 use Rattle.desk_sql.proofs.Framing.{ready_of}
-use Rattle.desk_sql.proofs.Tables.{value_of}
+use Rattle.desk_sql.proofs.Keyed.{value_of}
 use Rattle.desk_sql.proofs.Putting.{put_params}
-use Rattle.desk_sql.proofs.Upserting.{target}
 use Rattle.desk_sql.proofs.UpdateReasons.{stock_fit, kept_kind, twin_four, low_fits}
 use Rattle.desk_sql.proofs.Storing.{range_holds, rows_all}
 use Rattle.sqlite_value.proofs.KeyLemmas.{first_key-plain}

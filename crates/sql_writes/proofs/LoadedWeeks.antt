@@ -32,7 +32,7 @@ use Rattle.desk_sql.proofs.Effects.{Effect}
 use Rattle.desk_sql.proofs.Writing.{inserts, source_edit, cast_null, Edits}
 use Rattle.desk_sql.proofs.Inserting.{cast_int}
 use Rattle.desk_sql.proofs.Framing.{ready_of, makes_at, with_stock}
-use Rattle.desk_sql.proofs.Tables.{appended}
+use Rattle.desk_sql.proofs.Keyed.{appended}
 use Rattle.desk_sql.proofs.Refusing.{write_reason, insert_goes, IsSafe}
 use Rattle.desk_sql.proofs.InsertReasons.{obeys_desk}
 use Rattle.desk_sql.proofs.NewRow.{IsFit}

@@ -26,8 +26,7 @@ use Rattle.sqlite.specs.Edit.{Edit, edited}
 use Rattle.desk_sql.specs.Schema.{desk_schema, stock_at}
 use Rattle.desk_sql.proofs.Refusing.{IsSafe}
 use Rattle.desk_sql.proofs.NewRow.{IsFit, desk_apart, same_number}
-use Rattle.desk_sql.proofs.Upserting.{target}
-use Rattle.desk_sql.proofs.Writing.{Lands}
+use Rattle.desk_sql.proofs.Writing.{target, Lands}
 
 -- the insertion of rows of stock
 abbrev pub stock_edit : List Row → Edit

@@ -1,7 +1,7 @@
 -- The row that is read is one under the key; no row means that there is none.
 use Rattle.std.proofs.Common.{rules}
 use Rattle.desk_sql.proofs.Asking.{one_absent, one_found, one_unasked, one_unread}
-use Rattle.desk_sql.proofs.KeptReplies.{finds_answer}
+use Rattle.desk_sql.proofs.DeskQueries.{finds_answer}
 use Rattle.desk_sql.proofs.answers.find_answer.Goals as goal
 
 pub first_row-requires : goal.first_row-requires

@@ -1,7 +1,7 @@
 -- The row that is read is one of the name; no row means that there is none.
 use Rattle.std.proofs.Common.{rules}
 use Rattle.desk_sql.proofs.Asking.{one_absent, one_found, one_unasked, one_unread}
-use Rattle.desk_sql.proofs.LoadedBatches.{finds_batch}
+use Rattle.desk_sql.proofs.DeskQueries.{finds_batch}
 use Rattle.desk_sql.proofs.batches.find_batch.Goals as goal
 
 pub first_row-requires : goal.first_row-requires

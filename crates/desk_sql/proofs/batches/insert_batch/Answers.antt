@@ -6,8 +6,7 @@ use Rattle.desk_sql.proofs.Writing.{pos_is}
 use Rattle.desk_sql.proofs.batches.insert_batch.Goals as goal
 
 pub returns : goal.returns
-returns g c =
-    record {
-      writes = numbered (loads_batch (record { name = c.args.name.now; num = c.args.num; content = c.args.content.now })) (λ n. omega arith)
-          (simp (pos_is c.args.num c.requires, c.as_bytes.ensures.value) at c.execute.ensures.runs) (search rules);
-    }
+returns g c = record {
+  writes = numbered (loads_batch (record { name = c.args.name.now; num = c.args.num; content = c.args.content.now })) (λ n. omega arith)
+      (simp (pos_is c.args.num c.requires, c.as_bytes.ensures.value) at c.execute.ensures.runs) (search rules);
+}

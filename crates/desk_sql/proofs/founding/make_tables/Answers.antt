@@ -5,10 +5,10 @@ use Rattle.sqlite.specs.Held.{state}
 use Rattle.sqlite.specs.State.{HasCleanDisk, State}
 use Rattle.desk_sql.specs.Calls.{Builds, Makes}
 use Rattle.desk_sql.specs.Indexing.{MayIndex, MakesIndex, AreShortAgents}
-use Rattle.desk_sql.specs.Schema.{no_schema, first_schema, seven_schema, desk_schema}
+use Rattle.desk_sql.specs.Schema.{desk_schema}
 use Rattle.desk_sql.specs.Rows.{no_rows}
 use Rattle.desk_sql.proofs.AgentIndex.{indexed_makes}
-use Rattle.desk_sql.proofs.CreateReasons.{Stage, fails_after, reason_since, stage_then}
+use Rattle.desk_sql.proofs.CreateReasons.{fails_after, reason_since, stage_then, staged}
 use Rattle.desk_sql.proofs.Making.{sees_none, then_build}
 use Rattle.desk_sql.proofs.Quieting.{survives_twice}
 use Rattle.desk_sql.proofs.founding.make_tables.Goals as goal
@@ -27,18 +27,15 @@ makes_none a b c built it = indexed_makes b c no_rows it (sees_none b built.made
 
 pub returns-clause-made : goal.returns-clause-made
 returns-clause-made g c clean start =
-    let a = state g.S.Store c.args.tx.now.conn.now in
-    let b = state g.S.Store c.make_first.new.tx.conn.now in
-    let d = state g.S.Store c.make_next.new.tx.conn.now in
-    let e = state g.S.Store c.make_last.new.tx.conn.now in
-    let one : Stage a b no_schema first_schema = record { survives = c.make_first.ensures.goes.survives; made = c.in_ok-make_first.ensures.made } in
-    let two : Stage b d first_schema seven_schema = record { survives = c.make_next.ensures.goes.survives; made = c.in_ok-make_next.ensures.made } in
-    let three : Stage d e seven_schema desk_schema = record { survives = c.make_last.ensures.goes.survives; made = c.in_ok-make_last.ensures.made } in
+    let one = staged c.make_first.ensures.goes.survives c.in_ok-make_first.ensures.made in
+    let two = staged c.make_next.ensures.goes.survives c.in_ok-make_next.ensures.made in
+    let three = staged c.make_last.ensures.goes.survives c.in_ok-make_last.ensures.made in
     let f = state g.S.Store c.add_index.new.tx.conn.now in
+    let e = state g.S.Store c.make_last.new.tx.conn.now in
     let at_f : HasCleanDisk f = omega (arith, c.insert_meta.ensures.goes.survives.clean) in
     let at_e : HasCleanDisk e = omega (arith, at_f, c.add_index.ensures.goes.survives.clean) in
     let built = (stage_then (stage_then one two) three).made at_e start in
-    let mid = makes_none a e f built (c.in_ok-add_index.ensures.made at_f (indexable a e built)) in
+    let mid = makes_none _ _ f built (c.in_ok-add_index.ensures.made at_f (indexable _ _ built)) in
     let last = c.in_ok-insert_meta.ensures.made clean no_rows (record { inside = mid.inside; sees = λ _. mid.sees }) refl in
     record {
       was_open = built.was_open;
@@ -56,53 +53,41 @@ returns-in_err-make_first-clause-reason g c clean start up =
 
 pub returns-in_err-make_next-clause-reason : goal.returns-in_err-make_next-clause-reason
 returns-in_err-make_next-clause-reason g c clean start up =
-    let a = state g.S.Store c.args.tx.now.conn.now in
-    let b = state g.S.Store c.make_first.new.tx.conn.now in
-    let one : Stage a b no_schema first_schema = record { survives = c.make_first.ensures.goes.survives; made = c.in_ok-make_first.ensures.made } in
+    let one = staged c.make_first.ensures.goes.survives c.in_ok-make_first.ensures.made in
     let reason = fails_after c.in_err-make_next.field-0.0 one c.make_next.ensures.goes.survives
-    (λ clean built up. c.in_err-make_next.ensures.reason clean (then_build a b first_schema built) up) clean start up in
+    (λ clean built up. c.in_err-make_next.ensures.reason clean (then_build _ _ _ built) up) clean start up in
     search rules
 
 pub returns-in_err-make_last-clause-reason : goal.returns-in_err-make_last-clause-reason
 returns-in_err-make_last-clause-reason g c clean start up =
-    let a = state g.S.Store c.args.tx.now.conn.now in
-    let b = state g.S.Store c.make_first.new.tx.conn.now in
-    let d = state g.S.Store c.make_next.new.tx.conn.now in
-    let one : Stage a b no_schema first_schema = record { survives = c.make_first.ensures.goes.survives; made = c.in_ok-make_first.ensures.made } in
-    let two : Stage b d first_schema seven_schema = record { survives = c.make_next.ensures.goes.survives; made = c.in_ok-make_next.ensures.made } in
+    let one = staged c.make_first.ensures.goes.survives c.in_ok-make_first.ensures.made in
+    let two = staged c.make_next.ensures.goes.survives c.in_ok-make_next.ensures.made in
     let reason = fails_after c.in_err-make_last.field-0.0 (stage_then one two) c.make_last.ensures.goes.survives
-    (λ clean built up. c.in_err-make_last.ensures.reason clean (then_build a d seven_schema built) up) clean start up in
+    (λ clean built up. c.in_err-make_last.ensures.reason clean (then_build _ _ _ built) up) clean start up in
     search rules
 
 pub returns-in_err-add_index-clause-reason : goal.returns-in_err-add_index-clause-reason
 returns-in_err-add_index-clause-reason g c clean start up =
-    let a = state g.S.Store c.args.tx.now.conn.now in
-    let b = state g.S.Store c.make_first.new.tx.conn.now in
-    let d = state g.S.Store c.make_next.new.tx.conn.now in
-    let e = state g.S.Store c.make_last.new.tx.conn.now in
-    let one : Stage a b no_schema first_schema = record { survives = c.make_first.ensures.goes.survives; made = c.in_ok-make_first.ensures.made } in
-    let two : Stage b d first_schema seven_schema = record { survives = c.make_next.ensures.goes.survives; made = c.in_ok-make_next.ensures.made } in
-    let three : Stage d e seven_schema desk_schema = record { survives = c.make_last.ensures.goes.survives; made = c.in_ok-make_last.ensures.made } in
+    let one = staged c.make_first.ensures.goes.survives c.in_ok-make_first.ensures.made in
+    let two = staged c.make_next.ensures.goes.survives c.in_ok-make_next.ensures.made in
+    let three = staged c.make_last.ensures.goes.survives c.in_ok-make_last.ensures.made in
     let reason = fails_after c.in_err-add_index.field-0.0 (stage_then (stage_then one two) three) c.add_index.ensures.goes.survives
-    (λ clean built up. c.in_err-add_index.ensures.reason clean (indexable a e built) (no_agents a e built) up) clean start up in
+    (λ clean built up. c.in_err-add_index.ensures.reason clean (indexable _ _ built) (no_agents _ _ built) up) clean start up in
     search rules
 
 pub returns-in_err-insert_meta-clause-reason : goal.returns-in_err-insert_meta-clause-reason
 returns-in_err-insert_meta-clause-reason g c clean start up =
-    let a = state g.S.Store c.args.tx.now.conn.now in
-    let b = state g.S.Store c.make_first.new.tx.conn.now in
-    let d = state g.S.Store c.make_next.new.tx.conn.now in
+    let one = staged c.make_first.ensures.goes.survives c.in_ok-make_first.ensures.made in
+    let two = staged c.make_next.ensures.goes.survives c.in_ok-make_next.ensures.made in
+    let three = staged c.make_last.ensures.goes.survives c.in_ok-make_last.ensures.made in
     let e = state g.S.Store c.make_last.new.tx.conn.now in
     let f = state g.S.Store c.add_index.new.tx.conn.now in
     let h = state g.S.Store c.insert_meta.new.tx.conn.now in
-    let one : Stage a b no_schema first_schema = record { survives = c.make_first.ensures.goes.survives; made = c.in_ok-make_first.ensures.made } in
-    let two : Stage b d first_schema seven_schema = record { survives = c.make_next.ensures.goes.survives; made = c.in_ok-make_next.ensures.made } in
-    let three : Stage d e seven_schema desk_schema = record { survives = c.make_last.ensures.goes.survives; made = c.in_ok-make_last.ensures.made } in
     let at_f : HasCleanDisk f = omega (arith, clean, c.insert_meta.ensures.goes.survives.clean) in
     let reason = fails_after c.in_err-insert_meta.field-0.0 (stage_then (stage_then one two) three)
     (survives_twice e f h c.add_index.ensures.goes.survives c.insert_meta.ensures.goes.survives)
     (λ clean built up.
-    let mid = makes_none a e f built (c.in_ok-add_index.ensures.made at_f (indexable a e built)) in
+    let mid = makes_none _ e f built (c.in_ok-add_index.ensures.made at_f (indexable _ e built)) in
     reason_since e f h c.in_err-insert_meta.field-0.0 c.add_index.ensures.goes.survives.counts
     (c.in_err-insert_meta.ensures.reason clean no_rows (record { inside = mid.inside; sees = λ _. mid.sees }) refl
     (record { is_open = mid.is_open; unlimited = c.add_index.ensures.goes.survives.limit ∙ up.unlimited }))) clean start up in

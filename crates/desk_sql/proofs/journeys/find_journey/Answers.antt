@@ -2,7 +2,7 @@
 use Rattle.std.proofs.Common.{rules}
 use Rattle.desk_sql.specs.declared.versions.Version.TheVariants.{Two}
 use Rattle.desk_sql.proofs.Asking.{one_absent, one_found, one_unasked, one_unread}
-use Rattle.desk_sql.proofs.JourneyQueries.{finds_journey}
+use Rattle.desk_sql.proofs.DeskQueries.{finds_journey}
 use Rattle.desk_sql.proofs.Writing.{pos_is}
 use Rattle.desk_sql.proofs.journeys.find_journey.Goals as goal
 

@@ -1,7 +1,7 @@
 -- The row that is read is the first of the query's answer; no row means that there is none.
 use Rattle.std.proofs.Common.{rules}
 use Rattle.desk_sql.proofs.Asking.{one_absent, one_found, one_unasked, one_unread}
-use Rattle.desk_sql.proofs.JourneyQueries.{finds_unfinished}
+use Rattle.desk_sql.proofs.DeskQueries.{finds_unfinished}
 use Rattle.desk_sql.proofs.Writing.{pos_is}
 use Rattle.desk_sql.proofs.journeys.first_unfinished.Goals as goal
 

@@ -6,8 +6,7 @@ use Rattle.desk_sql.proofs.Writing.{pos_is}
 use Rattle.desk_sql.proofs.marks.insert_mark.Goals as goal
 
 pub returns : goal.returns
-returns g c =
-    record {
-      writes = numbered (saves_mark c.args.journey c.args.pos) (λ n. omega arith)
-          (simp (pos_is c.args.journey c.requires.journey, pos_is c.args.pos c.requires.pos) at c.execute.ensures.runs) (search rules);
-    }
+returns g c = record {
+  writes = numbered (saves_mark c.args.journey c.args.pos) (λ n. omega arith)
+      (simp (pos_is c.args.journey c.requires.journey, pos_is c.args.pos c.requires.pos) at c.execute.ensures.runs) (search rules);
+}

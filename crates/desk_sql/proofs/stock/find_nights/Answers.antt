@@ -1,7 +1,7 @@
 -- The nights that are read of the rows are the query's answer.
 use Rattle.std.proofs.Common.{rules}
 use Rattle.desk_sql.proofs.Asking.{all_found, all_unasked, all_unread}
-use Rattle.desk_sql.proofs.StockQueries.{finds_nights}
+use Rattle.desk_sql.proofs.DeskQueries.{finds_nights}
 use Rattle.desk_sql.proofs.Writing.{pos_is}
 use Rattle.desk_sql.proofs.stock.find_nights.Goals as goal
 

@@ -1,6 +1,5 @@
 -- The outcome of each command is that of its request.
-use Rattle.std.proofs.Common.{sym, subst}
-use Rattle.std.specs.Option.{option_copied}
+use Rattle.std.proofs.Common.{sym, subst, option_copied}
 use Rattle.commands.specs.Orders.{request_of}
 use Rattle.sql_commands.specs.Executing.{Replies}
 use Rattle.sql_commands.specs.Failing.{IsNewTo}

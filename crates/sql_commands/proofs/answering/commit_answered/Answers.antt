@@ -1,6 +1,5 @@
 -- With an ask there is one more row, that of its reply.
-use Rattle.std.proofs.Common.{inl, subst, sym, ◌∙◌, arith}
-use Rattle.std.specs.Option.{option_copied}
+use Rattle.std.proofs.Common.{inl, subst, sym, ◌∙◌, arith, option_copied}
 use Rattle.commands.specs.Texts.{reply_line}
 use Rattle.desk_sql.proofs.Quieting.{quiet_alone}
 use Rattle.desk_sql.proofs.Rowids.{rowids_fewer}

@@ -1,9 +1,8 @@
 -- The reply that is kept under the key is found, or that the key is new.
-use Rattle.std.proofs.Common.{Some, None, refl, sym, subst}
-use Rattle.std.specs.Option.{option_copied}
+use Rattle.std.proofs.Common.{Some, None, refl, sym, subst, option_copied}
 use Rattle.sql_reads.proofs.ReadLemmas.{found_rows, no_read, query_fails, read_ok, read_so}
 use Rattle.sql_commands.specs.Answering.{Finds}
-use Rattle.sql_commands.proofs.AnswerLemmas.{kept_line, known_reply, new_key, reply_texts}
+use Rattle.sql_commands.proofs.EventCommits.{kept_line, known_reply, new_key, reply_texts}
 use Rattle.sql_commands.proofs.answering.find_reply.Goals as goal
 
 -- there is no ask

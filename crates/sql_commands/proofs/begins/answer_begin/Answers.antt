@@ -1,10 +1,8 @@
 -- The rows of a new journey lead to the outcome of its begin.
-use Rattle.std.proofs.Common.{◌<◌, ◌≤◌, ◌∙◌, length, IsTrue, refl, sym, subst, arith, rules}
-use Rattle.std.specs.Option.{option_copied}
+use Rattle.std.proofs.Common.{◌<◌, ◌≤◌, ◌∙◌, length, IsTrue, refl, sym, subst, arith, rules, option_copied}
 use Rattle.commands.specs.Names.{is_agent}
 use Rattle.ledger.specs.Answer.{most_events}
-use Rattle.sql_commands.proofs.AnswerLemmas.{begin_full}
-use Rattle.sql_commands.proofs.EventCommits.{begin_leads_on}
+use Rattle.sql_commands.proofs.EventCommits.{begin_full, begin_leads_on}
 use Rattle.sql_commands.proofs.Executing.{commit_fails, commits, reads_alone, reads_fail, reads_then}
 use Rattle.sql_commands.proofs.begins.answer_begin.Goals as goal
 

@@ -1,7 +1,7 @@
 -- The kept reply is found, or that none is kept.
 use Rattle.std.proofs.Common.{[]}
 use Rattle.sql_reads.proofs.ReadLemmas.{found_rows, query_fails, read_ok, read_so}
-use Rattle.sql_commands.proofs.AnswerLemmas.{kept_line, kept_reply, none_kept, reply_texts}
+use Rattle.sql_commands.proofs.EventCommits.{kept_line, kept_reply, none_kept, reply_texts}
 use Rattle.sql_commands.proofs.kept_replies.read_kept.Goals as goal
 
 -- no row: nothing is kept

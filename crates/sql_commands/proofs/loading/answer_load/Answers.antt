@@ -1,6 +1,5 @@
 -- The reply to a known name depends on its text, and the reply to a new name is that of the load.
-use Rattle.std.proofs.Common.{◌≡◌, ◌∙◌, sym, subst, rules, None}
-use Rattle.std.specs.Option.{option_copied}
+use Rattle.std.proofs.Common.{◌≡◌, ◌∙◌, sym, subst, rules, None, option_copied}
 use Rattle.commands.specs.Request.{Load}
 use Rattle.sql_reads.proofs.ReadLemmas.{also_ok, read_both}
 use Rattle.sql_commands.specs.Loading.{TellsName, IsTextOf, AnswersKnown}

@@ -9,5 +9,4 @@ returns-in-Ok g c =
     (λ s desk at. name_told at.tables s at.stands desk c.args.name.now c.in-Ok.found at.found)
 
 pub returns-in-Err : goal.returns-in-Err
-returns-in-Err g c =
-    query_fails c.in-Err.ensures.queries c.fault_of.ensures.memory (λ t s st desk spelled _. tt)
+returns-in-Err g c = query_fails c.in-Err.ensures.queries c.fault_of.ensures.memory (λ t s st desk spelled _. tt)

@@ -1,6 +1,5 @@
 -- The rows of the batch lead to the outcome of the load, unless the ledger is full.
-use Rattle.std.proofs.Common.{◌<◌, ◌≤◌, ◌∙◌, length, refl, ap, arith, rules}
-use Rattle.std.specs.Option.{option_copied}
+use Rattle.std.proofs.Common.{◌<◌, ◌≤◌, ◌∙◌, length, refl, ap, arith, rules, option_copied}
 use Rattle.ledger.specs.Answer.{most_events}
 use Rattle.sql_model.specs.ExpectedRows.{batch_text}
 use Rattle.sql_commands.proofs.EventCommits.{load_leads_on}

@@ -1,6 +1,5 @@
 -- If no row is below what is held, the cells are loaded; else the batch is refused.
-use Rattle.std.proofs.Common.{◌≡◌, sym, subst, rules}
-use Rattle.std.specs.Option.{option_copied}
+use Rattle.std.proofs.Common.{◌≡◌, sym, subst, rules, option_copied}
 use Rattle.sql_commands.specs.Loading.{HavePlaces, TellsBelow}
 use Rattle.sql_commands.proofs.Executing.{reads_alone, reads_fail, reads_then}
 use Rattle.sql_commands.proofs.LoadComes.{below_comes}

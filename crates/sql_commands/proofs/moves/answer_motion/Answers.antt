@@ -1,6 +1,5 @@
 -- What the rules answer, by the record that is read, is executed.
-use Rattle.std.proofs.Common.{◌≡◌, Err, subst, rules}
-use Rattle.std.specs.Option.{option_copied}
+use Rattle.std.proofs.Common.{◌≡◌, Err, subst, rules, option_copied}
 use Rattle.commands.specs.declared.replies.Fault.TheVariants.{Store}
 use Rattle.ledger.specs.Answer.{asker}
 use Rattle.sql_commands.specs.Executing.{Replies}

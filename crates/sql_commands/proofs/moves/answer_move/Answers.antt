@@ -1,8 +1,7 @@
 -- A journey that the caller sees is moved, and any other is refused.
-use Rattle.std.proofs.Common.{rules}
-use Rattle.std.specs.Option.{option_copied}
+use Rattle.std.proofs.Common.{rules, option_copied}
 use Rattle.sql_reads.proofs.ReadLemmas.{read_both}
-use Rattle.sql_commands.proofs.DueLemmas.{unseen_refused}
+use Rattle.sql_commands.proofs.LeadLemmas.{unseen_refused}
 use Rattle.sql_commands.proofs.Executing.{reads_alone, reads_fail, reads_then, then_fails}
 use Rattle.sql_commands.proofs.moves.answer_move.Goals as goal
 

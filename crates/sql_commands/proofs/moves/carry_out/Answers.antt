@@ -1,8 +1,7 @@
 -- A refusal of the rules is the reply, and an item is written.
-use Rattle.std.proofs.Common.{subst}
-use Rattle.std.specs.Option.{option_copied}
+use Rattle.std.proofs.Common.{subst, option_copied}
 use Rattle.sql_commands.specs.Moving.{IsDue, asked_for}
-use Rattle.sql_commands.proofs.DueLemmas.{due_refused}
+use Rattle.sql_commands.proofs.LeadLemmas.{due_refused}
 use Rattle.sql_commands.proofs.Executing.{answers_alone, executes_where}
 use Rattle.sql_commands.proofs.moves.carry_out.Goals as goal
 

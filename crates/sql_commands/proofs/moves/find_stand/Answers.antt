@@ -1,6 +1,5 @@
 -- A caller who sees the journeys of its agent sees the cursor of a journey.
-use Rattle.std.proofs.Common.{◌≡◌, true, false, sym, ◌∙◌, rules, arith}
-use Rattle.std.specs.Option.{option_copied}
+use Rattle.std.proofs.Common.{◌≡◌, true, false, sym, ◌∙◌, rules, arith, option_copied}
 use Rattle.ledger.specs.Answer.{asker}
 use Rattle.sql_reads.proofs.GoodPlans.{not_both}
 use Rattle.sql_reads.proofs.ReadLemmas.{read_err, read_never, read_ok}

@@ -1,6 +1,5 @@
 -- An item that the rules answer may be made, and is written.
-use Rattle.std.proofs.Common.{◌≡◌, false, rules}
-use Rattle.std.specs.Option.{option_copied}
+use Rattle.std.proofs.Common.{◌≡◌, false, rules, option_copied}
 use Rattle.ledger.specs.Answer.{asker}
 use Rattle.sql_reads.proofs.GoodPlans.{not_both}
 use Rattle.sql_commands.proofs.Executing.{executes_where, fails_alone}

@@ -1,8 +1,7 @@
 -- The rows of an item lead to the outcome of its request, unless the ledger is full.
-use Rattle.std.proofs.Common.{◌<◌, ◌≤◌, length, refl, arith, rules}
-use Rattle.std.specs.Option.{option_copied}
+use Rattle.std.proofs.Common.{◌<◌, ◌≤◌, length, refl, arith, rules, option_copied}
 use Rattle.ledger.specs.Answer.{most_events}
-use Rattle.sql_commands.proofs.DueLemmas.{due_full}
+use Rattle.sql_commands.proofs.LeadLemmas.{due_full}
 use Rattle.sql_commands.proofs.EventCommits.{made_leads}
 use Rattle.sql_commands.proofs.Executing.{answers_alone, commit_fails, commits}
 use Rattle.sql_commands.proofs.moves.make_event.Goals as goal

@@ -1,6 +1,6 @@
 -- The ruling on a record that the caller sees is the answer of the rules.
 use Rattle.std.proofs.Common.{refl}
-use Rattle.sql_commands.proofs.NextLemmas.{abort_next, stop_next, save_next}
+use Rattle.sql_commands.proofs.StepLemmas.{abort_next, stop_next, save_next}
 use Rattle.sql_commands.proofs.moves.next_of.Goals as goal
 
 pub returns-in-Abort : goal.returns-in-Abort

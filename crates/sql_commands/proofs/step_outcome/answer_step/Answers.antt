@@ -1,6 +1,5 @@
 -- The outcome that the rows of a step give is the reply, and is written.
-use Rattle.std.proofs.Common.{subst, rules}
-use Rattle.std.specs.Option.{option_copied}
+use Rattle.std.proofs.Common.{subst, rules, option_copied}
 use Rattle.commands.specs.declared.replies.Refusal.TheVariants.{Finished}
 use Rattle.ledger.specs.Answer.{asker}
 use Rattle.sql_reads.proofs.ReadLemmas.{read_both}
@@ -8,7 +7,7 @@ use Rattle.sql_commands.specs.Executing.{Replies}
 use Rattle.sql_commands.specs.Moving.{IsMade, asked_for}
 use Rattle.sql_commands.specs.declared.moves.Motion.TheVariants as motion
 use Rattle.sql_commands.proofs.ComingLemmas.{made_step, refused_read, stand_there}
-use Rattle.sql_commands.proofs.DueLemmas.{answered_refused, unseen_refused}
+use Rattle.sql_commands.proofs.LeadLemmas.{answered_refused, unseen_refused}
 use Rattle.sql_commands.proofs.Executing.{reads_alone, reads_fail, reads_then, then_fails}
 use Rattle.sql_commands.proofs.step_outcome.answer_step.Goals as goal
 
