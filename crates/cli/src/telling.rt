@@ -9,7 +9,7 @@ use command_line::Socket;
 use commands::Refusal;
 use desk_files::{FileConnection, NewLog, close_after, connect_there};
 use program_ends::{End, Ended, ProgramFault};
-use report_jobs::report_over;
+use program_jobs::report_over;
 use report_kinds::Report;
 use sqlite::{Alter, Connection};
 use std::alloc::Global;
