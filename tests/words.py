@@ -39,7 +39,7 @@ DECISIONS, RECORD_LINES = "docs/DECISIONS.md", 12
 RECORD = re.compile(r"(\d+)\. \*\*[^*]+\.\*\* \*\d{4}-\d\d-\d\d; (?:stands|(?:replaced|completed|extended)\b|tried and dropped)[^*]*\.\* ")
 
 # the most that there may be of each, and what is aimed at; a limit above its aim is lowered as soon as it can be
-LIMITS = {"phrases": 0, "sentences": 9, "pages": 1, "decisions": 0}
+LIMITS = {"phrases": 0, "sentences": 9, "pages": 0, "decisions": 0}
 AIMS = {"phrases": 0, "sentences": 9, "pages": 0, "decisions": 0}
 
 
