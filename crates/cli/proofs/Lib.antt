@@ -1,3 +1,4 @@
 pub mod AskingLemmas
 pub mod NoteLemmas
 pub mod ReportLemmas
+pub mod TaskLemmas
