@@ -1,5 +1,4 @@
-pub mod Doing
+pub mod Promises
 pub mod Invocations
-pub mod Tasks
 pub mod Headline
 pub mod Examples

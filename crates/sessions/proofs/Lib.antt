@@ -1,3 +1,2 @@
-pub mod PromiseLemmas
 pub mod AccountLemmas
 pub mod ChainLemmas
