@@ -1,4 +1,3 @@
 pub mod AskingLemmas
 pub mod NoteLemmas
 pub mod ReportLemmas
-pub mod TaskLemmas

@@ -1,4 +1,3 @@
 pub mod Asking
-pub mod Doing
 pub mod Ends
 pub mod Explaining

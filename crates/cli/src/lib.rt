@@ -3,13 +3,14 @@
 //! `perform` does a job of the command line, prints how it ended, and returns the exit status. `perform_explained` also
 //! says on standard error what an opening recovered and why a fault came.
 //!
-//! `do_over_file` opens the file, does a task over it (`do_job` of `program_jobs`) and closes it. It and `serve_file` alone own a
-//! store in a file.
+//! Few functions here own a store in a file; the others are generic in the store, or in the book over it.
 #![tactic(auto)]
 
 mod asking;
-mod files;
+mod indexes;
 mod listening;
+mod loads;
+mod migrations;
 mod programs;
 mod telling;
 

@@ -1,30 +1,28 @@
 //! The jobs of the program, each over its file, from the opening to an orderly end.
-ghost use Rattle.std.specs.Prelude.{◌≡◌, ◌≤◌, None, IfOk};
-ghost use Rattle.std.specs.String.{string_bytes};
-ghost use Rattle.std.specs.Io.KnownBytes.{Appends, Keeps};
+ghost use Rattle.std.specs.Prelude.{◌≡◌, ◌≤◌};
+ghost use Rattle.std.specs.Io.KnownBytes.{Appends, IsAtEnd, Keeps};
 ghost use Rattle.commands.specs.Texts.{refusal_line};
 ghost use Rattle.streams.specs.Written.{WroteFront};
 ghost use Rattle.protocols.specs.Scenes.{ended};
 ghost use Rattle.program_ends.specs.Ends.{EndsJob, IfDone, TellsNoneOrFault};
 ghost use Rattle.command_line.specs.Version.{version_line as line_of_version};
-ghost use Rattle.desk_jobs.specs.Notes.{MayNoteAll};
-ghost use Rattle.program_jobs.specs.Streams.{streams};
-ghost use Rattle.cli.specs.Doing.{DidJob, EndsCall, IsLoadOf, IsSourceOf, Performs};
+ghost use Rattle.desk_jobs.specs.Notes.{MayNote, MayNoteAll};
 ghost use Rattle.cli.specs.Explaining.{TellsExplained};
-ghost use Rattle.cli.specs.Ends.{HasBadId, ReadsFor, TellsOf};
+ghost use Rattle.cli.specs.Ends.{HasBadId, ReadsFor, TellsOf, TellsRecovered};
 
-use crate::files::do_over_file;
+use crate::indexes::index_file;
 use crate::listening::{Served, serve_file};
+use crate::loads::load_file;
+use crate::migrations::migrate_file;
 use crate::telling::tell_report;
 use command_line::{Call, Job, LogForm as Form, version_line};
 use commands::Refusal;
+use desk_files::{close_after, connect};
+use desk_jobs::{recover_over, run_over};
 use http_sockets::LogForm;
 use program_ends::{End, Ended, ProgramFault};
-use program_jobs::{Source, Task};
 use report_words::report_of;
-use sqlite::{File, FileStore};
-use sqlite_trees::store::Store;
-use std::alloc::{AllocError, Global};
+use std::alloc::Global;
 use std::io::{Read, Write, sink};
 use streams::send;
 
@@ -43,10 +41,6 @@ pub fn perform<R: Read, O: Write, E: Write>(
     ensures status { result ≤ 1 }
     ensures read { result ≡ 0 → ReadsFor call.job (R.remaining reader.old) (R.remaining reader.new) }
     ensures told { result ≡ 0 → TellsOf call.job (O.contents out.old) (O.contents out.new) }
-
-    ensures does { call.socket ≡ None → Performs ⟦<FileStore<File> as Store>⟧ call.job
-        (R.remaining reader.old) (R.remaining reader.new) (O.contents out.old)
-        (O.contents out.new) result }
 
     ensures quiet { result ≡ 0 → Keeps (E.contents err.old) (E.contents err.new) }
     ensures err { TellsNoneOrFault (E.contents err.old) (E.contents err.new) }
@@ -74,10 +68,6 @@ pub fn perform_explained<R: Read, O: Write, E: Write>(
     ensures read { result ≡ 0 → ReadsFor call.job (R.remaining reader.old) (R.remaining reader.new) }
     ensures told { result ≡ 0 → TellsOf call.job (O.contents out.old) (O.contents out.new) }
 
-    ensures does { call.socket ≡ None → Performs ⟦<FileStore<File> as Store>⟧ call.job
-        (R.remaining reader.old) (R.remaining reader.new) (O.contents out.old)
-        (O.contents out.new) result }
-
     ensures err { TellsExplained (E.contents err.old) (E.contents err.new) }
 
     ensures bad_id { HasBadId call.job →
@@ -89,6 +79,7 @@ pub fn perform_explained<R: Read, O: Write, E: Write>(
 }
 
 /// Does a job, and returns its end.
+#[tactic(auto, using(crate::proofs::NoteLemmas::first_alone, crate::proofs::NoteLemmas::none_noted, crate::proofs::ReportLemmas::bad_report))]
 fn carry_out<R: Read, O: Write, N: Write>(
     rt: &HostRuntime,
     alloc: Global,
@@ -103,41 +94,11 @@ fn carry_out<R: Read, O: Write, N: Write>(
     ensures told { IfDone result.end (TellsOf call.job (O.contents out.old) (O.contents out.new)) }
     ensures notes { MayNoteAll (N.contents notes.old) (N.contents notes.new) }
 
-    ensures did { call.socket ≡ None → DidJob ⟦<FileStore<File> as Store>⟧
-        (streams (R.remaining reader.old) (R.remaining reader.new) (O.contents out.old)
-        (O.contents out.new) (N.contents notes.old) (N.contents notes.new)) result call.job }
-
-    ensures bad_id { HasBadId call.job → result.end ≡ End.Refused Refusal.BadBody }
-    ensures untold { HasBadId call.job → Keeps (O.contents out.old) (O.contents out.new) }
-{
-    do_call(rt, alloc, call, reader, out, notes)
-}
-
-/// Does the same, with what its end says in one record.
-#[tactic(auto, using(crate::proofs::NoteLemmas::first_alone, crate::proofs::NoteLemmas::none_noted, crate::proofs::ReportLemmas::bad_report))]
-fn do_call<R: Read, O: Write, N: Write>(
-    rt: &HostRuntime,
-    alloc: Global,
-    call: Call,
-    reader: &mut R,
-    out: &mut O,
-    notes: &mut N,
-) -> Ended
-    ensures ends { EndsCall call.job
-        (streams (R.remaining reader.old) (R.remaining reader.new) (O.contents out.old)
-        (O.contents out.new) (N.contents notes.old) (N.contents notes.new)) result }
-
-    ensures did { call.socket ≡ None → DidJob ⟦<FileStore<File> as Store>⟧
-        (streams (R.remaining reader.old) (R.remaining reader.new) (O.contents out.old)
-        (O.contents out.new) (N.contents notes.old) (N.contents notes.new)) result call.job }
-
     ensures bad_id { HasBadId call.job → result.end ≡ End.Refused Refusal.BadBody }
     ensures untold { HasBadId call.job → Keeps (O.contents out.old) (O.contents out.new) }
 {
     match &call.job {
-        Job::Run { file } => {
-            do_over_file(rt, alloc, file.as_str(), &Task::Run, reader, out, notes)
-        }
+        Job::Run { file } => run_file(rt, alloc, file.as_str(), reader, out, notes),
         Job::Serve {
             file,
             port,
@@ -157,13 +118,11 @@ fn do_call<R: Read, O: Write, N: Write>(
             };
             serve_file(rt, alloc, file.as_str(), served, out, notes)
         }
-        Job::Recover { file } => {
-            do_over_file(rt, alloc, file.as_str(), &Task::Recover, reader, out, notes)
+        Job::Recover { file } => recover_file(rt, alloc, file.as_str(), out),
+        Job::Load { file, csv, batch } => {
+            let (file, csv, batch) = (file.as_str(), csv.as_str(), batch.as_str());
+            load_file(rt, alloc, file, csv, batch, reader, out, notes)
         }
-        Job::Load { file, csv, batch } => match load_of(csv, batch) {
-            Ok(task) => do_over_file(rt, alloc, file.as_str(), &task, reader, out, notes),
-            Err(AllocError) => Ended::from(End::Fault(ProgramFault::Memory)),
-        },
         Job::Stock { file, .. }
         | Job::Calendar { file, .. }
         | Job::Summary { file, .. }
@@ -174,36 +133,11 @@ fn do_call<R: Read, O: Write, N: Write>(
         | Job::History { file, .. }
         | Job::Why { file, .. } => {
             let report = report_of(&call.job);
-            let file = file.as_str();
-            tell_report(rt, alloc, file, &call.socket, report, reader, out, notes)
+            tell_report(rt, alloc, file.as_str(), &call.socket, report, out)
         }
-        Job::Migrate { file } => {
-            do_over_file(rt, alloc, file.as_str(), &Task::Migrate, reader, out, notes)
-        }
-        Job::Index { file } => {
-            do_over_file(rt, alloc, file.as_str(), &Task::Index, reader, out, notes)
-        }
+        Job::Migrate { file } => migrate_file(rt, alloc, file.as_str(), out),
+        Job::Index { file } => index_file(rt, alloc, file.as_str(), out),
         Job::Version => Ended::from(tell_version(out)),
-    }
-}
-
-/// The load of an allotment file under a name: `-` is the input.
-fn load_of(csv: &String, batch: &String) -> Result<Task, AllocError>
-    ensures load { IfOk result (IsLoadOf (string_bytes csv.now) (string_bytes batch.now)) }
-{
-    Ok(Task::Load {
-        source: source_of(csv)?,
-        batch: batch.clone()?,
-    })
-}
-
-/// Where the bytes of an allotment file come from: `-` is the input.
-fn source_of(csv: &String) -> Result<Source, AllocError>
-    ensures source { IfOk result (IsSourceOf (string_bytes csv.now)) }
-{
-    match csv.as_str() {
-        "-" => Ok(Source::Input),
-        _ => Ok(Source::File(csv.clone()?)),
     }
 }
 
@@ -213,6 +147,46 @@ fn form_of(log: Option<Form>) -> Option<LogForm> {
         Some(Form::Plain) => Some(LogForm::Plain),
         Some(Form::Timed) => Some(LogForm::Timed),
         None => None,
+    }
+}
+
+/// Answers the lines of the reader over the database in a file, after recovery.
+fn run_file<R: Read, O: Write, N: Write>(
+    rt: &HostRuntime,
+    alloc: Global,
+    file: &str,
+    reader: &mut R,
+    out: &mut O,
+    notes: &mut N,
+) -> Ended
+    ensures job { EndsJob result.end }
+    ensures read { IfDone result.end (IsAtEnd (R.remaining reader.new)) }
+    ensures notes { MayNote (N.contents notes.old) (N.contents notes.new) }
+{
+    let (conn, log) = match connect(rt, file) {
+        Ok(opened) => opened,
+        Err(ended) => return ended,
+    };
+    let (conn, end) = run_over(alloc, conn, reader, out, notes);
+    close_after(rt, conn, log, &end).after(Ended::from(end))
+}
+
+/// Recovers the desk over the database in a file, and, once it is closed, prints how many events recovery made.
+fn recover_file<O: Write>(rt: &HostRuntime, alloc: Global, file: &str, out: &mut O) -> Ended
+    ensures job { EndsJob result.end }
+    ensures told { IfDone result.end (TellsRecovered (O.contents out.old) (O.contents out.new)) }
+{
+    let (conn, log) = match connect(rt, file) {
+        Ok(opened) => opened,
+        Err(ended) => return ended,
+    };
+    let (conn, recovered) = recover_over(alloc, conn);
+    match recovered {
+        Ok(made) => match close_after(rt, conn, log, &End::Done) {
+            Ended { end: End::Done, .. } => Ended::from(made.tell(alloc, out)),
+            ended => ended,
+        },
+        Err(end) => close_after(rt, conn, log, &end).after(Ended::from(end)),
     }
 }
 

@@ -1,66 +1,87 @@
 //! Reports of the desk over a file, which is opened without recovery, or of one that serves.
-ghost use Rattle.std.specs.Prelude.{◌≡◌, ◌≢◌, None, IfSome};
+ghost use Rattle.std.specs.Prelude.{◌≡◌, None};
 ghost use Rattle.std.specs.Io.KnownBytes.{Keeps};
+ghost use Rattle.desk_sql.specs.Calls.{Idle};
 ghost use Rattle.program_ends.specs.Ends.{EndsJob};
-ghost use Rattle.program_jobs.specs.Streams.{IsOnlyWritten, streams};
-ghost use Rattle.program_jobs.specs.declared.tasks.Task.TheVariants as over;
-ghost use Rattle.invocations.specs.Doing.{Did};
-ghost use Rattle.command_line.specs.declared.jobs.Job.{Job};
-ghost use Rattle.cli.specs.Doing.{EndsCall, IsOfReport, unknown_files};
 
 use crate::asking::asked_report;
-use crate::files::do_over_file;
 use command_line::Socket;
 use commands::Refusal;
-use program_ends::{End, Ended};
-use program_jobs::Task;
+use desk_files::{FileConnection, NewLog, close_after, connect_there};
+use program_ends::{End, Ended, ProgramFault};
+use program_jobs::report_over;
 use report_kinds::Report;
-use sqlite::{File, FileStore};
-use sqlite_trees::store::Store;
+use sqlite::{Alter, Connection};
 use std::alloc::Global;
-use std::io::{Read, Write};
+use std::io::{BufWriter, Write};
 
 /// Prints a report of the desk over a file, or of the one that serves at a socket in its place. Words that ask for none are
 /// refused before the file is opened and before the desk is asked.
-#[tactic(auto, using(crate::proofs::TaskLemmas::ends_job, crate::proofs::TaskLemmas::only_written, crate::proofs::TaskLemmas::report_ends))]
-pub(crate) fn tell_report<R: Read, O: Write, N: Write>(
+pub(crate) fn tell_report<O: Write>(
     rt: &HostRuntime,
     alloc: Global,
     file: &str,
     socket: &Option<Socket>,
     report: Option<Report>,
-    reader: &mut R,
     out: &mut O,
-    notes: &mut N,
 ) -> Ended
     ensures job { EndsJob result.end }
     ensures none { report ≡ None → result.end ≡ End.Refused Refusal.BadBody }
     ensures untold { report ≡ None → Keeps (O.contents out.old) (O.contents out.new) }
-
-    ensures did { socket.now ≡ None → IfSome report (λ r.
-        Did ⟦<FileStore<File> as Store>⟧ unknown_files (over.Report r)
-        (streams (R.remaining reader.old) (R.remaining reader.new) (O.contents out.old)
-        (O.contents out.new) (N.contents notes.old) (N.contents notes.new)) result) }
-    ensures ends { (j : Job) → IsOfReport j → EndsCall j
-        (streams (R.remaining reader.old) (R.remaining reader.new) (O.contents out.old)
-        (O.contents out.new) (N.contents notes.old) (N.contents notes.new)) result }
-    ensures only { IsOnlyWritten
-        (streams (R.remaining reader.old) (R.remaining reader.new) (O.contents out.old)
-        (O.contents out.new) (N.contents notes.old) (N.contents notes.new)) }
 {
     let Some(report) = report else {
         return Ended::from(End::Refused(Refusal::BadBody));
     };
     match socket {
         Some(socket) => asked_report(rt, alloc, socket, out),
-        None => do_over_file(
-            rt,
-            alloc,
-            file,
-            &Task::Report(report),
-            reader,
-            out,
-            notes,
-        ),
+        None => report_file(rt, alloc, file, &report, out),
     }
+}
+
+/// Prints a report of the desk over a file.
+fn report_file<O: Write>(
+    rt: &HostRuntime,
+    alloc: Global,
+    file: &str,
+    report: &Report,
+    out: &mut O,
+) -> Ended
+    ensures job { EndsJob result.end }
+{
+    let (conn, log) = match connect_there(rt, file) {
+        Ok(opened) => opened,
+        Err(ended) => return ended,
+    };
+    let (conn, end) = print_report(alloc, report, conn, out);
+    close_shown(rt, conn, log, end)
+}
+
+/// Closes a connection after a report that ended so, and returns that end. A report that showed its rows is done, even if the
+/// log could not be copied into the file: nothing has changed, and the next opening finds the log.
+fn close_shown(rt: &HostRuntime, conn: FileConnection, log: NewLog, end: End) -> Ended
+    ensures end { result.end ≡ end }
+{
+    let closed = close_after(rt, conn, log, &end);
+    match end {
+        End::Done => Ended::from(End::Done),
+        end => closed.after(Ended::from(end)),
+    }
+}
+
+/// Prints a report of the desk of a connection, through a buffer, since a report is many short lines.
+fn print_report<S: Alter + Drop, O: Write>(
+    alloc: Global,
+    report: &Report,
+    conn: Connection<S>,
+    out: &mut O,
+) -> (Connection<S>, End)
+    requires idle { Idle conn }
+
+    ensures job { EndsJob result.1 }
+{
+    let mut buffered = match BufWriter::new(alloc, out) {
+        Ok(buffered) => buffered,
+        Err(_) => return (conn, End::Fault(ProgramFault::Memory)),
+    };
+    report_over(alloc, conn, report, &mut buffered)
 }

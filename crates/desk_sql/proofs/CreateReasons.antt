@@ -196,54 +196,198 @@ text_fails {b = b} {c = c} {at = at} {sql = sql} {table = table} e stage it surv
 -- each of their facts is found by computing
 pub meta_is_new : IsNewTable no_schema meta_text (meta_at 0)
 unfolding understood everything value_cmp fits_kind is_free_name same_name begins lib.Ieee.is_nan lib.Ieee.lt
-meta_is_new = record { meant = refl; plain = (refl, refl); alone = refl; whole = refl; defined = refl; letters = refl;
-    name_letters = refl; unused = refl; unused_indexes = tt; unreserved = refl; few = refl; reals = refl; key_reals = tt;
-    short = refl; formed = refl; listed = refl; uncounted = refl }
+meta_is_new = record {
+  meant = refl;
+  plain = (refl, refl);
+  alone = refl;
+  whole = refl;
+  defined = refl;
+  letters = refl;
+  name_letters = refl;
+  unused = refl;
+  unused_indexes = tt;
+  unreserved = refl;
+  few = refl;
+  reals = refl;
+  key_reals = tt;
+  short = refl;
+  formed = refl;
+  listed = refl;
+  uncounted = refl;
+}
 
 pub stock_is_new : IsNewTable schema_1 stock_text (stock_at 0)
 unfolding understood everything value_cmp fits_kind is_free_name same_name begins lib.Ieee.is_nan lib.Ieee.lt
-stock_is_new = record { meant = refl; plain = (refl, refl); alone = refl; whole = refl; defined = refl; letters = refl;
-    name_letters = refl; unused = refl; unused_indexes = (refl, tt); unreserved = refl; few = refl; reals = refl;
-    key_reals = (refl, tt); short = refl; formed = refl; listed = refl; uncounted = refl }
+stock_is_new = record {
+  meant = refl;
+  plain = (refl, refl);
+  alone = refl;
+  whole = refl;
+  defined = refl;
+  letters = refl;
+  name_letters = refl;
+  unused = refl;
+  unused_indexes = (refl, tt);
+  unreserved = refl;
+  few = refl;
+  reals = refl;
+  key_reals = (refl, tt);
+  short = refl;
+  formed = refl;
+  listed = refl;
+  uncounted = refl;
+}
 
 pub batch_is_new : IsNewTable schema_2 batch_text (batch_at 0)
 unfolding understood everything value_cmp fits_kind is_free_name same_name begins lib.Ieee.is_nan lib.Ieee.lt
-batch_is_new = record { meant = refl; plain = (refl, refl); alone = refl; whole = refl; defined = refl; letters = refl;
-    name_letters = refl; unused = refl; unused_indexes = (refl, (refl, tt)); unreserved = refl; few = refl; reals = refl;
-    key_reals = (refl, (refl, tt)); short = refl; formed = refl; listed = refl; uncounted = refl }
+batch_is_new = record {
+  meant = refl;
+  plain = (refl, refl);
+  alone = refl;
+  whole = refl;
+  defined = refl;
+  letters = refl;
+  name_letters = refl;
+  unused = refl;
+  unused_indexes = (refl, (refl, tt));
+  unreserved = refl;
+  few = refl;
+  reals = refl;
+  key_reals = (refl, (refl, tt));
+  short = refl;
+  formed = refl;
+  listed = refl;
+  uncounted = refl;
+}
 
 pub journey_is_new : IsNewTable schema_3 journey_text (journey_at 0)
 unfolding understood everything value_cmp fits_kind is_free_name same_name begins lib.Ieee.is_nan lib.Ieee.lt
-journey_is_new = record { meant = refl; plain = (refl, refl); alone = refl; whole = refl; defined = refl; letters = refl;
-    name_letters = refl; unused = refl; unused_indexes = (refl, tt); unreserved = refl; few = refl; reals = refl;
-    key_reals = (refl, tt); short = refl; formed = refl; listed = refl; uncounted = refl }
+journey_is_new = record {
+  meant = refl;
+  plain = (refl, refl);
+  alone = refl;
+  whole = refl;
+  defined = refl;
+  letters = refl;
+  name_letters = refl;
+  unused = refl;
+  unused_indexes = (refl, tt);
+  unreserved = refl;
+  few = refl;
+  reals = refl;
+  key_reals = (refl, tt);
+  short = refl;
+  formed = refl;
+  listed = refl;
+  uncounted = refl;
+}
 
 pub step_is_new : IsNewTable first_schema step_text (step_at 0)
 unfolding understood everything value_cmp fits_kind is_free_name same_name begins lib.Ieee.is_nan lib.Ieee.lt
-step_is_new = record { meant = refl; plain = (refl, refl); alone = refl; whole = refl; defined = refl; letters = refl;
-    name_letters = refl; unused = refl; unused_indexes = (refl, tt); unreserved = refl; few = refl; reals = refl;
-    key_reals = (refl, tt); short = refl; formed = refl; listed = refl; uncounted = refl }
+step_is_new = record {
+  meant = refl;
+  plain = (refl, refl);
+  alone = refl;
+  whole = refl;
+  defined = refl;
+  letters = refl;
+  name_letters = refl;
+  unused = refl;
+  unused_indexes = (refl, tt);
+  unreserved = refl;
+  few = refl;
+  reals = refl;
+  key_reals = (refl, tt);
+  short = refl;
+  formed = refl;
+  listed = refl;
+  uncounted = refl;
+}
 
 pub entry_is_new : IsNewTable schema_5 entry_text (entry_at 0)
 unfolding understood everything value_cmp fits_kind is_free_name same_name begins lib.Ieee.is_nan lib.Ieee.lt
-entry_is_new = record { meant = refl; plain = (refl, refl); alone = refl; whole = refl; defined = refl; letters = refl;
-    name_letters = refl; unused = refl; unused_indexes = tt; unreserved = refl; few = refl; reals = refl; key_reals = tt;
-    short = refl; formed = refl; listed = refl; uncounted = refl }
+entry_is_new = record {
+  meant = refl;
+  plain = (refl, refl);
+  alone = refl;
+  whole = refl;
+  defined = refl;
+  letters = refl;
+  name_letters = refl;
+  unused = refl;
+  unused_indexes = tt;
+  unreserved = refl;
+  few = refl;
+  reals = refl;
+  key_reals = tt;
+  short = refl;
+  formed = refl;
+  listed = refl;
+  uncounted = refl;
+}
 
 pub answer_is_new : IsNewTable schema_6 answer_text (answer_at 0)
 unfolding understood everything value_cmp fits_kind is_free_name same_name begins lib.Ieee.is_nan lib.Ieee.lt
-answer_is_new = record { meant = refl; plain = (refl, refl); alone = refl; whole = refl; defined = refl; letters = refl;
-    name_letters = refl; unused = refl; unused_indexes = (refl, tt); unreserved = refl; few = refl; reals = refl;
-    key_reals = (refl, tt); short = refl; formed = refl; listed = refl; uncounted = refl }
+answer_is_new = record {
+  meant = refl;
+  plain = (refl, refl);
+  alone = refl;
+  whole = refl;
+  defined = refl;
+  letters = refl;
+  name_letters = refl;
+  unused = refl;
+  unused_indexes = (refl, tt);
+  unreserved = refl;
+  few = refl;
+  reals = refl;
+  key_reals = (refl, tt);
+  short = refl;
+  formed = refl;
+  listed = refl;
+  uncounted = refl;
+}
 
 pub entry2_is_new : IsNewTable seven_schema entry2_text (entry2_at 0)
 unfolding understood everything value_cmp fits_kind is_free_name same_name begins lib.Ieee.is_nan lib.Ieee.lt
-entry2_is_new = record { meant = refl; plain = (refl, refl); alone = refl; whole = refl; defined = refl; letters = refl;
-    name_letters = refl; unused = refl; unused_indexes = tt; unreserved = refl; few = refl; reals = refl; key_reals = tt;
-    short = refl; formed = refl; listed = refl; uncounted = refl }
+entry2_is_new = record {
+  meant = refl;
+  plain = (refl, refl);
+  alone = refl;
+  whole = refl;
+  defined = refl;
+  letters = refl;
+  name_letters = refl;
+  unused = refl;
+  unused_indexes = tt;
+  unreserved = refl;
+  few = refl;
+  reals = refl;
+  key_reals = tt;
+  short = refl;
+  formed = refl;
+  listed = refl;
+  uncounted = refl;
+}
 
 pub mark_is_new : IsNewTable schema_8 mark_text (mark_at 0)
 unfolding understood everything value_cmp fits_kind is_free_name same_name begins lib.Ieee.is_nan lib.Ieee.lt
-mark_is_new = record { meant = refl; plain = (refl, refl); alone = refl; whole = refl; defined = refl; letters = refl;
-    name_letters = refl; unused = refl; unused_indexes = (refl, tt); unreserved = refl; few = refl; reals = refl;
-    key_reals = (refl, tt); short = refl; formed = refl; listed = refl; uncounted = refl }
+mark_is_new = record {
+  meant = refl;
+  plain = (refl, refl);
+  alone = refl;
+  whole = refl;
+  defined = refl;
+  letters = refl;
+  name_letters = refl;
+  unused = refl;
+  unused_indexes = (refl, tt);
+  unreserved = refl;
+  few = refl;
+  reals = refl;
+  key_reals = (refl, tt);
+  short = refl;
+  formed = refl;
+  listed = refl;
+  uncounted = refl;
+}

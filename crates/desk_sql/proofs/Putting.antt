@@ -154,11 +154,14 @@ module _ (db : Trees) (cells : List StockRow) (it : IsTableOf stock_columns (db 
   put_is = simp cast_int
 
   pub sets : (edit : Edit) → IsPut db (put_params s) put_cell_query new_row edit → Sets edit
-  sets edit (found, they, inl (none, is)) = inl (all_from (λ c. is_cell s c ≡ false) cells (λ x h. false_from_ne_true (is_cell s x) (λ e.
-      let p = has_mapped value_of it.numbered x (subst (λ ys. Has ys x) it.values_are h) in
-      let on : is_cell s p.0.1 ≡ true = ap (is_cell s) (sym p.2) ∙ e in
-      let bad = they.complete (numbered_row stock_columns p.0) (row_has p.0 p.1) (conflict_is (next_rowid (db 1)) s p.0 ∙ on) in
-      subst (λ rs. Has rs (Int p.0.0 ∷ [])) none bad)), is ∙ put_is)
+  sets edit (found, they, inl (none, is)) = inl (
+    all_from (λ c. is_cell s c ≡ false) cells (λ x h. false_from_ne_true (is_cell s x) (λ e.
+        let p = has_mapped value_of it.numbered x (subst (λ ys. Has ys x) it.values_are h) in
+        let on : is_cell s p.0.1 ≡ true = ap (is_cell s) (sym p.2) ∙ e in
+        let bad = they.complete (numbered_row stock_columns p.0) (row_has p.0 p.1) (conflict_is (next_rowid (db 1)) s p.0 ∙ on) in
+        subst (λ rs. Has rs (Int p.0.0 ∷ [])) none bad)),
+    is ∙ put_is,
+  )
   sets edit (found, they, inr (first, more, several, rows, answer, is)) =
       let q = conflict_at found first they (subst (λ rs. Has rs first) (sym several) (inl refl)) in
       inr (q.0, q.1, q.2, rows, subst (λ v. IsAnswer put_cell_query (overlay db []) (put_params s ++ v ∷ shown (stock_at 1) new_row) rows) q.3 answer, is)

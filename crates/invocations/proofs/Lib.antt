@@ -1,3 +1,3 @@
-mod PromiseLemmas
 mod ChainLemmas
 pub mod ComposeLemmas
+mod TaskLemmas

@@ -2,6 +2,7 @@ pub mod AskLemmas
 pub mod TellLemmas
 pub mod PassLemmas
 pub mod FollowLemmas
+pub mod ReachLemmas
 pub mod TurnLemmas
 pub mod RecoverLemmas
 pub mod CarryLemmas

@@ -12,7 +12,7 @@ use Rattle.histories.specs.Following.{EachMayReopen}
 use Rattle.histories.proofs.ChainLemmas.{comes_late, comes_then}
 use Rattle.histories.proofs.OpeningLemmas.{late, and_late}
 use Rattle.sessions.specs.Accounts.{AreSentTheirPages, IsAccount, connections_at}
-use Rattle.invocations.specs.Promises.{IsKeptPromise}
+use Rattle.sessions.specs.Promises.{IsKeptPromise}
 use Rattle.sessions.specs.Chains.{Headline, AreInputs, AreKnown, Came}
 use Rattle.sessions.specs.declared.running.Session.{Session}
 

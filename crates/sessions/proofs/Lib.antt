@@ -1,2 +1,3 @@
+pub mod PromiseLemmas
 pub mod AccountLemmas
 pub mod ChainLemmas

@@ -13,7 +13,7 @@ use Rattle.http_live.specs.Merging.{Seated, exchange_of}
 use Rattle.histories.specs.Openings.{Input, Lines, Messages, Connections}
 use Rattle.sessions.specs.Accounts.{IsAccount}
 use Rattle.histories.specs.Chains.{Leads}
-use Rattle.invocations.specs.Promises.{IsKeptPromise}
+use Rattle.sessions.specs.Promises.{IsKeptPromise}
 use Rattle.sessions.specs.declared.running.Session.{Session}
 
 -- Whatever may be found stands for the end of a world of these sessions, whose ledger is as it is promised.

@@ -10,10 +10,12 @@
 #![tactic(auto)]
 
 mod answering;
+mod laws;
 mod power;
 mod running;
 mod visiting;
 
+pub use laws::{promises, session_that_crashes_keeps_it};
 pub use power::{Power, Steady};
 pub use running::{Session, run_sessions};
 pub use visiting::run_session;

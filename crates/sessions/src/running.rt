@@ -9,11 +9,11 @@ ghost use Rattle.histories.specs.Chains.{Comes, IsNewDesk};
 ghost use Rattle.sessions.specs.Chains.{AreKnown, Came, Headline, IsSoundDisk, MayBeFound};
 ghost use Rattle.histories.specs.Stages.{ComesUp};
 
+use crate::laws::promises;
 use crate::power::Power;
 use crate::visiting::run_session;
 use histories::reopenings;
 use http_live::{Seat, Turns};
-use invocations::promises;
 use sql_model::openings;
 use sql_restart::restart;
 use sqlite::{Alter, Connection};

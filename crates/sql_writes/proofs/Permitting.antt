@@ -7,15 +7,15 @@ use Rattle.allotment.specs.Cells.{kind_number}
 use Rattle.allotment.specs.Limits.{is_between, is_code}
 use Rattle.allotment.specs.declared.cells.Cell.{Cell}
 use Rattle.allotment.specs.declared.codes.Kind.{Kind}
-use Rattle.allotment.specs.declared.codes.Kind.TheVariants.{Flight}
+use Rattle.allotment.specs.declared.codes.Kind.TheVariants.{Flight, Room, Transfer, Cover}
 use Rattle.allotment.specs.declared.places.Held.{Held}
 use Rattle.allotment.specs.Want.{Wanted}
 use Rattle.allotment.proofs.CodeLemmas.{is_code_byte}
 use Rattle.allotment.proofs.TestLemmas.{and_both}
 use Rattle.commands.specs.declared.items.Item.{Item}
-use Rattle.commands.specs.declared.items.Item.TheVariants.{Save}
+use Rattle.commands.specs.declared.items.Item.TheVariants.{Transaction, Compensation, Turn, Save}
 use Rattle.commands.specs.declared.items.Phase.{Phase}
-use Rattle.commands.specs.declared.items.Phase.TheVariants.{Back}
+use Rattle.commands.specs.declared.items.Phase.TheVariants.{Run, Back, Ended, Undone}
 use Rattle.commands.specs.declared.items.Cursor.{Cursor}
 use Rattle.desk_sql.specs.Lists.{changed}
 use Rattle.desk_sql.specs.Rows.{Tables, JourneyRow, StepRow, StockRow}
@@ -34,21 +34,25 @@ use Rattle.sql_writes.specs.declared.events.Numbers.{Numbers}
 use Rattle.sql_writes.specs.Writing.{HaveRoomFor}
 use Rattle.sql_writes.specs.Runs.{HasShortTexts, LacksWeek}
 use Rattle.sql_writes.specs.Permits.{HaveHeldFor, HaveShortCells, HaveShortOptions, MayAdd, MayMoveOn, MayTakeWant, MayGiveWant}
-use Rattle.sqlite_trees.proofs.ListLemmas.{all-append, all-map, all_weaker}
 
 -- what each element is, each of some elements is
 all_some : {X : Type 0} (P : X → Type 0) (p : X → Bool) (xs : List X) → AllByRecursion P xs → AllByRecursion (λ x. p x ≡ true → P x) xs
-all_some P p = all_weaker P (λ x. p x ≡ true → P x) (λ x it _. it)
+all_some P p [] all = tt
+all_some P p (x ∷ xs) all = (λ _. all.0, all_some P p xs all.1)
 
 -- Items.
 
 kind_low : (num : ℕ) (item : Item) → (item_written num item).item ≤ 3
+kind_low num (Transaction step option) = omega arith
+kind_low num (Compensation step option) = omega arith
+kind_low num (Turn target cause) = omega arith
 kind_low num (Save position) = omega arith
-kind_low num _ = omega arith
 
 kind_num : (num : ℕ) (item : Item) → (item_written num item).num ≡ num
+kind_num num (Transaction step option) = refl
+kind_num num (Compensation step option) = refl
+kind_num num (Turn target cause) = refl
 kind_num num (Save position) = refl
-kind_num num _ = refl
 
 pub may_add : (n : Numbers) (journey : ℕ) (item : Item) (t : Tables) → MayAdd n journey t → MayAddItem journey (item_written n.num item) t
 may_add n journey item t it = record {
@@ -60,8 +64,10 @@ may_add n journey item t it = record {
 -- Cursors.
 
 phase_low : (p : Phase) → phase_number p ≤ 3
+phase_low Run = omega arith
 phase_low (Back target) = omega arith
-phase_low _ = omega arith
+phase_low Ended = omega arith
+phase_low Undone = omega arith
 
 pub may_move : (n : Numbers) (journey : ℕ) (c : Cursor) (t : Tables) → MayMoveOn n journey t → MayMove journey (cursor_written c) t
 may_move n journey c t it = record {
@@ -115,8 +121,8 @@ may_give w r t is it = record {
 room : (r : NightRange) (count : ℕ) (rows : List StockRow)
     → AllByRecursion (λ (s : StockRow). is_within r s ≡ true → (s.free + count ≤ s.allot) × (s.allot < 2 ^ 63)) rows
     → AllByRecursion (λ (s : StockRow). is_within r s ≡ true → s.free + count < 2 ^ 63) rows
-room r count = all_weaker (λ (s : StockRow). is_within r s ≡ true → (s.free + count ≤ s.allot) × (s.allot < 2 ^ 63))
-    (λ (s : StockRow). is_within r s ≡ true → s.free + count < 2 ^ 63) (λ s held is. let it = held is in omega (arith, it.0, it.1))
+room r count [] held = tt
+room r count (s ∷ rows) held = (λ is. (let it = held.0 is in omega (arith, it.0, it.1)), room r count rows held.1)
 
 pub have_room : (w : Wanted) (t : Tables) → HaveHeldFor w t → HaveRoomFor w t
 have_room w t held r is = room r w.count t.stock (held r is)
@@ -138,14 +144,23 @@ short_put s rows own short = by_cases (list_any (is_cell s) rows)
     P x = IsShort (length x.supplier + length x.product)
 
     by_cases : (b : Bool) → AllByRecursion P (if b then changed (is_cell s) (with_places s) rows else rows ++ s ∷ [])
-    by_cases true = all-map P (λ x. if is_cell s x then with_places s x else x) rows
-        (all_weaker P (λ x. P (if is_cell s x then with_places s x else x)) (λ x fits. placed_text (is_cell s x) s x fits) rows short)
-    by_cases false = all-append P rows (s ∷ []) short (own, tt)
+    by_cases true = each rows short
+      where
+        each : (xs : List StockRow) → AllByRecursion P xs → AllByRecursion P (changed (is_cell s) (with_places s) xs)
+        each [] all = tt
+        each (x ∷ xs) all = (placed_text (is_cell s x) s x all.0, each xs all.1)
+    by_cases false = last rows short
+      where
+        last : (xs : List StockRow) → AllByRecursion P xs → AllByRecursion P (xs ++ s ∷ [])
+        last [] all = (own, tt)
+        last (x ∷ xs) all = (all.0, last xs all.1)
 
 -- the places of a cell may be written, and its row or those of its week may be added
 cell_kind_low : (kind : Kind) → kind_number kind ≤ 3
 cell_kind_low Flight = omega arith
-cell_kind_low _ = omega arith
+cell_kind_low Room = omega arith
+cell_kind_low Transfer = omega arith
+cell_kind_low Cover = omega arith
 
 pub may_put : (c : Cell × Held) (t : Tables) → HasShortTexts c → HaveShortCells t → MayPut (stock_row_of c) t
 may_put c t short others = record { kind = cell_kind_low c.0.kind; free = c.1.within; short = short; others = others }
@@ -166,4 +181,6 @@ code_few text good =
 
 pub codes_short : (supplier product : List ℕ) → IsTrue (is_code supplier) → IsTrue (is_code product) → IsShort (length supplier + length product)
 codes_short supplier product one two =
-    omega (arith, code_few supplier one, code_few product two)
+    let few = code_few supplier one in
+    let less = code_few product two in
+    omega (arith, few, less)

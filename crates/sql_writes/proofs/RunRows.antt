@@ -1,14 +1,12 @@
 -- Rows of cells: those of one cell, the nights of a run, and how many of its cells have a row. For RunPuts and RunLemmas.
-use Rattle.std.proofs.Common.{◌≡◌, ◌≤◌, ◌<◌, ◌+◌, ◌==◌, inl, inr, ℕ, zero, suc, List, [], ◌∷◌, ◌++◌, filter, length, cond, Bool, true, false, if◌then◌else◌, refl, sym, ap, ap₂, ◌∙◌, arith, add-one, bytes_eq, nat_le, ◌&&◌, ◌||◌}
+use Rattle.std.proofs.Common.{◌≡◌, ◌≤◌, ◌<◌, ◌+◌, ◌==◌, inl, inr, ℕ, zero, suc, List, [], ◌∷◌, ◌++◌, filter, length, cond, Bool, true, false, if◌then◌else◌, refl, sym, ap, ap₂, ◌∙◌, arith, eqb-true, eq-eqb, add-one, bytes_eq, nat_le, ◌&&◌, ◌||◌}
 use Rattle.std.specs.List.{AllByRecursion, list_any}
-use Rattle.std.proofs.lemmas.Bool.{cases_Bool, false_from_ne_true}
+use Rattle.std.proofs.lemmas.Bool.{and_parts, and_from, cases_Bool, false_from_ne_true}
 use Rattle.std.proofs.lemmas.Bool.Decides.{nat_tests}
+use Rattle.std.proofs.lemmas.Slice.Eq.{bytes_eq-Decides}
 use Rattle.sqlite_trees.specs.Tree.{IsAscending}
 use Rattle.sqlite_rules.specs.Lists.{Has}
-use Rattle.sqlite_rules.proofs.ListLemmas.{all_has, all_from, some_has}
-use Rattle.sqlite_trees.proofs.ListLemmas.{filter_none}
-use Rattle.desk_sql.proofs.Testing.{or_false}
-use Rattle.desk_sql.proofs.Putting.{key_of, cell_of, both_cells}
+use Rattle.sqlite_rules.proofs.ListLemmas.{all_has, all_from}
 use Rattle.desk_sql.specs.Rows.{StockRow}
 use Rattle.desk_sql.specs.Stock.{is_cell}
 use Rattle.sql_writes.specs.Weeks.{next_night, nights_from}
@@ -19,6 +17,30 @@ use Rattle.sql_writes.specs.Runs.{nights_later, is_until}
 -- the row is of one of these cells
 abbrev pub is_of : List StockRow → StockRow → Bool
 is_of rows x = list_any (λ s. is_cell s x) rows
+
+-- two rows of one cell have the same key
+record SameKey (a b : StockRow) : Type 0 where
+  pub kind : b.kind ≡ a.kind
+  pub supplier : b.supplier ≡ a.supplier
+  pub product : b.product ≡ a.product
+  pub night : b.night ≡ a.night
+
+key_of : (a b : StockRow) → is_cell a b ≡ true → SameKey a b
+key_of a b e =
+    let one = and_parts _ _ e in
+    let two = and_parts _ _ one.1 in
+    let three = and_parts _ _ two.1 in
+    record {
+      kind = eqb-true _ _ one.0;
+      supplier = (bytes_eq-Decides _ _).0 two.0;
+      product = (bytes_eq-Decides _ _).0 three.0;
+      night = eqb-true _ _ three.1;
+    }
+
+cell_of : (a b : StockRow) → SameKey a b → is_cell a b ≡ true
+cell_of a b k =
+    and_from _ _ (eq-eqb _ _ k.kind) (and_from _ _ ((bytes_eq-Decides _ _).1 k.supplier)
+    (and_from _ _ ((bytes_eq-Decides _ _).1 k.product) (eq-eqb _ _ k.night)))
 
 pub own_cell : (s : StockRow) → is_cell s s ≡ true
 own_cell s = cell_of s s (record { kind = refl; supplier = refl; product = refl; night = refl })
@@ -33,6 +55,18 @@ of_both s r x one two =
       supplier = sym l.supplier ∙ k.supplier;
       product = sym l.product ∙ k.product;
       night = sym l.night ∙ k.night;
+    })
+
+-- two rows of a cell are of one
+pub one_cell : (s a b : StockRow) → is_cell s a ≡ true → is_cell s b ≡ true → is_cell a b ≡ true
+one_cell s a b one two =
+    let k = key_of s a one in
+    let l = key_of s b two in
+    cell_of a b (record {
+      kind = l.kind ∙ sym k.kind;
+      supplier = l.supplier ∙ sym k.supplier;
+      product = l.product ∙ sym k.product;
+      night = l.night ∙ sym k.night;
     })
 
 -- The nights of a run.
@@ -58,8 +92,12 @@ in_nights first (suc n) m = (m == first) || in_nights (first + 1) n m
 
 interval : (n first m : ℕ) → in_nights first (suc n) m ≡ (nat_le first m && nat_le m (first + n))
 unfolding in_nights
-interval zero first m = or_false (m == first) ∙ edge
+interval zero first m = one (m == first) ∙ edge
   where
+    one : (b : Bool) → (b || false) ≡ b
+    one true = refl
+    one false = refl
+
     edge : (m == first) ≡ (nat_le first m && nat_le m (first + 0))
     edge = grind (arith, nat_tests)
 interval (suc n) first m = ap (λ b. (m == first) || b) (interval n (first + 1) m) ∙ wider
@@ -116,6 +154,10 @@ run_places (suc n) s t allot free = ((allot, free), run_places n (next_night s) 
 
 -- Counts.
 
+filter_none : {X : Type 0} (p : X → Bool) (xs : List X) → AllByRecursion (λ x. p x ≡ false) xs → filter p xs ≡ []
+filter_none p [] off = refl
+filter_none p (x ∷ xs) off = rw off.0 (filter_none p xs off.1)
+
 filter_few : {X : Type 0} (p : X → Bool) (xs : List X) → length (filter p xs) ≤ length xs
 filter_few p [] = omega arith
 filter_few p (x ∷ xs) = elim (cases_Bool (p x)) [
@@ -165,7 +207,7 @@ single s (c ∷ cells) apart = elim (cases_Bool (is_cell s c)) [
   | inl on ↦ (
       let others : AllByRecursion (λ x. is_cell s x ≡ false) cells = all_from (λ x. is_cell s x ≡ false) cells (λ x there.
       false_from_ne_true (is_cell s x) (λ same.
-      let bad : true ≡ false = sym (both_cells s c x on same) ∙ all_has (λ x. is_cell c x ≡ false) cells x apart.0 there in cc)) in
+      let bad : true ≡ false = sym (one_cell s c x on same) ∙ all_has (λ x. is_cell c x ≡ false) cells x apart.0 there in cc)) in
       rw (on, filter_none (is_cell s) cells others) refl)
   | inr off ↦ rw off (single s cells apart.1)
 ]
@@ -180,9 +222,14 @@ known_count (s ∷ rows) cells own apart =
     ∙ last (list_any (is_cell s) cells)
   where
     other : (x : StockRow) → Has cells x → is_cell s x ≡ true → is_of rows x ≡ false
-    other x there on = false_from_ne_true (is_of rows x) (λ same.
-        let r = some_has (λ q. is_cell q x) rows same in
-        let bad : true ≡ false = sym (of_both s r.0 x on r.2) ∙ all_has (λ q. is_cell s q ≡ false) rows r.0 own.0 r.1 in cc)
+    other x there on = none rows own.0
+      where
+        none : (rs : List StockRow) → AllByRecursion (λ q. is_cell s q ≡ false) rs → is_of rs x ≡ false
+        none [] off = refl
+        none (r ∷ rs) off =
+            let away : is_cell r x ≡ false = false_from_ne_true (is_cell r x) (λ same.
+            let bad : true ≡ false = sym (of_both s r x on same) ∙ off.0 in cc) in
+            rw away (none rs off.1)
 
     known : StockRow → Bool
     known q = list_any (is_cell q) cells

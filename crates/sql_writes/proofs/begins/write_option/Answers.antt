@@ -1,7 +1,7 @@
 use mir.Val.{bool_byte}
 use Rattle.std.proofs.Common.{IsTrue, ◌<◌, ◌≤◌, Bool, true, false, arith, lit<, rules, subst, sym}
 use Rattle.allotment.specs.Limits.{is_code}
-use Rattle.sql_writes.proofs.Doing.{did_as, did_fail, numbered}
+use Rattle.sql_writes.proofs.Doing.{did_as, did_fail, numbered, numbered_fails}
 use Rattle.sql_writes.proofs.OptionLemmas.{one_row}
 use Rattle.sql_writes.proofs.Permitting.{codes_short}
 use Rattle.sql_writes.proofs.begins.write_option.Goals as goal
@@ -24,23 +24,23 @@ flag_low false = omega arith
 -- the row fails for a reason
 pub returns-in_err-insert_step : goal.returns-in_err-insert_step
 returns-in_err-insert_step g c =
+    let add = c.in_err-insert_step.ensures in
     let one = one_row c.args.id c.args.plan.now c.args.step c.args.option c.want-want.result c.want-want.ensures.want in
     let low = flag_low c.marked.result in
     record {
-      did = did_fail (numbered c.in_err-insert_step.ensures.writes (λ _ _. tt)) (λ t permits. record {
-            journey = permits.journey;
-            unplaced = permits.unplaced;
-            save = omega (arith, low, c.from.ensures);
-            short = codes_short c.as_str.result.now c.as_str-2.result.now
-                (subst (λ text. IsTrue (is_code text)) (sym c.as_str.ensures.text) c.as_str.ensures.limits)
-                (subst (λ text. IsTrue (is_code text)) (sym c.as_str-2.ensures.text) c.as_str-2.ensures.limits);
-          }) (omega (arith, one)) (search rules);
+      did = did_fail (numbered_fails add.writes) (λ t permits. record {
+        journey = permits.journey;
+        unplaced = permits.unplaced;
+        save = omega (arith, low, c.from.ensures);
+        short = codes_short c.as_str.result.now c.as_str-2.result.now
+            (subst (λ text. IsTrue (is_code text)) (sym c.as_str.ensures.text) c.as_str.ensures.limits)
+            (subst (λ text. IsTrue (is_code text)) (sym c.as_str-2.ensures.text) c.as_str-2.ensures.limits);
+      }) (omega (arith, one)) (search rules);
     }
 
 -- it takes one rowid
 pub returns : goal.returns
 returns g c =
+    let add = c.in_ok-insert_step.ensures in
     let one = one_row c.args.id c.args.plan.now c.args.step c.args.option c.want-want.result c.want-want.ensures.want in
-    record {
-      did = did_as (numbered c.in_ok-insert_step.ensures.writes (λ _ _. tt)) (λ _ t _ _. (tt, search rules)) (omega (arith, one));
-    }
+    record { did = did_as (numbered add.writes (λ _ _. tt)) (λ _ t _ _. (tt, search rules)) (omega (arith, one)) }

@@ -3,8 +3,9 @@ use Rattle.sql_model.specs.ExpectedRows.{step_rows_of, none_taken}
 use Rattle.sql_model.specs.Beginning.{adds_steps, first_steps, rows_of_step}
 use Rattle.sql_model.proofs.PlanParts.{step_rows_of-more}
 use Rattle.sql_model.proofs.PlanWriting.{step_rows-all}
-use Rattle.sql_writes.proofs.OptionLemmas.{adds_steps-append, next_step, next_step_fits}
+use Rattle.sql_writes.proofs.BeginLemmas.{adds_steps-append}
 use Rattle.sql_writes.proofs.Doing.{open_as, open_both, open_then_fail}
+use Rattle.sql_writes.proofs.OptionLemmas.{next_step, next_step_fits}
 use Rattle.sql_writes.proofs.begins.write_steps.Goals as goal
 
 -- the rows of one more step are written

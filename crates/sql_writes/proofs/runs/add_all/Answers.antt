@@ -1,7 +1,8 @@
 use Rattle.std.proofs.Common.{◌≡◌, ◌<◌, ◌∙◌, sym, ap, take, length, arith, rules, append-nil}
 use Rattle.sql_writes.specs.Runs.{adds_each}
 use Rattle.sql_writes.proofs.Doing.{open_as, open_both, open_none, open_of, open_then_fail}
-use Rattle.sql_writes.proofs.RunLemmas.{take-more, take-whole, adds-more}
+use Rattle.sql_writes.proofs.LoadLemmas.{take-more, take-whole}
+use Rattle.sql_writes.proofs.RunLemmas.{adds-more}
 use Rattle.sql_writes.proofs.RunWrites.{next_new}
 use Rattle.sql_writes.proofs.runs.add_all.Goals as goal
 

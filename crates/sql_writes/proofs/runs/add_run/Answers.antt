@@ -1,8 +1,8 @@
 use Rattle.std.proofs.Common.{◌≡◌, true, eqb-true, ◌∙◌, length, sym, ap, subst, rules, append-nil}
 use Rattle.sql_writes.specs.Runs.{IsRun}
-use Rattle.std.proofs.lemmas.List.{nil_from_length}
 use Rattle.sql_writes.proofs.Doing.{open_then_fail}
-use Rattle.sql_writes.proofs.RunWrites.{run_fits, HasWrittenUpTo-none, HasWrittenUpTo-some, HasWrittenUpTo-all, front_run, rest_run, some_new, adds-then}
+use Rattle.sql_writes.proofs.RunWrites.{run_fits, none_left, HasWrittenUpTo-none, HasWrittenUpTo-some, HasWrittenUpTo-all}
+use Rattle.sql_writes.proofs.RunWeeks.{front_run, rest_run, some_new, adds-then}
 use Rattle.sql_writes.proofs.runs.add_run.Goals as goal
 
 pub loop-rest-init : goal.loop-rest-init
@@ -49,4 +49,4 @@ returns g c =
     let rest = c.loop-rest.rest.now in
     let empty : c.is_empty.result ≡ true = search (rules, c.loop-rest-test.false) in
     let zero : length rest ≡ 0 = eqb-true (length rest) 0 (sym c.is_empty.ensures ∙ empty) in
-    record { did = HasWrittenUpTo-all c.args.run.now rest c.loop-rest.invariant.added (nil_from_length rest zero) }
+    record { did = HasWrittenUpTo-all c.args.run.now rest c.loop-rest.invariant.added (none_left rest zero) }

@@ -8,13 +8,14 @@ use Rattle.sql_writes.proofs.runs.put_between.Goals as goal
 pub returns-then-are_known-clause-did : goal.returns-then-are_known-clause-did
 returns-then-are_known-clause-did g c =
     let run = c.args.run.now in
+    let first = c.args.first.now in
     let last = c.args.last.now in
     let all : c.in_ok-known.known ≡ length run = search rules in
     let set = c.in_ok-known.ensures in
     did_as set.did
     (λ clean t may apart. (
       tt,
-      all_known run c.args.first.now last c.requires.first c.requires.last c.requires.run c.night.result c.night.ensures t apart
+      all_known run first last c.requires.first c.requires.last c.requires.run c.night.result c.night.ensures t apart
           (sym (set.known clean t may) ∙ all),
     )) (omega arith)
 

@@ -20,7 +20,8 @@ returns-clause-did g c =
     let allot : c.from-4.result ≡ first.1.allot = search rules in
     let free : c.from-5.result ≡ first.1.free = search rules in
     let within = first.1.within in
-    did_like (numbered c.set_nights.ensures.writes (λ _ it. it))
+    let set = c.set_nights.ensures in
+    did_like (numbered set.writes (λ _ it. it))
     (λ t _. (tt, same_nights range first c.args.last c.from-4.result c.from-5.result t kind supplier product from to allot free))
     (λ t cells. record { free_is = omega (arith, within, allot, free); short = short_nights range t cells }) (omega arith)
 
