@@ -1,5 +1,5 @@
 -- The text of a night is the text of `jiff`'s date with that day number, and what reads as a night is what `jiff` reads.
-use Rattle.std.proofs.Common.{◌≡◌, ℕ, zero, suc, ◌+◌, ◌-◌, ◌*◌, ◌/◌, ◌%◌, ◌<◌, ◌≤◌, Bool, true, false, cond, ◌==◌, List, [], ◌∷◌, ◌++◌, length, get_or, refl, sym, ap, subst, ◌∙◌, arith, ℤ, pos, Option, Some, None, Ok}
+use Rattle.std.proofs.Common.{◌≡◌, ℕ, zero, suc, ◌+◌, ◌-◌, ◌*◌, ◌/◌, ◌%◌, ◌<◌, ◌≤◌, Bool, true, false, cond, ◌==◌, List, length, get_or, refl, sym, ap, subst, ◌∙◌, arith, ℤ, pos, Option, Some, None, Ok}
 use Rattle.std.proofs.lemmas.Slice.Eq.{text_from_reads}
 use Rattle.std.proofs.lemmas.Bool.Decides.{nat_tests}
 use Rattle.jiff_core.specs.declared.civil.date.Date.{Date}
@@ -9,11 +9,11 @@ use Rattle.jiff_core.proofs.SignedLemmas.{signed_arith}
 use Rattle.jiff_core.proofs.MarchLemmas.{days_of_years-march_days}
 use Rattle.jiff_core.proofs.CalendarLemmas.{days_from_civil-day_count, days_in_month_bounds}
 use Rattle.jiff_core.proofs.DateLemmas.{epoch_day_injective, epoch_day_same}
-use Rattle.jiff_fmt.specs.Text.{pad2, year_text, date_text}
+use Rattle.jiff_fmt.specs.Text.{date_text}
 use Rattle.jiff_fmt.specs.Temporal.{parse_date, date_parts}
 use Rattle.jiff_fmt.proofs.RoundTrip.{parse_date-date_text}
 use Rattle.allotment.specs.Limits.{first_night, is_night}
-use Rattle.allotment.specs.Nights.{year_of, days_before, months_if, months, days_of, month_and_day, two_digits, four_digits, night_text, night_in}
+use Rattle.allotment.specs.Nights.{year_of, days_before, months_if, months, days_of, month_and_day, night_text, night_in}
 use Rattle.allotment.specs.Dates.{IsPair, IsNoDate, IsDateText}
 use Rattle.allotment.proofs.NightLemmas.{is_civil, night_range, night_in-night_text, night_text-night_in}
 
@@ -58,11 +58,7 @@ count_of : (y m d over : ℕ) → y ≤ 99 → 1 ≤ m → m ≤ 12 → 1 ≤ d 
     → day_count (year_at y) m d ≡ 4382910 + 365 * y + (y + 3) / 4 + over
 unfolding day_count
 count_of y m d over within low high first sums =
-    let n = 2000 + y + 10000 in
-    let years = days_of_years-march_days n in
-    let before = months_days (year_at y) (y % 4 == 0) (m - 1) (omega arith) (leap_of y within) in
-    let leap = leap_count y within in
-    omega (arith, signed_arith, years, before, leap)
+    grind (arith, days_of_years-march_days, months_days, leap_of, leap_count, signed_arith)
 
 -- a date in these years has the day number that is counted here
 night_day : (y m d over n : ℕ) → y ≤ 99 → 1 ≤ m → m ≤ 12 → 1 ≤ d → days_of (m - 1) (months y) + d ≡ over + 1
@@ -106,10 +102,7 @@ night_date n e =
 
 -- dates of the same year, month and day have the same text
 date_text-same : (a b : Date) → a.year ≡ b.year → a.month ≡ b.month → a.day ≡ b.day → date_text a ≡ date_text b
-date_text-same a b year month day =
-    ap (λ z. year_text z ++ 45 ∷ [] ++ pad2 a.month ++ 45 ∷ [] ++ pad2 a.day) year
-    ∙ ap (λ z. year_text b.year ++ 45 ∷ [] ++ pad2 z ++ 45 ∷ [] ++ pad2 a.day) month
-    ∙ ap (λ z. year_text b.year ++ 45 ∷ [] ++ pad2 b.month ++ 45 ∷ [] ++ pad2 z) day
+date_text-same a b year month day = cc
 
 -- a date with the day number of a night has the text of that night
 pub night_text-date_text : (d : Date) (n : ℕ) → is_night n ≡ true → epoch_day d ≡ pos n → night_text n ≡ date_text d
@@ -154,19 +147,12 @@ comes_from t n e =
 
 -- where a text is not read as any night, it is not read
 none_if : (o : Option ℕ) → ((n : ℕ) → o ≡ Some n → ⊥) → o ≡ None
-none_if None h = refl
-none_if (Some n) h = absurd (h n refl)
+none_if o h = grind arith
 
 -- what it reads is the date that the text is of
 pub same_date : (t : List ℕ) (found : Date) (n : ℕ) → Ok (date_parts found) ≡ parse_date t → Comes t n
     → (epoch_day found ≡ pos n) × (date_text found ≡ t)
-same_date t found n h c =
-    let both = h ∙ c.parsed in
-    let parts : date_parts found ≡ date_parts c.date = cc in
-    let year : found.year ≡ c.date.year = ap (λ z. z.year) parts in
-    let month : found.month ≡ c.date.month = ap (λ z. z.month) parts in
-    let day : found.day ≡ c.date.day = ap (λ z. z.day) parts in
-    (epoch_day_same found c.date year month day ∙ c.day, date_text-same found c.date year month day ∙ sym c.text)
+same_date t found n h c = grind (arith, epoch_day_same, date_text-same)
 
 -- a date that is out of range is not read as a night
 pub out_of_range : (t : List ℕ) (found : Date) → Ok (date_parts found) ≡ parse_date t
@@ -185,33 +171,12 @@ pub date_shown : (t : List ℕ) (c y m d : ℕ) → length t ≡ 10 → get_or t
     → IsPair (get_or t 0 0) (get_or t 1 0) c → IsPair (get_or t 2 0) (get_or t 3 0) y
     → IsPair (get_or t 5 0) (get_or t 6 0) m → IsPair (get_or t 8 0) (get_or t 9 0) d
     → IsDateText t (100 * c + y) m d
-date_shown t c y m d long one two century year month day =
-    let parts = hundreds c y year.small in
-    let ce = century.digits in
-    let ye = year.digits in
-    let me = month.digits in
-    let de = day.digits in
-    let read : t ≡ two_digits c ++ two_digits y ++ 45 ∷ two_digits m ++ 45 ∷ two_digits d
-    = text_from_reads t (two_digits c ++ two_digits y ++ 45 ∷ two_digits m ++ 45 ∷ two_digits d) long
-    ((cc), ((cc), ((cc), ((cc), (one, ((cc), ((cc), (two, ((cc), ((cc), tt)))))))))) in
-    record {
-      year_small = omega (arith, century.small, year.small);
-      month_small = month.small;
-      day_small = day.small;
-      shown = rw parts.0 (rw parts.1 read);
-    }
+date_shown t c y m d long one two century year month day = grind (arith, hundreds, text_from_reads)
 
 -- the text of a night is a date's text
 pub comes_shown : (t : List ℕ) (n : ℕ) → (c : Comes t n)
     → IsDateText t (2000 + year_of (n - first_night)) c.date.month c.date.day
-comes_shown t n c =
-    let short = (days_in_month_bounds c.date.year c.date.month).0 in
-    record {
-      year_small = omega (arith, c.within);
-      month_small = omega (arith, c.date.month_in.1);
-      day_small = omega (arith, c.date.day_in.1, short);
-      shown = c.text ∙ ap (λ z. year_text z ++ 45 ∷ [] ++ pad2 c.date.month ++ 45 ∷ [] ++ pad2 c.date.day) c.year;
-    }
+comes_shown t n c = grind (arith, days_in_month_bounds)
 
 -- a text of no numbers is not read as a night
 pub no_date : (t : List ℕ) → IsNoDate t → night_in t ≡ None
@@ -224,12 +189,7 @@ pair_same a b tens ones = omega arith
 -- a text has one year, one month and one day
 pub numbers_same : (t : List ℕ) (y m d z n e : ℕ) → IsDateText t y m d → IsDateText t z n e
     → (y ≡ z) × (m ≡ n) × (d ≡ e)
-numbers_same t y m d z n e a b =
-    let both : four_digits y ++ 45 ∷ two_digits m ++ 45 ∷ two_digits d ≡ four_digits z ++ 45 ∷ two_digits n ++ 45 ∷ two_digits e
-    = sym a.shown ∙ b.shown in
-    let century = pair_same (y / 100) (z / 100) (cc) (cc) in
-    let year = pair_same (y % 100) (z % 100) (cc) (cc) in
-    (omega arith, pair_same m n (cc) (cc), pair_same d e (cc) (cc))
+numbers_same t y m d z n e a b = grind (arith, pair_same)
 
 -- numbers of which the calendar has no day are no night
 pub no_day : (t : List ℕ) (y m d : ℕ) → IsDateText t y m d → (IsDate (pos y) (pos m) (pos d) → ⊥) → night_in t ≡ None
@@ -241,7 +201,6 @@ no_day t y m d shown none =
     let date = c.date in
     let year : date.year ≡ pos y = c.year ∙ ap (λ z. pos z) (sym same.0) in
     let month : m ≡ date.month = same.1 in
-    let day : d ≡ date.day = same.2 in
     let short : date.day ≤ days_in_month (pos y) m = subst (λ z. date.day ≤ days_in_month z m) year (subst (λ z. date.day ≤ days_in_month date.year z) (sym month) date.day_in.1) in
     none (
       (omega (arith, signed_arith, shown.year_small), omega (arith, signed_arith, shown.year_small)),
@@ -252,13 +211,7 @@ no_day t y m d shown none =
 -- the date of the numbers has the text
 pub date_text-numbers : (t : List ℕ) (y m d : ℕ) (found : Date) → IsDateText t y m d → IsYmd (pos y) (pos m) (pos d) found
     → date_text found ≡ t
-date_text-numbers t y m d found shown is =
-    let month : found.month ≡ m = omega (arith, signed_arith, is.1) in
-    let day : found.day ≡ d = omega (arith, signed_arith, is.2) in
-    ap (λ z. year_text z ++ 45 ∷ [] ++ pad2 found.month ++ 45 ∷ [] ++ pad2 found.day) is.0
-    ∙ ap (λ z. four_digits y ++ 45 ∷ [] ++ pad2 z ++ 45 ∷ [] ++ pad2 found.day) month
-    ∙ ap (λ z. four_digits y ++ 45 ∷ [] ++ pad2 m ++ 45 ∷ [] ++ pad2 z) day
-    ∙ sym shown.shown
+date_text-numbers t y m d found shown is = grind (arith, signed_arith)
 
 -- a date is read as its text says
 pub parsed-text : (t : List ℕ) (found : Date) → date_text found ≡ t → Ok (date_parts found) ≡ parse_date t

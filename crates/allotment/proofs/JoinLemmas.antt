@@ -1,8 +1,8 @@
 -- Cutting a joined text gives its parts back, if no part contains the separator. For the laws of the texts, and for the
 -- spelling of a plan.
-use Rattle.std.proofs.Common.{◌≡◌, ℕ, Bool, true, false, not, ◌==◌, List, [], ◌∷◌, ◌++◌, refl, ap, ◌∙◌, eq-eqb}
-use Rattle.std.specs.List.{list_all, onto_first}
-use Rattle.std.proofs.lemmas.Bool.{eqb-true}
+use Rattle.std.proofs.Common.{◌≡◌, ℕ, Bool, true, false, not, ◌==◌, List, [], ◌∷◌, ◌++◌, refl, ap, ◌∙◌, eq-eqb, arith}
+use Rattle.std.specs.List.{list_all}
+use Rattle.std.proofs.lemmas.Bool.{eqb-true, not-true}
 use Rattle.std.proofs.lemmas.List.Splits.{slice_split-cons_yes, slice_split-cons_no}
 use Rattle.allotment.specs.Texts.{parts, joined, slash}
 use Rattle.allotment.proofs.TestLemmas.{and_both, and_make}
@@ -11,11 +11,6 @@ use Rattle.allotment.proofs.PlainLemmas.{is_plain_byte, is_plain}
 -- the text contains no such byte
 abbrev pub lacks : ℕ → List ℕ → Bool
 lacks c text = list_all (λ b. not (b == c)) text
-
--- a test that does not hold is false
-not_true : (b : Bool) → not b ≡ true → b ≡ false
-not_true true e = cc
-not_true false e = refl
 
 -- a byte that is no digit, capital or dash is none of those that are
 other_byte : (c b : ℕ) (t : Bool) → (b == c) ≡ t → is_plain_byte c ≡ false → is_plain_byte b ≡ true → not t ≡ true
@@ -40,17 +35,12 @@ all_lack c (t ∷ ts) odd e =
 -- a text without the byte is its own one part
 no_cut : (c : ℕ) (t : List ℕ) → lacks c t ≡ true → parts c t ≡ t ∷ []
 no_cut c [] e = refl
-no_cut c (b ∷ t) e =
-    let both = and_both (not (b == c)) (lacks c t) e in
-    slice_split-cons_no (λ x. x == c) b t (not_true (b == c) both.0) ∙ ap (onto_first b) (no_cut c t both.1)
+no_cut c (b ∷ t) e = grind (arith, and_both, slice_split-cons_no, not-true, no_cut c t)
 
 -- the first cut is at the first such byte
 cut_here : (c : ℕ) (t more : List ℕ) → lacks c t ≡ true → parts c (t ++ c ∷ more) ≡ t ∷ parts c more
 cut_here c [] more e = slice_split-cons_yes (λ x. x == c) c more (eq-eqb c c refl)
-cut_here c (b ∷ t) more e =
-    let both = and_both (not (b == c)) (lacks c t) e in
-    slice_split-cons_no (λ x. x == c) b (t ++ c ∷ more) (not_true (b == c) both.0)
-    ∙ ap (onto_first b) (cut_here c t more both.1)
+cut_here c (b ∷ t) more e = grind (arith, and_both, slice_split-cons_no, not-true, cut_here c t more)
 
 -- the parts of texts that were joined are the texts
 pub parts_joined : (c : ℕ) (t : List ℕ) (ts : List (List ℕ))

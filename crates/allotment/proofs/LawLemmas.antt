@@ -1,7 +1,6 @@
 -- A value is read back from its text, and a text that is read is the text of its value. For the laws of the texts.
-use Rattle.std.proofs.Common.{◌≡◌, ℕ, Bool, true, false, cond, ◌&&◌, ◌==◌, List, [], ◌∷◌, refl, sym, ap, ◌∙◌, Option, Some, None, find, bytes_eq}
+use Rattle.std.proofs.Common.{◌≡◌, ℕ, Bool, true, false, cond, ◌&&◌, ◌==◌, List, [], ◌∷◌, refl, sym, ap, ◌∙◌, Option, Some, None, find, bytes_eq, eqb-true}
 use Rattle.std.specs.List.{list_all}
-use Rattle.std.proofs.lemmas.Bool.{eqb-true}
 use Rattle.std.proofs.lemmas.List.Splits.{join_with_byte-slice_split}
 use Rattle.allotment.specs.Cells.{kind_number}
 use Rattle.allotment.specs.Limits.{is_code, is_good_cell, is_night}
@@ -74,14 +73,12 @@ cell_made : (a s p t : List ℕ) (k : Option Kind) (n : Option ℕ) (x : Cell) �
 cell_made a s p t None n x is falls e = cc
 cell_made a s p t (Some kind) None x is falls e = cc
 cell_made a s p t (Some kind) (Some night) x is falls e =
-    let y : Cell = record { kind = kind; supplier = s; product = p; night = night } in
-    let kept = keep_if_some is_good_cell y x e in
+    let kept = keep_if_some is_good_cell (record { kind = kind; supplier = s; product = p; night = night }) x e in
     let letter = letter_read a kind is in
-    let shown = (night_text-night_in t night falls).1 in
     record {
       good = kept.1;
       spelled = ap cell_text (sym kept.0) ∙ ap (λ z. joined slash (z ∷ s ∷ p ∷ night_text night ∷ [])) (sym letter)
-          ∙ ap (λ z. joined slash (a ∷ s ∷ p ∷ z ∷ [])) shown;
+          ∙ ap (λ z. joined slash (a ∷ s ∷ p ∷ z ∷ [])) ((night_text-night_in t night falls).1);
     }
 
 -- only four parts make a cell, and they spell it
@@ -131,7 +128,4 @@ four_again x e =
 
 -- the text of a cell is read back as the cell
 pub cell_again : (x : Cell) → is_good_cell x ≡ true → cell_in (cell_text x) ≡ Some x
-cell_again x e =
-    let behind = x.supplier ∷ x.product ∷ night_text x.night ∷ [] in
-    ap cell_of_parts (plain_parts (kind_letter x.kind) behind (four_plain x (is_sound x e)))
-    ∙ four_again x e
+cell_again x e = simp (plain_parts, four_plain, is_sound, four_again)

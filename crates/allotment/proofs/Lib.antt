@@ -5,7 +5,6 @@ pub mod NightLemmas
 pub mod JiffLemmas
 pub mod DateLemmas
 pub mod MakingLemmas
-pub mod RangeLemmas
 pub mod CutLemmas
 pub mod CellLemmas
 pub mod PlainLemmas

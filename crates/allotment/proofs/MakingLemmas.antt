@@ -66,32 +66,22 @@ first_of_four want codes night nights count =
 -- good codes, and no first night
 second_fault : (want : Wanted) (codes night nights count : Bool) → codes ≡ true → night ≡ false
     → first_of_four want codes night nights count ≡ Err bad.Night
-second_fault want true false nights count e f = refl
-second_fault want true true nights count e f = cc
-second_fault want false night nights count e f = cc
+second_fault want codes night nights count e f = cc
 
 -- good codes and a first night, and too few or too many nights
 third_fault : (want : Wanted) (codes nights count : Bool) → codes ≡ true → nights ≡ false
     → first_of_four want codes true nights count ≡ Err bad.Nights
-third_fault want true false count e f = refl
-third_fault want true true count e f = cc
-third_fault want false nights count e f = cc
+third_fault want codes nights count e f = cc
 
 -- only the count is wrong
 fourth_fault : (want : Wanted) (codes nights count : Bool) → codes ≡ true → nights ≡ true → count ≡ false
     → first_of_four want codes true nights count ≡ Err bad.Count
-fourth_fault want true true false e f g = refl
-fourth_fault want true true true e f g = cc
-fourth_fault want true false count e f g = cc
-fourth_fault want false nights count e f g = cc
+fourth_fault want codes nights count e f g = cc
 
 -- nothing is wrong
 no_fault : (want : Wanted) (codes nights count : Bool) → codes ≡ true → nights ≡ true → count ≡ true
     → first_of_four want codes true nights count ≡ Ok want
-no_fault want true true true e f g = refl
-no_fault want true true false e f g = cc
-no_fault want true false count e f g = cc
-no_fault want false nights count e f g = cc
+no_fault want codes nights count e f g = cc
 
 -- What is made of codes that are some, by what else is wrong.
 
@@ -126,6 +116,4 @@ module _ (kind : Kind) (supplier product text : List ℕ) (nights count : ℕ) (
 -- a want of what was read is one of the parts
 pub parts_same : (kind : Kind) {supplier product s p : List ℕ} → supplier ≡ s → product ≡ p → (first nights count : ℕ)
     → want_of_parts kind s p (Some first) nights count ≡ want_of_parts kind supplier product (Some first) nights count
-parts_same kind {supplier} {product} {s} {p} e f first nights count =
-    ap (λ x. want_of_parts kind x p (Some first) nights count) (sym e)
-    ∙ ap (λ x. want_of_parts kind supplier x (Some first) nights count) (sym f)
+parts_same kind {supplier} {product} {s} {p} e f first nights count = cc

@@ -28,38 +28,19 @@ pub record IsPlace (first : ℕ) (ms : List ℕ) (over : ℕ) (place : ℕ × �
 -- the place is in the first month if fewer days are left than the month has
 place_here : (first days : ℕ) (ms : List ℕ) (over : ℕ) → over < days → days ≤ 31
     → IsPlace first (days ∷ ms) over (first, over + 1)
-place_here first days ms over within short =
-    let none : first - first ≡ 0 = omega arith in
-    record {
-      from = omega arith;
-      to = omega arith;
-      day = omega arith;
-      short = omega arith;
-      sums = rw none (omega arith);
-      before_next = rw none (omega arith);
-    }
+place_here first days ms over within short = grind arith
 
 -- else the place is that of the remaining days in the later months
 place_later : (first days : ℕ) (ms : List ℕ) (over : ℕ) (place : ℕ × ℕ) → days ≤ over
     → IsPlace (first + 1) ms (over - days) place → IsPlace first (days ∷ ms) over place
-place_later first days ms over place past later =
-    let one : place.0 - first ≡ suc (place.0 - (first + 1)) = omega (arith, later.from) in
-    record {
-      from = omega (arith, later.from);
-      to = omega (arith, later.to);
-      day = later.day;
-      short = later.short;
-      sums = rw one (omega (arith, later.sums));
-      before_next = rw one (omega (arith, later.before_next));
-    }
+place_later first days ms over place past later = grind arith
 
 -- the place by the answer of the test
 place_by : (first days : ℕ) (ms : List ℕ) (over : ℕ) (b : Bool) → nat_lt over days ≡ b → days ≤ 31
     → (days ≤ over → IsPlace (first + 1) ms (over - days) (month_and_day (first + 1) ms (over - days)))
     → IsPlace first (days ∷ ms) over (if b then (first, over + 1) else month_and_day (first + 1) ms (over - days))
 place_by first days ms over true e short later = place_here first days ms over (ltb-true over days e) short
-place_by first days ms over false e short later =
-    let past : days ≤ over = ltb-false over days e in place_later first days ms over _ past (later past)
+place_by first days ms over false e short later = search (arith, ltb-false, place_later)
 
 -- the search through the months finds that place
 pub month_place : (first : ℕ) (ms : List ℕ) (over : ℕ) → are_short ms ≡ true → over < days_of (length ms) ms
@@ -74,8 +55,7 @@ month_place first (days ∷ ms) over short within =
 
 -- a year has 365 days, and a leap year one more
 year_days : (b : Bool) → (are_short (months_if b) ≡ true) × (days_of 12 (months_if b) ≡ (if b then 366 else 365))
-year_days true = (refl, refl)
-year_days false = (refl, refl)
+year_days b = grind arith
 
 -- the day stands in one of the hundred years, and in a month of it
 pub record IsCivil (day : ℕ) : Type 0 where
@@ -86,8 +66,7 @@ pub record IsCivil (day : ℕ) : Type 0 where
 -- a day comes before the end of its year
 year_length : (year day : ℕ) (b : Bool) → (year % 4 == 0) ≡ b → year ≡ 4 * day / 1461
     → day - days_before year < (if b then 366 else 365)
-year_length year day true e is = let leap = eqb-true (year % 4) 0 e in omega arith
-year_length year day false e is = let common = eqb-false (year % 4) 0 e in omega arith
+year_length year day b e is = grind (arith, eqb-true, eqb-false)
 
 -- each day of the hundred years has its year, month and day
 pub is_civil : (day : ℕ) → day ≤ 36524 → IsCivil day
@@ -109,19 +88,11 @@ digit_back x small = let reads = digit_value_digit (48 + x) (omega arith, omega 
 
 -- two digits are read as the number that was written
 two_back : (z : ℕ) → z ≤ 99 → digits_value 10 (two_digits z) ≡ z
-two_back z small =
-    let tens = digit_back (z / 10) (omega arith) in
-    let ones = digit_back (z % 10) (omega arith) in
-    rw (tens, ones) (omega arith)
+two_back z small = grind (arith, digit_back)
 
 -- four digits are read as the number that was written
 four_back : (z : ℕ) → z ≤ 9999 → digits_value 10 (four_digits z) ≡ z
-four_back z small =
-    let a = digit_back (z / 100 / 10) (omega arith) in
-    let b = digit_back (z / 100 % 10) (omega arith) in
-    let c = digit_back (z % 100 / 10) (omega arith) in
-    let d = digit_back (z % 100 % 10) (omega arith) in
-    rw (a, b, c, d) (omega arith)
+four_back z small = grind (arith, digit_back)
 
 -- the night of a year, a month and a day
 abbrev night_at : ℕ → ℕ → ℕ → ℕ
@@ -136,24 +107,16 @@ named_parts y m d = refl
 
 -- the night of the digits is the night of the numbers that were written
 named_date : (y m d : ℕ) → y ≤ 99 → m ≤ 99 → d ≤ 99 → named_night (text_of (y, (m, d))) ≡ night_at (2000 + y) m d
-named_date y m d small_year small_month small_day =
-    named_parts y m d
-    ∙ ap (λ z. night_at z (digits_value 10 (two_digits m)) (digits_value 10 (two_digits d))) (four_back (2000 + y) (omega arith))
-    ∙ ap (λ z. night_at (2000 + y) z (digits_value 10 (two_digits d))) (two_back m small_month)
-    ∙ ap (λ z. night_at (2000 + y) m z) (two_back d small_day)
+named_date y m d small_year small_month small_day = grind (arith, named_parts, four_back, two_back)
 
 -- the night of the place of a day is that day
 night_sum : (y m d day : ℕ) → days_before y ≤ day → IsPlace 1 (months y) (day - days_before y) (m, d)
     → night_at (2000 + y) m d ≡ first_night + day
-night_sum y m d day starts place =
-    let back : 2000 + y - 2000 ≡ y = omega arith in
-    rw back (omega (arith, place.sums, place.day))
+night_sum y m d day starts place = grind arith
 
 -- a night is from the first to the last
 pub night_range : (n : ℕ) → is_night n ≡ true → (first_night ≤ n) × (n ≤ last_night)
-night_range n e =
-    let both = and_both (nat_le first_night n) (nat_le n last_night) e in
-    (leb-true first_night n both.0, leb-true n last_night both.1)
+night_range n e = grind (arith, and_both, leb-true)
 
 -- the text of a night names that night
 pub night_named : (n : ℕ) → is_night n ≡ true → named_night (night_text n) ≡ n
@@ -175,6 +138,5 @@ night_in-night_text n e =
 -- a text that is read as a night is the text of that night
 pub night_text-night_in : (text : List ℕ) (n : ℕ) → night_in text ≡ Some n → (is_night n ≡ true) × (night_text n ≡ text)
 night_text-night_in text n e =
-    let kept = keep_if_some (is_text_of text) (named_night text) n e in
-    let both = and_both (is_night n) (bytes_eq (night_text n) text) kept.1 in
+    let both = and_both (is_night n) (bytes_eq (night_text n) text) (keep_if_some (is_text_of text) (named_night text) n e).1 in
     (both.0, same_bytes (night_text n) text both.1)

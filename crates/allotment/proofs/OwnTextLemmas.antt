@@ -1,15 +1,14 @@
 -- Two different rows have different texts, and so have two different wants. For the laws of the texts.
-use Rattle.std.proofs.Common.{◌≡◌, ℕ, ◌≤◌, ◌<◌, ◌^◌, true, List, [], ◌∷◌, take, refl, sym, ap, ◌∙◌, arith, append_assoc, Some, decimal, nat_le}
+use Rattle.std.proofs.Common.{◌≡◌, ℕ, ◌≤◌, ◌<◌, ◌^◌, true, List, [], ◌∷◌, take, sym, ap, ◌∙◌, arith, append_assoc, Some, decimal, nat_le, leb-true}
 use Rattle.std.specs.List.{list_all}
-use Rattle.std.proofs.lemmas.Bool.{leb-true}
 use Rattle.std.proofs.lemmas.Fmt.{decimal_injective}
-use Rattle.allotment.specs.Want.{Wanted, wanted}
-use Rattle.allotment.specs.Limits.{is_code, is_good_cell, is_night, is_want, are_nights, is_count, most_count, most_nights, most_places}
+use Rattle.allotment.specs.Want.{Wanted}
+use Rattle.allotment.specs.Limits.{is_code, is_good_cell, is_night, is_want, most_nights, most_places}
 use Rattle.allotment.specs.Nights.{night_in, night_text}
 use Rattle.allotment.specs.Rows.{Allotted, allotted, is_row}
 use Rattle.allotment.specs.Texts.{parts, joined, slash, kind_letter, kind_of_letter, cell_of_parts, row_text, want_text}
 use Rattle.allotment.specs.declared.codes.Kind.{Kind}
-use Rattle.allotment.specs.declared.codes.Kind.TheVariants.{Flight, Room, Transfer, Cover}
+use Rattle.allotment.specs.declared.codes.Kind.TheVariants.{Cover}
 use Rattle.allotment.proofs.TestLemmas.{and_both, and_make}
 use Rattle.allotment.proofs.NightLemmas.{night_in-night_text}
 use Rattle.allotment.proofs.PlainLemmas.{is_plain, letter_plain, code_plain, night_plain, decimal_plain}
@@ -28,20 +27,21 @@ row_five r = simp append_assoc
 
 -- the places of a good row are few enough to be a number of the machine
 few_places : (r : Allotted) → is_row r ≡ true → r.places < 2 ^ 64
-few_places r e =
-    let both = and_both (is_good_cell r.cell) (nat_le r.places most_places) e in
-    let few : r.places ≤ most_places = leb-true r.places most_places both.1 in
-    omega arith
+few_places r e = grind (arith, and_both, leb-true)
 
 -- the five parts of a row contain no `/`
 row_plain : (r : Allotted) → is_row r ≡ true → list_all is_plain (kind_letter r.cell.kind ∷ four_of r) ≡ true
 row_plain r e =
-    let g = is_sound r.cell (and_both (is_good_cell r.cell) (nat_le r.places most_places) e).0 in
-    and_make _ _ (letter_plain r.cell.kind)
-    (and_make _ _ (code_plain r.cell.supplier g.supplier)
-    (and_make _ _ (code_plain r.cell.product g.product)
-    (and_make _ _ (night_plain r.cell.night g.night)
-    (and_make _ _ (decimal_plain r.places (few_places r e)) refl))))
+    grind (
+      arith,
+      is_sound r.cell (and_both (is_good_cell r.cell) (nat_le r.places most_places) e).0,
+      and_both (is_good_cell r.cell) (nat_le r.places most_places),
+      code_plain r.cell.supplier,
+      code_plain r.cell.product,
+      night_plain r.cell.night,
+      decimal_plain r.places,
+      few_places r,
+    )
 
 -- cutting the text of a row gives its parts back
 row_parts : (r : Allotted) → is_row r ≡ true → parts slash (row_text r) ≡ kind_letter r.cell.kind ∷ four_of r
@@ -55,9 +55,8 @@ row_by_parts r s good fine e =
     let other = and_both (is_good_cell s.cell) (nat_le s.places most_places) fine in
     let found : Some r.cell ≡ Some s.cell =
     sym (four_again r.cell one.0) ∙ ap (λ ps. cell_of_parts (take 4 ps)) e ∙ four_again s.cell other.0 in
-    let shown : decimal r.places ≡ decimal s.places = cc in
     let cells : r.cell ≡ s.cell = cc in
-    let places = decimal_injective r.places s.places (few_places r good) (few_places s fine) shown in
+    let places = decimal_injective r.places s.places (few_places r good) (few_places s fine) cc in
     ap (λ x. allotted x r.places) cells ∙ ap (λ n. allotted s.cell n) places
 
 -- rows with the same text are the same
@@ -81,33 +80,15 @@ record IsSoundWant (w : Wanted) : Type 0 where
 
 -- no kind may have more nights than cover
 fewer_than_cover : (k : Kind) → most_nights k ≤ most_nights Cover
-fewer_than_cover Flight = omega arith
-fewer_than_cover Room = omega arith
-fewer_than_cover Transfer = omega arith
-fewer_than_cover Cover = omega arith
+fewer_than_cover k = grind arith
 
 -- a good want keeps them
 is_sound_want : (w : Wanted) → is_want w ≡ true → IsSoundWant w
-is_sound_want w e =
-    let a = and_both _ (is_count w.count) e in
-    let b = and_both _ (are_nights w.kind w.first w.nights) a.0 in
-    let d = and_both _ (is_night w.first) b.0 in
-    let codes = and_both (is_code w.supplier) (is_code w.product) d.0 in
-    let within = (and_both (nat_le 1 w.nights) (nat_le w.nights (most_nights w.kind)) (and_both _ _ b.1).0).1 in
-    let few : w.nights ≤ most_nights w.kind = leb-true w.nights (most_nights w.kind) within in
-    let most = fewer_than_cover w.kind in
-    let counted : w.count ≤ most_count = leb-true w.count most_count (and_both (nat_le 1 w.count) (nat_le w.count most_count) a.1).1 in
-    record { supplier = codes.0; product = codes.1; first = d.1; nights = omega arith; count = omega arith }
+is_sound_want w e = grind (arith, and_both, leb-true, fewer_than_cover)
 
 -- the six parts of a want contain no `/`
 want_plain : (w : Wanted) → IsSoundWant w → list_all is_plain (kind_letter w.kind ∷ five_of w) ≡ true
-want_plain w g =
-    and_make _ _ (letter_plain w.kind)
-    (and_make _ _ (code_plain w.supplier g.supplier)
-    (and_make _ _ (code_plain w.product g.product)
-    (and_make _ _ (night_plain w.first g.first)
-    (and_make _ _ (decimal_plain w.nights g.nights)
-    (and_make _ _ (decimal_plain w.count g.count) refl)))))
+want_plain w g = grind (arith, and_make, letter_plain, code_plain, night_plain, decimal_plain)
 
 -- cutting the text of a want gives its parts back
 want_parts : (w : Wanted) → IsSoundWant w → parts slash (want_text w) ≡ kind_letter w.kind ∷ five_of w
@@ -119,33 +100,15 @@ letter_same k l e = let both : Some k ≡ Some l = sym (letter_again k) ∙ ap k
 
 -- nights with the same text are the same
 night_same : (m n : ℕ) → is_night m ≡ true → is_night n ≡ true → night_text m ≡ night_text n → m ≡ n
-night_same m n p q e =
-    let both : Some m ≡ Some n = sym (night_in-night_text m p) ∙ ap night_in e ∙ night_in-night_text n q in cc
+night_same m n p q e = cc (sym (night_in-night_text m p) ∙ ap night_in e ∙ night_in-night_text n q)
 
 -- wants with equal parts are equal
 want_by_parts : (w v : Wanted) → IsSoundWant w → IsSoundWant v
     → kind_letter w.kind ∷ five_of w ≡ kind_letter v.kind ∷ five_of v → w ≡ v
-want_by_parts w v g h e =
-    let letters : kind_letter w.kind ≡ kind_letter v.kind = cc in
-    let suppliers : w.supplier ≡ v.supplier = cc in
-    let products : w.product ≡ v.product = cc in
-    let firsts : night_text w.first ≡ night_text v.first = cc in
-    let nights : decimal w.nights ≡ decimal v.nights = cc in
-    let counts : decimal w.count ≡ decimal v.count = cc in
-    let kinds = letter_same w.kind v.kind letters in
-    let nights_from = night_same w.first v.first g.first h.first firsts in
-    let many = decimal_injective w.nights v.nights g.nights h.nights nights in
-    let each = decimal_injective w.count v.count g.count h.count counts in
-    ap (λ k. wanted k w.supplier w.product w.first w.nights w.count) kinds
-    ∙ ap (λ s. wanted v.kind s w.product w.first w.nights w.count) suppliers
-    ∙ ap (λ p. wanted v.kind v.supplier p w.first w.nights w.count) products
-    ∙ ap (λ n. wanted v.kind v.supplier v.product n w.nights w.count) nights_from
-    ∙ ap (λ n. wanted v.kind v.supplier v.product v.first n w.count) many
-    ∙ ap (λ n. wanted v.kind v.supplier v.product v.first v.nights n) each
+want_by_parts w v g h e = grind (arith, letter_same, night_same, decimal_injective)
 
 -- wants with the same text are the same
 pub want_same : (w v : Wanted) → is_want w ≡ true → is_want v ≡ true → want_text w ≡ want_text v → w ≡ v
 want_same w v good fine e =
-    let g = is_sound_want w good in
-    let h = is_sound_want v fine in
-    want_by_parts w v g h (sym (want_parts w g) ∙ ap (parts slash) e ∙ want_parts v h)
+    want_by_parts w v (is_sound_want w good) (is_sound_want v fine) (sym (want_parts w (is_sound_want w good))
+    ∙ ap (parts slash) e ∙ want_parts v (is_sound_want v fine))

@@ -1,9 +1,8 @@
 -- Texts of ASCII that are stored inline.
-use Rattle.std.proofs.Common.{◌≡◌, ℕ, ◌≤◌, ◌<◌, ◌++◌, true, List, length, take, drop, Decides, refl, sym, ap, ◌∙◌, arith, length-append, length-drop, replicate, nat_lt, nat_le, Some}
+use Rattle.std.proofs.Common.{◌≡◌, ℕ, ◌≤◌, ◌<◌, ◌++◌, true, List, length, take, drop, Decides, refl, arith, length-append, length-drop, replicate, nat_lt, Some, le-leb}
 use Rattle.std.specs.Str.{IsAscii, IsUtf8}
 use Rattle.std.proofs.Math.Seq.{take-append_seam, drop-append_seam}
 use Rattle.std.proofs.lemmas.List.{drop-replicate, length-replicate}
-use Rattle.std.proofs.lemmas.Bool.{le-leb}
 use Rattle.std.proofs.lemmas.Bool.Decides.{Decides-by_and, Decides-like, Decides-ltb}
 use Rattle.std.proofs.lemmas.Str.{IsUtf8-from_ascii}
 use Rattle.std.proofs.lemmas.Str.Ascii.{IsAscii-from_all, All-from_ascii}
@@ -25,18 +24,19 @@ is_utf8 text e = IsUtf8-from_ascii text ((is_ascii-Decides text).0 e)
 pub is_padded : (most : ℕ) (text kept : List ℕ) → kept ≡ text → length text ≤ most → IsAscii text
     → IsPadded most (length text) (kept ++ drop (length text) (replicate most 0))
 is_padded most text kept e within ascii =
-    let zeros : List ℕ = drop (length text) (replicate most 0) in
-    rw e (record {
-      within = within;
-      whole = simp (length-append, length-drop, length-replicate) (omega arith);
-      zeros = drop-append_seam text zeros ∙ drop-replicate (length text) most 0;
-      ascii = ap is_ascii (take-append_seam text zeros) ∙ ((is_ascii-Decides text).1 ascii);
-    })
+    grind (
+      arith,
+      length-append,
+      length-drop,
+      length-replicate,
+      drop-append_seam,
+      drop-replicate,
+      take-append_seam,
+      is_ascii-Decides,
+    )
 
 -- a text that was written over so many zeros is kept as it was
 pub keep_if-is_short : (most : ℕ) (text kept rest : List ℕ) → kept ≡ text → length text ≤ most → IsAscii text
     → Some (take (length text) (kept ++ rest)) ≡ keep_if (is_short most) text
 keep_if-is_short most text kept rest e within ascii =
-    let short = and_make (nat_le (length text) most) (is_ascii text) (le-leb (length text) most within) ((is_ascii-Decides text).1 ascii) in
-    ap (λ front. Some (take (length text) (front ++ rest))) e ∙ ap Some (take-append_seam text rest)
-    ∙ sym (keep_if_yes (is_short most) text short)
+    grind (arith, and_make, le-leb, is_ascii-Decides, take-append_seam, keep_if_yes)

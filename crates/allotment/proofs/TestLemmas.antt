@@ -11,13 +11,11 @@ and_both false b e = cc
 
 -- if both tests hold, their conjunction holds
 pub and_make : (a b : Bool) → a ≡ true → b ≡ true → (a && b) ≡ true
-and_make true b p q = q
-and_make false b p q = cc
+and_make a b p q = cc
 
 -- where the test answered true, the choice keeps the value
 keep_yes : {X : Type 0} (x : X) (b : Bool) → b ≡ true → (if b then Some x else None) ≡ Some x
-keep_yes x true t = refl
-keep_yes x false t = cc
+keep_yes x b t = cc
 
 -- a value that passes is kept
 pub keep_if_yes : {X : Type 0} (test : X → Bool) (x : X) → test x ≡ true → keep_if test x ≡ Some x
@@ -25,8 +23,7 @@ keep_if_yes test x t = keep_yes x (test x) t
 
 -- where the test answered false, the choice keeps nothing
 keep_no : {X : Type 0} (x : X) (b : Bool) → b ≡ false → (if b then Some x else None) ≡ None
-keep_no x true t = cc
-keep_no x false t = refl
+keep_no x b t = cc
 
 -- a value that does not pass is not kept
 pub keep_if_no : {X : Type 0} (test : X → Bool) (x : X) → test x ≡ false → keep_if test x ≡ None

@@ -1,5 +1,5 @@
 -- The five fields of a record, by their places. For `fields`.
-use Rattle.std.proofs.Common.{◌≡◌, ◌≢◌, ◌∙◌, ap, sym, subst, refl, ℕ, zero, suc, ◌-◌, ◌<◌, take, drop, List, [], ◌∷◌, Bool, true, false, length, arith, Some, None, ◌==◌, ◌&&◌, bytes_eq, codes}
+use Rattle.std.proofs.Common.{◌≡◌, ◌≢◌, ap, sym, subst, refl, ℕ, zero, suc, ◌-◌, ◌<◌, take, drop, List, [], ◌∷◌, Bool, true, false, length, arith, Some, None, ◌&&◌, bytes_eq, codes}
 use Rattle.std.specs.List.{list_all}
 use Rattle.std.proofs.lemmas.Bool.{and_parts}
 use Rattle.std.specs.Str.{IsAscii, IsUtf8, is_utf8}
@@ -8,7 +8,7 @@ use Rattle.csv.specs.Records.{Row, cut_from, field_at, fields_of, text_of}
 use Rattle.allotment.specs.Texts.{keep_if}
 use Rattle.allotment.proofs.TestLemmas.{keep_if_no, keep_if_some, keep_if_none, keep_if_yes}
 use Rattle.allotment_csv.specs.Fields.{text_at, is_at}
-use Rattle.allotment_csv.specs.Rows.{has_shape, is_heading, are_same, heading}
+use Rattle.allotment_csv.specs.Rows.{has_shape, is_heading, are_same}
 
 -- a text is what is kept of its bytes
 pub text_there : (bytes : List ℕ) → IsUtf8 bytes → keep_if is_utf8 bytes ≡ Some bytes
@@ -43,26 +43,17 @@ none_text : (fields : List (List ℕ)) (k : ℕ) → text_at fields k ≡ None �
 unfolding field_at
 none_text [] k none within = absurd (omega arith)
 none_text (f ∷ fields) zero none within = ap (λ b. b && list_all is_utf8 fields) (keep_if_none is_utf8 f none)
-none_text (f ∷ fields) (suc k) none within =
-    ap (λ b. is_utf8 f && b) (none_text fields k none (omega arith)) ∙ and_false (is_utf8 f)
-  where
-    and_false : (b : Bool) → (b && false) ≡ false
-    and_false true = refl
-    and_false false = refl
+none_text (f ∷ fields) (suc k) none within = grind (arith, none_text fields k none)
 
 -- a record with a field that is no text has not the shape of a row
 pub no_shape_at : (fields : List (List ℕ)) (k : ℕ) → k < 5 → length fields ≡ 5 → text_at fields k ≡ None
     → keep_if has_shape fields ≡ None
-no_shape_at fields k low five none =
-    keep_if_no has_shape fields
-    (ap (λ n. (n == 5) && list_all is_utf8 fields) five ∙ none_text fields k none (omega arith))
+no_shape_at fields k low five none = grind (arith, keep_if_no, none_text)
 
 -- if five tests hold, their conjunction holds
 all_texts : (v w x y z : Bool) → v ≡ true → w ≡ true → x ≡ true → y ≡ true → z ≡ true
     → (v && (w && (x && (y && (z && true))))) ≡ true
-all_texts v w x y z a b c d e =
-    ap (λ m. m && (w && (x && (y && (z && true))))) a ∙ ap (λ m. m && (x && (y && (z && true)))) b
-    ∙ ap (λ m. m && (y && (z && true))) c ∙ ap (λ m. m && (z && true)) d ∙ ap (λ m. m && true) e
+all_texts v w x y z a b c d e = cc
 
 -- a record of five texts has the shape of a row
 pub has_texts : (fields : List (List ℕ)) (a b c d e : List ℕ) → length fields ≡ 5
@@ -74,20 +65,7 @@ has_texts (v ∷ []) a b c d e five p q r s t = absurd (omega (arith, five))
 has_texts (v ∷ w ∷ []) a b c d e five p q r s t = absurd (omega (arith, five))
 has_texts (v ∷ w ∷ x ∷ []) a b c d e five p q r s t = absurd (omega (arith, five))
 has_texts (v ∷ w ∷ x ∷ y ∷ []) a b c d e five p q r s t = absurd (omega (arith, five))
-has_texts (v ∷ w ∷ x ∷ y ∷ z ∷ []) a b c d e five p q r s t =
-    let one = keep_if_some is_utf8 v a p in
-    let two = keep_if_some is_utf8 w b q in
-    let three = keep_if_some is_utf8 x c r in
-    let four = keep_if_some is_utf8 y d s in
-    let last = keep_if_some is_utf8 z e t in
-    keep_if_yes has_shape (v ∷ w ∷ x ∷ y ∷ z ∷ [])
-    (all_texts (is_utf8 v) (is_utf8 w) (is_utf8 x) (is_utf8 y) (is_utf8 z) (ap is_utf8 one.0 ∙ one.1)
-    (ap is_utf8 two.0 ∙ two.1) (ap is_utf8 three.0 ∙ three.1) (ap is_utf8 four.0 ∙ four.1) (ap is_utf8 last.0 ∙ last.1))
-    ∙ ap (λ m. Some (m ∷ w ∷ x ∷ y ∷ z ∷ [])) one.0
-    ∙ ap (λ m. Some (a ∷ m ∷ x ∷ y ∷ z ∷ [])) two.0
-    ∙ ap (λ m. Some (a ∷ b ∷ m ∷ y ∷ z ∷ [])) three.0
-    ∙ ap (λ m. Some (a ∷ b ∷ c ∷ m ∷ z ∷ [])) four.0
-    ∙ ap (λ m. Some (a ∷ b ∷ c ∷ d ∷ m ∷ [])) last.0
+has_texts (v ∷ w ∷ x ∷ y ∷ z ∷ []) a b c d e five p q r s t = grind (arith, keep_if_some, keep_if_yes, all_texts)
 has_texts (v ∷ w ∷ x ∷ y ∷ z ∷ more ∷ later) a b c d e five p q r s t = absurd (omega (arith, five))
 
 -- fields that are the same are as many
@@ -99,11 +77,7 @@ as_many (x ∷ xs) (y ∷ ys) same = ap (λ n. suc n) (as_many xs ys (and_parts 
 
 -- a record with another number of fields is not the heading
 pub not_heading : (fields : List (List ℕ)) → length fields ≢ 5 → is_heading fields ≡ false
-not_heading fields other = go (is_heading fields) refl
-  where
-    go : (b : Bool) → is_heading fields ≡ b → b ≡ false
-    go true is = absurd (other (as_many fields heading is))
-    go false is = refl
+not_heading fields other = grind (arith, as_many)
 
 -- the heading, word by word
 pub heading_words : (fields : List (List ℕ)) → length fields ≡ 5
@@ -116,11 +90,5 @@ heading_words (v ∷ []) five = absurd (omega (arith, five))
 heading_words (v ∷ w ∷ []) five = absurd (omega (arith, five))
 heading_words (v ∷ w ∷ x ∷ []) five = absurd (omega (arith, five))
 heading_words (v ∷ w ∷ x ∷ y ∷ []) five = absurd (omega (arith, five))
-heading_words (v ∷ w ∷ x ∷ y ∷ z ∷ []) five =
-    ap (λ b. bytes_eq v (codes "kind") && (bytes_eq w (codes "supplier") && (bytes_eq x (codes "product")
-    && (bytes_eq y (codes "night") && b)))) (and_true (bytes_eq z (codes "places")))
-  where
-    and_true : (b : Bool) → (b && true) ≡ b
-    and_true true = refl
-    and_true false = refl
+heading_words (v ∷ w ∷ x ∷ y ∷ z ∷ []) five = grind arith
 heading_words (v ∷ w ∷ x ∷ y ∷ z ∷ more ∷ later) five = absurd (omega (arith, five))

@@ -1,12 +1,8 @@
 -- The result of a prefix of rows: which of the faults of all rows is the first. For `fronts`.
-use Rattle.std.proofs.Common.{◌≡◌, ◌∙◌, ap, sym, subst, refl, ℕ, zero, suc, ◌+◌, ◌<◌, ◌≤◌, List, [], ◌∷◌, ◌++◌, Bool, true, false, length, map, append_assoc, arith, Option, Some, None, ◌==◌, ◌&&◌, not, nat_le, option_map, if◌then◌else◌, Ok, Err}
-use Rattle.std.specs.Prelude.{unwrap_or}
-use Rattle.std.specs.List.{cons_option, list_all}
+use Rattle.std.proofs.Common.{◌≡◌, ◌∙◌, ap, sym, subst, refl, ℕ, suc, ◌+◌, ◌<◌, ◌≤◌, List, [], ◌∷◌, ◌++◌, Bool, true, false, length, map, append_assoc, arith, Option, Some, None, ◌==◌, not, nat_le, if◌then◌else◌, Ok, Err, append-nil, eq-eqb, eqb-true, le-leb}
+use Rattle.std.specs.List.{list_all}
 use Rattle.std.proofs.Common.{length-append}
-use Rattle.std.proofs.lemmas.Bool.{eq-eqb, eqb-true, le-leb}
-use Rattle.allotment.specs.Limits.{is_between}
 use Rattle.commands.proofs.RepeatLemmas.{distinct_if_none}
-use Rattle.std.proofs.lemmas.List.{append-nil}
 use Rattle.allotment.specs.Making.{unless, first_fault}
 use Rattle.allotment.specs.declared.cells.Row.{Row}
 use Rattle.commands.specs.Batches.{is_new_cell, is_good_row, repeat_behind, repeat_among}
@@ -36,24 +32,21 @@ pub one_more_row : (front : List (List (List ℕ))) (rows : List Row) (fields : 
 one_more_row [] [] fields r are good is = (good, is, tt)
 one_more_row [] (s ∷ rows) fields r are good is = absurd are
 one_more_row (f ∷ front) [] fields r are good is = absurd are
-one_more_row (f ∷ front) (s ∷ rows) fields r are good is =
-    (are.0, are.1, one_more_row front rows fields r are.2 good is)
+one_more_row (f ∷ front) (s ∷ rows) fields r are good is = grind (arith, one_more_row front rows fields r are.2 good)
 
 -- the rows of such records are these
 pub rows_of-front : (front : List (List (List ℕ))) (rows : List Row) → AreRows front rows → rows_of front ≡ rows
 rows_of-front [] [] are = refl
 rows_of-front [] (r ∷ rows) are = absurd are
 rows_of-front (fields ∷ front) [] are = absurd are
-rows_of-front (fields ∷ front) (r ∷ rows) are =
-    ap (λ o. cons_option o (rows_of front)) are.1 ∙ ap (λ xs. r ∷ xs) (rows_of-front front rows are.2)
+rows_of-front (fields ∷ front) (r ∷ rows) are = grind (arith, rows_of-front front rows)
 
 -- such rows keep the limits
 all_good : (front : List (List (List ℕ))) (rows : List Row) → AreRows front rows → list_all is_good_row rows ≡ true
 all_good [] [] are = refl
 all_good [] (r ∷ rows) are = absurd are
 all_good (fields ∷ front) [] are = absurd are
-all_good (fields ∷ front) (r ∷ rows) are =
-    and_make (is_good_row r) (list_all is_good_row rows) (good_row fields r are.1) (all_good front rows are.2)
+all_good (fields ∷ front) (r ∷ rows) are = grind (arith, and_make, good_row, all_good front rows)
 
 -- no rows are those of no records
 no_rows : (front : List (List (List ℕ))) → AreRows front [] → front ≡ []
@@ -64,24 +57,13 @@ no_rows (fields ∷ front) are = absurd are
 
 -- a double negation is the test itself
 not_not : (b : Bool) → not (not b) ≡ b
-not_not true = refl
-not_not false = refl
+not_not b = grind arith
 
 -- a row after good ones is wrong if its cell stands before, and otherwise not
 pub row_faults-front : (earlier : List (List (List ℕ))) (before : List Row) (fields : List (List ℕ)) (r : Row)
     → AreRows earlier before → record_causes fields ≡ [] → row_of_record fields ≡ Some r → length before + 1 ≤ most_rows
     → row_faults earlier fields ≡ unless (is_new_cell r before) (in_csv (length before + 1) cause.Twice)
-row_faults-front earlier before fields r are good is few =
-    ap (λ n. map (in_csv (n + 1)) (causes_at (n + 1) fields) ++ unless (not (comes_again earlier fields)) (in_csv (n + 1) cause.Twice))
-    (as_many_rows earlier before are)
-    ∙ ap (λ cs. map (in_csv (length before + 1)) (unless (nat_le (length before + 1) most_rows) cause.Many ++ cs) ++ unless (not (comes_again earlier fields)) (in_csv (length before + 1) cause.Twice))
-    good
-    ∙ ap (λ b. map (in_csv (length before + 1)) (unless b cause.Many ++ []) ++ unless (not (comes_again earlier fields)) (in_csv (length before + 1) cause.Twice))
-    (le-leb (length before + 1) most_rows few)
-    ∙ ap (λ o. unless (not (unwrap_or (option_map (λ (s : Row). not (is_new_cell s (rows_of earlier))) o) false)) (in_csv (length before + 1) cause.Twice))
-    is
-    ∙ ap (λ b. unless b (in_csv (length before + 1) cause.Twice)) (not_not (is_new_cell r (rows_of earlier)))
-    ∙ ap (λ rows. unless (is_new_cell r rows) (in_csv (length before + 1) cause.Twice)) (rows_of-front earlier before are)
+row_faults-front earlier before fields r are good is few = grind (arith, as_many_rows, le-leb, not_not, rows_of-front)
 
 -- what a prefix adds to all that is wrong after some rows: nothing, or that a cell is repeated
 abbrev ComesTo : List (List (List ℕ)) → List (List (List ℕ)) → List (List (List ℕ)) → Option ℕ → Type 0
@@ -92,24 +74,18 @@ ComesTo earlier front rest (Some i) = IsFirst (in_csv (i + 1) cause.Twice) (faul
 behind_new : (earlier front rest : List (List (List ℕ))) (fields : List (List ℕ)) (o : Option ℕ)
     → row_faults earlier fields ≡ [] → ComesTo (earlier ++ (fields ∷ [])) front rest o
     → ComesTo earlier (fields ∷ front) rest o
-behind_new earlier front rest fields None none comes =
-    ap (λ xs. xs ++ faults_behind (earlier ++ (fields ∷ [])) (front ++ rest)) none
-    ∙ comes
-    ∙ ap (λ xs. faults_behind xs rest) (append_assoc earlier (fields ∷ []) front)
-behind_new earlier front rest fields (Some i) none comes =
-    (comes.0, ap (λ xs. xs ++ faults_behind (earlier ++ (fields ∷ [])) (front ++ rest)) none ∙ comes.1)
+behind_new earlier front rest fields o none comes = grind (arith, append_assoc)
 
 -- a row before the prefix whose cell is repeated is the result
 behind_old : (earlier front rest : List (List (List ℕ))) (fields : List (List ℕ)) (n : ℕ) (o : Option ℕ)
     → row_faults earlier fields ≡ in_csv (n + 1) cause.Twice ∷ [] → Some n ≡ o
     → ComesTo earlier (fields ∷ front) rest o
 behind_old earlier front rest fields n None again is = cc
-behind_old earlier front rest fields n (Some i) again is =
-    let same : n ≡ i = cc in (
-      faults_behind (earlier ++ (fields ∷ [])) (front ++ rest),
-      ap (λ xs. xs ++ faults_behind (earlier ++ (fields ∷ [])) (front ++ rest)) again
-          ∙ ap (λ m. in_csv (m + 1) cause.Twice ∷ faults_behind (earlier ++ (fields ∷ [])) (front ++ rest)) same,
-    )
+behind_old earlier front rest fields n (Some i) again is = (
+  faults_behind (earlier ++ (fields ∷ [])) (front ++ rest),
+  ap (λ xs. xs ++ faults_behind (earlier ++ (fields ∷ [])) (front ++ rest)) again
+      ∙ ap (λ m. in_csv (m + 1) cause.Twice ∷ faults_behind (earlier ++ (fields ∷ [])) (front ++ rest)) cc,
+)
 
 -- the first row decides, or else the later ones
 at_row : (earlier front rest : List (List (List ℕ))) (fields : List (List ℕ)) (before rows : List Row) (r : Row)
@@ -118,10 +94,7 @@ at_row : (earlier front rest : List (List (List ℕ))) (fields : List (List ℕ)
     → (repeat_behind (before ++ (r ∷ [])) rows ≡ o → ComesTo (earlier ++ (fields ∷ [])) front rest o)
     → (if is_new_cell r before then repeat_behind (before ++ (r ∷ [])) rows else Some (length before)) ≡ o
     → ComesTo earlier (fields ∷ front) rest o
-at_row earlier front rest fields before rows r o true new faults on is =
-    behind_new earlier front rest fields o
-    (faults ∙ ap (λ b. unless b (in_csv (length before + 1) cause.Twice)) new)
-    (on (sym (ap (λ b. if b then repeat_behind (before ++ (r ∷ [])) rows else Some (length before)) new) ∙ is))
+at_row earlier front rest fields before rows r o true new faults on is = grind (arith, behind_new)
 at_row earlier front rest fields before rows r o false old faults on is =
     behind_old earlier front rest fields (length before) o
     (faults ∙ ap (λ b. unless b (in_csv (length before + 1) cause.Twice)) old)
@@ -156,8 +129,7 @@ first-append x xs ys first = (first.0 ++ ys, ap (λ zs. zs ++ ys) first.1)
 -- the suffix after a prefix
 behind : (all front : List (List (List ℕ))) (rows : List Row) (wrong : Option CsvCause) → Ends all front rows wrong
     → (rest : List (List (List ℕ))) × (all ≡ front ++ rest)
-behind all front rows None end = ([], end ∙ sym (append-nil front))
-behind all front rows (Some cause) end = (end.fields ∷ end.later, end.parts)
+behind all front rows wrong end = grind (arith, append-nil)
 
 -- the result of a prefix, from the first row on
 front_comes_to : (front rest : List (List (List ℕ))) (rows : List Row) (o : Option ℕ)
@@ -203,9 +175,7 @@ whole_stopped all rows c is none =
 -- there is no row
 pub whole_empty : (all : List (List (List ℕ))) (rows : List Row) → IsFront all rows None → rows ≡ []
     → first_fault (rows_of all) (rows_faults all) ≡ Err (in_csv 0 cause.Empty)
-whole_empty all rows is none =
-    ap (λ xs. first_fault (rows_of xs) (rows_faults xs))
-    (is.end ∙ no_rows is.front (subst (AreRows is.front) none is.good))
+whole_empty all rows is none = grind (arith, no_rows)
 
 -- nothing is wrong
 pub whole_good : (all : List (List (List ℕ))) (rows : List Row) → IsFront all rows None → repeat_among rows ≡ None
@@ -221,15 +191,7 @@ whole_good all rows is none some =
 -- rows without a fault make a batch
 pub whole_of_batch : (all : List (List (List ℕ))) (rows : List Row) → IsFront all rows None → repeat_among rows ≡ None
     → 1 ≤ length rows → AreRowsOfBatch rows
-whole_of_batch all rows is none some =
-    record {
-      good = all_good is.front rows is.good;
-      many = between (length rows) some is.few;
-      distinct = distinct_if_none rows none;
-    }
-  where
-    between : (n : ℕ) → 1 ≤ n → n ≤ most_rows → is_between 1 most_rows n ≡ true
-    between n low high = ap (λ b. b && nat_le n most_rows) (le-leb 1 n low) ∙ le-leb n most_rows high
+whole_of_batch all rows is none some = grind (arith, all_good, distinct_if_none, le-leb)
 
 -- Reading.
 
@@ -253,34 +215,13 @@ read_to_more all left later rows fields r is next good row =
 -- no record is left
 pub read_to_end : (all left : List (List (List ℕ))) (rows : List Row) → IsReadTo all left rows → left ≡ []
     → length rows ≤ most_rows → IsFront all rows None
-read_to_end all left rows is none few =
-    record {
-      front = is.front;
-      good = is.good;
-      few = few;
-      end = is.parts ∙ ap (λ xs. is.front ++ xs) none ∙ append-nil is.front;
-    }
+read_to_end all left rows is none few = grind (arith, append-nil)
 
 -- the next record is no row
 pub read_to_stop : (all left later : List (List (List ℕ))) (rows : List Row) (fields : List (List ℕ)) (c : CsvCause)
     → IsReadTo all left rows → left ≡ fields ∷ later → IsFirst c (record_causes fields) → length rows < most_rows
     → IsFront all rows (Some c)
-read_to_stop all left later rows fields c is next first few =
-    record {
-      front = is.front;
-      good = is.good;
-      few = omega (arith, few);
-      end = record {
-        fields = fields;
-        later = later;
-        parts = is.parts ∙ ap (λ xs. is.front ++ xs) next;
-        first = (
-          first.0,
-          ap (λ b. unless b cause.Many ++ record_causes fields) (le-leb (length rows + 1) most_rows (omega (arith, few)))
-              ∙ first.1,
-        );
-      };
-    }
+read_to_stop all left later rows fields c is next first few = grind (arith, le-leb)
 
 -- the next record is one too many
 pub read_to_many : (all left later : List (List (List ℕ))) (rows : List Row) (fields : List (List ℕ))
@@ -308,16 +249,8 @@ none_if_empty (r ∷ rows) n is empty = absurd (omega (arith, is, eqb-true n 0 e
 
 -- a row is there
 pub some_if_not : (n m : ℕ) → n ≡ m → (n == 0) ≡ false → 1 ≤ m
-some_if_not n m is some = go n refl
-  where
-    go : (k : ℕ) → n ≡ k → 1 ≤ m
-    go zero none = absurd (contrary (sym some ∙ eq-eqb n 0 none))
-      where
-        contrary : false ≡ true → ⊥
-        contrary e = cc
-    go (suc k) more = omega (arith, is, more)
+some_if_not n m is some = grind (arith, eq-eqb)
 
 -- an option without a value is `None`
 pub none_if_not : {X : Type 0} (o : Option X) → ((x : X) → o ≡ Some x → ⊥) → o ≡ None
-none_if_not None other = refl
-none_if_not (Some x) other = absurd (other x refl)
+none_if_not o other = grind arith

@@ -3,4 +3,3 @@ pub mod FieldLemmas
 pub mod RowLemmas
 pub mod FrontLemmas
 pub mod LimitLemmas
-pub mod WrongFieldLemmas

@@ -1,8 +1,6 @@
 -- What is read of an allotment file keeps the limits of a batch.
-use Rattle.std.proofs.Common.{◌≡◌, ◌∙◌, ap, sym, subst, refl, ℕ, ◌+◌, ◌≤◌, List, [], ◌∷◌, ◌++◌, Bool, true, false, length, map, arith, length-append, Option, Some, None, drop, nat_le, option_and_then, if◌then◌else◌, Result, Ok, Err}
-use Rattle.std.specs.Prelude.{unwrap_or}
+use Rattle.std.proofs.Common.{◌≡◌, ◌∙◌, ap, sym, subst, refl, ℕ, ◌+◌, ◌≤◌, List, [], ◌∷◌, ◌++◌, true, length, map, arith, length-append, Option, Some, None, nat_le, option_and_then, if◌then◌else◌, Result, Ok, unwrap_or, eqb-true, leb-true, le-leb}
 use Rattle.std.specs.List.{list_all}
-use Rattle.std.proofs.lemmas.Bool.{eqb-true, leb-true, le-leb}
 use Rattle.allotment.specs.Cells.{the_cell}
 use Rattle.allotment.specs.Limits.{is_between, is_code, most_places}
 use Rattle.allotment.specs.Nights.{night_in}
@@ -21,10 +19,9 @@ use Rattle.commands.specs.declared.replies.CsvCause.TheVariants as cause
 use Rattle.commands.proofs.RepeatLemmas.{distinct_if_none}
 use Rattle.commands.specs.Limits.{most_rows}
 use Rattle.allotment_csv.specs.Rows.{field_causes, record_causes, row_of_record}
-use Rattle.allotment_csv.specs.Files.{in_csv, rows_of, faults_behind, rows_faults, file_faults, records_in, rows_in, named, batch_of}
+use Rattle.allotment_csv.specs.Files.{in_csv, rows_of, faults_behind, rows_faults, rows_in, named, batch_of}
 use Rattle.allotment_csv.specs.Fronts.{AreRows}
 use Rattle.allotment_csv.specs.declared.faults.CsvFault.{CsvFault}
-use Rattle.allotment_csv.specs.declared.faults.CsvFault.TheVariants.{BadBody}
 use Rattle.allotment_csv.proofs.RowLemmas.{the_row}
 use Rattle.allotment_csv.proofs.FrontLemmas.{as_many_rows, one_more_row, rows_of-front, row_faults-front}
 
@@ -33,8 +30,7 @@ use Rattle.allotment_csv.proofs.FrontLemmas.{as_many_rows, one_more_row, rows_of
 -- what is kept of a number is within the limits
 kept_within : (low high : ℕ) (o : Option ℕ) (n : ℕ) → option_and_then (keep_if (is_between low high)) o ≡ Some n
     → is_between low high n ≡ true
-kept_within low high None n e = cc
-kept_within low high (Some m) n e = (keep_if_some (is_between low high) m n e).1
+kept_within low high o n e = grind (arith, keep_if_some)
 
 -- places that are read are few enough
 places_few : (text : List ℕ) (n : ℕ) → places_in text ≡ Some n → nat_le n most_places ≡ true
@@ -76,10 +72,7 @@ fields_good (kind ∷ supplier ∷ product ∷ night ∷ places ∷ more ∷ lat
 
 -- a record without a fault is such a row
 record_good : (fields : List (List ℕ)) → record_causes fields ≡ [] → IsGood fields
-record_good fields e =
-    let parts = append_none _ _ e in
-    let shape = and_both _ _ (unless_none _ _ parts.0) in
-    fields_good fields (eqb-true (length fields) 5 shape.0) parts.1
+record_good fields e = grind (arith, append_none, and_both, unless_none, fields_good, eqb-true)
 
 -- The records.
 
@@ -112,12 +105,10 @@ good_cons before fields later here none new behind =
 -- records without a fault are such rows
 records_good : (earlier : List (List (List ℕ))) (before : List Row) (records : List (List (List ℕ)))
     → AreRows earlier before → length before ≤ most_rows → faults_behind earlier records ≡ [] → AreGood before records
-records_good earlier before [] are few e =
-    record { rows = []; are = tt; good = refl; few = omega (arith, few); new = refl }
+records_good earlier before [] are few e = grind arith
 records_good earlier before (fields ∷ later) are few e =
     let parts = append_none _ _ e in
-    let row = append_none _ _ parts.0 in
-    let causes = append_none _ _ (map_none _ _ row.0) in
+    let causes = append_none _ _ (map_none _ _ (append_none _ _ parts.0).0) in
     let here = record_good fields causes.1 in
     let low : length earlier + 1 ≤ most_rows = leb-true _ _ (unless_none _ _ causes.0) in
     let within : length before + 1 ≤ most_rows = omega (arith, low, as_many_rows earlier before are) in
@@ -137,8 +128,7 @@ rows_batch : (name : List ℕ) (records : List (List (List ℕ))) → is_batch_n
 rows_batch name records called e =
     let parts = append_none _ _ e in
     let is = records_good [] [] records tt (omega arith) parts.0 in
-    let some : 1 ≤ length records = leb-true _ _ (unless_none _ _ parts.1) in
-    let low : 1 ≤ length is.rows = omega (arith, some, as_many_rows records is.rows is.are) in
+    let low : 1 ≤ length is.rows = omega (arith, leb-true _ _ (unless_none _ _ parts.1), as_many_rows records is.rows is.are) in
     let high : length is.rows ≤ most_rows = omega (arith, is.few) in
     subst (λ rows. is_batch name rows ≡ true) (sym (rows_of-front records is.rows is.are))
     (and_make _ _
@@ -148,25 +138,13 @@ rows_batch name records called e =
 -- what is read of a file's bytes
 read_batch : (name bytes : List ℕ) (rows : List Row) → is_batch_name name ≡ true → rows_in bytes ≡ Ok rows
     → is_batch name rows ≡ true
-read_batch name bytes rows called e =
-    let records = drop 1 (records_in bytes) in
-    let both = first_fault_ok (rows_of records) rows (file_faults (length bytes) (records_in bytes)) e in
-    subst (λ xs. is_batch name xs ≡ true) both.1
-    (rows_batch name records called (append_none _ _ both.0).1)
+read_batch name bytes rows called e = grind (arith, first_fault_ok, rows_batch, append_none)
 
 -- under a name
 named_batch : (name : List ℕ) (r : Result (List Row) CsvFault) (b : Batched)
     → ((rows : List Row) → r ≡ Ok rows → is_batch name rows ≡ true) → named name r ≡ Ok b → is_batch b.name b.rows ≡ true
-named_batch name (Ok rows) b good e =
-    let same : record { name = name; rows = rows } ≡ b = cc in
-    subst (λ (x : Batched). is_batch x.name x.rows ≡ true) same (good rows refl)
-named_batch name (Err fault) b good e = cc
+named_batch name r b good e = grind arith
 
 -- a batch that is read keeps the limits
 pub batch_keeps_limits : (name bytes : List ℕ) (b : Batched) → batch_of name bytes ≡ Ok b → is_batch b.name b.rows ≡ true
-batch_keeps_limits name bytes b e = go (is_batch_name name) refl e
-  where
-    go : (called : Bool) → is_batch_name name ≡ called
-        → (if called then named name (rows_in bytes) else Err BadBody) ≡ Ok b → is_batch b.name b.rows ≡ true
-    go true called is = named_batch name (rows_in bytes) b (λ rows read. read_batch name bytes rows called read) is
-    go false called is = cc
+batch_keeps_limits name bytes b e = grind (arith, named_batch, read_batch)

@@ -1,6 +1,5 @@
 -- What one read of a record takes from the records that a reader has yet to give. For `open` and `next_record`.
-use Rattle.std.proofs.Common.{◌≡◌, ℕ, zero, suc, ◌+◌, ◌<◌, ◌⊎◌, inl, inr, Bool, true, false, List, [], ◌∷◌, ◌++◌, length, refl, sym, ap, subst, ◌∙◌, arith, Bor, if◌then◌else◌, Option, Some, None, IsSome, MatchBool}
-use Rattle.std.specs.Prelude.{unwrap_or}
+use Rattle.std.proofs.Common.{◌≡◌, ℕ, zero, suc, ◌+◌, ◌<◌, ◌⊎◌, inl, inr, Bool, true, false, List, [], ◌∷◌, ◌++◌, length, refl, sym, ap, subst, ◌∙◌, arith, Bor, if◌then◌else◌, Option, Some, None, IsSome, MatchBool, unwrap_or}
 use Rattle.csv.specs.declared.parser.Config.{Config}
 use Rattle.csv.specs.declared.parser.State.{State}
 use Rattle.csv.specs.declared.parser.State.TheVariants as st
@@ -17,21 +16,13 @@ Shrinks xs p = (length p.2 < length xs) ⊎ ((p.1 ≡ st.StartRecord) × (p.2 �
 -- at the end of the bytes
 at_end : (b : Bool) (row : List (List ℕ)) (xs : List ℕ) (p : Read)
     → (if b then Some (row, st.StartRecord, []) else None) ≡ Some p → Shrinks xs p
-at_end true row xs p e =
-    let P : Read → Type 0 = λ z. Shrinks xs z in
-    let same : (row, st.StartRecord, []) ≡ p = cc in
-    subst P same (inr (refl, refl))
-at_end false row xs p e = cc
+at_end b row xs p e = grind arith
 
 -- at a byte, which ends the record or not
 at_byte : (b : Bool) (row : List (List ℕ)) (s : State) (c : ℕ) (rest : List ℕ) (later : Option Read) (p : Read)
     → (later ≡ Some p → Shrinks rest p) → (if b then Some (row, s, rest) else later) ≡ Some p
     → Shrinks (c ∷ rest) p
-at_byte true row s c rest later p h e =
-    let P : Read → Type 0 = λ z. Shrinks (c ∷ rest) z in
-    let same : (row, s, rest) ≡ p = cc in
-    subst P same (inl (omega arith))
-at_byte false row s c rest later p h e = elim (h e) [ inl less ↦ inl (omega arith) | inr all ↦ inr all ]
+at_byte b row s c rest later p h e = grind arith
 
 -- each read shrinks what is left
 read_shrinks : (cfg : Config) (s : State) (fields : List (List ℕ)) (field xs : List ℕ) (p : Read)
@@ -50,13 +41,11 @@ Suffices n s xs = (length xs < n) ⊎ ((s ≡ st.StartRecord) × (xs ≡ []))
 none_at_start : (cfg : Config) (s : State) (xs : List ℕ) → s ≡ st.StartRecord → xs ≡ []
     → next_record cfg s [] [] xs ≡ None
 unfolding next_record
-none_at_start cfg s xs a b =
-    ap (λ z. next_record cfg z [] [] xs) a ∙ ap (λ z. next_record cfg st.StartRecord [] [] z) b
+none_at_start cfg s xs a b = cc
 
 -- where no read suffices there is no record
 none_at_zero : (cfg : Config) (s : State) (xs : List ℕ) → Suffices 0 s xs → next_record cfg s [] [] xs ≡ None
-none_at_zero cfg s xs h =
-    elim h [ inl less ↦ absurd (omega arith) | inr start ↦ none_at_start cfg s xs start.0 start.1 ]
+none_at_zero cfg s xs h = grind (arith, none_at_start)
 
 -- after a read, one read fewer suffices
 suffices_next : (cfg : Config) (n : ℕ) (s : State) (xs : List ℕ) (p : Read)
@@ -74,8 +63,7 @@ suffices_next cfg n s xs p e h =
 -- two ways to read on that agree after each record agree
 agree : (f g : State → List ℕ → List (List (List ℕ))) (o : Option Read)
     → ((p : Read) → o ≡ Some p → f p.1 p.2 ≡ g p.1 p.2) → records_next f o ≡ records_next g o
-agree f g None h = refl
-agree f g (Some p) h = ap (λ later. p.0 ∷ later) (h p refl)
+agree f g o h = grind arith
 
 -- however many reads there may be, once they suffice they give the same
 enough : (cfg : Config) (n m : ℕ) (s : State) (xs : List ℕ) → Suffices n s xs → Suffices m s xs
@@ -116,18 +104,13 @@ unfolding records_from
 none_on n s xs e = ap (records_next (records_from default_config n)) e
 
 records_on-none : (s : State) (xs : List ℕ) → next_record default_config s [] [] xs ≡ None → records_on s xs ≡ []
-records_on-none s xs e =
-    ap (λ n. records_from default_config n s xs) (one_more (length xs)) ∙ none_on (length xs) s xs e
+records_on-none s xs e = search (arith, one_more, none_on)
 
 -- what is reached by one record
 one_reached : (s s2 : State) (xs ys : List ℕ) (fields : List (List ℕ))
     → Reached default_config s xs (fields ∷ []) s2 ys → records_on s xs ≡ fields ∷ records_on s2 ys
 unfolding Reached
-one_reached s s2 xs ys fields r =
-    records_on-more s xs r.0 r.1
-    ∙ ap (λ z. z ∷ records_on r.0.1 r.0.2) (sym r.2)
-    ∙ ap (λ z. fields ∷ records_on z r.0.2) r.3.0
-    ∙ ap (λ z. fields ∷ records_on s2 z) r.3.1
+one_reached s s2 xs ys fields r = cc (records_on-more s xs r.0 r.1)
 
 -- nothing is reached by no record
 none_reached : (s : State) (xs : List ℕ) → Reached default_config s xs [] s xs
@@ -136,8 +119,7 @@ none_reached s xs = (refl, refl)
 
 -- the bytes that are known
 known_bytes : (o : Option (List ℕ)) → IsSome o → (y : List ℕ) × (o ≡ Some y)
-known_bytes None h = cc
-known_bytes (Some y) h = (y, refl)
+known_bytes o h = grind arith
 
 -- a read of a reader: the record that it found, or that there is none
 pub next_left : (old new : Reader (Bor (List ℕ))) (found : Bool) (fields : List (List ℕ))
@@ -157,8 +139,4 @@ next_left old new true fields reading first r =
         known = subst (λ o. IsSome o) (sym more.1) refl;
       },
     )
-next_left old new false fields reading first r =
-    let known = known_bytes (bytes_left old) reading.known in
-    ap (λ o. records_on old.state (unwrap_or o [])) known.1
-    ∙ records_on-none old.state known.0
-    (rows-end (λ (s : Bor (List ℕ)). Some s.now) old new fields default_config known.0 reading.defaults known.1 r)
+next_left old new false fields reading first r = grind (arith, known_bytes, records_on-none, rows-end)

@@ -1,17 +1,17 @@
 -- The row of a record, and the first thing that is wrong with one that is none. For `rows`.
-use Rattle.std.proofs.Common.{◌≡◌, ◌∙◌, ap, sym, subst, refl, ℕ, List, [], ◌∷◌, ◌++◌, Bool, true, false, Option, Some, None, ◌&&◌, nat_le, bytes_eq, is_some, option_and_then, if◌then◌else◌, Result, Ok, Err, MatchResult}
+use Rattle.std.proofs.Common.{◌≡◌, ◌∙◌, ap, sym, refl, ℕ, List, [], ◌∷◌, ◌++◌, Bool, true, false, Option, Some, None, ◌&&◌, nat_le, bytes_eq, is_some, option_and_then, if◌then◌else◌, Result, Ok, Err, MatchResult, arith}
 use Rattle.std.specs.Option.{ok_or}
 use Rattle.allotment.specs.Cells.{the_cell}
 use Rattle.allotment.specs.Limits.{is_between, is_code, is_good_cell, is_night, most_places}
 use Rattle.allotment.specs.Making.{unless}
 use Rattle.allotment.specs.Nights.{night_in, is_text_of, named_night, night_text}
 use Rattle.allotment.specs.Rows.{allotted}
-use Rattle.allotment.specs.Texts.{keep_if, kind_of_word, cell_from, number_in, places_in}
+use Rattle.allotment.specs.Texts.{keep_if, kind_of_word, cell_from, places_in}
 use Rattle.allotment.specs.declared.cells.Cell.{Cell}
 use Rattle.allotment.specs.declared.cells.Row.{Row}
 use Rattle.commands.specs.Batches.{is_good_row}
 use Rattle.allotment.specs.declared.codes.Kind.{Kind}
-use Rattle.allotment.proofs.TestLemmas.{and_both, and_make, keep_if_some, keep_if_none, keep_if_yes}
+use Rattle.allotment.proofs.TestLemmas.{and_both, and_make, keep_if_some, keep_if_none}
 use Rattle.commands.specs.declared.replies.CsvCause.{CsvCause}
 use Rattle.commands.specs.declared.replies.CsvCause.TheVariants as cause
 use Rattle.allotment_csv.specs.Rows.{field_causes, record_causes, has_shape, row_from, row_of_record}
@@ -26,12 +26,10 @@ causes_by kind codes night places =
 
 -- whether there is a value
 found_none : {X : Type 0} (o : Option X) → o ≡ None → is_some o ≡ false
-found_none None e = refl
-found_none (Some x) e = cc
+found_none o e = cc
 
 found_some : {X : Type 0} (o : Option X) (x : X) → o ≡ Some x → is_some o ≡ true
-found_some None x e = cc
-found_some (Some y) x e = refl
+found_some o x e = cc
 
 -- the first text is no kind
 pub no_kind : (kind supplier product night places : List ℕ) → kind_of_word kind ≡ None
@@ -63,8 +61,7 @@ no_supplier kind supplier product night places k is none =
 
 -- whatever stands before it, a test that fails makes all fail
 and_false : (b : Bool) → (b && false) ≡ false
-and_false true = refl
-and_false false = refl
+and_false b = grind arith
 
 -- the product is no code
 pub no_product : (kind supplier product night places : List ℕ) (k : Kind) → kind_of_word kind ≡ Some k
@@ -81,8 +78,7 @@ is_one text code kept = let one = keep_if_some is_code text code kept in ap is_c
 -- both codes are codes
 both_codes : (supplier product s p : List ℕ) → keep_if is_code supplier ≡ Some s → keep_if is_code product ≡ Some p
     → (is_code supplier && is_code product) ≡ true
-both_codes supplier product s p first second =
-    ap (λ b. b && is_code product) (is_one supplier s first) ∙ is_one product p second
+both_codes supplier product s p first second = grind (arith, is_one)
 
 -- the text is no night
 pub no_night : (kind supplier product night places : List ℕ) (k : Kind) (s p : List ℕ) → kind_of_word kind ≡ Some k
@@ -103,11 +99,7 @@ up_to_places : (kind supplier product night places : List ℕ) (k : Kind) (s p :
     → night_in night ≡ Some n
     → field_causes (kind ∷ supplier ∷ product ∷ night ∷ places ∷ []) ≡ causes_by true true true (is_some (places_in places))
 up_to_places kind supplier product night places k s p n is first second there =
-    ap (λ b. causes_by b (is_code supplier && is_code product) (is_some (night_in night)) (is_some (places_in places)))
-    (found_some (kind_of_word kind) k is)
-    ∙ ap (λ b. causes_by true b (is_some (night_in night)) (is_some (places_in places)))
-    (both_codes supplier product s p first second)
-    ∙ ap (λ b. causes_by true true b (is_some (places_in places))) (found_some (night_in night) n there)
+    grind (arith, found_some (kind_of_word kind) k, found_some (night_in night) n, both_codes supplier product s p first)
 
 -- the places are none
 pub no_places : (kind supplier product night places : List ℕ) (k : Kind) (s p : List ℕ) (n : ℕ)
@@ -130,8 +122,7 @@ named_is_night text named n e = go (is_night named) refl e
     go true is found = whole (bytes_eq (night_text named) text) found
       where
         whole : (d : Bool) → (if d then Some named else None) ≡ Some n → is_night n ≡ true
-        whole true one = let same : named ≡ n = cc in subst (λ m. is_night m ≡ true) same is
-        whole false one = cc
+        whole d one = grind arith
     go false is found = cc
 
 -- what was read of the fields makes the row
@@ -140,29 +131,22 @@ pub the_row : (kind supplier product night places : List ℕ) (k : Kind) (s p : 
     → night_in night ≡ Some n → places_in places ≡ Some m
     → row_of_record (kind ∷ supplier ∷ product ∷ night ∷ places ∷ []) ≡ Some (allotted (the_cell k s p n) m)
 the_row kind supplier product night places k s p n m is first second there some =
-    let one = keep_if_some is_code supplier s first in
-    let two = keep_if_some is_code product p second in
-    let cell = the_cell k supplier product n in
-    let good : is_good_cell cell ≡ true
-    = ap (λ b. (b && is_code product) && is_night n) (is_one supplier s first)
-    ∙ ap (λ b. b && is_night n) (is_one product p second)
-    ∙ named_is_night night (named_night night) n there in
-    ap (λ o. row_from (cell_from o supplier product (night_in night)) (places_in places)) is
-    ∙ ap (λ o. row_from (cell_from (Some k) supplier product o) (places_in places)) there
-    ∙ ap (λ o. row_from o (places_in places)) (keep_if_yes is_good_cell cell good)
-    ∙ ap (λ o. row_from (Some cell) o) some
-    ∙ ap (λ t. Some (allotted (the_cell k t product n) m)) one.0
-    ∙ ap (λ t. Some (allotted (the_cell k s t n) m)) two.0
+    grind (
+      arith,
+      keep_if_some is_code supplier s first,
+      keep_if_some is_code product p second,
+      is_one supplier s,
+      is_one product p,
+      named_is_night night (named_night night) n there,
+    )
 
 -- a reading that fails found nothing
 pub found_nothing : {X E : Type 0} (o : Option X) (why e : E) → Err e ≡ ok_or o why → o ≡ None
-found_nothing None why e is = refl
-found_nothing (Some x) why e is = cc
+found_nothing o why e is = grind arith
 
 -- a reading that succeeds found its value
 pub found_value : {X E : Type 0} (o : Option X) (why : E) (x : X) → Ok x ≡ ok_or o why → o ≡ Some x
-found_value None why x is = cc
-found_value (Some y) why x is = let same : y ≡ x = cc in ap (λ z. Some z) same
+found_value o why x is = grind arith
 
 -- a record that has not the shape of a row is reported as such
 pub shape_first : (fields : List (List ℕ)) → None ≡ keep_if has_shape fields → IsFirst cause.Shape (record_causes fields)
@@ -185,33 +169,24 @@ row_of_fields fields texts kept = ap row_of_record (keep_if_some has_shape field
 pub record_read : (fields texts : List (List ℕ)) (result : Result Row CsvCause) → Some texts ≡ keep_if has_shape fields
     → MatchResult result (λ row. (field_causes texts ≡ []) × (row_of_record texts ≡ Some row)) (λ c. IsFirst c (field_causes texts))
     → MatchResult result (λ row. (record_causes fields ≡ []) × (row_of_record fields ≡ Some row)) (λ c. IsFirst c (record_causes fields))
-record_read fields texts (Ok row) kept is =
-    (causes_of_fields fields texts kept ∙ is.0, row_of_fields fields texts kept ∙ is.1)
-record_read fields texts (Err c) kept is = (is.0, causes_of_fields fields texts kept ∙ is.1)
+record_read fields texts result kept is = grind (arith, causes_of_fields, row_of_fields)
 
 -- Limits of rows.
 
 -- a cell that is read keeps the limits
 good_cell : (k : Option Kind) (s p : List ℕ) (n : Option ℕ) (x : Cell) → cell_from k s p n ≡ Some x → is_good_cell x ≡ true
-good_cell None s p n x is = cc
-good_cell (Some k) s p None x is = cc
-good_cell (Some k) s p (Some n) x is = (keep_if_some is_good_cell (the_cell k s p n) x is).1
+good_cell k s p n x is = search (arith, keep_if_some)
 
 -- places that are read keep the limits
 few_places : (o : Option ℕ) (m : ℕ) → option_and_then (keep_if (is_between 0 most_places)) o ≡ Some m
     → nat_le m most_places ≡ true
-few_places None m is = cc
-few_places (Some n) m is = (and_both _ _ (keep_if_some (is_between 0 most_places) n m is).1).1
+few_places o m is = grind (arith, and_both, keep_if_some)
 
 -- a row of both keeps the limits
 good_parts : (c : Option Cell) (n : Option ℕ) (r : Row) → row_from c n ≡ Some r
     → ((x : Cell) → c ≡ Some x → is_good_cell x ≡ true) → ((m : ℕ) → n ≡ Some m → nat_le m most_places ≡ true)
     → is_good_row r ≡ true
-good_parts None n r is cell places = cc
-good_parts (Some x) None r is cell places = cc
-good_parts (Some x) (Some m) r is cell places =
-    let same : allotted x m ≡ r = cc in
-    ap is_good_row (sym same) ∙ and_make (is_good_cell x) (nat_le m most_places) (cell x refl) (places m refl)
+good_parts c n r is cell places = grind (arith, and_make)
 
 -- the row of a record keeps the limits
 pub good_row : (fields : List (List ℕ)) (r : Row) → row_of_record fields ≡ Some r → is_good_row r ≡ true
@@ -220,8 +195,5 @@ good_row (a ∷ []) r is = cc
 good_row (a ∷ b ∷ []) r is = cc
 good_row (a ∷ b ∷ c ∷ []) r is = cc
 good_row (a ∷ b ∷ c ∷ d ∷ []) r is = cc
-good_row (kind ∷ supplier ∷ product ∷ night ∷ places ∷ []) r is =
-    good_parts (cell_from (kind_of_word kind) supplier product (night_in night)) (places_in places) r is
-    (λ x e. good_cell (kind_of_word kind) supplier product (night_in night) x e)
-    (λ m e. few_places (number_in places) m e)
+good_row (kind ∷ supplier ∷ product ∷ night ∷ places ∷ []) r is = search (arith, good_parts, good_cell, few_places)
 good_row (a ∷ b ∷ c ∷ d ∷ e ∷ f ∷ more) r is = cc

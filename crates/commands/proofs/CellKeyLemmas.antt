@@ -1,9 +1,8 @@
 -- Cells as keys: two keys compare as equal exactly if the cells are equal. For repeats, and for the maps of a book in
 -- memory.
-use Rattle.std.proofs.Common.{rules, ◌≡◌, ℕ, Bool, true, false, List, refl, ap, sym, ◌∙◌, ◌==◌, ◌&&◌, bytes_eq}
+use Rattle.std.proofs.Common.{rules, ◌≡◌, ℕ, Bool, List, ap, sym, ◌∙◌, ◌==◌, ◌&&◌, bytes_eq, arith}
 use Rattle.std.specs.Ordering.{is_eq, nat_cmp, ordering_then}
 use Rattle.std.specs.declared.cmp.Ordering.{Ordering}
-use Rattle.std.specs.declared.cmp.Ordering.TheVariants.{Less, Equal, Greater}
 use Rattle.std.specs.Cmp.{IsTotalOrder, unsigned_ties, nat_eq_equiv}
 use Rattle.std.specs.Cmp.Rules.{comparing}
 use Rattle.std.specs.Cmp.Lexicographic.{slice_cmp, texts_ties, nat_list_eq_equiv}
@@ -22,29 +21,21 @@ cell_key_total = Prim.search (comparing, rules)
 
 -- two comparisons, one after the other, find equality where both do
 pub is_eq-then : (a b : Ordering) → is_eq (ordering_then a b) ≡ (is_eq a && is_eq b)
-is_eq-then Less b = refl
-is_eq-then Equal b = refl
-is_eq-then Greater b = refl
+is_eq-then a b = grind arith
 
 -- three tests may be joined from either end
 and_three : (a b c : Bool) → (a && (b && c)) ≡ ((a && b) && c)
-and_three true b c = refl
-and_three false b c = refl
+and_three a b c = grind arith
 
 -- four tests may be joined from either end
 and_four : (a b c d : Bool) → (a && (b && (c && d))) ≡ (((a && b) && c) && d)
-and_four true b c d = and_three b c d
-and_four false b c d = refl
+and_four a b c d = grind (arith, and_three)
 
 -- four comparisons, one after another, find equality where all do
 is_eq-four : (a b c d : Ordering)
     → is_eq (ordering_then a (ordering_then b (ordering_then c d)))
     ≡ (((is_eq a && is_eq b) && is_eq c) && is_eq d)
-is_eq-four a b c d =
-    is_eq-then a (ordering_then b (ordering_then c d))
-    ∙ ap (λ t. is_eq a && t) (is_eq-then b (ordering_then c d)
-    ∙ ap (λ t. is_eq b && t) (is_eq-then c d))
-    ∙ and_four (is_eq a) (is_eq b) (is_eq c) (is_eq d)
+is_eq-four a b c d = grind (arith, is_eq-then, and_four)
 
 -- texts that compare as equal are equal
 pub is_eq-texts : (a b : List ℕ) → is_eq (slice_cmp nat_cmp a b) ≡ bytes_eq a b
@@ -56,30 +47,16 @@ is_eq-numbers a b = sym (unsigned_ties a b)
 
 -- two keys compare as equal exactly if the cells are equal
 pub is_eq-cells : (k x : Cell) → is_eq (cell_key_cmp (key_of k) (key_of x)) ≡ is_cell k x
-is_eq-cells k x =
-    is_eq-four (nat_cmp (kind_number k.kind) (kind_number x.kind))
-    (slice_cmp nat_cmp k.supplier x.supplier) (slice_cmp nat_cmp k.product x.product)
-    (nat_cmp k.night x.night)
-    ∙ ap (λ t. ((t && is_eq (slice_cmp nat_cmp k.supplier x.supplier))
-    && is_eq (slice_cmp nat_cmp k.product x.product)) && is_eq (nat_cmp k.night x.night))
-    (is_eq-numbers (kind_number k.kind) (kind_number x.kind))
-    ∙ ap (λ t. (((kind_number k.kind == kind_number x.kind) && t)
-    && is_eq (slice_cmp nat_cmp k.product x.product)) && is_eq (nat_cmp k.night x.night))
-    (is_eq-texts k.supplier x.supplier)
-    ∙ ap (λ t. (((kind_number k.kind == kind_number x.kind) && bytes_eq k.supplier x.supplier) && t)
-    && is_eq (nat_cmp k.night x.night)) (is_eq-texts k.product x.product)
-    ∙ ap (λ t. (((kind_number k.kind == kind_number x.kind) && bytes_eq k.supplier x.supplier)
-    && bytes_eq k.product x.product) && t) (is_eq-numbers k.night x.night)
+is_eq-cells k x = grind (arith, is_eq-four, is_eq-numbers, is_eq-texts)
 
 -- the comparison of cells is symmetric
 pub is_cell-swap : (x y : Cell) → is_cell x y ≡ is_cell y x
 is_cell-swap x y =
-    let kind = nat_eq_equiv.symm (kind_number x.kind) (kind_number y.kind) in
     let supplier = nat_list_eq_equiv.symm x.supplier y.supplier in
     let product = nat_list_eq_equiv.symm x.product y.product in
     let night = nat_eq_equiv.symm x.night y.night in
     ap (λ t. ((t && bytes_eq x.supplier y.supplier) && bytes_eq x.product y.product)
-    && (x.night == y.night)) kind
+    && (x.night == y.night)) (nat_eq_equiv.symm (kind_number x.kind) (kind_number y.kind))
     ∙ ap (λ t. (((kind_number y.kind == kind_number x.kind) && t) && bytes_eq x.product y.product)
     && (x.night == y.night)) supplier
     ∙ ap (λ t. (((kind_number y.kind == kind_number x.kind) && bytes_eq y.supplier x.supplier) && t)

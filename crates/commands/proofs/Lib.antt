@@ -1,7 +1,6 @@
 pub mod NameLemmas
 pub mod NumberLemmas
 pub mod SpelledLemmas
-pub mod StepLemmas
 pub mod ItemLemmas
 pub mod ReplyLemmas
 pub mod WordLemmas

@@ -1,8 +1,7 @@
 -- A line is the line of the reply whose words it has. For the reader of lines.
-use Rattle.std.proofs.Common.{◌∙◌, sym, ap, refl, ◌≡◌, ℕ, List, Option, Some, None, IsTrue}
+use Rattle.std.proofs.Common.{◌∙◌, ap, ◌≡◌, ℕ, List, Option, Some, None, IsTrue, arith}
 use Rattle.std.proofs.lemmas.List.Splits.{join_with_byte-slice_split}
 use Rattle.allotment.specs.Texts.{parts, joined, blank}
-use Rattle.commands.specs.declared.items.Phase.TheVariants.{Run, Back, Ended, Undone}
 use Rattle.commands.specs.declared.replies.Reply.{Reply}
 use Rattle.commands.specs.declared.replies.Reply.TheVariants.{Loaded, Begun, Moved, Refused}
 use Rattle.commands.specs.Texts.{is_accepted, reply_line, FindsReply}
@@ -11,13 +10,7 @@ use Rattle.commands.proofs.BlankLemmas.{words_no_blank, parts_joined}
 
 -- a reply's line is its words, with a blank between each two
 pub line_joined : (reply : Reply) → reply_line reply ≡ joined blank (reply_words reply)
-line_joined (Loaded name rows) = refl
-line_joined (Begun id) = refl
-line_joined (Moved id item pos Run) = refl
-line_joined (Moved id item pos (Back target)) = refl
-line_joined (Moved id item pos Ended) = refl
-line_joined (Moved id item pos Undone) = refl
-line_joined (Refused refusal) = refl
+line_joined reply = grind arith
 
 -- an accepted reply's line is cut at its blanks into its words
 pub parts_line : (reply : Reply)
@@ -32,11 +25,5 @@ parts_line (Refused refusal) good = cc
 -- what is found by the words of a line is found by the line
 pub found_by_words : (text : List ℕ) (texts : List (List ℕ)) (r : Option Reply)
     → texts ≡ parts blank text → Finds is_accepted reply_words texts r → FindsReply text r
-found_by_words text texts None cut none =
-    λ reply good spelled. none reply good (cut ∙ ap (parts blank) spelled ∙ parts_line reply good)
-found_by_words text texts (Some reply) cut found =
-    let again : joined blank (parts blank text) ≡ text = join_with_byte-slice_split blank text in
-    record {
-      accepted = found.0;
-      spelled = sym again ∙ ap (joined blank) (sym cut ∙ found.1) ∙ sym (line_joined reply);
-    }
+found_by_words text texts None cut none = grind (arith, parts_line)
+found_by_words text texts (Some reply) cut found = grind (arith, join_with_byte-slice_split blank text)

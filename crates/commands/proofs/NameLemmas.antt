@@ -1,9 +1,9 @@
 -- What has the form of a name fits into its inline text. For the readers of names.
 use Rattle.std.specs.List.{list_all}
-use Rattle.std.proofs.Common.{arith, refl, ◌≡◌, ℕ, Bool, true, List, [], ◌∷◌, nat_lt, nat_le, length}
+use Rattle.std.proofs.Common.{arith, refl, ◌≡◌, ℕ, Bool, true, List, [], ◌∷◌, nat_lt}
 use Rattle.std.proofs.lemmas.Bool.{and_from, and_parts}
 use Rattle.std.proofs.lemmas.Bool.Decides.{nat_tests}
-use Rattle.allotment.specs.Limits.{is_between, is_word}
+use Rattle.allotment.specs.Limits.{is_word}
 use Rattle.allotment.specs.Short.{is_short, is_ascii}
 use Rattle.commands.specs.Limits.{longest_agent, longest_batch_name, longest_key}
 use Rattle.commands.specs.Names.{is_batch_byte, is_batch_name, is_agent_byte, is_agent, is_key_byte, is_key}
@@ -12,17 +12,12 @@ use Rattle.commands.specs.Names.{is_batch_byte, is_batch_name, is_agent_byte, is
 passing_ascii : (passes : ℕ → Bool) → ((b : ℕ) → passes b ≡ true → nat_lt b 128 ≡ true)
     → (bytes : List ℕ) → list_all passes bytes ≡ true → is_ascii bytes ≡ true
 passing_ascii passes small [] all = refl
-passing_ascii passes small (b ∷ bytes) all =
-    let parts = and_parts (passes b) (list_all passes bytes) all in
-    and_from _ _ (small b parts.0) (passing_ascii passes small bytes parts.1)
+passing_ascii passes small (b ∷ bytes) all = grind (arith, and_parts, and_from, passing_ascii passes small bytes)
 
 -- a word fits into its inline text, where each of its bytes is ASCII
 word_is_short : (passes : ℕ → Bool) → ((b : ℕ) → passes b ≡ true → nat_lt b 128 ≡ true)
     → (most : ℕ) (text : List ℕ) → is_word passes most text ≡ true → is_short most text ≡ true
-word_is_short passes small most text word =
-    let parts = and_parts (is_between 1 most (length text)) (list_all passes text) word in
-    let within = and_parts (nat_le 1 (length text)) (nat_le (length text) most) parts.0 in
-    and_from _ _ within.1 (passing_ascii passes small text parts.1)
+word_is_short passes small most text word = grind (arith, and_parts, and_from, passing_ascii)
 
 -- a byte of a batch's name is ASCII
 batch_byte_small : (b : ℕ) → is_batch_byte b ≡ true → nat_lt b 128 ≡ true

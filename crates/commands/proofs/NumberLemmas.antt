@@ -1,7 +1,7 @@
 -- Which numbers texts spell. For the reader of numbers.
 use Rattle.std.specs.Int.{IsInRange}
 use Rattle.std.specs.Str.Parse.{AllDigits, digits_value, ParsesUnsigned}
-use Rattle.std.proofs.Common.{◌∙◌, sym, ap, inl, inr, arith, get_or, ◌≡◌, ◌≢◌, ℕ, zero, suc, ◌<◌, ◌≤◌, ◌^◌, ◌⊎◌, true, List, [], ◌∷◌, length, decimal, IsTrue, Result, Ok}
+use Rattle.std.proofs.Common.{◌∙◌, sym, ap, arith, get_or, ◌≡◌, ◌≢◌, ℕ, ◌<◌, ◌≤◌, ◌^◌, ◌⊎◌, true, List, length, decimal, IsTrue, Result, Ok}
 use Rattle.std.proofs.lemmas.Bool.Decides.{nat_tests}
 use Rattle.std.proofs.lemmas.Fmt.{decimal_digit, decimal_nonempty, decimal_is_IsNumeral, first_decimal, decimal-digits_value, parse-decimal}
 use Rattle.std.proofs.lemmas.Str.Parse.{IsNumeralModel, numerals_by_value, tells_digits, parse_plain, digit_at, not_in_digits}
@@ -23,32 +23,20 @@ between_from low high n above below = grind (arith, nat_tests)
 -- a digit alone, or digits of which the first is not 0, begin as a number does
 digits_start_plain : (ds : List ℕ) → 0 < length ds → 48 ≤ get_or ds 0 0 → get_or ds 0 0 ≤ 57
     → (length ds ≡ 1) ⊎ (48 < get_or ds 0 0) → is_plain_start ds ≡ true
-digits_start_plain [] some low high lone = absurd (omega arith)
-digits_start_plain (d ∷ []) some low high lone = between_from 48 57 d low high
-digits_start_plain (d ∷ e ∷ ds) some low high (inl one) = absurd (omega arith)
-digits_start_plain (d ∷ e ∷ ds) some low high (inr above) = between_from 49 57 d (omega arith) high
+digits_start_plain ds some low high lone = grind (arith, between_from)
 
 -- 0 is written by one digit, and any other number without a leading 0
 first_digit : (n : ℕ) → n < 2 ^ 64 → (length (decimal n) ≡ 1) ⊎ (48 < get_or (decimal n) 0 0)
-first_digit zero small = inl (ap length (decimal_digit 0 (omega arith)))
-first_digit (suc n) small = inr (first_decimal (suc n) (omega arith) small)
+first_digit n small = grind (arith, decimal_digit, first_decimal)
 
 -- the text of a number begins as a number does
 pub plain_start_decimal : (n : ℕ) → n < 2 ^ 64 → is_plain_start (decimal n) ≡ true
-plain_start_decimal n small =
-    let some : 0 < length (decimal n) = decimal_nonempty n small in
-    let digit : IsInRange 48 57 (get_or (decimal n) 0 0) =
-    digit_at (decimal n) 0 (decimal_is_IsNumeral n small).0.1 some in
-    digits_start_plain (decimal n) some digit.0 (omega (arith, digit)) (first_digit n small)
+plain_start_decimal n small = grind (arith, decimal_nonempty, digit_at, decimal_is_IsNumeral, digits_start_plain, first_digit)
 
 -- a text that begins as a number does has no sign and no leading zero
 plain_first : (bs : List ℕ) → is_plain_start bs ≡ true
     → (get_or bs 0 0 ≢ 43) × (get_or bs 0 0 ≡ 48 → length bs ≡ 1)
-plain_first [] plain = cc
-plain_first (b ∷ []) plain =
-    let limits = between_parts 48 57 b plain in (λ e. omega arith, λ e. omega arith)
-plain_first (b ∷ c ∷ bs) plain =
-    let limits = between_parts 49 57 b plain in (λ e. omega arith, λ e. omega arith)
+plain_first bs plain = grind (arith, between_parts)
 
 -- a text that begins as a number does and is read as one is the text of that number
 pub plain_parsed : (bs : List ℕ) (n : ℕ) → is_plain_start bs ≡ true
@@ -64,9 +52,7 @@ plain_parsed bs n plain parsed =
 -- the text of a number within the limits begins as a number does
 pub spelled_plain : (low high : ℕ) (text : List ℕ) → high < 2 ^ 64
     → (x : ℕ) → IsTrue (is_between low high x) → text ≡ decimal x → is_plain_start text ≡ true
-spelled_plain low high text small x within spelled =
-    let limits = between_parts low high x within in
-    ap is_plain_start spelled ∙ plain_start_decimal x (omega arith)
+spelled_plain low high text small x within spelled = grind (arith, between_parts, plain_start_decimal)
 
 -- the text of a number within the limits is read as that number
 pub spelled_parsed : {E : Type 0} (low high : ℕ) (text : List ℕ) (r : Result ℕ E) → high < 2 ^ 64
@@ -79,5 +65,4 @@ spelled_parsed low high text r small parsed x within spelled =
 -- the text of a number contains digits alone
 pub decimal_lacks : (byte n : ℕ) → n < 2 ^ 64 → ¬ (IsInRange 48 57 byte)
     → (i : ℕ) → i < length (decimal n) → get_or (decimal n) i 0 ≢ byte
-decimal_lacks byte n small other =
-    not_in_digits own (decimal n) byte (decimal_is_IsNumeral n small).0.1 other
+decimal_lacks byte n small other = grind (arith, not_in_digits, own, decimal_is_IsNumeral)

@@ -7,16 +7,13 @@ use Rattle.std.proofs.lemmas.List.{same_from_push}
 use Rattle.allotment.specs.Limits.{is_between}
 use Rattle.allotment.specs.Texts.{parts, blank}
 use Rattle.plan.specs.Limits.{most_options, most_steps}
-use Rattle.commands.specs.Limits.{most_events, most_rows}
+use Rattle.commands.specs.Limits.{most_events}
 use Rattle.commands.specs.declared.items.Cause.{Cause}
 use Rattle.commands.specs.declared.items.Cause.TheVariants as turn
 use Rattle.commands.specs.declared.items.Item.{Item}
-use Rattle.commands.specs.declared.items.Item.TheVariants.{Transaction, Compensation, Turn, Save}
 use Rattle.commands.specs.declared.items.Phase.{Phase}
-use Rattle.commands.specs.declared.items.Phase.TheVariants.{Run, Back, Ended, Undone}
 use Rattle.commands.specs.declared.replies.Reply.{Reply}
 use Rattle.commands.specs.declared.replies.Reply.TheVariants.{Loaded, Begun, Moved, Refused}
-use Rattle.commands.specs.Names.{is_batch_name}
 use Rattle.commands.specs.Texts.{is_accepted, is_journey, is_item, is_position, is_option, is_state, item_text, step_text, turn_letter, FindsReply, ReadsReply, HaveOneLine}
 use Rattle.commands.specs.Readings.{reply_words, state_words}
 use Rattle.commands.proofs.BlankLemmas.{lacks, number_lacks}
@@ -26,10 +23,7 @@ use Rattle.commands.proofs.NumberLemmas.{between_parts}
 -- numbers within limits with the same text are equal
 number_once : (low high m n : ℕ) → high < 2 ^ 64
     → IsTrue (is_between low high m) → IsTrue (is_between low high n) → decimal m ≡ decimal n → m ≡ n
-number_once low high m n small first other same =
-    let one = between_parts low high m first in
-    let two = between_parts low high n other in
-    decimal_injective m n (omega arith) (omega arith) same
+number_once low high m n small first other same = grind (arith, between_parts, decimal_injective)
 
 -- a byte that is no dot is not a dot
 dot_here : (b : ℕ) → not (b == 46) ≡ true → b ≡ 46 → ⊥
@@ -39,15 +33,12 @@ dot_here b other same = grind (arith, nat_tests)
 cut_once : (x y u v : List ℕ) → lacks 46 x ≡ true → lacks 46 u ≡ true
     → x ++ 46 ∷ y ≡ u ++ 46 ∷ v → (x ≡ u) × (y ≡ v)
 cut_once [] y [] v left right same = (refl, cc)
-cut_once [] y (b ∷ u) v left right same =
-    absurd (dot_here b (and_parts (not (b == 46)) (lacks 46 u) right).0 cc)
-cut_once (a ∷ x) y [] v left right same =
-    absurd (dot_here a (and_parts (not (a == 46)) (lacks 46 x) left).0 cc)
+cut_once [] y (b ∷ u) v left right same = grind (arith, dot_here, and_parts, lacks)
+cut_once (a ∷ x) y [] v left right same = grind (arith, dot_here, and_parts, lacks)
 cut_once (a ∷ x) y (b ∷ u) v left right same =
-    let rest : x ++ 46 ∷ y ≡ u ++ 46 ∷ v = cc in
     let in_x = and_parts (not (a == 46)) (lacks 46 x) left in
     let in_u = and_parts (not (b == 46)) (lacks 46 u) right in
-    let later = cut_once x y u v in_x.1 in_u.1 rest in
+    let later = cut_once x y u v in_x.1 in_u.1 cc in
     (cc, later.1)
 
 -- a step and an option with the same text are equal
@@ -77,60 +68,26 @@ cause_of letter =
 -- the letter is the text of the cause
 letter_alone : (cause : Cause) → turn_letter cause ≡ letter_of cause ∷ []
 unfolding letter_of
-letter_alone turn.Stop = refl
-letter_alone turn.Refused = refl
-letter_alone turn.Asked = refl
+letter_alone cause = grind arith
 
 -- a cause is the one with its letter
 cause_back : (cause : Cause) → cause_of (letter_of cause) ≡ cause
 unfolding letter_of cause_of
-cause_back turn.Stop = refl
-cause_back turn.Refused = refl
-cause_back turn.Asked = refl
+cause_back cause = grind arith
 
 -- turns with the same text are equal
 turn_once : (p q : ℕ) (a b : Cause) → IsTrue (is_position p) → IsTrue (is_position q)
     → decimal p ++ turn_letter a ≡ decimal q ++ turn_letter b → (p ≡ q) × (a ≡ b)
-turn_once p q a b first other same =
-    let one = ap (λ end. decimal p ++ end) (sym (letter_alone a)) in
-    let two = ap (λ end. decimal q ++ end) (letter_alone b) in
-    let both =
-    same_from_push (decimal p) (decimal q) (letter_of a) (letter_of b) (one ∙ same ∙ two) in (
-      number_once 0 most_steps p q (omega arith) first other both.0,
-      sym (cause_back a) ∙ ap cause_of both.1 ∙ cause_back b,
-    )
+turn_once p q a b first other same = grind (arith, letter_alone, same_from_push, number_once, cause_back)
 
 -- no text begins with two bytes
 apart : (a b : ℕ) (xs ys : List ℕ) → (a == b) ≡ false → a ∷ xs ≡ b ∷ ys → ⊥
-apart a b xs ys other same =
-    let first : a ≡ b = ap (λ t. get_or t 0 0) same in grind (arith, nat_tests)
+apart a b xs ys other same = grind (arith, nat_tests)
 
 -- items with the same text are equal
 item_once : (x y : Item) → IsTrue (is_item x) → IsTrue (is_item y)
     → item_text x ≡ item_text y → x ≡ y
-item_once (Transaction s o) (Transaction t p) first other same =
-    let rest : step_text s o ≡ step_text t p = ap (drop 1) same in
-    let both = step_once s o t p first other rest in cc
-item_once (Transaction s o) (Compensation t p) first other same = absurd (apart 84 67 _ _ refl same)
-item_once (Transaction s o) (Turn q b) first other same = absurd (apart 84 66 _ _ refl same)
-item_once (Transaction s o) (Save q) first other same = absurd (apart 84 83 _ _ refl same)
-item_once (Compensation s o) (Transaction t p) first other same = absurd (apart 67 84 _ _ refl same)
-item_once (Compensation s o) (Compensation t p) first other same =
-    let rest : step_text s o ≡ step_text t p = ap (drop 1) same in
-    let both = step_once s o t p first other rest in cc
-item_once (Compensation s o) (Turn q b) first other same = absurd (apart 67 66 _ _ refl same)
-item_once (Compensation s o) (Save q) first other same = absurd (apart 67 83 _ _ refl same)
-item_once (Turn p a) (Transaction t o) first other same = absurd (apart 66 84 _ _ refl same)
-item_once (Turn p a) (Compensation t o) first other same = absurd (apart 66 67 _ _ refl same)
-item_once (Turn p a) (Turn q b) first other same =
-    let rest : decimal p ++ turn_letter a ≡ decimal q ++ turn_letter b = ap (drop 1) same in
-    let both = turn_once p q a b first other rest in cc
-item_once (Turn p a) (Save q) first other same = absurd (apart 66 83 _ _ refl same)
-item_once (Save p) (Transaction t o) first other same = absurd (apart 83 84 _ _ refl same)
-item_once (Save p) (Compensation t o) first other same = absurd (apart 83 67 _ _ refl same)
-item_once (Save p) (Turn q b) first other same = absurd (apart 83 66 _ _ refl same)
-item_once (Save p) (Save q) first other same =
-    ap (λ n. Save n) (number_once 0 most_steps p q (omega arith) first other (ap (drop 1) same))
+item_once x y first other same = grind (arith, step_once, apart, turn_once, number_once)
 
 -- the word at this place, which is empty past the end
 abbrev word_of : ℕ → List (List ℕ) → List ℕ
@@ -143,52 +100,21 @@ first_length words = length (word_of 0 words)
 -- states with the same text are equal: the words for the four phases differ in length
 state_once : (p q : ℕ) (x y : Phase) → IsTrue (is_state p x) → IsTrue (is_state q y)
     → state_words p x ≡ state_words q y → (p ≡ q) × (x ≡ y)
-state_once p q Run Run first other same =
-    (number_once 0 most_steps p q (omega arith) first other (ap (word_of 1) same), refl)
-state_once p q Run (Back t) first other same = absurd (omega (arith, ap first_length same))
-state_once p q Run Ended first other same = absurd (omega (arith, ap first_length same))
-state_once p q Run Undone first other same = absurd (omega (arith, ap first_length same))
-state_once p q (Back s) Run first other same = absurd (omega (arith, ap first_length same))
-state_once p q (Back s) (Back t) first other same =
-    let one = and_parts (is_position p) (is_position s) first in
-    let two = and_parts (is_position q) (is_position t) other in (
-      number_once 0 most_steps p q (omega arith) one.0 two.0 (ap (word_of 1) same),
-      ap (λ n. Back n) (number_once 0 most_steps s t (omega arith) one.1 two.1 (ap (word_of 3) same)),
-    )
-state_once p q (Back s) Ended first other same = absurd (omega (arith, ap first_length same))
-state_once p q (Back s) Undone first other same = absurd (omega (arith, ap first_length same))
-state_once p q Ended Run first other same = absurd (omega (arith, ap first_length same))
-state_once p q Ended (Back t) first other same = absurd (omega (arith, ap first_length same))
-state_once p q Ended Ended first other same =
-    (number_once 0 most_steps p q (omega arith) first other (ap (word_of 1) same), refl)
-state_once p q Ended Undone first other same = absurd (omega (arith, ap first_length same))
-state_once p q Undone Run first other same = absurd (omega (arith, ap first_length same))
-state_once p q Undone (Back t) first other same = absurd (omega (arith, ap first_length same))
-state_once p q Undone Ended first other same = absurd (omega (arith, ap first_length same))
-state_once p q Undone Undone first other same = (grind (arith, nat_tests), refl)
+state_once p q x y first other same = search (arith, number_once, and_parts, nat_tests)
 
 -- where a journey is takes words
 state_some : (p : ℕ) (x : Phase) → [] ≡ state_words p x → ⊥
-state_some p Run same = omega (arith, ap length same)
-state_some p (Back t) same = omega (arith, ap length same)
-state_some p Ended same = omega (arith, ap length same)
-state_some p Undone same = omega (arith, ap length same)
+state_some p x same = grind arith
 
 -- accepted replies with the same words are equal
 words_once : (x y : Reply) → IsTrue (is_accepted x) → IsTrue (is_accepted y)
     → reply_words x ≡ reply_words y → x ≡ y
-words_once (Loaded a m) (Loaded b n) first other same =
-    let one = and_parts (is_batch_name a) (is_between 1 most_rows m) first in
-    let two = and_parts (is_batch_name b) (is_between 1 most_rows n) other in
-    let name : a ≡ b = ap (word_of 1) same in
-    let rows = number_once 1 most_rows m n (omega arith) one.1 two.1 (ap (word_of 2) same) in cc
+words_once (Loaded a m) (Loaded b n) first other same = grind (arith, and_parts, number_once)
 words_once (Loaded a m) (Begun j) first other same = absurd (omega (arith, ap first_length same))
 words_once (Loaded a m) (Moved j e q y) first other same =
     absurd (omega (arith, ap first_length same))
 words_once (Begun i) (Loaded b n) first other same = absurd (omega (arith, ap first_length same))
-words_once (Begun i) (Begun j) first other same =
-    let ids : decimal i ≡ decimal j = ap (word_of 1) same in
-    ap (λ n. Begun n) (number_once 1 most_events i j (omega arith) first other ids)
+words_once (Begun i) (Begun j) first other same = grind (arith, number_once)
 words_once (Begun i) (Moved j e q y) first other same = absurd (state_some q y (ap (drop 3) same))
 words_once (Moved i d p x) (Loaded b n) first other same =
     absurd (omega (arith, ap first_length same))

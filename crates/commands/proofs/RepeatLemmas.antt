@@ -1,12 +1,12 @@
 -- Rows whose cell stands in an earlier row: what the set of the earlier cells answers, and that a list without such a
 -- row has distinct cells. For `first_repeat` and `Batch::new`.
-use Rattle.std.proofs.Common.{◌≡◌, ℕ, ◌+◌, ◌<◌, ◌≤◌, Bool, true, false, cond, List, [], ◌∷◌, ◌++◌, refl, ap, sym, ◌∙◌, subst, take, drop, get_or, arith, length-take-le, ◌&&◌, ◌||◌, not, if◌then◌else◌, length, Option, Some, None, is_none}
+use Rattle.std.proofs.Common.{◌≡◌, ℕ, ◌+◌, ◌<◌, Bool, true, false, List, [], ◌∷◌, ◌++◌, refl, ap, sym, ◌∙◌, subst, take, drop, get_or, arith, length-take-le, ◌&&◌, ◌||◌, not, if◌then◌else◌, length, Option, Some, None, is_none}
 use Rattle.std.proofs.lemmas.List.{take_more, drop_more}
 use Rattle.std.specs.List.{list_any, list_all}
 use Rattle.std.specs.BTreeSet as set
 use Rattle.std.specs.Ordering.{is_eq, is_lt}
 use Rattle.std.specs.declared.cmp.Ordering.{Ordering}
-use Rattle.std.specs.declared.cmp.Ordering.TheVariants.{Less, Equal, Greater}
+use Rattle.std.specs.declared.cmp.Ordering.TheVariants.{Less}
 use Rattle.allotment.specs.Cells.{is_cell}
 use Rattle.allotment.specs.declared.cells.Cell.{Cell}
 use Rattle.allotment.specs.declared.cells.Row.{Row}
@@ -26,40 +26,23 @@ HasCellsOf seen rows = (x : Cell) → set.contains cell_key_cmp seen (key_of x) 
 -- one more row is of this cell, or one of those before it
 has_row_of-more : (rows : List Row) (r : Row) (x : Cell)
     → has_row_of (rows ++ (r ∷ [])) x ≡ (if is_cell x r.cell then true else has_row_of rows x)
-has_row_of-more [] r x = or_false (is_cell x r.cell)
-  where
-    or_false : (b : Bool) → (b || false) ≡ (if b then true else false)
-    or_false true = refl
-    or_false false = refl
-has_row_of-more (s ∷ rows) r x =
-    ap (λ t. is_cell x s.cell || t) (has_row_of-more rows r x) ∙ swap (is_cell x s.cell) (is_cell x r.cell) (has_row_of rows x)
-  where
-    swap : (a b c : Bool) → (a || (if b then true else c)) ≡ (if b then true else (a || c))
-    swap true true c = refl
-    swap true false c = refl
-    swap false b c = refl
+has_row_of-more [] r x = grind arith
+has_row_of-more (s ∷ rows) r x = grind (arith, has_row_of-more rows r)
 
 -- once the cell of a row is put into it, the set has the cells of one more row
 pub has_cells_of-more : (old new : set.BTreeSet CellKey) (rows : List Row) (r : Row) → HasCellsOf old rows
     → set.Updates cell_key_cmp old new (key_of r.cell) true → HasCellsOf new (rows ++ (r ∷ []))
-has_cells_of-more old new rows r has updates x =
-    updates.0 (key_of x)
-    ∙ ap (λ b. cond b true (set.contains cell_key_cmp old (key_of x)))
-    (is_eq-cells r.cell x ∙ is_cell-swap r.cell x)
-    ∙ ap (λ b. cond (is_cell x r.cell) true b) (has x)
-    ∙ sym (has_row_of-more rows r x)
+has_cells_of-more old new rows r has updates x = grind (arith, key_of, is_eq-cells, is_cell-swap, has_row_of-more)
 
 -- the current row is passed, since its cell is new
 pub repeat_behind-new : (earlier later : List Row) (r : Row) → has_row_of earlier r.cell ≡ false
     → repeat_behind earlier (r ∷ later) ≡ repeat_behind (earlier ++ (r ∷ [])) later
-repeat_behind-new earlier later r new =
-    ap (λ b. if not b then repeat_behind (earlier ++ (r ∷ [])) later else Some (length earlier)) new
+repeat_behind-new earlier later r new = cc
 
 -- the current row is the first one whose cell stands in an earlier row
 pub repeat_behind-old : (earlier later : List Row) (r : Row) → has_row_of earlier r.cell ≡ true
     → repeat_behind earlier (r ∷ later) ≡ Some (length earlier)
-repeat_behind-old earlier later r old =
-    ap (λ b. if not b then repeat_behind (earlier ++ (r ∷ [])) later else Some (length earlier)) old
+repeat_behind-old earlier later r old = cc
 
 -- none of the later rows is of a cell of these
 abbrev are_new : List Row → List Row → Bool
@@ -77,36 +60,13 @@ are_new-more earlier r (s ∷ later) =
     ∙ parts (is_cell r.cell s.cell) (has_row_of earlier s.cell) (are_new earlier later) (has_row_of later r.cell)
   where
     parts : (a b c d : Bool) → (not (if a then true else b) && (c && not d)) ≡ ((not b && c) && not (a || d))
-    parts true true c d = refl
-    parts true false true d = refl
-    parts true false false d = refl
-    parts false true c d = refl
-    parts false false c d = refl
+    parts a b c d = grind arith
 
 -- no cell is repeated after these rows if the later ones are of other cells, and of distinct ones
 repeat_behind-none : (earlier later : List Row)
     → is_none (repeat_behind earlier later) ≡ (are_new earlier later && are_distinct later)
 repeat_behind-none earlier [] = refl
-repeat_behind-none earlier (r ∷ later) =
-    at_row (is_new_cell r earlier)
-    ∙ ap (λ b. is_new_cell r earlier && b)
-    (repeat_behind-none (earlier ++ (r ∷ [])) later
-    ∙ ap (λ b. b && are_distinct later) (are_new-more earlier r later)
-    ∙ three (are_new earlier later) (is_new_cell r later) (are_distinct later))
-    ∙ four (is_new_cell r earlier) (are_new earlier later) (is_new_cell r later && are_distinct later)
-  where
-    at_row : (b : Bool) → is_none (if b then repeat_behind (earlier ++ (r ∷ [])) later else Some (length earlier))
-        ≡ (b && is_none (repeat_behind (earlier ++ (r ∷ [])) later))
-    at_row true = refl
-    at_row false = refl
-
-    three : (a b c : Bool) → ((a && b) && c) ≡ (a && (b && c))
-    three true b c = refl
-    three false b c = refl
-
-    four : (a b c : Bool) → (a && (b && c)) ≡ ((a && b) && c)
-    four true b c = refl
-    four false b c = refl
+repeat_behind-none earlier (r ∷ later) = grind (arith, are_new-more, repeat_behind-none (earlier ++ (r ∷ [])) later)
 
 -- no cell is repeated exactly if all are distinct
 pub repeat_among-none : (rows : List Row) → is_none (repeat_among rows) ≡ are_distinct rows
@@ -138,19 +98,12 @@ from_on rows i r within at = drop_more rows i r within ∙ ap (λ x. x ∷ drop 
 pub repeat_at-new : (rows : List Row) (i : ℕ) (r : Row) → i < length rows → r ≡ get_or rows i r
     → has_row_of (take i rows) r.cell ≡ false
     → repeat_behind (take i rows) (drop i rows) ≡ repeat_behind (take (i + 1) rows) (drop (i + 1) rows)
-repeat_at-new rows i r within at new =
-    ap (repeat_behind (take i rows)) (from_on rows i r within at)
-    ∙ repeat_behind-new (take i rows) (drop (i + 1) rows) r new
-    ∙ ap (λ xs. repeat_behind xs (drop (i + 1) rows)) (sym (up_to rows i r within at))
+repeat_at-new rows i r within at new = grind (arith, from_on, repeat_behind-new, up_to)
 
 -- the cell of the row at a place stands before it, so the search ends there
 pub repeat_at-old : (rows : List Row) (i : ℕ) (r : Row) → i < length rows → r ≡ get_or rows i r
     → has_row_of (take i rows) r.cell ≡ true → repeat_behind (take i rows) (drop i rows) ≡ Some i
-repeat_at-old rows i r within at old =
-    let low : i ≤ length rows = omega (arith, within) in
-    ap (repeat_behind (take i rows)) (from_on rows i r within at)
-    ∙ repeat_behind-old (take i rows) (drop (i + 1) rows) r old
-    ∙ ap (λ n. Some n) (length-take-le i rows low)
+repeat_at-old rows i r within at old = grind (arith, from_on, repeat_behind-old, length-take-le)
 
 -- the set with the cells of the rows up to a place has those up to the next one, once the cell there is put into it
 pub has_cells_of-next : (old new : set.BTreeSet CellKey) (rows : List Row) (i : ℕ) (r : Row) → i < length rows
@@ -166,9 +119,7 @@ is_other : (k x : Cell) → is_above (Some (key_of k)) (key_of x) ≡ true → i
 is_other k x above = is_cell-swap x k ∙ sym (is_eq-cells k x) ∙ apart (cell_key_cmp (key_of k) (key_of x)) above
   where
     apart : (o : Ordering) → is_lt o ≡ true → is_eq o ≡ false
-    apart Less e = refl
-    apart Equal e = cc
-    apart Greater e = refl
+    apart o e = grind arith
 
 -- the order of keys is transitive
 above_too : (last : Option CellKey) (k x : CellKey) → is_above last k ≡ true → is_above (Some k) x ≡ true
@@ -178,9 +129,7 @@ above_too (Some before) k x below above =
     ap is_lt (cell_key_total.trans before k x (is_less _ below) (is_less _ above))
   where
     is_less : (o : Ordering) → is_lt o ≡ true → o ≡ Less
-    is_less Less e = refl
-    is_less Equal e = cc
-    is_less Greater e = cc
+    is_less o e = grind arith
 
 -- the rows after these repeat no cell, if they rise above all of these
 repeat_behind-rising : (earlier later : List Row) (last : Option CellKey)
@@ -197,8 +146,7 @@ repeat_behind-rising earlier (r ∷ later) last new rising =
     both.1
   where
     and_both : (a b : Bool) → (a && b) ≡ true → (a ≡ true) × (b ≡ true)
-    and_both true b e = (refl, e)
-    and_both false b e = cc
+    and_both a b e = grind arith
 
 -- rows that rise repeat no cell
 pub repeat_among-rising : (rows : List Row) → rises rows ≡ true → repeat_among rows ≡ None

@@ -19,6 +19,5 @@ pub no_state : (id item phase position : List ℕ)
 no_state id item phase position none (Loaded name rows) good spelled = cc
 no_state id item phase position none (Begun number) good spelled = cc
 no_state id item phase position none (Moved number made pos going) good spelled =
-    let limits = and_parts (is_journey number && is_item made) (is_state pos going) good in
-    none (pos, going) limits.1 cc
+    none (pos, going) (and_parts (is_journey number && is_item made) (is_state pos going) good).1 cc
 no_state id item phase position none (Refused refusal) good spelled = cc

@@ -1,19 +1,13 @@
 -- The texts of three, five or seven words, one by one. For the readers of replies by their words.
 use Rattle.std.specs.Borrow.{Bor}
-use Rattle.std.proofs.Common.{get_or, refl, sym, ap, ◌∙◌, arith, ◌≡◌, ◌≢◌, ℕ, suc, true, false, not, List, [], ◌∷◌, codes, length, bytes_eq}
+use Rattle.std.proofs.Common.{get_or, refl, sym, ap, arith, ◌≡◌, ◌≢◌, ℕ, suc, true, false, not, List, [], ◌∷◌, codes, length, bytes_eq}
 use Rattle.std.proofs.lemmas.Slice.Eq.{bytes_eq-Decides}
-use Rattle.commands.specs.declared.items.Phase.TheVariants.{Run, Back, Ended, Undone}
-use Rattle.commands.specs.declared.replies.Reply.TheVariants.{Loaded, Begun, Moved, Refused}
 use Rattle.commands.specs.Readings.{texts_of, loaded_words, begun_words, stood_words, turned_words}
 use Rattle.commands.proofs.ReplyLemmas.{IsNoReply}
 
 -- the text of the word at this place, which is empty past the end
 abbrev pub word_at : List (Bor (List ℕ)) → ℕ → List ℕ
 word_at words i = (get_or words i (record { ref_ptr = (0, 0); now = [] })).now
-
--- the text at this place, which is empty past the end
-abbrev word_of : ℕ → List (List ℕ) → List ℕ
-word_of i texts = get_or texts i []
 
 -- three words, one by one
 three : (ws : List (Bor (List ℕ))) → length ws ≡ 3
@@ -59,8 +53,7 @@ not_unlike a b test = same_text a b (grind arith)
 
 -- texts for which `!=` answers true differ
 pub unlike : (a b : List ℕ) → true ≡ not (bytes_eq a b) → a ≢ b
-unlike a b test same =
-    let equal : bytes_eq a b ≡ true = (bytes_eq-Decides a b).1 same in grind arith
+unlike a b test same = grind (arith, bytes_eq-Decides)
 
 -- the words of the reply to a batch
 pub are_loaded : (ws : List (Bor (List ℕ))) → length ws ≡ 3
@@ -72,9 +65,7 @@ are_loaded ws count first = cc (three ws count, same_text (word_at ws 0) (codes 
 pub are_begun : (ws : List (Bor (List ℕ))) → length ws ≡ 3
     → true ≡ bytes_eq (word_at ws 0) (codes "journey")
     → true ≡ bytes_eq (word_at ws 2) (codes "begun") → texts_of ws ≡ begun_words (word_at ws 1)
-are_begun ws count first last =
-    let told = same_text (word_at ws 0) (codes "journey") first in
-    cc (three ws count, told, same_text (word_at ws 2) (codes "begun") last)
+are_begun ws count first last = search (arith, same_text, three)
 
 -- the words of the reply for a journey which goes forward or is at its end
 pub are_standing : (ws : List (Bor (List ℕ))) → length ws ≡ 5
@@ -89,9 +80,13 @@ pub are_back : (ws : List (Bor (List ℕ))) → length ws ≡ 7
     → false ≡ not (bytes_eq (word_at ws 5) (codes "to"))
     → texts_of ws ≡ turned_words (word_at ws 1) (word_at ws 2) (word_at ws 4) (word_at ws 6)
 are_back ws count first back to =
-    let told = not_unlike (word_at ws 0) (codes "journey") first in
-    let fourth = not_unlike (word_at ws 3) (codes "back") back in
-    cc (seven ws count, told, fourth, not_unlike (word_at ws 5) (codes "to") to)
+    grind (
+      arith,
+      not_unlike (word_at ws 0) (codes "journey") first,
+      not_unlike (word_at ws 3) (codes "back") back,
+      not_unlike (word_at ws 5) (codes "to"),
+      seven ws count,
+    )
 
 -- there are as many texts as words
 length_texts : (ws : List (Bor (List ℕ))) → length (texts_of ws) ≡ length ws
@@ -102,17 +97,4 @@ length_texts (w ∷ ws) = ap (λ n. suc n) (length_texts ws)
 pub no_seven : (ws : List (Bor (List ℕ))) → length ws ≡ 7
     → (word_at ws 0 ≡ codes "journey" → word_at ws 3 ≡ codes "back" → word_at ws 5 ≡ codes "to" → ⊥)
     → IsNoReply (texts_of ws)
-no_seven ws count other (Loaded name rows) good spelled =
-    omega (arith, ap length spelled, length_texts ws, count)
-no_seven ws count other (Begun id) good spelled =
-    omega (arith, ap length spelled, length_texts ws, count)
-no_seven ws count other (Moved id item pos Run) good spelled =
-    omega (arith, ap length spelled, length_texts ws, count)
-no_seven ws count other (Moved id item pos (Back target)) good spelled =
-    let told = sym (seven ws count) ∙ spelled in
-    other (ap (word_of 0) told) (ap (word_of 3) told) (ap (word_of 5) told)
-no_seven ws count other (Moved id item pos Ended) good spelled =
-    omega (arith, ap length spelled, length_texts ws, count)
-no_seven ws count other (Moved id item pos Undone) good spelled =
-    omega (arith, ap length spelled, length_texts ws, count)
-no_seven ws count other (Refused refusal) good spelled = cc
+no_seven ws count other x good spelled = grind (arith, length_texts, seven)

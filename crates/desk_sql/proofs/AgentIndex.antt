@@ -1,17 +1,14 @@
 -- The text that makes the index on the agents of the journeys: what it leaves, and why it fails. For `add_index` and `make_tables`.
-use Rattle.std.proofs.Common.{◌≡◌, ◌≤◌, ◌+◌, ◌^◌, ◌∙◌, ℕ, inl, inr, List, [], ◌∷◌, length, codes, Option, None, Some, Ok, Err, Result, OnOk, true, false, if◌then◌else◌, IsUtf8, refl, sym, ap, subst, arith}
+use Rattle.std.proofs.Common.{◌≡◌, ◌≤◌, ◌^◌, ◌∙◌, ℕ, inl, inr, List, [], ◌∷◌, length, codes, Option, None, Ok, Err, Result, OnOk, true, false, if◌then◌else◌, IsUtf8, refl, sym, ap, subst, arith, rules}
 use Rattle.std.specs.List.{AllByRecursion}
 use Rattle.sqlite_value.specs.declared.value.Value.TheVariants.{Text}
 use Rattle.sqlite_value.specs.Order.{value_cmp}
 use Rattle.sqlite_trees.specs.Sound.{fits_kind, is_free_name, same_name, begins}
 use Rattle.sqlite_trees.specs.Tree.{Trees}
-use Rattle.sqlite_trees.specs.View.{IsStorable}
-use Rattle.sqlite_sql.specs.Catalog.{entry_of}
 use Rattle.sqlite_schema.specs.declared.schema.Constraint.TheVariants.{Unique}
 use Rattle.sqlite_schema.specs.declared.schema.Index.{Index}
 use Rattle.sqlite_schema.specs.declared.schema.Schema.{Schema}
 use Rattle.sqlite_schema.specs.Rules.{Keeps, table_reals, index_reals}
-use Rattle.sqlite_rules.specs.Lists.{Has}
 use Rattle.sqlite_rules.proofs.ListLemmas.{all_has}
 use Rattle.sqlite_rules.proofs.ProbeLemmas.{has_mapped}
 use Rattle.sqlite_catalog.specs.declared.error.Refusal.{Refusal}
@@ -30,11 +27,10 @@ use Rattle.sqlite.specs.State.{State, mode_of, Writes, Shows, ExecutesInside}
 use Rattle.sqlite.proofs.Callers.{IsPlain, command_of, statement_of, runs_as}
 use Rattle.sqlite_tied.specs.Compute.{everything}
 use Rattle.desk_sql.specs.Schema.{desk_schema, IsExtra, journey_at}
-use Rattle.desk_sql.specs.Rows.{JourneyRow, journey_row, Tables}
+use Rattle.desk_sql.specs.Rows.{Tables}
 use Rattle.desk_sql.specs.Calls.{Makes, Sees}
 use Rattle.desk_sql.specs.Causes.{IsUp, HasReason}
 use Rattle.desk_sql.specs.Indexing.{agent_index_text, agent_index_at, indexed_schema, MayIndex, MakesIndex, AreShortAgents}
-use Rattle.desk_sql.specs.Writable.{IsShort}
 use Rattle.desk_sql.proofs.Causing.{takes}
 use Rattle.desk_sql.proofs.CreateReasons.{as_text}
 use Rattle.desk_sql.proofs.Framing.{shows_same}
@@ -113,20 +109,7 @@ makes_index old new (Ok count) may h =
 
 -- a transaction that sees rows still sees them
 pub indexed_makes : (old new : State) (t : Tables) → MakesIndex old new → Sees old t → Makes old new t
-indexed_makes old new t it sees =
-    let o = it.rows in
-    record {
-      was_open = it.was_open;
-      is_open = it.is_open;
-      inside = it.inside;
-      sees = record {
-        schema = record { extra = agent_index_at 16 ∷ []; are = is_extra; is = it.schema };
-        rows = shows_same new.now.trees old.now.trees t o.0 o.1.0 o.1.1.0 o.1.1.1.0 o.1.1.1.1.0 o.1.1.1.1.1.1.0 o.1.1.1.1.1.1.1.0
-            o.1.1.1.1.1.1.1.1.0 sees.rows;
-        sound = it.sound;
-      };
-      committed = it.committed;
-    }
+indexed_makes old new t it sees = search (rules, arith, is_extra, shows_same)
 
 -- Why it fails.
 
@@ -153,21 +136,7 @@ unrefused db (Violates rule) keeps (index, defined, unique, broken) =
 -- and its row fits the list of objects, and each entry the store
 unstopped : (s : State) (stop : Option Error) → Keeps Unique desk_schema s.now.trees → AreShortAgents s
     → ¬ Does_index text (seen_with desk_schema s) owner (Err stop)
-unstopped s None keeps short (index, defined, inl long) =
-    let high = subst (λ (i : Index). 10 ^ 9 ≤ length i.name + length owner.name + length text + 200) (only index defined) long in
-    let no : 10 ^ 9 ≤ 300 = low_from high in omega (arith, no)
-  where
-    low_from : 10 ^ 9 ≤ 13 + 7 + 48 + 200 → 10 ^ 9 ≤ 300
-    low_from high = omega (arith, high)
-unstopped s None keeps short (index, defined, inr (row, there, large)) =
-    let j = has_mapped journey_row short.journeys row (subst (λ rs. Has rs row) short.shown.rows_are there) in
-    let fits = all_has (λ (k : JourneyRow). IsShort (length k.agent)) short.journeys j.0 short.short j.1 in
-    let entry : IsStorable (index_reals (table_reals owner) (3 ∷ 0 ∷ [])) (entry_of (3 ∷ 0 ∷ []) (journey_row j.0))
-    = storable _ _ refl refl (omega (arith, fits)) in
-    subst (λ (i : Index). ¬ IsStorable (index_reals (table_reals owner) i.columns) (entry_of i.columns row)) (only index defined) large
-    (subst (λ r. IsStorable (index_reals (table_reals owner) (3 ∷ 0 ∷ [])) (entry_of (3 ∷ 0 ∷ []) r)) (sym j.2) entry)
-unstopped s (Some e) keeps short (inl no_text) = no_text.0 (as_text text refl)
-unstopped s (Some e) keeps short (inr refused) = unrefused s.now.trees refused.0 keeps refused.1
+unstopped s stop keeps short x = search (rules, arith, only, has_mapped, all_has, storable, as_text, unrefused)
 
 goes : (old : State) (stop : Option Error) → Keeps Unique desk_schema old.now.trees → AreShortAgents old
     → ¬ Does old.step_limit (mode_of old) [] (seen_with desk_schema old) text None (CreateIndex 3) (Err stop)

@@ -140,12 +140,11 @@ module _ {X V C : Type 0} (q : Query) (out : X → Output) (passing : List X) (r
   values_read : (vs : List V) (xs : List X) → ((x : X) → Has xs x → Has passing x)
       → map show vs ≡ map read (map (λ x. (out x).1) xs) → map row_of vs ≡ xs
   values_read [] [] from e = refl
-  values_read [] (x ∷ xs) from e = absurd (cc)
-  values_read (v ∷ vs) [] from e = absurd (cc)
   values_read (v ∷ vs) (x ∷ xs) from e =
       let first : show v ≡ read ((out x).1) = first_same e in
       let rest : map show vs ≡ map read (map (λ x. (out x).1) xs) = rest_same e in
       ap₂ ◌∷◌ (back v x (from x (inl refl)) first) (values_read vs xs (λ y h. from y (inr h)) rest)
+  values_read vs xs from e = absurd (cc)
 
   found_is : map row_of found ≡ it.values
   found_is = values_read found it.values (λ x h. permutation_from passing it.values x it.same h) (was ∙ ap (map read) it.rows_are)

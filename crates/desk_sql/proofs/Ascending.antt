@@ -1,6 +1,5 @@
 -- A sorted list: no element is above a later one, for each ORDER BY. For Answering.
-use Rattle.std.proofs.Common.{◌≡◌, ◌⊎◌, inl, inr, ℕ, suc, ◌+◌, List, [], ◌∷◌, map, get_or, false, Ordering, Less, Equal, Greater, is_lt, refl, sym, ap, subst, ◌∙◌, arith, IsSorted}
-use Rattle.std.specs.Ordering.{ordering_reverse}
+use Rattle.std.proofs.Common.{◌≡◌, ◌⊎◌, ℕ, suc, ◌+◌, List, [], ◌∷◌, map, get_or, false, Ordering, Less, Equal, is_lt, refl, subst, arith, IsSorted, rules}
 use Rattle.std.specs.Cmp.{IsTotalOrder}
 use Rattle.std.proofs.lemmas.Cmp.{on_total, then_total}
 use Rattle.sqlite.specs.Order.{Row, column}
@@ -16,30 +15,10 @@ module _ {X : Type 0} (cmp : X → X → Ordering) (total : IsTotalOrder cmp) wh
   IsUpTo a b = is_lt (cmp b a) ≡ false
 
   below : (a b : X) → IsUpTo a b → (cmp a b ≡ Less) ⊎ (cmp a b ≡ Equal)
-  below a b e = go (cmp b a) refl e
-    where
-      go : (o : Ordering) → cmp b a ≡ o → is_lt o ≡ false → (cmp a b ≡ Less) ⊎ (cmp a b ≡ Equal)
-      go Less f g = cc
-      go Equal f g = inr (total.antisymm a b ∙ ap ordering_reverse f)
-      go Greater f g = inl (total.antisymm a b ∙ ap ordering_reverse f)
+  below a b e = search (rules, arith)
 
   over : (a b x : X) → IsUpTo a b → IsUpTo b x → IsUpTo a x
-  over a b x e f = elim (below a b e) [
-    | inr tied ↦ (
-        let g = total.congr a b x tied in
-        let back : cmp x a ≡ cmp x b = total.antisymm x a ∙ ap ordering_reverse g ∙ sym (total.antisymm x b) in
-        rw back f)
-    | inl low ↦ elim (below b x f) [
-      | inl high ↦ (
-          let all = total.trans a b x low high in
-          let back : cmp x a ≡ Greater = total.antisymm x a ∙ ap ordering_reverse all in
-          rw back refl)
-      | inr tied ↦ (
-          let g : cmp b a ≡ cmp x a = total.congr b x a tied in
-          let h : cmp b a ≡ Greater = total.antisymm b a ∙ ap ordering_reverse low in
-          rw (sym g ∙ h) refl)
-    ]
-  ]
+  over a b x e f = search (rules, arith, below)
 
   -- of a sorted list no element is above a later one
   pub ascends : (ys : List X) → IsSorted cmp ys → IsAscending IsUpTo ys

@@ -122,9 +122,8 @@ module _ {X V C : Type 0} {v : Version} {text : List ℕ} {params : Row} {q : Qu
   first_found old new t sees row f shown given =
       let all = it.first old new t sees row given in
       let x = first_of q out (passing t) row all.0 all.1 in
-      let same : row_of f ≡ x.0 = back t f x.0 x.1 (shown ∙ ap read x.2) in
       subst (λ z. Has (passing t) z × ((y : X) → Has (passing t) y → (y ≡ z) ⊎ IsUpTo (output_cmp q) (output_total q) (out z) (out y)))
-      (sym same) (x.1, x.3)
+      (sym (back t f x.0 x.1 (shown ∙ ap read x.2))) (x.1, x.3)
 
   pub first_good : (old new : State) (t : Tables) → MaySeeIn v old t → Fits t → (row : Row) → GivesRow text params old new (Some row) → Good row
   first_good old new t sees fits row given =

@@ -1,5 +1,5 @@
 -- When the rules of SQL allow an UPDATE that keeps each row's rowid and keys. For the lemmas of each statement that updates.
-use Rattle.std.proofs.Common.{◌≡◌, ◌≢◌, ◌<ℤ◌, inl, inr, ℤ, List, [], ◌∷◌, map, filter, drop, length, Bool, true, false, not, ◌&&◌, if◌then◌else◌, Less, is_eq, refl, sym, ap, subst, ◌∙◌, nat_lt, Ordering, ◌||◌, IsPermutation}
+use Rattle.std.proofs.Common.{◌≡◌, ◌≢◌, ◌<ℤ◌, inl, inr, ℤ, List, [], ◌∷◌, map, filter, drop, length, Bool, true, false, not, ◌&&◌, if◌then◌else◌, Less, is_eq, refl, sym, ap, subst, ◌∙◌, nat_lt, Ordering, ◌||◌, IsPermutation, arith, rules}
 use Rattle.std.specs.List.{IsDistinct, list_all}
 use Rattle.std.proofs.lemmas.Bool.{or_cases, or_left, or_right, and_from, false_from_ne_true}
 use Rattle.std.proofs.lemmas.Map.Keys.{IsDistinct-IsPermutation}
@@ -17,8 +17,7 @@ use Rattle.sqlite_trees.specs.Tree.{Trees, rowid, put_row, IsAscending}
 use Rattle.sqlite_schema.specs.declared.schema.Among.TheVariants.{All}
 use Rattle.sqlite_schema.specs.declared.schema.Constraint.TheVariants.{Unique, ForeignKey}
 use Rattle.sqlite_schema.specs.declared.schema.Reference.{Reference}
-use Rattle.sqlite_schema.specs.declared.schema.Index.{Index}
-use Rattle.sqlite_schema.specs.Rules.{guards, is_key_of, is_key_if_to, has_null, is_held, parent_key, Refers, Obeys}
+use Rattle.sqlite_schema.specs.Rules.{is_key_of, is_key_if_to, has_null, is_held, parent_key, Refers, Obeys}
 use Rattle.sqlite_rules.specs.Lists.{Has}
 use Rattle.sqlite_rules.specs.InPlace.{AgreeAt, Twins, AreTwins}
 use Rattle.sqlite_rules.specs.Calls.{ids_of}
@@ -42,13 +41,7 @@ use Rattle.std.specs.Ordering.{ordering_reverse}
 
 -- a row keeps its own rowid and keys
 twin_self : (table : Table) (r : Row) → Twins desk_schema table r r
-twin_self table r = record {
-  id = refl;
-  keys = record {
-    unique = all_from (λ (i : Index). guards i table ≡ true → AgreeAt i.columns r r) desk_schema.indexes (λ i _ _. agrees_itself i.columns r);
-    refers = all_from (λ (ref : Reference). AgreeAt ref.columns r r) table.references (λ ref _. agrees_itself ref.columns r);
-  };
-}
+twin_self table r = search (rules, arith, all_from, agrees_itself)
 
 -- two rows have the same rowid
 abbrev pub is_same : Row → Row → Bool
@@ -58,8 +51,7 @@ flips : (a b : Row) → is_same a b ≡ is_same b a
 flips a b = ap is_eq (value_cmp_total.antisymm (rowid a) (rowid b)) ∙ even (value_cmp (rowid b) (rowid a))
   where
     even : (o : Ordering) → is_eq (ordering_reverse o) ≡ is_eq o
-    even Less = refl
-    even _ = refl
+    even o = search (rules, arith)
 
 -- rows whose rowids differ, from each other and from those that are there, are fresh
 fresh_all : (news rows : List Row) → IsDistinct is_same news → ((x n : Row) → Has rows x → Has news n → is_same x n ≡ false) → are_fresh rows news ≡ true
@@ -110,16 +102,10 @@ module _ {X : Type 0} {f : X → Row} {id : X → ℤ} {db : Trees} {table : Tab
 
   -- each new row is that of a changed value
   from_news : (r : Row) → Has edit.news r → (x : X) × Has xs x × (test x ≡ true) × (r ≡ f (change x))
-  from_news r there =
-      let s = has_mapped write answer r (subst (λ rs. Has rs r) news_are there) in
-      let x = from_answer s.0 s.1 in
-      (x.0, x.1, x.2, s.2 ∙ ap write x.3 ∙ it.change_is x.0 x.1 x.2)
+  from_news r there = grind (arith, has_mapped, news_are, from_answer)
 
   id_of_shown : (s : Row) → Has answer s → rowid (write s) ≡ rowid s
-  id_of_shown s there =
-      let x = from_answer s there in
-      ap (λ z. rowid (write z)) x.3 ∙ ap rowid (it.change_is x.0 x.1 x.2) ∙ it.keyed (change x.0) ∙ ap Int (it.id_kept x.0)
-      ∙ sym (ap rowid x.3 ∙ it.id_shown x.0)
+  id_of_shown s there = search (rules, arith, from_answer)
 
   -- the rowids that the query shows differ
   apart_shown : (zs : List X) → IsAscending (λ (x y : X). id x <ℤ id y) zs → IsDistinct is_same (map (λ x. shows (f x)) zs)
@@ -170,11 +156,7 @@ module _ {X : Type 0} {f : X → Row} {id : X → ℤ} {db : Trees} {table : Tab
     becomes x = if test x then change x else x
 
     pair : (x : X) → Twins desk_schema table (f x) (f (becomes x))
-    pair x = go (test x)
-      where
-        go : (b : Bool) → Twins desk_schema table (f x) (f (if b then change x else x))
-        go true = twin x
-        go false = twin_self table (f x)
+    pair x = search (rules, arith, twin_self)
 
     twins : AreTwins desk_schema table db next
     twins = record { before = before; after = after; keys = serves }

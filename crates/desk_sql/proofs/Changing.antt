@@ -1,5 +1,5 @@
 -- The statements that update rows. For the functions that update.
-use Rattle.std.proofs.Common.{to_z, of_z, w64, ◌≡◌, ◌<◌, ◌≤◌, ◌^◌, ◌+◌, ◌-◌, ◌-ℤ◌, neg_ℤ, ℕ, ℤ, pos, [], ◌∷◌, filter, length, inl, inr, true, ◌&&◌, eqb-true, refl, ◌∙◌, arith}
+use Rattle.std.proofs.Common.{to_z, of_z, w64, ◌≡◌, ◌<◌, ◌≤◌, ◌^◌, ◌+◌, ◌-◌, ◌-ℤ◌, neg_ℤ, ℕ, ℤ, pos, [], ◌∷◌, filter, length, inl, inr, true, ◌&&◌, eqb-true, refl, ◌∙◌, arith, rules}
 use Rattle.std.specs.Prelude.{⊤}
 use Rattle.std.proofs.lemmas.Int.{ints}
 use Rattle.std.proofs.lemmas.Bool.{and_parts, and_from}
@@ -12,10 +12,9 @@ use Rattle.sqlite.specs.Order.{Row, value_cmp}
 use Rattle.sqlite.specs.Tree.{Trees}
 use Rattle.sqlite.specs.Listing.{understood}
 use Rattle.sqlite_schema.specs.declared.schema.Constraint.TheVariants.{Check}
-use Rattle.sqlite_schema.specs.declared.schema.Index.{Index}
-use Rattle.sqlite_schema.specs.Rules.{Obeys, guards}
+use Rattle.sqlite_schema.specs.Rules.{Obeys}
 use Rattle.sqlite_rules.specs.Lists.{Has}
-use Rattle.sqlite_rules.specs.InPlace.{AgreeAt, Twins}
+use Rattle.sqlite_rules.specs.InPlace.{Twins}
 use Rattle.sqlite_rules.proofs.ListLemmas.{all_has, all_from, has_kept}
 use Rattle.sqlite_rules.proofs.RuleLemmas.{keeps_at}
 use Rattle.sqlite_tied.specs.Compute.{everything}
@@ -57,17 +56,7 @@ meta_says m = record { means = λ _. record { is = refl; plain = (refl, refl) };
 
 -- no unique index is on meta
 meta_twin : (old new : MetaRow) → Twins desk_schema (meta_at 0) (meta_row old) (meta_row new)
-meta_twin old new = record {
-  id = refl;
-  keys = record {
-    unique = all_from (λ (i : Index). guards i (meta_at 0) ≡ true → AgreeAt i.columns (meta_row old) (meta_row new)) desk_schema.indexes
-        (λ i known guard. absurd (none i (has_kept (λ (x : Index). guards x (meta_at 0)) desk_schema.indexes i known guard)));
-    refers = tt;
-  };
-}
-  where
-    none : (i : Index) → ¬ Has (filter (λ (x : Index). guards x (meta_at 0)) desk_schema.indexes) i
-    none i h = h
+meta_twin old new = search (rules, arith, all_from, has_kept)
 
 pub counts_meta : (m : MetaRow) → Effect update_meta_text (meta_params m) (λ _. ⊤) (counts m) (λ _. ⊤) (λ _. ⊤) (λ _. ⊤) (λ n. n)
 counts_meta m =
@@ -99,7 +88,6 @@ moves_cursor id c small =
     move_journey_query.filter move_journey_query.project (move_says id c) (is_numbered id) (with_cursor c) (λ j. and_true _ ∙ eq_whole j.id id)
     (λ _. refl) (λ _. refl) (λ _. ⊤) (MayMove id c) (λ _. ⊤) (λ t fits. tt) (λ t any j there is. simp (cast_int, cast_null))
     (λ db t room fits obeys j there row is.
-    let same : j.id ≡ id = eqb-true j.id id is in
     let short = all_has (λ (k : JourneyRow). is_numbered id k ≡ true → IsShort (length k.agent)) t.journey j fits.short there is in
     record {
       typed = refl;
@@ -107,7 +95,7 @@ moves_cursor id c small =
       checked = rw (range_holds c.phase 0 3 (omega arith) fits.phase) refl;
       id = pos j.id;
       keyed = refl;
-      fits = fits_whole j.id (omega (arith, same, small));
+      fits = fits_whole j.id (omega (arith, eqb-true j.id id is, small));
       storable = held_from (journey_at 6) (journey_row (with_cursor c j))
           (storable _ (journey_row (with_cursor c j)) refl refl (omega (arith, short)), omega arith) (storable _ _ refl refl (omega arith), tt)
           (storable _ _ refl refl (omega (arith, short)), tt);
@@ -134,11 +122,10 @@ option_fit : (db : Trees) (id : ℤ) (s : StepRow) (taken : ℕ) → Obeys desk_
 option_fit db id s taken obeys there fits low short =
     let was = keeps_at Check desk_schema db (step_at 8) (numbered_row step_columns (id, s)) (obeys.rules Check) (inr (inr (inr (inr (inl refl))))) there in
     let first = (and_parts (is_bit s.save) (is_bit s.taken && true) was).0 in
-    let second : (is_bit taken && true) ≡ true = rw (bit_holds taken low) refl in
     record {
       typed = refl;
       present = refl;
-      checked = and_from (is_bit s.save) (is_bit taken && true) first second;
+      checked = and_from (is_bit s.save) (is_bit taken && true) first (rw (bit_holds taken low) refl);
       id = id;
       keyed = refl;
       fits = fits;

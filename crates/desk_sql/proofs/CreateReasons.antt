@@ -1,6 +1,6 @@
 -- Why a text that creates a table fails: out of memory, or the disk failed. No rule refuses a text whose names are new and which the
 -- list of objects can hold. For `founding`, and for the migration of older tables.
-use Rattle.std.proofs.Common.{◌≡◌, ◌<◌, ◌≤◌, ◌+◌, ◌*◌, ◌^◌, ◌∙◌, ℕ, zero, suc, inl, inr, List, [], ◌∷◌, length, codes, Option, None, Some, Ok, Err, Bool, true, false, nat_lt, IsTrue, IsUtf8, IsAscii, refl, sym, ap, subst, arith}
+use Rattle.std.proofs.Common.{◌≡◌, ◌<◌, ◌≤◌, ◌+◌, ◌*◌, ◌^◌, ◌∙◌, ℕ, zero, suc, List, [], ◌∷◌, length, codes, Option, None, Ok, Err, Bool, true, false, nat_lt, IsTrue, IsUtf8, IsAscii, refl, subst, arith, rules}
 use Rattle.std.specs.List.{AllByRecursion, list_all}
 use Rattle.std.proofs.lemmas.Bool.{and_parts}
 use Rattle.std.proofs.lemmas.Bool.Decides.{nat_tests}
@@ -11,10 +11,8 @@ use Rattle.sqlite_trees.specs.Sound.{fits_kind, is_free_name, same_name, begins}
 use Rattle.sqlite_schema.specs.declared.schema.Index.{Index}
 use Rattle.sqlite_schema.specs.declared.schema.Schema.{Schema}
 use Rattle.sqlite_schema.specs.Rules.{table_reals, index_reals}
-use Rattle.sqlite_rules.specs.Lists.{Has}
 use Rattle.sqlite_rules.proofs.ListLemmas.{all_has}
 use Rattle.sqlite_catalog.specs.declared.error.Refusal.{Refusal}
-use Rattle.sqlite_catalog.specs.declared.error.Refusal.TheVariants.{Invalid, NameTaken, BadName, TooBig, BadKey, BadText, Violates}
 use Rattle.sqlite_catalog.specs.Listing.{is_formed, is_fit}
 use Rattle.sqlite_catalog.specs.Calls.{RefusesTable}
 use Rattle.sqlite.specs.Table.{Table}
@@ -85,52 +83,18 @@ as_text bytes all = IsUtf8-from_ascii bytes (ascii bytes all)
 module _ (schema : Schema) (sql : List ℕ) (table : Table) (it : IsNewTable schema sql table) where
   -- the text defines no other table
   only : (made : Table) → table_defined_by sql ≡ Ok made → made ≡ table
-  only made defined =
-      let both : Ok made ≡ Ok table = sym defined ∙ it.defined in
-      same_value both
+  only made defined = search (rules, arith, same_value)
 
   -- no rule refuses it
   unrefused : (why : Refusal) → ¬ RefusesTable schema sql why
-  unrefused (Invalid e) wrong = let no = sym it.defined ∙ wrong in cc
-  unrefused NameTaken (made, defined, inl used) =
-      let no = sym used ∙ ap (λ (t : Table). is_used schema t.name) (only made defined) ∙ it.unused in cc
-  unrefused NameTaken (made, defined, inr (index, among, used)) =
-      let here = subst (λ (t : Table). Has (automatics t 0 0 t.uniques) index) (only made defined) among in
-      let free = all_has (λ (i : Index). is_used schema i.name ≡ false) (automatics table 0 0 table.uniques) index it.unused_indexes here in
-      let no = sym used ∙ free in cc
-  unrefused BadName (made, defined, inl no_text) =
-      no_text (subst (λ (t : Table). IsUtf8 t.name) (sym (only made defined)) (as_text table.name it.name_letters))
-  unrefused BadName (made, defined, inr (reserved, own)) =
-      let no = sym reserved ∙ ap (λ (t : Table). is_reserved t.name) (only made defined) ∙ it.unreserved in cc
-  unrefused TooBig (made, defined, inl many) =
-      let low : next_tree schema + length table.uniques < 65536 = under (next_tree schema + length table.uniques) 65536 it.few in
-      omega (arith, low, subst (λ (t : Table). 65536 ≤ next_tree schema + length t.uniques) (only made defined) many)
-  unrefused TooBig (made, defined, inr (inl big)) =
-      no_reals (table_reals table) it.reals (subst (λ (t : Table). 2 ^ 64 ≤ table_reals t) (only made defined) big)
-  unrefused TooBig (made, defined, inr (inr (key, among, big))) =
-      let here = subst (λ (t : Table). Has t.uniques key) (only made defined) among in
-      let none = all_has (λ (k : List ℕ). index_reals (table_reals table) k ≡ 0) table.uniques key it.key_reals here in
-      no_reals (index_reals (table_reals table) key) none (subst (λ (t : Table). 2 ^ 64 ≤ index_reals (table_reals t) key) (only made defined) big)
-  unrefused BadKey (made, defined, unformed) = let no = sym unformed ∙ ap is_formed (only made defined) ∙ it.formed in cc
-  unrefused BadText (made, defined, unfit) =
-      let no = sym unfit ∙ ap (λ (t : Table). is_fit (Text (codes "table")) (Text t.name) (Text t.name) (Text sql)) (only made defined) ∙ it.listed in cc
-  unrefused (Violates rule) none = none
+  unrefused why wrong = search (rules, arith, only, all_has, as_text, under, no_reals)
 
   -- and its row fits the list of objects, whatever the trees are
   unstopped : (db : Trees) (stop : Option Error) → ¬ MakesTable sql (record { schema = schema; trees = db }) (Err stop)
-  unstopped db None (made, defined, long) =
-      let low : 2 * length table.name + length sql + 200 < 65536 = under (2 * length table.name + length sql + 200) 65536 it.short in
-      omega (arith, low, subst (λ (t : Table). 10 ^ 9 ≤ 2 * length t.name + length sql + 200) (only made defined) long)
-  unstopped db (Some e) (inl no_text) = no_text.0 (as_text sql it.letters)
-  unstopped db (Some e) (inr refused) = unrefused refused.0 refused.1
+  unstopped db stop x = search (rules, arith, under, only, as_text, unrefused)
 
   goes : (old : State) (stop : Option Error) → ¬ Defines (mode_of old) (Then (MakesTable sql (seen_with schema old)) MakesSequence) (Err stop)
-  goes old stop (inl (first, inl (stopped, unmade, same), is)) = unstopped old.now.trees stopped unmade
-  goes old stop (inl (first, inr (after, made, sequence), is)) =
-      let schema_is = made.is ∙ ap (created schema) (only made.table made.defined) in
-      let plainly : lacks_sequence after.schema ≡ false = ap lacks_sequence schema_is ∙ it.uncounted in
-      gives_on first (rw plainly at sequence)
-  goes old stop (inr (after, made, gives)) = gives_on stop gives
+  goes old stop x = search (rules, arith, unstopped, only, gives_on)
 
   -- so it fails out of memory, or where the disk failed or refused
   pub create_reason : (old new : State) (e : Error) → IsUp old → old.now.schema ≡ schema → ExecutesInside 0 sql [] old new (Err e) → HasReason old new e
@@ -174,16 +138,13 @@ up_built a b s survives built up = record { is_open = built.is_open; unlimited =
 
 -- a reason of a later statement is one of all
 pub reason_since : (a b c : State) (e : Error) → a.faults ≤ b.faults → HasReason b c e → HasReason a c e
-reason_since a b c e low (inl memory) = inl memory
-reason_since a b c e low (inr faulted) = inr (faulted_later a b c low faulted)
+reason_since a b c e low x = search (rules, arith, faulted_later)
 
 -- what comes after them fails for a reason of its own
 pub fails_after : {a b c : State} {before at : Schema} (e : Error) → Stage a b before at → Survives b c (λ _. ⊥)
     → (HasCleanDisk c → Builds a b at → IsUp b → HasReason b c e) → HasCleanDisk c → MayBuild before a → IsUp a → HasReason a c e
 fails_after {a = a} {b = b} {c = c} {at = at} e stage survives fails clean start up =
-    let mid : HasCleanDisk b = omega (arith, survives.clean, clean) in
-    let built = stage.made mid start in
-    reason_since a b c e stage.survives.counts (fails clean built (up_built a b at stage.survives built up))
+    search (rules, arith, reason_since, up_built)
 
 pub text_fails : {a b c : State} {before at : Schema} {sql : List ℕ} {table : Table} (e : Error) → Stage a b before at → IsNewTable at sql table
     → Survives b c (λ _. ⊥) → (HasCleanDisk c → IsTrue b.in_transaction → ExecutesInside 0 sql [] b c (Err e))

@@ -97,8 +97,7 @@ meta_given v old new t sees row given =
 -- where meta has a row, one is given
 pub meta_there : (v : Version) (old new : State) (t : Tables) → MaySeeIn v old t → HasMeta t → ¬ GivesRow read_meta_text [] old new None
 meta_there v old new t sees has given =
-    let none : t.meta ≡ [] = sym (all_pass t.meta) ∙ (meta_asked v).none old new t sees given in
-    let bad : has.0 ∷ [] ≡ [] = sym has.1 ∙ none in cc
+    let bad : has.0 ∷ [] ≡ [] = sym has.1 ∙ (sym (all_pass t.meta) ∙ (meta_asked v).none old new t sees given) in cc
 
 -- The reply that is kept under an agent's key.
 

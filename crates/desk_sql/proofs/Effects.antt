@@ -1,5 +1,5 @@
 -- What a statement that writes does whenever it is run, and what its contract says of one run. For each statement that writes.
-use Rattle.std.proofs.Common.{◌+◌, subst, ◌≡◌, ℕ, List, length, Bool, true, Ok, Err, Result, OnOk, IsTrue, MutBor}
+use Rattle.std.proofs.Common.{◌+◌, subst, ◌≡◌, ℕ, List, length, Bool, true, Ok, Err, Result, OnOk, IsTrue, MutBor, arith, rules}
 use Rattle.std.specs.Prelude.{⊤}
 use Rattle.sqlite.specs.declared.error.Error.{Error}
 use Rattle.sqlite.specs.Command.{Command}
@@ -38,8 +38,7 @@ pub record Effect (text : List ℕ) (params : Row) (Seen : Tables → Type 0) (a
       → (n : ℕ) → HasRowids (taken n) old.now.trees → HasRowids n new.now.trees
 
 if_done : (P : Type 0) (Ran : Result ℕ Error → Type 0) (r : Result ℕ Error) → Ran r → ((count : ℕ) → Ran (Ok count) → P) → OnOk r P
-if_done P Ran (Ok count) ran so = so count ran
-if_done P Ran (Err e) ran so = tt
+if_done x y r ran so = search (rules, arith)
 
 -- One run, as contracts say it: of a write that needs no rowid, and of one that takes so many.
 

@@ -1,5 +1,5 @@
 -- The rows that a query on one table of the desk finds. For the lemmas of each query.
-use Rattle.std.proofs.Common.{◌≡◌, inl, inr, ℕ, List, [], ◌∷◌, Option, Ok, Err, IsTrue, sym, ap, subst, ◌∙◌}
+use Rattle.std.proofs.Common.{◌≡◌, ℕ, List, [], ◌∷◌, Option, Ok, Err, IsTrue, arith, rules}
 use Rattle.sqlite.specs.declared.types.Value.TheVariants.{Null}
 use Rattle.sqlite.specs.declared.error.Error.{Error}
 use Rattle.sqlite.specs.declared.error.Error.TheVariants.{QueryReturnedNoRows}
@@ -9,9 +9,7 @@ use Rattle.sqlite.specs.Program.{overlay}
 use Rattle.sqlite_schema.specs.declared.program.Program.{Program}
 use Rattle.sqlite.specs.Command.TheVariants.{Select}
 use Rattle.sqlite.specs.Effect.{Database, RefusesToRead}
-use Rattle.sqlite.specs.Listing.{understood}
-use Rattle.sqlite.specs.State.{State, QueriesRow, FailsToQuery, FailsToShow, IsNotRun, Shown, IsUnchanged}
-use Rattle.sqlite.specs.Clock.{timed}
+use Rattle.sqlite.specs.State.{State, QueriesRow, FailsToQuery, IsNotRun, Shown, IsUnchanged}
 use Rattle.sqlite.proofs.Callers.{command_of, first_as, reads_as}
 use Rattle.desk_sql.specs.declared.versions.Version.{Version}
 use Rattle.desk_sql.specs.Schema.{schema_with, IsSchemaOf}
@@ -21,18 +19,12 @@ use Rattle.desk_sql.proofs.Selecting.{not_store, understood_bare, shown_same, ro
 -- a statement that was not run fails with another error than that of a missing row
 not_run : (old new : State) (text : List ℕ) (params : Row) (e : Error) → e ≡ QueryReturnedNoRows → ¬ IsNotRun old new text params e
 unfolding IsNotRun
-not_run old new text params e is (inl (inl h, _)) = let other = sym is ∙ h.2 in absurd cc
-not_run old new text params e is (inl (inr (c, known, inl h), _)) = let other = sym is ∙ h.1 in absurd cc
-not_run old new text params e is (inl (inr (c, known, inr (inl h)), _)) = let other = sym is ∙ h.1 in absurd cc
-not_run old new text params e is (inl (inr (c, known, inr (inr h)), _)) = let other = sym is ∙ h.1 in absurd cc
-not_run old new text params e is (inr h) = not_store h.0 (sym h.1 ∙ is)
+not_run old new text params e is x = search (rules, arith, not_store)
 
 -- a query that was stopped fails with another error too
 not_refused : (q : Program) (names : List (List ℕ)) (limit : Option ℕ) (db : Database) (params : Row) (e : Error)
     → e ≡ QueryReturnedNoRows → ¬ RefusesToRead limit (Select q names) db params e
-not_refused q names limit db params e is (inl h) = let other = sym is ∙ h.0 in absurd cc
-not_refused q names limit db params e is (inr (inl h)) = let other = sym is ∙ h.0 in absurd cc
-not_refused q names limit db params e is (inr (inr h)) = let other = sym is ∙ h.0 in absurd cc
+not_refused q names limit db params e is x = search (rules, arith)
 
 module _ {v : Version} (text : List ℕ) (q : Query) (names : List (List ℕ)) (m : MeansIn v text q names) (params : Row) (old new : State)
     (has : IsTrue old.is_open → IsSchemaOf v old.now.schema) where
@@ -60,19 +52,10 @@ module _ {v : Version} (text : List ℕ) (q : Query) (names : List (List ℕ)) (
 
   no_fault : (e : Error) → e ≡ QueryReturnedNoRows → ¬ FailsToQuery text params old new e
   unfolding FailsToQuery
-  no_fault e none (inl h) = not_run old new text params e none h
-  no_fault e none (inr h) =
-      let bare = understood_bare text (m []).selects old.now.schema h.0 h.1.is in
-      let full = timed params h.0.formats h.1.now in
-      let why = subst (λ r. FailsToShow old new text h.0 full e r) bare h.2 in
-      let known : h.0.command ≡ Select program names
-      = ap command_of (sym h.1.is ∙ ap (λ s. understood s text) (has why.3.0.was_open).is) ∙ (m (has why.3.0.was_open).extra).is in
-      not_refused program names old.step_limit why.0 full e none
-      (subst (λ k. RefusesToRead old.step_limit k why.0 full e) known why.2)
+  no_fault e none x = search (rules, arith, not_run, understood_bare, command_of, not_refused)
 
   -- the answer has no row
   pub no_row : (e : Error) → e ≡ QueryReturnedNoRows → QueriesRow text params old new (Err e)
       → IsUnchanged old new × IsAnswer q (overlay old.now.trees []) params []
   unfolding QueriesRow
-  no_row e none (inl h) = absurd (no_fault e none h)
-  no_row e none (inr h) = whole_answer [] h.1
+  no_row e none x = search (rules, arith, no_fault, whole_answer)

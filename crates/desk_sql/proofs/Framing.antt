@@ -1,5 +1,5 @@
 -- An edit of one table leaves all other tables as they are. For the lemmas of each statement that writes.
-use Rattle.std.proofs.Common.{◌≡◌, ◌≢◌, ◌==◌, if◌then◌else◌, eqb-true, ℕ, List, Bool, true, false, IsTrue, refl, sym, ap, subst, ◌∙◌}
+use Rattle.std.proofs.Common.{◌≡◌, ◌≢◌, eqb-true, ℕ, List, IsTrue, arith, rules}
 use Rattle.std.proofs.lemmas.Bool.{eqb-false}
 use Rattle.sqlite.specs.Order.{Row}
 use Rattle.sqlite.specs.Tree.{Trees, with_tree}
@@ -37,35 +37,16 @@ module _ (old new : State) (edit : Edit) (it : Edits old new edit) where
   -- each tree is as it was, except that of the edited table
   tree_is : (t : ℕ) (rows : List Row) → edited db edit ≡ rows → (t ≢ edit.table.tree → next t ≡ db t)
       → next t ≡ with_tree db edit.table.tree rows t
-  tree_is t rows is other = go (t == edit.table.tree) refl
-    where
-      go : (v : Bool) → (t == edit.table.tree) ≡ v → next t ≡ (if v then rows else db t)
-      go true e = ap next (eqb-true _ _ e) ∙ it.applies.rows ∙ is
-      go false e = other (eqb-false _ _ e)
+  tree_is t rows is other = search (rules, arith, eqb-true, eqb-false)
 
   shows_next : (rows : List Row) (after : Tables) → edited db edit ≡ rows → Shows (with_tree db edit.table.tree rows) after
       → Shows next after
-  shows_next rows after is =
-      let o = it.applies.tables in
-      shows_same next (with_tree db edit.table.tree rows) after (tree_is 0 rows is o.0) (tree_is 1 rows is o.1.0)
-      (tree_is 3 rows is o.1.1.0) (tree_is 6 rows is o.1.1.1.0) (tree_is 8 rows is o.1.1.1.1.0)
-      (tree_is 11 rows is o.1.1.1.1.1.1.0) (tree_is 13 rows is o.1.1.1.1.1.1.1.0)
-      (tree_is 14 rows is o.1.1.1.1.1.1.1.1.0)
+  shows_next rows after is = search (rules, arith, shows_same, tree_is)
 
   -- of all tables, just the edited one has these rows
   pub makes_at : (tree : ℕ) (rows : List Row) (after : Tables) → edit.table.tree ≡ tree → edited db edit ≡ rows
       → Shows (with_tree db tree rows) after → Makes old new after
-  makes_at tree rows after at is shown = record {
-    was_open = it.shown.was_open;
-    is_open = it.shown.is_open;
-    inside = it.shown.mode;
-    sees = record {
-      schema = it.schema;
-      rows = shows_next rows after is (subst (λ t. Shows (with_tree db t rows) after) (sym at) shown);
-      sound = it.sound;
-    };
-    committed = it.shown.committed_is;
-  }
+  makes_at tree rows after at is shown = grind (arith, shows_next)
 
 -- One table has other rows.
 module _ (db : Trees) (t : Tables) (s : Shows db t) (rows : List Row) where

@@ -1,5 +1,5 @@
 -- What indexes beside those of the keys do not change: the rules, the references and the conflicts of rows. For Writing and Refusing.
-use Rattle.std.proofs.Common.{◌≡◌, inl, inr, ℕ, List, [], ◌∷◌, ◌++◌, Option, None, Some, Bool, true, false, not, ◌&&◌, refl, sym, ap, ◌∙◌, bytes_eq, length, ◌==◌, ◌||◌}
+use Rattle.std.proofs.Common.{◌≡◌, inl, inr, ℕ, List, [], ◌∷◌, ◌++◌, Option, None, Some, Bool, true, false, not, ◌&&◌, refl, sym, ap, ◌∙◌, bytes_eq, length, ◌==◌, ◌||◌, arith, rules}
 use Rattle.std.specs.List.{AllByRecursion, list_all, list_any}
 use Rattle.std.proofs.lemmas.Bool.{and_parts, and_from, or_cases, or_left, or_right, false_from_ne_true}
 use Rattle.sqlite.specs.Order.{Row}
@@ -11,7 +11,7 @@ use Rattle.sqlite_schema.specs.declared.schema.Reference.{Reference}
 use Rattle.sqlite_schema.specs.declared.schema.Index.{Index}
 use Rattle.sqlite_schema.specs.Rules.{guards, clashes, is_key_of, is_key_if_to, is_index_for, is_unique_key, ParentKey, parent_key, agree, Keeps, Obeys}
 use Rattle.sqlite_rules.specs.declared.error.Refusal.{Refusal}
-use Rattle.sqlite_rules.specs.declared.error.Refusal.TheVariants.{Violates, Mismatch, NoRowid, BadReference, TooDeep}
+use Rattle.sqlite_rules.specs.declared.error.Refusal.TheVariants.{Violates, BadReference}
 use Rattle.sqlite_rules.specs.Edit.{Edit, edited, IsRefused, is_referred}
 use Rattle.sqlite_rules.specs.Keys.{conflicts, aims, shares, AreConflicts}
 use Rattle.sqlite_value.specs.Keys.{plain as plain_key}
@@ -80,31 +80,15 @@ module _ (extra : List Index) (are : AllByRecursion IsExtra extra) where
   to_more table ref it = either_more _ (is_key_of desk_schema ref) (is_key_of (desk_with extra) ref) (key_more ref) it
 
   referred_more : (edit : Edit) → is_referred desk_schema Enforced edit ≡ true → is_referred (desk_with extra) Enforced edit ≡ true
-  referred_more edit it =
-      let parts = and_parts _ _ it in
-      and_from _ _
-      (either_more _ (list_all (is_key_of desk_schema) edit.table.references) (list_all (is_key_of (desk_with extra)) edit.table.references)
-      (test_weaker (is_key_of desk_schema) (is_key_of (desk_with extra)) edit.table.references key_more) parts.0)
-      (either_more _ (list_all (λ (t : Table). list_all (is_key_if_to desk_schema edit.table) t.references) desk_schema.tables)
-      (list_all (λ (t : Table). list_all (is_key_if_to (desk_with extra) edit.table) t.references) desk_schema.tables)
-      (test_weaker (λ (t : Table). list_all (is_key_if_to desk_schema edit.table) t.references)
-      (λ (t : Table). list_all (is_key_if_to (desk_with extra) edit.table) t.references) desk_schema.tables
-      (λ t. test_weaker (is_key_if_to desk_schema edit.table) (is_key_if_to (desk_with extra) edit.table) t.references (to_more edit.table))) parts.1)
+  referred_more edit it = search (rules, arith, and_parts, and_from, either_more, test_weaker, key_more, to_more)
 
   -- an edit that is refused is refused without these indexes too
   pub refused_bare : (db : Trees) (edit : Edit) (why : Refusal) → IsRefused (desk_with extra) Enforced db edit why
       → IsRefused desk_schema Enforced db edit why
-  refused_bare db edit (Violates Datatype) h = h
-  refused_bare db edit (Violates NotNull) h = h
-  refused_bare db edit (Violates Check) h = h
-  refused_bare db edit (Violates PrimaryKey) h = h
   refused_bare db edit (Violates Unique) h = λ keeps. h (unique_more (with_tree db edit.table.tree (edited db edit)) keeps)
-  refused_bare db edit (Violates ForeignKey) h = h
-  refused_bare db edit Mismatch h = h
-  refused_bare db edit NoRowid h = h
   refused_bare db edit BadReference h =
       false_from_ne_true (is_referred desk_schema Enforced edit) (λ it. let no = sym (referred_more edit it) ∙ h in cc)
-  refused_bare db edit TooDeep h = h
+  refused_bare db edit why h = h
 
   -- Conflicts.
 
@@ -121,7 +105,4 @@ module _ (extra : List Index) (are : AllByRecursion IsExtra extra) where
   -- rows conflict as they do without these indexes
   pub are_conflicts : {target : Option (List ℕ)} {table : Table} {rows found : List Row} {new : Row}
       → AreConflicts target (desk_with extra).indexes table rows new found → AreConflicts target desk_schema.indexes table rows new found
-  are_conflicts {target = target} {table = table} {new = new} it = record {
-    sound = λ x there. (let r = it.sound x there in (r.0, r.1, sym (conflicts_bare target table new r.0) ∙ r.2, r.3));
-    complete = λ r there same. it.complete r there (conflicts_bare target table new r ∙ same);
-  }
+  are_conflicts {target = target} {table = table} {new = new} it = search (rules, arith, conflicts_bare)

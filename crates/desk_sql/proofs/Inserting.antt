@@ -1,5 +1,5 @@
 -- The statements that insert a row. For the functions that insert.
-use Rattle.std.proofs.Common.{◌≡◌, ◌<◌, ◌≤◌, ◌^◌, ◌==◌, ℕ, ℤ, suc, [], ◌∷◌, Bool, true, false, cond, refl, sym, subst, arith}
+use Rattle.std.proofs.Common.{◌≡◌, ◌<◌, ◌≤◌, ◌^◌, ◌==◌, ℕ, ℤ, suc, [], ◌∷◌, Bool, true, false, cond, refl, sym, subst, arith, rules}
 use Rattle.std.specs.Prelude.{⊤}
 use Rattle.std.specs.List.{AllByRecursion}
 use Rattle.sqlite.specs.declared.types.Value.TheVariants.{Null, Int, Text, Blob}
@@ -28,8 +28,7 @@ use Rattle.desk_sql.proofs.Testing.{and_true}
 use Rattle.desk_sql.proofs.Writing.{cast_null}
 
 same_int : (b : Bool) (n : ℤ) → cond b (Int n) (Int n) ≡ Int n
-same_int true n = refl
-same_int false n = refl
+same_int b n = search (rules, arith)
 
 -- an integer is stored as it is
 pub cast_int : (n : ℤ) → cast Integer (Int n) ≡ Int n

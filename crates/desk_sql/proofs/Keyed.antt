@@ -1,5 +1,5 @@
 -- Tables as lists of values, each with its rowid, in ascending order of rowid. For the lemmas of each statement that writes.
-use Rattle.std.proofs.Common.{◌≡◌, ◌+ℤ◌, ◌<ℤ◌, ℤ, pos, fold, List, [], ◌∷◌, ◌++◌, map, Bool, true, false, if◌then◌else◌, Less, refl, sym, ap, ap₂, ◌∙◌, arith, inl, inr, ℕ, ◌<◌, filter}
+use Rattle.std.proofs.Common.{◌≡◌, ◌+ℤ◌, ◌<ℤ◌, ℤ, pos, fold, List, [], ◌∷◌, ◌++◌, map, Bool, true, false, if◌then◌else◌, Less, refl, sym, ap, ap₂, ◌∙◌, arith, ℕ, ◌<◌, filter, rules}
 use Rattle.std.proofs.lemmas.Int.{ints}
 use Rattle.std.proofs.lemmas.Bool.{cases_Bool}
 use Rattle.std.specs.List.{AllByRecursion}
@@ -31,21 +31,15 @@ module _ {X : Type 0} (f : X → Row) (id : X → ℤ) (keyed : (x : X) → rowi
 
   -- the rows of values whose rowids ascend are a table
   pub is_table : (xs : List X) → Rises xs → IsTable (map f xs)
-  is_table xs rise = ascending-map (λ (a b : Row). value_cmp (rowid a) (rowid b) ≡ Less) f xs
-      (ascending_weaker (λ x y. id x <ℤ id y) (λ x y. value_cmp (rowid (f x)) (rowid (f y)) ≡ Less)
-      (λ x y low. rw (keyed x, keyed y) (int_below (id x) (id y) low)) xs rise)
+  is_table xs rise = search (rules, arith, ascending-map, ascending_weaker, int_below)
 
   -- a row whose rowid is above all others is appended
   pub put_last : (xs : List X) (x : X) → AreBelow (id x) xs → put_row (f x) (map f xs) ≡ map f (xs ++ x ∷ [])
   put_last [] x below = refl
-  put_last (y ∷ xs) x below =
-      let first : value_cmp (rowid (f y)) (rowid (f x)) ≡ Less = rw (keyed y, keyed x) (int_below (id y) (id x) below.0) in
-      rw first (ap (λ rows. f y ∷ rows) (put_last xs x below.1))
+  put_last (y ∷ xs) x below = search (rules, arith, int_below, put_last xs x)
 
   pub rises_last : (xs : List X) (x : X) → Rises xs → AreBelow (id x) xs → Rises (xs ++ x ∷ [])
-  rises_last xs x rise below =
-      ascending-append (λ (a b : X). id a <ℤ id b) xs (x ∷ []) rise (tt, tt)
-      (all_weaker (λ y. id y <ℤ id x) (λ y. AllByRecursion (λ z. id y <ℤ id z) (x ∷ [])) (λ y low. (low, tt)) xs below)
+  rises_last xs x rise below = search (rules, arith, ascending-append, all_weaker)
 
   abbrev next_id : ℤ → List Row → ℤ
   next_id = fold (λ _ r. id_in (rowid r) +ℤ pos 1)
@@ -72,22 +66,12 @@ module _ {X : Type 0} (f : X → Row) (id : X → ℤ) (keyed : (x : X) → rowi
       → (xs : List X) → ((x : X) → Has xs x → q x ≡ true → g (f x) ≡ f (h x))
       → changed p g (map f xs) ≡ map f (changed q h xs)
   changed_rows p q g h tests [] gives = refl
-  changed_rows p q g h tests (x ∷ xs) gives =
-      rw (tests x) (ap₂ ◌∷◌ (one (q x) (gives x (inl refl))) (changed_rows p q g h tests xs (λ y there. gives y (inr there))))
-    where
-      one : (b : Bool) → (b ≡ true → g (f x) ≡ f (h x)) → (if b then g (f x) else f x) ≡ f (if b then h x else x)
-      one true is = is refl
-      one false is = refl
+  changed_rows p q g h tests (x ∷ xs) gives = search (rules, arith, changed_rows p q g h tests xs)
 
   -- a change that keeps rowids keeps their order
   pub changed_rises : (q : X → Bool) (h : X → X) → ((x : X) → id (h x) ≡ id x) → (xs : List X) → Rises xs
       → Rises (changed q h xs)
-  changed_rises q h same xs rise =
-      ascending-map (λ (x y : X). id x <ℤ id y) (λ x. if q x then h x else x) xs (ascending_weaker (λ (x y : X). id x <ℤ id y)
-      (λ (x y : X). id (if q x then h x else x) <ℤ id (if q y then h y else y)) (λ x y low. rw (kept x, kept y) low) xs rise)
-    where
-      kept : (y : X) → id (if q y then h y else y) ≡ id y
-      kept y = elim (cases_Bool (q y)) [ inl e ↦ rw e (same y) | inr e ↦ rw e refl ]
+  changed_rises q h same xs rise = search (rules, arith, ascending-map, ascending_weaker, cases_Bool)
 
 -- A table of typed rows after one more row, or after a change.
 
@@ -139,12 +123,7 @@ module _ {X : Type 0} where
   -- the rows that are kept are under their rowids
   pub kept_values : (columns : X → Row) (rows new : List Row) (xs : List X) (test : X → Bool) → (it : IsTableOf columns rows xs)
       → new ≡ map (numbered_row columns) (filter (λ p. test p.1) it.numbered) → IsTableOf columns new (filter test xs)
-  kept_values columns rows new xs test it is = record {
-    numbered = filter (λ p. test p.1) it.numbered;
-    values_are = ap (filter test) it.values_are ∙ filter-map test value_of it.numbered;
-    rows_are = is;
-    rise = ascending-filter _ (λ p. test p.1) it.numbered it.rise;
-  }
+  kept_values columns rows new xs test it is = search (rules, arith, filter-map, ascending-filter)
 
   module _ (number : X → ℕ) (row_of : X → Row) (keyed : (x : X) → rowid (row_of x) ≡ whole (number x)) where
     abbrev pub own_id : X → ℤ

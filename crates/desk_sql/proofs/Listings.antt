@@ -1,5 +1,5 @@
 -- The queries for the rows of a journey. For `find_items`, `find_marks`, `find_steps` and `find_options`.
-use Rattle.std.proofs.Common.{◌≡◌, ◌⊎◌, inl, inr, ℕ, ℤ, ◌<◌, ◌≤◌, ◌==◌, eqb-true, [], ◌∷◌, map, filter, false, Equal, is_lt, refl, ◌∙◌, string_bytes, nat_lt}
+use Rattle.std.proofs.Common.{◌≡◌, ◌⊎◌, ℕ, ℤ, ◌<◌, ◌≤◌, ◌==◌, eqb-true, [], ◌∷◌, map, filter, false, Equal, is_lt, refl, ◌∙◌, nat_lt, arith, rules}
 use Rattle.std.specs.Prelude.{⊤}
 use Rattle.std.proofs.lemmas.Bool.{and_parts}
 use Rattle.std.specs.Ordering.{ordering_then}
@@ -44,26 +44,12 @@ option_test : (journey place : ℕ) (p : ℤ × StepRow)
 option_test journey place p = simp eq_whole (simp and_true)
 
 same_step : (journey : ℕ) (f : StepFound) (s : StepRow) → s.journey ≡ journey → shows_step f ≡ (step_out s).1 → step_of journey f ≡ s
-same_step journey f s of e =
-    let place : f.place ≡ s.place = cc in
-    let opt : f.opt ≡ s.opt = cc in
-    let save : f.save ≡ s.save = cc in
-    let taken : f.taken ≡ s.taken = cc in
-    let kind : f.kind ≡ s.kind = cc in
-    let supplier : string_bytes f.supplier ≡ s.supplier = cc in
-    let product : string_bytes f.product ≡ s.product = cc in
-    let night : f.night ≡ s.night = cc in
-    let nights : f.nights ≡ s.nights = cc in
-    let places : f.places ≡ s.places = cc in
-    rw (← of, place, opt, save, taken, kind, supplier, product, night, nights, places) refl
+same_step journey f s of e = search (rules, arith)
 
 by_place : (a b c d : ℕ)
     → is_lt (ordering_then (value_cmp (whole b) (whole a)) (ordering_then (value_cmp (whole d) (whole c)) Equal)) ≡ false
     → (a < b) ⊎ ((a ≡ b) × (c ≤ d))
-by_place a b c d e = elim (whole_then a b (ordering_then (value_cmp (whole d) (whole c)) Equal) e) [
-  | inl low ↦ inl low
-  | inr tied ↦ inr (tied.0, whole_last c d tied.1)
-]
+by_place a b c d e = search (rules, arith, whole_then, whole_last)
 
 steps_say : (v : Version) (journey : ℕ) → SaysQuery v find_steps_text find_steps_query find_steps_names (whole journey ∷ [])
 unfolding understood everything
@@ -105,12 +91,7 @@ pub item_test : (journey after : ℕ) (e : EntryRow)
 item_test journey after e = simp (eq_whole, gt_whole) (simp and_true)
 
 pub same_item : (journey : ℕ) (f : ItemFound) (e : EntryRow) → e.journey ≡ journey → shows_item f ≡ (item_out e).1 → item_of journey f ≡ e
-same_item journey f e of shown =
-    let num : f.num ≡ e.num = cc in
-    let item : f.item ≡ e.item = cc in
-    let a : f.a ≡ e.a = cc in
-    let b : f.b ≡ e.b = cc in
-    rw (← of, num, item, a, b) refl
+same_item journey f e of shown = search (rules, arith)
 
 items_say : (journey after : ℕ) → SaysQuery Two find_items_text find_items_query find_items_names (whole journey ∷ whole after ∷ [])
 unfolding understood everything

@@ -1,6 +1,6 @@
 -- The schemas that the texts of the tables lead to, one after another, and the effect of each text where no table has a row. For
 -- CreateReasons, `make_tables` and its parts.
-use Rattle.std.proofs.Common.{◌≡◌, ℕ, List, [], ◌∷◌, ◌++◌, true, false, if◌then◌else◌, None, Ok, Err, Result, OnOk, sym, ap, subst, ◌∙◌, refl}
+use Rattle.std.proofs.Common.{◌≡◌, ℕ, List, [], ◌∷◌, ◌++◌, true, false, if◌then◌else◌, None, Ok, Err, Result, OnOk, sym, ap, subst, ◌∙◌, refl, arith, rules}
 use Rattle.std.specs.List.{AllByRecursion}
 use Rattle.sqlite.specs.Table.{Table}
 use Rattle.sqlite_schema.specs.declared.schema.Schema.{Schema}
@@ -20,7 +20,7 @@ use Rattle.sqlite_tied.specs.Compute.{everything}
 use Rattle.desk_sql.specs.Schema.{meta_at, stock_at, batch_at, journey_at, step_at, entry_at, answer_at, entry2_at, mark_at, no_schema, first_schema, seven_schema, desk_schema}
 use Rattle.sqlite.specs.Order.{Row}
 use Rattle.desk_sql.specs.Lists.{IsTableOf, IsNumbered}
-use Rattle.desk_sql.specs.Rows.{JourneyRow, EntryRow, meta_row, stock_columns, batch_columns, journey_row, step_columns, answer_columns, entry_row, mark_columns, no_rows}
+use Rattle.desk_sql.specs.Rows.{no_rows}
 use Rattle.desk_sql.proofs.Framing.{shows}
 
 -- The effect of CREATE TABLE, if no table has a row.
@@ -41,8 +41,7 @@ creates sql old new before table (Ok count) is plain whole defined uncounted may
     let all = went w.changed in
     let first = went all.1 in
     let made = first.1 in
-    let both : Ok made.table ≡ Ok table = sym made.defined ∙ defined in
-    let same : made.table ≡ table = same_value both in
+    let same : made.table ≡ table = same_value (sym made.defined ∙ defined) in
     let schema : first.0.schema ≡ created before table = made.is ∙ ap (λ s. created s made.table) start.is ∙ ap (created before) same in
     let plainly : lacks_sequence first.0.schema ≡ false = ap lacks_sequence schema ∙ uncounted in
     let now : new.now ≡ first.0 = ap (λ (p : Tally × Database). p.1) (same_value all.2) ∙ same_value (rw plainly at first.2) in
@@ -102,15 +101,7 @@ pub then_build : (a b : State) (s : Schema) → Builds a b s → MayBuild s b
 then_build a b s it = record { inside = it.inside; empty = λ _. it.made }
 
 pub builds_then : (a b c : State) (s t : Schema) → Builds a b s → Builds b c t → Builds a c t
-builds_then a b c s t p q =
-    record {
-      was_open = p.was_open;
-      is_open = q.is_open;
-      inside = q.inside;
-      made = q.made;
-      sound = q.sound;
-      committed = q.committed ∙ p.committed;
-    }
+builds_then a b c s t p q = search (rules, arith)
 
 no_rows_of : {X : Type 0} (columns : X → Row) (rows : List Row) → rows ≡ [] → IsTableOf columns rows []
 no_rows_of columns rows none = record { numbered = []; values_are = refl; rows_are = none; rise = tt }
@@ -120,14 +111,4 @@ no_values_of number row_of rows none = record { rows_are = none; rise = tt }
 
 -- tables without rows show no rows
 pub sees_none : (s : State) → IsEmptyWith desk_schema s → IsDatabase s.now → Sees s no_rows
-sees_none s it sound =
-    let e = it.empty in
-    record {
-      schema = record { extra = []; are = tt; is = it.is };
-      rows = shows s.now.trees no_rows (no_values_of (λ _. 1) meta_row (s.now.trees 0) e.0) (no_rows_of stock_columns (s.now.trees 1) e.1.0)
-          (no_rows_of batch_columns (s.now.trees 3) e.1.1.0) (no_values_of (λ (j : JourneyRow). j.id) journey_row (s.now.trees 6) e.1.1.1.0)
-          (no_rows_of step_columns (s.now.trees 8) e.1.1.1.1.0) (no_rows_of answer_columns (s.now.trees 11) e.1.1.1.1.1.1.0)
-          (no_values_of (λ (n : EntryRow). n.num) entry_row (s.now.trees 13) e.1.1.1.1.1.1.1.0)
-          (no_rows_of mark_columns (s.now.trees 14) e.1.1.1.1.1.1.1.1.0);
-      sound = sound;
-    }
+sees_none s it sound = search (rules, arith, shows, no_values_of, no_rows_of)

@@ -1,5 +1,5 @@
 -- When the rules of SQL allow an edit: in general, and the insertion of rows. For the lemmas of each statement that writes.
-use Rattle.std.proofs.Common.{◌≡◌, ◌≢◌, ◌⊎◌, inl, inr, ℕ, ℤ, List, [], ◌∷◌, filter, Option, None, Some, Bool, true, false, not, ◌&&◌, refl, sym, ap, subst, ◌∙◌, arith, nat_lt, ◌==◌, ne_eqb}
+use Rattle.std.proofs.Common.{◌≡◌, ◌⊎◌, inl, inr, ℕ, ℤ, List, [], ◌∷◌, filter, Option, None, Some, Bool, true, false, not, ◌&&◌, refl, sym, ap, subst, ◌∙◌, arith, nat_lt, ◌==◌, rules}
 use Rattle.std.specs.List.{AllByRecursion, list_all, list_any}
 use Rattle.std.proofs.lemmas.Bool.{cases_eq, and_parts, or_cases, or_left, or_right, false_from_ne_true, both_ways}
 use Rattle.std.proofs.lemmas.Bool.Decides.{nat_tests}
@@ -15,7 +15,7 @@ use Rattle.sqlite_schema.specs.declared.schema.Reference.{Reference}
 use Rattle.sqlite_schema.specs.declared.schema.Index.{Index}
 use Rattle.sqlite_schema.specs.Rules.{passes, guards, agree, differ, clashes, has_parent, is_held, ParentKey, parent_key, Keeps, Refers, Obeys}
 use Rattle.sqlite_rules.specs.declared.error.Refusal.{Refusal}
-use Rattle.sqlite_rules.specs.declared.error.Refusal.TheVariants.{Violates, Mismatch, NoRowid, BadReference, TooDeep}
+use Rattle.sqlite_rules.specs.declared.error.Refusal.TheVariants.{Violates, Mismatch, NoRowid, BadReference}
 use Rattle.sqlite_rules.specs.Lists.{Has}
 use Rattle.sqlite_rules.specs.Edit.{IsRefused, is_taken, are_fresh, is_referred, left_by, taken_by, id_in, Edit, edited}
 use Rattle.sqlite_rules.proofs.ListLemmas.{all_has, all_from, test_from, some_has, some_from, has_kept}
@@ -38,10 +38,7 @@ is_rising (t ∷ ts) = list_all (λ (u : Table). nat_lt t.tree u.tree) ts && is_
 
 below : (n : ℕ) (ts : List Table) → list_all (λ (u : Table). nat_lt n u.tree) ts ≡ true → AllByRecursion (λ (u : Table). n ≡ u.tree → ⊥) ts
 below n [] low = tt
-below n (t ∷ ts) low = let parts = and_parts (nat_lt n t.tree) (list_all (λ (u : Table). nat_lt n u.tree) ts) low in (λ same. over n t.tree parts.0 same, below n ts parts.1)
-  where
-    over : (a b : ℕ) → nat_lt a b ≡ true → a ≡ b → ⊥
-    over a b less same = grind (arith, nat_tests)
+below n (t ∷ ts) low = search (rules, arith, and_parts, nat_tests, below n ts)
 
 rises : (ts : List Table) → is_rising ts ≡ true → IsAscending (λ (a b : Table). a.tree ≡ b.tree → ⊥) ts
 rises [] up = tt
@@ -78,12 +75,7 @@ module _ (db : Trees) (edit : Edit) (fit : (r : Row) → Has edit.news r → IsF
   alike n = grind (arith, nat_tests)
 
   after_lands : Lands db edit after
-  after_lands = record {
-    fresh = fresh;
-    rows = (let same : (edit.table.tree == edit.table.tree) ≡ true = alike edit.table.tree in rw same refl);
-    tables = all_from (λ t. t.tree ≢ edit.table.tree → after t.tree ≡ db t.tree) desk_schema.tables
-        (λ t _ other. let apart : (t.tree == edit.table.tree) ≡ false = ne_eqb t.tree edit.table.tree other in rw apart refl);
-  }
+  after_lands = search (rules, arith, alike, all_from)
 
   fails : (p : Row → Bool) → ((r : Row) → IsFit edit.table db r → p r ≡ true) → list_all p edit.news ≡ false → ⊥
   fails p each h = let all = test_from p edit.news (λ r there. each r (fit r there)) in let bad = sym all ∙ h in cc
@@ -94,11 +86,10 @@ module _ (db : Trees) (edit : Edit) (fit : (r : Row) → Has edit.news r → IsF
   permitted (Violates Check) h = fails (passes Check desk_schema db edit.table) (λ r it. it.checked) h
   permitted (Violates PrimaryKey) h = let bad = sym fresh ∙ h in cc
   permitted (Violates Unique) h = h (unique after after_lands)
-  permitted (Violates ForeignKey) h = h
   permitted Mismatch h = fails (λ r. is_int (rowid r)) (λ r it. ap is_int it.keyed) h
   permitted NoRowid h = fails (λ r. fits_i64 (id_in (rowid r))) (λ r it. ap (λ v. fits_i64 (id_in v)) it.keyed ∙ it.fits) h
   permitted BadReference h = let bad : true ≡ false = sym referred ∙ h in cc
-  permitted TooDeep h = h
+  permitted why h = h
 
   pub edit_safe : IsSafe db edit
   edit_safe = record { permitted = permitted; storable = λ r there. (fit r there).storable; refers = refers }
@@ -206,5 +197,4 @@ put_safe db table new listed ordered obeys fit free single referred parents =
     (λ r there. subst (HasParents table db) (sym (only r there)) parents)
   where
     only : (r : Row) → Has (new ∷ []) r → r ≡ new
-    only r (inl same) = same
-    only r (inr none) = absurd none
+    only r x = search (rules, arith)

@@ -1,5 +1,5 @@
 -- A list whose numbers differ has just one ascending order. For Listings and HandedJourneys.
-use Rattle.std.proofs.Common.{◌≡◌, ℕ, ◌<◌, ◌≤◌, ◌==◌, List, [], ◌∷◌, Bool, false, arith, ne_eqb, IsPermutation}
+use Rattle.std.proofs.Common.{◌≡◌, ℕ, ◌<◌, ◌≤◌, ◌==◌, List, [], ◌∷◌, Bool, false, arith, ne_eqb, IsPermutation, rules}
 use Rattle.std.proofs.lemmas.Bool.{eqb-false}
 use Rattle.std.proofs.lemmas.Bool.Decides.{nat_tests}
 use Rattle.std.proofs.lemmas.Map.Keys.{IsDistinct-IsPermutation}
@@ -29,12 +29,7 @@ module _ {X : Type 0} (key : X → ℕ) where
   strict : (ys : List X) → IsAscending (λ a b. key a ≤ key b) ys → IsDistinct same_key ys → Rises ys
   unfolding IsDistinct
   strict [] up apart = tt
-  strict (y ∷ ys) up apart = (
-    all_from (λ z. key y < key z) ys (λ z there.
-        let least = all_has _ ys z up.0 there in
-        let other = eqb-false (key y) (key z) (all_has (λ x. same_key y x ≡ false) ys z apart.0 there) in omega (arith, least, other)),
-    strict ys up.1 apart.1,
-  )
+  strict (y ∷ ys) up apart = search (rules, arith, all_from, all_has, eqb-false, strict ys up.1 apart.1)
 
   -- an ascending list is the only order of its elements that does not descend
   pub one_list : (xs ys : List X) → Rises xs → IsPermutation xs ys → IsAscending (λ a b. key a ≤ key b) ys → ys ≡ xs

@@ -1,5 +1,5 @@
 -- The order that ORDER BY gives to columns of numbers or texts. For the lemmas of each query.
-use Rattle.std.proofs.Common.{◌≡◌, ◌⊎◌, inl, inr, ℕ, ◌<◌, ◌≤◌, pos, false, Ordering, Less, Equal, Greater, is_lt, refl, arith, int_cmp}
+use Rattle.std.proofs.Common.{◌≡◌, ◌⊎◌, inl, inr, ℕ, ◌<◌, ◌≤◌, pos, false, Ordering, Equal, is_lt, arith, int_cmp, rules}
 use Rattle.std.specs.Ordering.{ordering_then}
 use Rattle.std.proofs.lemmas.Int.{ints}
 use Rattle.std.proofs.lemmas.Bool.Decides.{nat_tests}
@@ -9,12 +9,7 @@ use Rattle.desk_sql.specs.Rows.{whole}
 
 number_then : (a b : ℕ) (rest : Ordering) → is_lt (ordering_then (int_cmp (pos b) (pos a)) rest) ≡ false
     → (a < b) ⊎ ((a ≡ b) × (is_lt rest ≡ false))
-number_then a b rest e = go (int_cmp (pos b) (pos a)) refl e
-  where
-    go : (o : Ordering) → int_cmp (pos b) (pos a) ≡ o → is_lt (ordering_then o rest) ≡ false → (a < b) ⊎ ((a ≡ b) × (is_lt rest ≡ false))
-    go Less f g = absurd (cc)
-    go Equal f g = inr (grind (arith, ints, nat_tests, f), g)
-    go Greater f g = inl (grind (arith, ints, nat_tests, f))
+number_then a b rest e = search (rules, arith, ints, nat_tests)
 
 -- first by a number, then by the other columns
 pub whole_then : (a b : ℕ) (rest : Ordering) → is_lt (ordering_then (value_cmp (whole b) (whole a)) rest) ≡ false

@@ -1,5 +1,5 @@
 -- The upsert of a cell: why it fails, and what it leaves. For `put_cell`.
-use Rattle.std.proofs.Common.{◌≡◌, ◌+◌, ℕ, ℤ, suc, List, [], ◌∷◌, ◌++◌, length, inl, inr, Option, None, Some, Err, Ok, true, false, refl, sym, ap, subst, ◌∙◌, arith, IsSome, not}
+use Rattle.std.proofs.Common.{◌≡◌, ◌+◌, ℕ, ℤ, suc, List, [], ◌∷◌, ◌++◌, length, inl, inr, Option, None, Some, Err, Ok, true, false, refl, sym, ap, subst, ◌∙◌, arith, not, rules}
 use Rattle.std.specs.Prelude.{⊤}
 use Rattle.sqlite.specs.declared.types.Value.TheVariants.{Null, Int}
 use Rattle.sqlite.specs.declared.error.Error.{Error}
@@ -15,8 +15,8 @@ use Rattle.sqlite_schema.specs.declared.schema.Among.TheVariants.{All}
 use Rattle.sqlite_schema.specs.declared.command.Conflict.TheVariants.{Abort}
 use Rattle.sqlite_schema.specs.Rules.{Obeys, Refers, agree}
 use Rattle.sqlite_rules.specs.declared.error.Refusal.{Refusal}
-use Rattle.sqlite_rules.specs.declared.error.Refusal.TheVariants.{Violates, Mismatch, NoRowid, BadReference, TooDeep}
-use Rattle.sqlite_schema.specs.declared.schema.Constraint.TheVariants.{Datatype, NotNull, Check, PrimaryKey, Unique, ForeignKey}
+use Rattle.sqlite_rules.specs.declared.error.Refusal.TheVariants.{Violates, Mismatch}
+use Rattle.sqlite_schema.specs.declared.schema.Constraint.TheVariants.{Datatype, NotNull, Check}
 use Rattle.sqlite_rules.specs.Keys.{AreConflicts}
 use Rattle.sqlite_rules.specs.Steps.{IsJudged}
 use Rattle.sqlite_rules.specs.Calls.{ids_of}
@@ -119,24 +119,17 @@ module _ (extra : List Index) (are : AllByRecursion IsExtra extra) (old : State)
       → ¬ Judged (task_for extra old (stock_at 1) (put_params s)) Abort (clauses put_cell_query) new db verdict (Err stop)
   judged_on None stop judged h = upserts_on stop h
   judged_on (Some Mismatch) stop judged h = let bad : true ≡ false = judged in cc
-  judged_on (Some NoRowid) stop judged h = judged
-  judged_on (Some BadReference) stop judged h = judged
-  judged_on (Some TooDeep) stop judged h = judged
   judged_on (Some (Violates Datatype)) stop judged h = let bad = sym fit.typed ∙ judged in cc
   judged_on (Some (Violates NotNull)) stop judged h = let bad = sym fit.present ∙ judged in cc
   judged_on (Some (Violates Check)) stop judged h = let bad = sym fit.checked ∙ judged in cc
-  judged_on (Some (Violates PrimaryKey)) stop judged h = judged
-  judged_on (Some (Violates Unique)) stop judged h = judged
-  judged_on (Some (Violates ForeignKey)) stop judged h = judged
+  judged_on verdict stop judged h = judged
 
   tries_on : (stop : Option Error) → ¬ Tries (task_for extra old (stock_at 1) (put_params s)) Abort (clauses put_cell_query) new db (Err stop)
   tries_on stop (inl h) = let bad = sym (next_fits (db 1) rowids.stock) ∙ h.0 in cc
   tries_on stop (inr h) = judged_on h.0 stop h.1 h.2
 
   sourced_on : (stop : Option Error) → ¬ Sourced old.step_limit (desk_at extra old) (put_params s) (Values put_cell_terms 7) (Err stop)
-  sourced_on None none = none
-  sourced_on (Some e) (inl (is, wrong)) = let bad : true ≡ false = sym ((put_says s).types extra) ∙ wrong in cc
-  sourced_on (Some e) (inr (is, limit)) = let none : false ≡ true = subst (λ l. IsSome l) unlimited limit in cc
+  sourced_on stop none = search (rules, arith, put_says)
 
   each_on : (stop : Option Error) → ¬ TriesEach (task_for extra old (stock_at 1) (put_params s)) Abort (clauses put_cell_query) ((Null ∷ put_params s) ∷ []) (count_of None) (nothing db) (Err stop)
   each_on stop (inl k) =

@@ -1,5 +1,5 @@
 -- The upsert of a cell. For `put_cell`.
-use Rattle.std.proofs.Common.{◌≡◌, ◌<◌, ◌^◌, inl, inr, ℕ, ℤ, suc, eq-eqb, eqb-true, List, [], ◌∷◌, ◌++◌, map, Bool, true, false, if◌then◌else◌, Some, is_eq, refl, sym, ap, ap₂, subst, ◌∙◌, arith, ◌⊎◌, int_cmp}
+use Rattle.std.proofs.Common.{◌≡◌, ◌<◌, ◌^◌, inl, inr, ℕ, ℤ, suc, eq-eqb, eqb-true, List, [], ◌∷◌, ◌++◌, map, Bool, true, false, if◌then◌else◌, Some, is_eq, refl, sym, ap, ap₂, subst, ◌∙◌, arith, ◌⊎◌, int_cmp, rules}
 use Rattle.std.specs.List.{list_any, AllByRecursion}
 use Rattle.std.proofs.lemmas.Int.{ints}
 use Rattle.std.proofs.lemmas.Bool.{cases_Bool, and_parts, and_from, false_from_ne_true}
@@ -49,33 +49,14 @@ pub record SameKey (a b : StockRow) : Type 0 where
   pub night : b.night ≡ a.night
 
 pub key_of : (a b : StockRow) → is_cell a b ≡ true → SameKey a b
-key_of a b e =
-    let one = and_parts _ _ e in
-    let two = and_parts _ _ one.1 in
-    let three = and_parts _ _ two.1 in
-    record {
-      kind = eqb-true _ _ one.0;
-      supplier = (bytes_eq-Decides _ _).0 two.0;
-      product = (bytes_eq-Decides _ _).0 three.0;
-      night = eqb-true _ _ three.1;
-    }
+key_of a b e = search (rules, arith, and_parts, eqb-true, bytes_eq-Decides)
 
 pub cell_of : (a b : StockRow) → SameKey a b → is_cell a b ≡ true
-cell_of a b k =
-    and_from _ _ (eq-eqb _ _ k.kind) (and_from _ _ ((bytes_eq-Decides _ _).1 k.supplier)
-    (and_from _ _ ((bytes_eq-Decides _ _).1 k.product) (eq-eqb _ _ k.night)))
+cell_of a b k = search (rules, arith, and_from, eq-eqb, bytes_eq-Decides)
 
 -- two rows of the cell of a third row are of one cell
 pub both_cells : (s a b : StockRow) → is_cell s a ≡ true → is_cell s b ≡ true → is_cell a b ≡ true
-both_cells s a b e f =
-    let k = key_of s a e in
-    let l = key_of s b f in
-    cell_of a b (record {
-      kind = l.kind ∙ sym k.kind;
-      supplier = l.supplier ∙ sym k.supplier;
-      product = l.product ∙ sym k.product;
-      night = l.night ∙ sym k.night;
-    })
+both_cells s a b e f = search (rules, arith, key_of, cell_of)
 
 -- Rows that are apart.
 
@@ -169,16 +150,7 @@ module _ (db : Trees) (cells : List StockRow) (it : IsTableOf stock_columns (db 
   -- the row under this rowid is given the places
   pub sets_at : (q : ℤ × StockRow) → Changes (numbered_row stock_columns) id_of db (stock_at 1) it.numbered put_cell_query.filter put_cell_query.project
       (put_params s ++ Int q.0 ∷ shown (stock_at 1) new_row) (λ p. is_eq (int_cmp p.0 q.0)) (λ p. (p.0, with_places s p.1))
-  sets_at q = record {
-    keyed = λ _. refl;
-    rise = it.rise;
-    has = it.rows_are;
-    seen = refl;
-    test_is = λ p. and_true _ ∙ equal_id p.0 q.0;
-    id_shown = λ _. refl;
-    id_kept = λ _. refl;
-    change_is = λ p _ _. simp cast_int;
-  }
+  sets_at q = search (rules, arith, and_true, equal_id, cast_int)
 
   -- it is the row of the cell
   one_row : (apart : IsAscending (λ (a b : StockRow). is_cell a b ≡ false) cells) (q : ℤ × StockRow) → Has it.numbered q → is_cell s q.1 ≡ true

@@ -1,5 +1,5 @@
 -- The answer of a query over one table. For Answering and Updating.
-use Rattle.std.proofs.Common.{◌≡◌, ℕ, List, [], ◌∷◌, ◌++◌, map, Bool, true, false, cond, refl, sym, ap, subst, ◌∙◌, flat_map, filter, IsPermutation, IsSorted}
+use Rattle.std.proofs.Common.{◌≡◌, ℕ, List, [], ◌∷◌, ◌++◌, map, Bool, cond, refl, sym, ap, subst, ◌∙◌, flat_map, filter, IsPermutation, IsSorted, arith, rules}
 use Rattle.std.specs.List.{list_all}
 use Rattle.std.proofs.lemmas.List.Sorted.{IsPermutation-map}
 use Rattle.sqlite.specs.declared.types.Value.TheVariants.{Null}
@@ -23,8 +23,7 @@ abbrev pub env_of : Row → Row → Env
 env_of params r = params ∷ r ∷ []
 
 some_match : (b : Bool) (x : Env) (r : Row) (ys : List Env) (rs : List Row) (f : Row → Env) → f r ≡ x → ys ≡ map f rs → cond b (x ∷ []) [] ++ ys ≡ map f (cond b (r ∷ rs) rs)
-some_match true x r ys rs f one more = cc
-some_match false x r ys rs f one more = more
+some_match b x r ys rs f one more = search (rules, arith)
 
 matching : (tests : List Term) (params : Row) (db : Trees) (rows : List Row)
     → flat_map (λ r. matches_as Null db tests end (params ∷ r ∷ [])) rows ≡ map (env_of params) (filter (passes tests params) rows)

@@ -1,10 +1,8 @@
 -- Why a write of the desk's tables fails: out of memory, or the disk failed. Each other error that the store names is shut
 -- out, if the rules of SQL allow the edit.
-use Rattle.std.proofs.Common.{◌≡◌, inl, inr, ℕ, ℤ, zero, suc, ◌/◌, List, [], ◌∷◌, length, length-append, append-nil, slice_get, Bool, true, false, ◌||◌, if◌then◌else◌, Option, None, Some, Ok, Err, Result, IfErr, sym, ap, subst, ◌∙◌, arith, IsSome}
+use Rattle.std.proofs.Common.{◌≡◌, inl, inr, ℕ, ℤ, zero, suc, ◌/◌, List, [], ◌∷◌, length, length-append, append-nil, slice_get, Bool, true, false, ◌||◌, if◌then◌else◌, Option, None, Some, Ok, Err, Result, IfErr, sym, ap, subst, ◌∙◌, arith, IsSome, rules}
 use Rattle.sqlite.specs.declared.types.Value.TheVariants.{Null}
 use Rattle.sqlite.specs.declared.error.Error.{Error}
-use Rattle.sqlite_trees.specs.declared.error.StoreError.{StoreError}
-use Rattle.sqlite_trees.specs.declared.error.StoreError.TheVariants.{OutOfMemory, Io, Corrupt, Full, Broken, Unstorable}
 use Rattle.sqlite_resolve.specs.declared.compiled.Compiled.{Compiled}
 use Rattle.sqlite_schema.specs.declared.schema.Among.TheVariants.{All}
 use Rattle.sqlite_schema.specs.declared.schema.Keys.TheVariants.{Enforced}
@@ -31,7 +29,7 @@ use Rattle.sqlite.specs.Effect.{Database, is_query, value_rows}
 use Rattle.sqlite.specs.Listing.{understood}
 use Rattle.sqlite.specs.Clock.{timed}
 use Rattle.sqlite.specs.State as store
-use Rattle.sqlite.specs.State.{State, mode_of, IsMisplaced, Escapes, EndsScope, ExecutesIn, ExecutesInside, RunsAlone, is_pragma, shows_rows, text_of}
+use Rattle.sqlite.specs.State.{State, mode_of, IsMisplaced, Escapes, EndsScope, ExecutesIn, ExecutesInside, RunsAlone, is_pragma, text_of}
 use Rattle.sqlite.proofs.Callers.{IsPlain, command_of, statement_of, one_step}
 use Rattle.sqlite_schema.specs.declared.program.Program.{Program}
 use Rattle.sqlite_schema.specs.declared.schema.Schema.{Schema}
@@ -59,17 +57,10 @@ is_change _ = false
 
 -- a change is in its place in each transaction, and does not end it
 placed : (s : State) (k : Command) (e : Error) → is_change k ≡ true → ¬ IsMisplaced s k e
-placed s k e change (inl (is, inl h)) = let bad = rw h.0 at change in cc
-placed s k e change (inl (is, inr (inl h, out))) = let bad = rw h at change in cc
-placed s k e change (inl (is, inr (inr h, out))) = let bad = rw h at change in cc
-placed s k e change (inr (is, name, inl h, none)) = let bad = rw h at change in cc
-placed s k e change (inr (is, name, inr h, none)) = let bad = rw h at change in cc
+placed s k e change x = search (rules, arith)
 
 stays_in : (held : ℕ) (s : State) (k : Command) → is_change k ≡ true → ¬ Escapes held s k
-stays_in held s k change (inl (inl h)) = let bad = rw h at change in cc
-stays_in held s k change (inl (inr h)) = let bad = rw h at change in cc
-stays_in held s k change (inr (name, inl h, at)) = let bad = rw h at change in cc
-stays_in held s k change (inr (name, inr h, at)) = let bad = rw h at change in cc
+stays_in held s k change x = search (rules, arith)
 
 -- the database that the transaction sees, with this schema
 abbrev pub seen_with : Schema → State → Database
@@ -104,34 +95,12 @@ module _ {schema : Schema} (text : List ℕ) (command : Command) (params : Row) 
 
   alone : (c : Compiled) → understood old.now.schema text ≡ Ok c → (now : ℕ) (e : Error)
       → RunsAlone false old new text c (timed params c.formats now) (Err e) → HasReason old new e
-  alone c is now e h =
-      let bare = plain_at text params plain whole old new up has c is in
-      let quiet : shows_rows false c ≡ false = rw (known c is, bare.0) silent in
-      elim (rw quiet at h) as (λ _. HasReason old new e) [
-        | inl refused ↦ elim refused.0 [
-          | inl misplaced ↦ absurd (placed old command e change (subst (λ k. IsMisplaced old k e) (known c is) misplaced))
-          | inr ruled ↦ absurd (ran c is now (Some e) ruled.1)
-        ]
-        | inr failed ↦ of_failure failed.0 failed.1 failed.2
-      ]
-    where
-      of_failure : (cause : StoreError) → e ≡ store.store_error cause
-          → store.HasCause old new (Does old.step_limit (mode_of old) (timed params c.formats now) old.now (text_of text c) c.returning c.command (Err None)) cause
-          → HasReason old new e
-      of_failure OutOfMemory same why = of_store old new up OutOfMemory e same tt
-      of_failure Io same why = of_store old new up Io e same why
-      of_failure Corrupt same why = of_store old new up Corrupt e same why
-      of_failure Full same why = of_store old new up Full e same why
-      of_failure Broken same why = of_store old new up Broken e same why
-      of_failure Unstorable same why = absurd (ran c is now None why)
+  alone c is now e h = search (rules, arith, plain_at, known, placed, ran, of_store)
 
   -- it fails out of memory, or where the disk failed or refused
   pub statement_reason : (e : Error) → ExecutesInside 0 text params old new (Err e) → HasReason old new e
   unfolding ExecutesIn EndsScope
-  statement_reason e (inl (inl h, how)) = not_run text params plain whole old new up has e h
-  statement_reason e (inl (inr (c, it, h), how)) = alone c it.is it.now e h
-  statement_reason e (inr (ends, is, same)) =
-      absurd (stays_in 0 old command change (subst (Escapes 0 old) (known ends.0 ends.1.is) ends.2))
+  statement_reason e x = search (rules, arith, not_run, alone, stays_in, known)
 
 -- a write of the desk's tables that the rules of SQL allow fails out of memory, or where the disk failed or refused
 pub write_reason : (text : List ℕ) (command : Command) (params : Row) → Means text command
@@ -146,8 +115,7 @@ write_reason text command params m whole change silent old new up has allowed e 
 
 -- what holds of each error holds of a result
 pub if_failed : (P : Error → Type 0) (Ran : Result ℕ Error → Type 0) (r : Result ℕ Error) → Ran r → ((e : Error) → Ran (Err e) → P e) → IfErr r P
-if_failed P Ran (Ok n) ran so = tt
-if_failed P Ran (Err e) ran so = so e ran
+if_failed x y r ran so = search (rules, arith, ran)
 
 -- The rules of SQL allow the edit: none of them refuses it, each new row can be stored, and after it each reference has its
 -- parent.
@@ -241,10 +209,7 @@ module _ (extra : List Index) (are : AllByRecursion IsExtra extra) where
     program = record { lets = []; body = sorted_rows tree filter project [] }
 
     pub answered : (s : Option Error) → ¬ Queried old.step_limit (desk_at extra old) program params (Err s)
-    answered None none = none
-    answered (Some e) (inl (is, wrong)) = let bad : true ≡ false = sym typed ∙ wrong in cc
-    answered (Some e) (inr (inl (is, over))) = one_table tree filter project [] (overlay old.now.trees []) params over
-    answered (Some e) (inr (inr (is, limit))) = let none : false ≡ true = subst (λ l. IsSome l) unlimited limit in cc
+    answered s none = search (rules, arith, one_table)
 
     -- a command that makes a safe edit of the rows that are found
     found_goes : (command : Command) (edit : List Row → Edit) (tell : List Row → List Row)

@@ -1,5 +1,5 @@
 -- How many rowids a write leaves. For the functions that write.
-use Rattle.std.proofs.Common.{◌≡◌, ◌≢◌, ◌<◌, ◌≤◌, ◌^◌, ◌+ℤ◌, ◌<ℤ◌, ◌==◌, ℕ, ℤ, suc, pos, inl, inr, List, [], ◌∷◌, map, Bool, true, false, if◌then◌else◌, eqb-true, sym, ap, subst, ◌∙◌, arith}
+use Rattle.std.proofs.Common.{◌≡◌, ◌≢◌, ◌<◌, ◌≤◌, ◌^◌, ◌+ℤ◌, ◌<ℤ◌, ℕ, ℤ, suc, pos, inl, inr, List, [], ◌∷◌, map, Bool, eqb-true, ap, arith, rules}
 use Rattle.std.proofs.lemmas.Int.{ints}
 use Rattle.std.proofs.lemmas.Bool.{cases_Bool, eqb-false}
 use Rattle.sqlite.specs.declared.types.Value.TheVariants.{Int}
@@ -23,14 +23,7 @@ pub low_fewer : (n m : ℕ) (rows : List Row) → n ≤ m → AreLow m rows → 
 low_fewer n m rows less = all_weaker (IsLow m) (IsLow n) (λ r low. (low.0, omega (arith, ints, low.1, less))) rows
 
 pub rowids_fewer : (n m : ℕ) (db : Trees) → n ≤ m → HasRowids m db → HasRowids n db
-rowids_fewer n m db less it = record {
-  few = omega (arith, it.few, less);
-  stock = low_fewer n m (db 1) less it.stock;
-  batch = low_fewer n m (db 3) less it.batch;
-  step = low_fewer n m (db 8) less it.step;
-  answer = low_fewer n m (db 11) less it.answer;
-  mark = low_fewer n m (db 14) less it.mark;
-}
+rowids_fewer n m db less it = search (rules, arith, low_fewer)
 
 -- one row more, under the next rowid
 pub low_put : (n : ℕ) (rows : List Row) (new : Row) → rowid new ≡ Int (next_rowid rows) → suc n < 2 ^ 63 → AreLow (suc n) rows
@@ -47,11 +40,7 @@ low_put n rows new is few low =
 pub low_changed : {X : Type 0} (f : X → Row) (n : ℕ) (test : X → Bool) (change : X → X) → ((x : X) → rowid (f (change x)) ≡ rowid (f x))
     → (xs : List X) → AreLow n (map f xs) → AreLow n (map f (changed test change xs))
 low_changed f n test change kept [] low = tt
-low_changed f n test change kept (x ∷ xs) low = (one (test x), low_changed f n test change kept xs low.1)
-  where
-    one : (b : Bool) → IsLow n (f (if b then change x else x))
-    one true = rw (kept x) (low.0)
-    one false = low.0
+low_changed f n test change kept (x ∷ xs) low = search (rules, arith, low_changed f n test change kept xs)
 
 -- rows that are removed
 pub low_without : (n : ℕ) (rows : List Row) (ids : List ℤ) → AreLow n rows → AreLow n (without_all rows ids)
@@ -61,35 +50,12 @@ module _ (old new : State) (edit : Edit) (it : Edits old new edit) (n : ℕ) (ha
   -- a write of a table whose rowids are its own numbers
   pub rowids_same : 1 ≢ edit.table.tree → 3 ≢ edit.table.tree → 8 ≢ edit.table.tree → 11 ≢ edit.table.tree → 14 ≢ edit.table.tree
       → HasRowids n new.now.trees
-  rowids_same one three eight eleven last =
-      let o = it.applies.tables in
-      record {
-        few = has.few;
-        stock = rw (o.1.0 one) (has.stock);
-        batch = rw (o.1.1.0 three) (has.batch);
-        step = rw (o.1.1.1.1.0 eight) (has.step);
-        answer = rw (o.1.1.1.1.1.1.0 eleven) (has.answer);
-        mark = rw (o.1.1.1.1.1.1.1.1.0 last) (has.mark);
-      }
+  rowids_same one three eight eleven last = search (rules, arith)
 
   -- a write of a table whose rowids the store chooses
   at_tree : (tree : ℕ) → (tree ≢ edit.table.tree → new.now.trees tree ≡ old.now.trees tree) → AreLow n (edited old.now.trees edit)
       → AreLow n (old.now.trees tree) → AreLow n (new.now.trees tree)
-  at_tree tree others low was = elim (cases_Bool (tree == edit.table.tree)) [
-    | inl same ↦ (
-        let is : new.now.trees tree ≡ edited old.now.trees edit = ap new.now.trees (eqb-true tree edit.table.tree same) ∙ it.applies.rows in
-        subst (AreLow n) (sym is) low)
-    | inr other ↦ subst (AreLow n) (sym (others (eqb-false tree edit.table.tree other))) was
-  ]
+  at_tree tree others low was = search (rules, arith, cases_Bool, eqb-true, eqb-false)
 
   pub rowids_kept : AreLow n (edited old.now.trees edit) → HasRowids n new.now.trees
-  rowids_kept low =
-      let o = it.applies.tables in
-      record {
-        few = has.few;
-        stock = at_tree 1 o.1.0 low has.stock;
-        batch = at_tree 3 o.1.1.0 low has.batch;
-        step = at_tree 8 o.1.1.1.1.0 low has.step;
-        answer = at_tree 11 o.1.1.1.1.1.1.0 low has.answer;
-        mark = at_tree 14 o.1.1.1.1.1.1.1.1.0 low has.mark;
-      }
+  rowids_kept low = search (rules, arith, at_tree)

@@ -1,5 +1,5 @@
 -- A SELECT commits and changes nothing, under any schema, so also on a closed connection. For the functions that read.
-use Rattle.std.proofs.Common.{◌≡◌, ◌≢◌, ◌⊎◌, inl, inr, ℕ, ◌+◌, List, [], true, Some, None, Option, Ok, Err, Result, IfOk, IfErr, refl, sym, ap, subst, ◌∙◌}
+use Rattle.std.proofs.Common.{◌≡◌, ◌≢◌, ◌⊎◌, ℕ, List, true, Some, None, Option, Ok, Err, Result, IfOk, IfErr, subst, arith, rules}
 use Rattle.std.proofs.lemmas.Bool.{cases_Bool}
 use Rattle.sqlite_ast.specs.declared.Statement.{Statement}
 use Rattle.sqlite_ast.specs.declared.Statement.TheVariants as written
@@ -7,26 +7,22 @@ use Rattle.sqlite_syntax.specs.declared.statement.Parsed.{Parsed}
 use Rattle.sqlite_schema.specs.declared.schema.Schema.{Schema}
 use Rattle.sqlite.specs.Command.{Command}
 use Rattle.sqlite_resolve.specs.declared.compiled.Compiled.{Compiled}
-use Rattle.sqlite_resolve.specs.declared.error.CompileError.TheVariants.{NoSuchTable}
 use Rattle.sqlite_resolve.specs.Lowering.{Checked, and_then}
-use Rattle.sqlite_resolve.specs.Compile.{first, compiled, planned, meaning, returning, command, timed, small, with_command}
-use Rattle.sqlite.specs.Listing.{understood, reads_listing, if_select, listing_schema, is_select}
+use Rattle.sqlite_resolve.specs.Compile.{first, compiled, planned, meaning, returning, with_command}
+use Rattle.sqlite.specs.Listing.{understood, if_select}
 use Rattle.sqlite.specs.declared.error.Error.{Error}
 use Rattle.sqlite.specs.declared.error.Error.TheVariants.{QueryReturnedNoRows}
 use Rattle.sqlite_trees.specs.declared.error.StoreError.{StoreError}
-use Rattle.sqlite_trees.specs.declared.error.StoreError.TheVariants.{OutOfMemory}
 use Rattle.sqlite.specs.Order.{Row}
 use Rattle.sqlite.specs.Tree.{Trees}
-use Rattle.sqlite.specs.State.{State, store_error, QueriesRow, FailsToQuery, FailsToShow, IsNotRun, Shown, ShowsRows, IsUnchanged, IsRolledBack, Survives, CommitsShowing}
-use Rattle.sqlite.specs.Clock.{timed as timed_params}
+use Rattle.sqlite.specs.State.{State, store_error, QueriesRow, FailsToQuery, IsNotRun, Shown, IsUnchanged, IsRolledBack, Survives, CommitsShowing}
 use Rattle.sqlite.proofs.StateLemmas.{survives_weaker}
 use Rattle.desk_sql.specs.Queries.{is_query, reads, IsSelect, GivesRow, GivesRows}
 use Rattle.desk_sql.proofs.Writing.{same_value}
 
 shows_none : (schema : Schema) (base : ℕ) (s : Statement) → is_query s ≡ true → returning schema base s ≡ Ok None
 unfolding returning
-shows_none schema base (written.Select s) is = refl
-shows_none schema base _ is = absurd (cc)
+shows_none schema base s is = search (rules, arith)
 
 abbrev plan_of : Parsed → List (List ℕ) → Checked Command → Checked Compiled
 plan_of p formats r =
@@ -34,16 +30,12 @@ plan_of p formats r =
 
 planned_bare : (p : Parsed) (formats : List (List ℕ)) (r : Checked Command) (c : Compiled) → plan_of p formats r ≡ Ok c
     → c.returning ≡ None
-planned_bare p formats (Ok k) c e = ap (λ (x : Compiled). x.returning) (sym (same_value e))
-planned_bare p formats (Err why) c e = absurd (cc)
+planned_bare p formats r c e = search (rules, arith, same_value)
 
 parsed_bare : (schema : Schema) (r : Checked Parsed) (c : Compiled) → reads r ≡ true
     → and_then r (λ p. and_then (planned schema p) (λ plan. Ok (with_command p plan))) ≡ Ok c → c.returning ≡ None
 unfolding planned meaning
-parsed_bare schema (Err why) c is e = absurd (cc)
-parsed_bare schema (Ok p) c is e =
-    planned_bare p (timed schema p.formats p.statement) (command schema p.formats (small p.names + small (timed schema p.formats p.statement)) p.statement) c
-    (rw (shows_none schema (small p.names + small (timed schema p.formats p.statement)) p.statement is) at e)
+parsed_bare schema r c is e = search (rules, arith, planned_bare, shows_none)
 
 compiled_bare : (text : List ℕ) → reads (first text) ≡ true → (schema : Schema) (c : Compiled) → compiled schema text ≡ Ok c
     → c.returning ≡ None
@@ -52,20 +44,13 @@ compiled_bare text is schema c e = parsed_bare schema (first text) c is e
 
 listed_bare : (text : List ℕ) → reads (first text) ≡ true → (r : Checked Compiled)
     → ((c : Compiled) → r ≡ Ok c → c.returning ≡ None) → (c : Compiled) → if_select r ≡ Ok c → c.returning ≡ None
-listed_bare text is (Err why) none c e = absurd (cc)
-listed_bare text is (Ok k) none c e = elim (cases_Bool (is_select k.command)) [
-  | inl query ↦ none c (rw query at e)
-  | inr other ↦ absurd (let bad : Err NoSuchTable ≡ Ok c = rw other at e in cc)
-]
+listed_bare text is r none c e = search (rules, arith, cases_Bool)
 
 -- under no schema does it return rows that it writes
 pub understood_bare : (text : List ℕ) → reads (first text) ≡ true → (schema : Schema) (c : Compiled) → understood schema text ≡ Ok c
     → c.returning ≡ None
 unfolding understood
-understood_bare text is schema c e = elim (cases_Bool (reads_listing schema text)) [
-  | inl listed ↦ listed_bare text is (compiled listing_schema text) (compiled_bare text is listing_schema) c (rw listed at e)
-  | inr named ↦ compiled_bare text is schema c (rw named at e)
-]
+understood_bare text is schema c e = search (rules, arith, cases_Bool, listed_bare, compiled_bare)
 
 module _ (text : List ℕ) (selects : reads (first text) ≡ true) (params : Row) (old new : State) where
   commits_never : (db : Trees) → ¬ CommitsShowing text params old db
@@ -79,61 +64,46 @@ module _ (text : List ℕ) (selects : reads (first text) ≡ true) (params : Row
   -- the query was run, and changed nothing
   pub shown_same : (rows : List Row) → Shown text params old new rows → IsUnchanged old new
   unfolding Shown
-  shown_same rows h =
-      let bare = understood_bare text selects old.now.schema h.0 h.1.is in
-      (subst (ShowsRows old new text h.0 (timed_params params h.0.formats h.1.now) rows) bare h.2).3
+  shown_same rows h = search (rules, arith, understood_bare)
 
   pub row_same : (row : Row) → QueriesRow text params old new (Ok row) → IsUnchanged old new
   unfolding QueriesRow
-  row_same row (inl h) = h.1
-  row_same row (inr h) = shown_same h.0 h.1
+  row_same row x = search (rules, arith, shown_same)
 
   not_run_quiet : (e : Error) → IsNotRun old new text params e → IsUnchanged old new ⊎ IsRolledBack old new
   unfolding IsNotRun
-  not_run_quiet e (inl h) = inl h.1
-  not_run_quiet e (inr h) = inr h.3
+  not_run_quiet e x = search (rules, arith)
 
   -- a query that fails changes nothing, or is rolled back
   pub fails_quietly : (e : Error) → FailsToQuery text params old new e → IsUnchanged old new ⊎ IsRolledBack old new
   unfolding FailsToQuery
-  fails_quietly e (inl h) = not_run_quiet e h
-  fails_quietly e (inr h) =
-      let bare = understood_bare text selects old.now.schema h.0 h.1.is in
-      inl (subst (λ r. FailsToShow old new text h.0 (timed_params params h.0.formats h.1.now) e r) bare h.2).3
+  fails_quietly e x = search (rules, arith, not_run_quiet, understood_bare)
 
   pub row_fails_quietly : (e : Error) → QueriesRow text params old new (Err e) → IsUnchanged old new ⊎ IsRolledBack old new
   unfolding QueriesRow
-  row_fails_quietly e (inl h) = fails_quietly e h
-  row_fails_quietly e (inr h) = inl (shown_same [] h.1)
+  row_fails_quietly e x = search (rules, arith, fails_quietly, shown_same)
 
 -- a query for one row that gives another error than that there is none has failed
 pub row_fails : (text : List ℕ) (params : Row) (old new : State) (e : Error) → e ≢ QueryReturnedNoRows
     → QueriesRow text params old new (Err e) → FailsToQuery text params old new e
 unfolding QueriesRow
-row_fails text params old new e other (inl h) = h
-row_fails text params old new e other (inr h) = absurd (other h.0)
+row_fails text params old new e other x = search (rules, arith)
 
 pub not_store : (cause : StoreError) → store_error cause ≢ QueryReturnedNoRows
-not_store OutOfMemory e = cc
-not_store _ e = cc
+not_store cause e = search (rules, arith)
 
 module _ (text : List ℕ) (selects : IsSelect text) (params : Row) (old new : State) where
   not_run_same : (e : Error) → e ≡ QueryReturnedNoRows → IsNotRun old new text params e → IsUnchanged old new
   unfolding IsNotRun
-  not_run_same e none (inl h) = h.1
-  not_run_same e none (inr h) = absurd (not_store h.0 (sym h.1 ∙ none))
+  not_run_same e none x = search (rules, arith, not_store)
 
   fails_same : (e : Error) → e ≡ QueryReturnedNoRows → FailsToQuery text params old new e → IsUnchanged old new
   unfolding FailsToQuery
-  fails_same e none (inl h) = not_run_same e none h
-  fails_same e none (inr h) =
-      let bare = understood_bare text selects old.now.schema h.0 h.1.is in
-      (subst (λ r. FailsToShow old new text h.0 (timed_params params h.0.formats h.1.now) e r) bare h.2).3
+  fails_same e none x = search (rules, arith, not_run_same, understood_bare)
 
   none_same : (e : Error) → e ≡ QueryReturnedNoRows → QueriesRow text params old new (Err e) → IsUnchanged old new
   unfolding QueriesRow
-  none_same e none (inl h) = fails_same e none h
-  none_same e none (inr h) = shown_same text selects params old new [] h.1
+  none_same e none x = search (rules, arith, fails_same, shown_same)
 
   pub gives_row : (row : Row) → QueriesRow text params old new (Ok row) → GivesRow text params old new (Some row)
   gives_row row h = (row_same text selects params old new row h, h)
@@ -152,18 +122,15 @@ given_as text params old new found row is given = subst (GivesRow text params ol
 
 -- the postcondition of a success may be replaced by a weaker one
 pub ok_then : {V E : Type 0} (P Q : V → Type 0) (r : Result V E) → ((v : V) → P v → Q v) → IfOk r P → IfOk r Q
-ok_then P Q (Ok v) step h = step v h
-ok_then P Q (Err e) step h = h
+ok_then x y r step h = search (rules, arith)
 
 pub err_then : {V E : Type 0} (P Q : E → Type 0) (r : Result V E) → ((e : E) → P e → Q e) → IfErr r P → IfErr r Q
-err_then P Q (Ok v) step h = h
-err_then P Q (Err e) step h = step e h
+err_then x y r step h = search (rules, arith)
 
 -- what follows from three postconditions of a success
 pub ok_each : {V E : Type 0} (A B C D : V → Type 0) (r : Result V E) → ((v : V) → A v → B v → C v → D v)
     → IfOk r A → IfOk r B → IfOk r C → IfOk r D
-ok_each A B C D (Ok v) step a b c = step v a b c
-ok_each A B C D (Err e) step a b c = tt
+ok_each x y z h r step a b c = search (rules, arith)
 
 -- what follows from the postcondition of a success and from that of a failure follows in each case
 pub either_way : {V E : Type 0} (C : Type 0) (P : V → Type 0) (Q : E → Type 0) (r : Result V E) → ((v : V) → P v → C) → ((e : E) → Q e → C)

@@ -1,5 +1,5 @@
 -- Rows that the store can hold, rowids that are free, and keys that are new. For the lemmas of each statement that writes.
-use Rattle.std.proofs.Common.{◌≡◌, ◌<◌, ◌≤◌, ◌^◌, ◌+◌, ◌+ℤ◌, ◌<ℤ◌, ℕ, ℤ, pos, negsuc, zero, suc, inl, inr, Some, List, [], ◌∷◌, map, filter, length, fold, Bool, true, false, not, ◌&&◌, Less, is_eq, refl, sym, ap, ap₂, subst, ◌∙◌, arith, nat_lt, nat_le, bytes_eq, ◌==◌, sum_by, ◌||◌, is_ge, is_le}
+use Rattle.std.proofs.Common.{◌≡◌, ◌<◌, ◌≤◌, ◌^◌, ◌+◌, ◌+ℤ◌, ◌<ℤ◌, ℕ, ℤ, pos, zero, Some, List, [], ◌∷◌, map, filter, length, fold, Bool, true, false, not, ◌&&◌, Less, is_eq, refl, sym, ap, ap₂, subst, ◌∙◌, arith, nat_lt, nat_le, bytes_eq, ◌==◌, sum_by, ◌||◌, is_ge, is_le, rules}
 use Rattle.std.specs.Float.{NotNan}
 use Rattle.std.specs.Float.Ieee
 use Rattle.std.specs.List.{AllByRecursion, list_all}
@@ -44,14 +44,11 @@ is_real _ = false
 
 int_number : (n : ℤ) → NotNan (exact n)
 unfolding Ieee.is_nan
-int_number (pos n) = tt
-int_number (negsuc n) = tt
+int_number n = search (rules, arith)
 
 number_is : (v : Value) → is_real v ≡ false → NotNan (number v)
 unfolding Ieee.is_nan
-number_is (Int n) e = int_number n
-number_is (Real x) e = absurd (cc)
-number_is _ e = tt
+number_is v e = search (rules, arith, int_number)
 
 numbers_are : (row : Row) → list_all (λ v. not (is_real v)) row ≡ true → AllByRecursion (λ v. NotNan (number v)) row
 numbers_are row all = all_from (λ v. NotNan (number v)) row (λ v there. number_is v (not-true (is_real v) (test_has (λ v. not (is_real v)) row v all there)))
@@ -72,13 +69,7 @@ storable reals row none plainly short =
     }
   where
     long : (n : ℕ) → (nat_lt 0 n && nat_le n 2001) ≡ true → (0 < n) × (n ≤ 2001)
-    long n h = let both = and_parts (nat_lt 0 n) (nat_le n 2001) h in (more n both.0, few n both.1)
-      where
-        more : (n : ℕ) → nat_lt 0 n ≡ true → 0 < n
-        more n t = grind (arith, nat_tests)
-
-        few : (n : ℕ) → nat_le n 2001 ≡ true → n ≤ 2001
-        few n t = grind (arith, nat_tests)
+    long n h = search (rules, arith, and_parts, nat_tests)
 
 -- the row fits the store, and so does its entry in each index, whatever indexes there are beside those of the keys
 abbrev pub NeverOversized : Table → Row → Type 0
@@ -94,20 +85,13 @@ alike a b same = grind (arith, nat_tests)
 extra_fits : (table : Table) (row : Row) (i : Index) → IsExtra i → i.table ≡ table.tree
     → AllByRecursion (λ (p : ℕ × List ℕ). EntryFits table row p.1) (filter (λ (p : ℕ × List ℕ). p.0 == table.tree) index_places)
     → EntryFits table row i.columns
-extra_fits table row i it of entries =
-    all_has (λ (p : ℕ × List ℕ). EntryFits table row p.1) (filter (λ (p : ℕ × List ℕ). p.0 == table.tree) index_places) (i.table, i.columns) entries
-    (has_kept (λ (p : ℕ × List ℕ). p.0 == table.tree) index_places (i.table, i.columns) it.place (alike i.table table.tree of))
+extra_fits table row i it of entries = search (rules, arith, all_has, has_kept, alike)
 
 pub held_from : (table : Table) (row : Row) → IsStorableRow (table_reals table) row
     → AllByRecursion (λ (i : Index). EntryFits table row i.columns) (filter (λ (i : Index). i.table == table.tree) desk_schema.indexes)
     → AllByRecursion (λ (p : ℕ × List ℕ). EntryFits table row p.1) (filter (λ (p : ℕ × List ℕ). p.0 == table.tree) index_places)
     → NeverOversized table row
-held_from table row whole keys others extra are (inl large) = large whole
-held_from table row whole keys others extra are (inr (i, known, of, large)) = elim (has_either desk_schema.indexes extra i known) [
-  | inl key ↦ large (all_has (λ (x : Index). EntryFits table row x.columns) (filter (λ (x : Index). x.table == table.tree) desk_schema.indexes) i keys
-      (has_kept (λ (x : Index). x.table == table.tree) desk_schema.indexes i key (alike i.table table.tree of)))
-  | inr other ↦ large (extra_fits table row i (all_has IsExtra extra i are other) of others)
-]
+held_from table row whole keys others extra are x = search (rules, arith, has_either, all_has, has_kept, alike, extra_fits)
 
 -- Rowids.
 
@@ -115,8 +99,7 @@ pub fits_whole : (n : ℕ) → n < 2 ^ 63 → fits_i64 (pos n) ≡ true
 fits_whole n low = grind (arith, ints, nat_tests)
 
 pub fits_int : (z : ℤ) → pos 0 <ℤ z → z <ℤ pos (2 ^ 63) → fits_i64 z ≡ true
-fits_int (pos n) up low = fits_whole n (omega (arith, ints, low))
-fits_int (negsuc n) up low = absurd (omega (arith, ints, up))
+fits_int z up low = search (rules, arith, fits_whole, ints)
 
 -- the next rowid is positive, and so many are left from it on
 pub next_low : (n : ℕ) (d : ℤ) (rows : List Row) → AreLow n rows → pos 0 <ℤ d → (d +ℤ pos n) <ℤ (pos (2 ^ 63) +ℤ pos 1)
@@ -166,8 +149,7 @@ table_numbered number row_of keyed rows xs it =
 -- what holds of each value holds of each row
 pub rows_all : {X : Type 0} (columns : X → Row) (rows : List Row) (xs : List X) (Q : Row → Type 0) (R : X → Type 0) → IsTableOf columns rows xs
     → ((p : ℤ × X) → R p.1 → Q (numbered_row columns p)) → AllByRecursion R xs → AllByRecursion Q rows
-rows_all columns rows xs Q R it so all = subst (AllByRecursion Q) (sym it.rows_are) (all-map Q (numbered_row columns) it.numbered
-    (all_weaker (λ p. R (value_of p)) _ so it.numbered (all_from_map R value_of it.numbered (subst (AllByRecursion R) it.values_are all))))
+rows_all columns rows xs Q R it so all = search (rules, arith, all-map, all_weaker, value_of, all_from_map)
 
 pub numbered_all : {X : Type 0} (row_of : X → Row) (rows : List Row) (xs : List X) (Q : Row → Type 0) (R : X → Type 0) → rows ≡ map row_of xs
     → ((x : X) → R x → Q (row_of x)) → AllByRecursion R xs → AllByRecursion Q rows
@@ -212,17 +194,11 @@ le_value a b = ap (λ o. from_truth (Some (is_le o))) (value_cmp-Int (pos a) (po
 
 or_value : (x y : Bool) → is_false (binary Or (from_truth (Some x)) (from_truth (Some y))) ≡ not (x || y)
 unfolding binary
-or_value true true = refl
-or_value true false = refl
-or_value false true = refl
-or_value false false = refl
+or_value x y = search (rules, arith)
 
 and_value : (x y : Bool) → is_false (binary And (from_truth (Some x)) (from_truth (Some y))) ≡ not (x && y)
 unfolding binary
-and_value true true = refl
-and_value true false = refl
-and_value false true = refl
-and_value false false = refl
+and_value x y = search (rules, arith)
 
 -- the tests of the tables' checks, which fail only where they are false
 abbrev pub is_bit : ℕ → Bool
@@ -234,30 +210,14 @@ is_between n low high = not (is_false (binary And (binary (Compare Ge Binary) (w
 -- 0 and 1 are in range
 pub bit_holds : (n : ℕ) → n ≤ 1
     → is_false (binary Or (binary (Compare Eq Binary) (whole n) (whole 0)) (binary (Compare Eq Binary) (whole n) (whole 1))) ≡ false
-bit_holds n low = rw (eq_value n 0, eq_value n 1) (or_value (n == 0) (n == 1) ∙ ap not (either n low))
-  where
-    either : (n : ℕ) → n ≤ 1 → ((n == 0) || (n == 1)) ≡ true
-    either zero low = refl
-    either (suc zero) low = refl
-    either (suc (suc n)) low = absurd (omega arith)
+bit_holds n low = search (rules, arith, eq_value, or_value)
 
 -- the column is between two numbers
 pub range_holds : (n low high : ℕ) → low ≤ n → n ≤ high
     → is_false (binary And (binary (Compare Ge Binary) (whole n) (whole low)) (binary (Compare Le Binary) (whole n) (whole high))) ≡ false
-range_holds n low high from to = rw (ge_value n low, le_value n high) (and_value (nat_le low n) (nat_le n high) ∙ ap not (ap₂ ◌&&◌ (up low n from) (up n high to)))
-  where
-    up : (a b : ℕ) → a ≤ b → nat_le a b ≡ true
-    up a b less = grind (arith, nat_tests)
+range_holds n low high from to = search (rules, arith, ge_value, le_value, and_value, nat_tests)
 
 -- where the test of a range is not false, the column is at most its end
 pub range_ends : (n low high : ℕ)
     → not (is_false (binary And (binary (Compare Ge Binary) (whole n) (whole low)) (binary (Compare Le Binary) (whole n) (whole high)))) ≡ true → n ≤ high
-range_ends n low high holds = go (nat_le low n) (nat_le n high) refl (rw (ge_value n low, le_value n high, and_value (nat_le low n) (nat_le n high)) at holds)
-  where
-    down : nat_le n high ≡ true → n ≤ high
-    down t = grind (arith, nat_tests)
-
-    go : (x y : Bool) → nat_le n high ≡ y → not (not (x && y)) ≡ true → n ≤ high
-    go x true is h = down is
-    go true false is h = absurd (cc)
-    go false false is h = absurd (cc)
+range_ends n low high holds = search (rules, arith, ge_value, le_value, and_value, nat_tests)

@@ -1,5 +1,5 @@
 -- The tests of WHERE, on the values that the desk stores. For the lemmas of each statement.
-use Rattle.std.proofs.Common.{◌≡◌, ℕ, ◌==◌, ◌&&◌, ◌||◌, pos, List, Bool, true, false, Some, is_eq, refl, ap, ◌∙◌, arith, bytes_eq, nat_le, nat_lt, int_cmp, is_gt, is_ge, is_le}
+use Rattle.std.proofs.Common.{◌≡◌, ℕ, ◌==◌, ◌&&◌, ◌||◌, pos, List, Bool, true, false, Some, is_eq, ap, ◌∙◌, arith, bytes_eq, nat_le, nat_lt, int_cmp, is_gt, is_ge, is_le, rules}
 use Rattle.std.proofs.lemmas.Int.{ints}
 use Rattle.std.proofs.lemmas.Bool.Decides.{nat_tests}
 use Rattle.std.proofs.lemmas.Map.Text.{is_eq-slice_cmp}
@@ -12,8 +12,7 @@ use Rattle.sqlite_value.proofs.OrderLemmas.{value_cmp-Int, value_cmp-Text}
 use Rattle.desk_sql.specs.Rows.{whole}
 
 pub truth_is : (b : Bool) → is_true (from_truth (Some b)) ≡ b
-truth_is true = refl
-truth_is false = refl
+truth_is b = search (rules, arith)
 
 pub int_eq : (a b : ℕ) → is_eq (int_cmp (pos a) (pos b)) ≡ (a == b)
 int_eq a b = grind (arith, ints, nat_tests)
@@ -41,12 +40,10 @@ unfolding binary
 eq_text a b = truth_is _ ∙ ap is_eq (value_cmp-Text a b) ∙ is_eq-slice_cmp a b
 
 pub and_true : (b : Bool) → (b && true) ≡ b
-and_true true = refl
-and_true false = refl
+and_true b = search (rules, arith)
 
 pub or_false : (b : Bool) → (b || false) ≡ b
-or_false true = refl
-or_false false = refl
+or_false b = search (rules, arith)
 
 int_gt : (a b : ℕ) → is_gt (int_cmp (pos a) (pos b)) ≡ nat_lt b a
 int_gt a b = grind (arith, ints, nat_tests)

@@ -1,6 +1,6 @@
 -- The effect of an UPDATE and of the DELETE of a save-point, from what the text means and what its rows obey. For each statement that updates,
 -- and for `delete_mark`.
-use Rattle.std.proofs.Common.{◌≡◌, ◌≤◌, ◌^◌, ◌+◌, ◌+ℤ◌, ◌<ℤ◌, ◌⊎◌, ℕ, ℤ, pos, List, [], drop, length, inl, inr, Ok, Bool, true, ◌&&◌, refl, sym, ap, subst, ◌∙◌, arith, ◌∷◌, filter, not, nat_lt, ◌||◌}
+use Rattle.std.proofs.Common.{◌≡◌, ◌≤◌, ◌+◌, ◌⊎◌, ℕ, ℤ, List, [], drop, length, inl, inr, Ok, Bool, true, ◌&&◌, refl, sym, ap, subst, ◌∙◌, arith, ◌∷◌, filter, not, nat_lt, ◌||◌, rules}
 use Rattle.std.specs.List.{AllByRecursion, list_all, list_any}
 use Rattle.std.proofs.lemmas.Int.{ints}
 use Rattle.std.proofs.lemmas.Bool.{and_parts, and_from, eqb-false, or_right}
@@ -13,7 +13,7 @@ use Rattle.sqlite.specs.Tree.{Trees, rowid, IsTable}
 use Rattle.sqlite.specs.Query.{Query, IsAnswer}
 use Rattle.sqlite.specs.Program.{overlay}
 use Rattle.sqlite.specs.Cast.{cast_row}
-use Rattle.sqlite.specs.Edit.{Edit, edit_of, edited, id_in}
+use Rattle.sqlite.specs.Edit.{Edit, edit_of, edited}
 use Rattle.sqlite.specs.Rowids.TheVariants.{Given}
 use Rattle.sqlite.specs.State.{State, ExecutesInside}
 use Rattle.sqlite_schema.specs.declared.schema.Constraint.TheVariants.{Check}
@@ -94,18 +94,7 @@ module _ {X Y : Type 0} {at : ℕ} {table : Table} {f : Y → Row} {id : Y → �
 
   changes : (db : Trees) (t : Tables) (shows : Shows db t) → Seen t
       → Changes f id db table (elements db t shows) tests project params (λ (y : Y). test (value y)) (lift change)
-  changes db t shows seen =
-      let it = place.shown db t shows in
-      record {
-        keyed = codec.keyed;
-        rise = codec.rise (db table.tree) (values t) it;
-        has = codec.rows_are (db table.tree) (values t) it;
-        seen = place.seen db;
-        test_is = test_is;
-        id_shown = id_shown;
-        id_kept = id_kept;
-        change_is = λ y there is. change_is t seen y (codec.has (db table.tree) (values t) it y there) is;
-      }
+  changes db t shows seen = search (rules, arith)
 
   safe : (s : State) (t : Tables) → Room s.now.trees → Fits t → Sees s t → (rows : List Row) → IsAnswer q (overlay s.now.trees []) params rows
       → IsSafe s.now.trees (edit s.now.trees rows)
@@ -150,35 +139,11 @@ module _ {X Y : Type 0} {at : ℕ} {table : Table} {f : Y → Row} {id : Y → �
 pub twin_four : (table : Table) (old new : Row) → rowid old ≡ rowid new → column old 1 ≡ column new 1 → column old 2 ≡ column new 2
     → column old 3 ≡ column new 3 → column old 4 ≡ column new 4 → AllByRecursion (λ (r : Reference). AgreeAt r.columns old new) table.references
     → Twins desk_schema table old new
-twin_four table old new id one two three four parents = record {
-  id = id;
-  keys = record {
-    unique = (
-      λ _. (one, (two, (three, (four, tt)))),
-      (
-        λ _. (one, tt),
-        (
-          λ _. (two, tt),
-          (
-            λ _. (two, tt),
-            (
-              λ _. (one, (two, (three, tt))),
-              (λ _. (one, (two, tt)), (λ _. (one, (two, tt)), tt)),
-            ),
-          ),
-        ),
-      ),
-    );
-    refers = parents;
-  };
-}
+twin_four table old new id one two three four parents = search (rules, arith)
 
 -- a rowid that the store chose fits
 pub low_fits : (rows : List Row) (r : Row) (n : ℤ) → AreLow 0 rows → Has rows r → rowid r ≡ Int n → fits_i64 n ≡ true
-low_fits rows r n low there is =
-    let own : id_in (rowid r) ≡ n = ap id_in is in
-    let bounds = all_has (λ (x : Row). (pos 0 <ℤ id_in (rowid x)) × ((id_in (rowid x) +ℤ pos 0) <ℤ pos (2 ^ 63))) rows r low there in
-    fits_int n (omega (arith, ints, own, bounds.0)) (omega (arith, ints, own, bounds.1))
+low_fits rows r n low there is = search (rules, arith, all_has, fits_int, ints)
 
 pub value_there : {X : Type 0} (columns : X → Row) (rows : List Row) (xs : List X) (it : IsTableOf columns rows xs) (p : ℤ × X) → Has it.numbered p
     → Has xs p.1 × Has rows (numbered_row columns p)
@@ -228,10 +193,7 @@ parent_same one two row at same = ap (λ rows. has_null (at ∷ []) row || list_
 
 parents_same : (one two : Trees) (row : Row) → one 6 ≡ two 6
     → AllByRecursion (λ (t : Table). AllByRecursion (λ (ref : Reference). has_parent desk_schema.tables one row ref ≡ has_parent desk_schema.tables two row ref) t.references) desk_schema.tables
-parents_same one two row same =
-    let first = parent_same one two row 1 same in
-    let second = parent_same one two row 2 same in
-    (tt, (tt, (tt, (tt, ((first, tt), ((second, tt), (tt, ((second, tt), ((first, tt), tt)))))))))
+parents_same one two row same = search (rules, arith, parent_same)
 
 -- these save-points are deleted
 abbrev mark_edit : Trees → List Row → Edit

@@ -1,5 +1,5 @@
 -- The rows of a table, as rows and as values, after an UPDATE or a DELETE. For ChangedRows, UpdateReasons and Putting.
-use Rattle.std.proofs.Common.{◌≡◌, inl, inr, ℤ, List, [], ◌∷◌, map, Bool, true, false, not, if◌then◌else◌, filter, Less, is_eq, refl, sym, ap, subst, ◌∙◌, ◌<ℤ◌, drop, IsPermutation}
+use Rattle.std.proofs.Common.{◌≡◌, inl, inr, ℤ, List, [], ◌∷◌, map, Bool, true, false, not, if◌then◌else◌, filter, Less, is_eq, refl, sym, ap, subst, ◌∙◌, ◌<ℤ◌, drop, IsPermutation, arith, rules}
 use Rattle.std.proofs.lemmas.Bool.{cases_Bool, false_from_ne_true, not-true}
 use Rattle.std.specs.Ordering.{ordering_reverse}
 use Rattle.std.proofs.lemmas.Cmp.{tied_itself}
@@ -10,7 +10,7 @@ use Rattle.sqlite_trees.specs.Tree.{rowid, has_rowid, without_rowid, put_row, Is
 use Rattle.sqlite_trees.proofs.TreeLemmas.{IsTable-put_row}
 use Rattle.sqlite_trees.proofs.ListLemmas.{ascending-filter, filter-map}
 use Rattle.sqlite_rules.specs.Lists.{Has}
-use Rattle.sqlite_rules.specs.Edit.{id_in, without_all, put_all, are_fresh, row_at, left_by, edit_of, edited}
+use Rattle.sqlite_rules.specs.Edit.{id_in, without_all, put_all, are_fresh, left_by, edit_of, edited}
 use Rattle.sqlite_rules.specs.Calls.{ids_of}
 use Rattle.sqlite_rules.proofs.ListLemmas.{all_has, all_from, has_filtered, has_kept}
 use Rattle.sqlite_rules.proofs.ProbeLemmas.{has_mapped, mapped_has}
@@ -48,10 +48,7 @@ without_all_table (id ∷ ids) rows up = without_all_table ids (without_rowid id
 -- the rows that are left have none of the rowids
 pub left_lacks : (ids : List ℤ) (rows : List Row) (x : Row) (id : ℤ) → Has (without_all rows ids) x → Has ids id → has_rowid id x ≡ true → ⊥
 left_lacks [] rows x id left none here = none
-left_lacks (i ∷ ids) rows x id left (inl same) here =
-    let kept = (has_filtered (λ r. not (has_rowid i r)) rows x (without_all_has ids (without_rowid i rows) x left)).1 in
-    let e : not (has_rowid id x) ≡ true = rw same kept in
-    let bad : not true ≡ true = subst (λ b. not b ≡ true) here e in cc
+left_lacks (i ∷ ids) rows x id left (inl same) here = search (rules, arith, has_filtered, without_all_has)
 left_lacks (i ∷ ids) rows x id left (inr later) here = left_lacks ids (without_rowid i rows) x id left later here
 
 -- the rows that a query answers, each of which shows its rowid first, are deleted
@@ -85,16 +82,7 @@ module _ (rows : List Row) (p : Row → Bool) (shows : Row → Row) (answer : Li
 
   -- the rows that do not pass are left
   fails_left : (x : Row) → Has rows x → p x ≡ false → Has left x
-  fails_left x h e = elim (left_or_taken rows ids x up h) [
-    | inl stays ↦ stays
-    | inr taken ↦ absurd (
-        let id = has_mapped (row_at rows) ids x taken in
-        let s = has_mapped (λ (y : Row). id_in (rowid y)) answer id.0 id.1 in
-        let o = answered s.0 s.1 in
-        let at : row_at rows id.0 ≡ o.0 = row_at_is rows id.0 o.0 up o.1
-        (subst (λ i. has_rowid i o.0 ≡ true) (sym (s.2 ∙ ap (λ (y : Row). id_in (rowid y)) o.3)) (named o.0 o.1 o.2)) in
-        let bad : p x ≡ true = ap p (id.2 ∙ at) ∙ o.2 in cc)
-  ]
+  fails_left x h e = search (rules, arith, left_or_taken, has_mapped, answered, row_at_is, named)
 
   -- a DELETE leaves the rows that do not pass
   pub removed : without_all rows ids ≡ filter (λ r. not (p r)) rows
@@ -135,23 +123,13 @@ module _ (rows : List Row) (p : Row → Bool) (shows : Row → Row) (answer : Li
           | inl new ↦ (
               let s = has_mapped write answer x new in
               let r = answered s.0 s.1 in
-              let is : x ≡ becomes r.0 = rw r.2 (s.2 ∙ ap write r.3) in
-              subst (Has (changed p gives rows)) (sym is) (mapped_has becomes rows r.0 r.1))
+              subst (Has (changed p gives rows)) (sym (rw r.2 (s.2 ∙ ap write r.3))) (mapped_has becomes rows r.0 r.1))
           | inr old ↦ subst (Has (changed p gives rows)) (ap (λ b. if b then gives x else x) (left_fails x old))
               (mapped_has becomes rows x (without_all_has ids rows x old))
         ]
 
         back : (x : Row) → Has (changed p gives rows) x → Has (put_all left news) x
-        back x h =
-            let r = has_mapped becomes rows x h in
-            elim (cases_Bool (p r.0)) [
-              | inl e ↦ (
-                  let is : x ≡ gives r.0 = r.2 ∙ ap (λ b. if b then gives r.0 else r.0) e in
-                  put_all_adds news left x fresh (subst (Has news) (sym is) (mapped_has write answer (shows r.0) (answers r.0 r.1 e))))
-              | inr e ↦ (
-                  let is : x ≡ r.0 = r.2 ∙ ap (λ b. if b then gives r.0 else r.0) e in
-                  put_all_keeps news left x fresh (subst (Has left) (sym is) (fails_left r.0 r.1 e)))
-            ]
+        back x h = search (rules, arith, has_mapped, cases_Bool, put_all_adds, mapped_has, answers, put_all_keeps, fails_left)
 
 -- A table of values after an UPDATE or a DELETE.
 

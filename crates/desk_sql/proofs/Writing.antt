@@ -1,5 +1,5 @@
 -- The effect of a statement that writes on the desk's tables, by its meaning. For the lemmas of each statement.
-use Rattle.std.proofs.Common.{◌≡◌, ◌≢◌, ◌<◌, ◌^◌, pos, to_z, w64, fold, MatchBool, if◌then◌else◌, subst₂, ◌⊎◌, inl, inr, ℕ, ◌/◌, List, [], length, slice_get, Bool, true, false, cond, Some, None, Ok, Err, Result, refl, sym, ap, subst, ◌∙◌, arith, ℤ, ◌∷◌, ◌++◌, Option, is_lt, int_cmp}
+use Rattle.std.proofs.Common.{◌≡◌, ◌≢◌, ◌<◌, ◌^◌, pos, to_z, w64, if◌then◌else◌, ◌⊎◌, inl, inr, ℕ, ◌/◌, List, [], length, slice_get, Bool, true, false, cond, Some, None, Ok, Err, Result, refl, sym, ap, subst, ◌∙◌, arith, ℤ, ◌∷◌, ◌++◌, Option, rules}
 use Rattle.sqlite.specs.declared.types.Value.{Value}
 use Rattle.sqlite.specs.declared.types.Value.TheVariants.{Null}
 use Rattle.std.proofs.lemmas.Int.{ints}
@@ -14,7 +14,7 @@ use Rattle.sqlite.specs.Source.TheVariants.{Values}
 use Rattle.sqlite.specs.Command.{Command}
 use Rattle.sqlite.specs.Command.TheVariants.{Insert, Update, Delete, InsertOr}
 use Rattle.sqlite.specs.Edit.{Edit, edit_of, edited, taken_by, Applies, with_rowid, are_fresh, left_by}
-use Rattle.sqlite.specs.Rowids.TheVariants.{Chosen, Above, Given}
+use Rattle.sqlite.specs.Rowids.TheVariants.{Chosen, Given}
 use Rattle.sqlite.specs.Query.{Query, IsAnswer}
 use Rattle.sqlite.specs.Program.{overlay}
 use Rattle.sqlite_rules.specs.Calls.{ids_of}
@@ -25,8 +25,8 @@ use Rattle.sqlite_schema.specs.declared.schema.Keys.TheVariants.{Enforced}
 use Rattle.sqlite_rules.specs.Action.{works}
 use Rattle.sqlite.specs.Does.{Tally, Does, OnRows, WritesRows, Concludes}
 use Rattle.sqlite.specs.declared.run.Mode.{Mode}
-use Rattle.sqlite.specs.Rows.{Written, Task, Inserts, Edited, CountsIn, Gives, stamped, sequence, count_of, higher, rowids_for, Puts, Clears, Upserts, Judged, Tries, TriesEach, InsertsOr, shown, nothing}
-use Rattle.sqlite.specs.Effect.{Database, IsDatabase, value_rows, edit_error}
+use Rattle.sqlite.specs.Rows.{Written, Task, Inserts, Edited, stamped, count_of, Puts, Clears, Upserts, Judged, Tries, TriesEach, InsertsOr, shown, nothing}
+use Rattle.sqlite.specs.Effect.{Database, IsDatabase, value_rows}
 use Rattle.sqlite.specs.Listing.{understood}
 use Rattle.sqlite.specs.State.{State, mode_of, Executes, Shows, Writes, Runs}
 use Rattle.sqlite.proofs.Callers.{statement_of, runs_as, one_step}
@@ -44,8 +44,7 @@ use Rattle.desk_sql.proofs.Indexes.{are_conflicts}
 -- The effect of a statement that writes on the desk's tables, by its meaning.
 
 either : (b : Bool) (x : Value) → cond b x x ≡ x
-either true x = refl
-either false x = refl
+either b x = search (rules, arith)
 
 -- NULL is stored as it is
 pub cast_null : cast Integer Null ≡ Null
@@ -99,21 +98,10 @@ on_rows extra old params text table tally after command h =
 -- the rows of VALUES are inserted by one edit
 pub insert_edits : (task : Task) (terms : List Term) (width : ℕ) (db : Trees) (w : Written) → task.table.is_counted ≡ false → stamped task.table task.params ≡ task.params
     → Inserts task (Values terms width) db (Ok w) → Edited task.schema task.keys db (source_edit task.table terms width task.params db) (Ok w.trees)
-insert_edits task terms width db w uncounted unstamped h =
-    let given = went h in
-    let counted = went given.2 in
-    let written = went counted.2 in
-    let done = went written.2 in
-    let first : given.0 ≡ value_rows task.params width (length terms / width) terms = given.1.1 ∙ ap (λ ps. value_rows ps width (length terms / width) terms) unstamped in
-    let done1 = subst (λ b. MatchBool (if b then is_lt (int_cmp (count_of counted.0) (fold higher (count_of counted.0) (edit_of db task.table [] (rowids_for task.table (count_of counted.0)) 0 given.0).news)) else false) (CountsIn task written.0 counted.0 (fold higher (count_of counted.0) (edit_of db task.table [] (rowids_for task.table (count_of counted.0)) 0 given.0).news) (sequence task.schema) (Ok done.0)) (Gives written.0 (Ok done.0))) uncounted done.1 in
-    let trees : w.trees ≡ written.0 = ap (λ (it : Written). it.trees) (same_value done.2) ∙ same_value done1 in
-    let edit : edit_of db task.table [] (rowids_for task.table (count_of counted.0)) 0 given.0 ≡ source_edit task.table terms width task.params db
-    = ap (λ b. edit_of db task.table [] (if b then Above (count_of counted.0) else Chosen) 0 given.0) uncounted ∙ ap (λ rows. edit_of db task.table [] Chosen 0 rows) first in
-    subst₂ (λ e t. Edited task.schema task.keys db e (Ok t)) edit (sym trees) written.1
+insert_edits task terms width db w uncounted unstamped h = search (rules, arith, same_value)
 
 no_action : (b : Bool) → (if b then NoAction else NoAction) ≡ NoAction
-no_action true = refl
-no_action false = refl
+no_action b = search (rules, arith)
 
 -- no foreign key of the desk has an action
 pub idle : (extra : List Index) (depth tree : ℕ) (olds news : List Row) → works (desk_with extra) Enforced depth tree olds news ≡ []
@@ -157,9 +145,7 @@ module _ (text : List ℕ) (params : Row) (old new : State) (command : Command) 
 pub runs_ready : (sql : List ℕ) (params : Row) (old new : State) (command : Command) (count : ℕ) → Means sql command → (ready : IsReady old)
     → Executes sql params old new (Ok count)
     → Runs old new None command (statement_of sql (understood (desk_with ready.schema.extra) sql)) params count
-runs_ready sql params old new command count means ready h =
-    let extra = ready.schema.extra in
-    runs_as sql params old new (desk_with extra) ready.schema.is command (means extra).is (means extra).plain count h
+runs_ready sql params old new command count means ready h = search (rules, arith, runs_as)
 
 pub inserts : (sql : List ℕ) (params : Row) (old new : State) (at : ℕ) (table : Table) (terms : List Term) (width count : ℕ)
     → Means sql (Insert at (Values terms width))
@@ -228,8 +214,7 @@ clauses q = record { target = Some target; update = Some (record { lets = []; bo
 
 module _ (extra : List Index) (are : AllByRecursion IsExtra extra) (old : State) (params : Row) (q : Query) where
   clears : (new : Row) (db : Trees) (found : List Row) (out : Result Written (Option Error)) → Clears (task_of extra old params) Abort new db found out → Puts (task_of extra old params) new db out
-  clears new db [] out h = h
-  clears new db (x ∷ more) out h = h
+  clears new db found out h = search (rules, arith)
 
   -- the row is inserted, or the rows of the query replace those with its key
   ends : (new : Row) (db : Trees) (w : Written) → Upserts (task_of extra old params) Abort new db (clauses q) (Ok w) → IsPutBy extra db params q new w.trees
@@ -251,8 +236,7 @@ module _ (extra : List Index) (are : AllByRecursion IsExtra extra) (old : State)
 
   judged : (new : Row) (db : Trees) (w : Written) (verdict : Option Refusal) → Judged (task_of extra old params) Abort (clauses q) new db verdict (Ok w)
       → IsPutBy extra db params q new w.trees
-  judged new db w None h = ends new db w h
-  judged new db w (Some why) h = absurd (let e : ◌≡◌ {A = Result Written (Option Error)} (Ok w) (Err (Some (edit_error why))) = h in cc)
+  judged new db w verdict h = search (rules, arith, ends)
 
   tried : (new : Row) (db : Trees) (w : Written) → Tries (task_of extra old params) Abort (clauses q) new db (Ok w) → IsPutBy extra db params q new w.trees
   tried new db w (inl h) = absurd (let e = h.1 in cc)
@@ -286,5 +270,4 @@ upserts sql params old new terms width q source count means unstamped rows ready
     (put.0, put.1, it.2 put.0 it.0.trees refl put.2)
 
 pub put_tree : (db : Trees) (params : Row) (q : Query) (new : Row) (edit : Edit) → IsPut db params q new edit → edit.table.tree ≡ 1
-put_tree db params q new edit (found, conflicts, inl h) = ap (λ (e : Edit). e.table.tree) h.1
-put_tree db params q new edit (found, conflicts, inr h) = ap (λ (e : Edit). e.table.tree) h.5
+put_tree db params q new edit x = search (rules, arith)

@@ -1,9 +1,8 @@
 -- What a step of http1's decoder says of a reader. For BodyReader.new and step.
 use Rattle.std.proofs.Common.{◌≡◌, ◌≢◌, ◌∙◌, ap, sym, subst, refl, ℕ, ◌+◌, ◌-◌, ◌<◌, ◌≤◌, ◌↔◌, List, [], ◌++◌, length, take, drop, replicate, take-append-drop, append-nil, append_assoc, arith, length-append}
 use Rattle.std.proofs.lemmas.List.{length-take-le, length-map, length-replicate}
-use Rattle.httparse.specs.Spans.{header_bytes, name_and_value}
 use Rattle.httparse.specs.declared.spans.HeaderSpan.{HeaderSpan}
-use Rattle.http1.specs.Body.{ReadsBody, body_of}
+use Rattle.http1.specs.Body.{body_of}
 use Rattle.http1.specs.ChunkedDecoder.{run, run_result}
 use Rattle.http1.specs.Decoder as http1
 use Rattle.http1.specs.Decoder.{Completes, Continues, Runs, Starves, decoder_for}
@@ -26,23 +25,7 @@ reading d body = record { waits = d; body = body }
 -- a decoder at the beginning of a body waits for just the bodies of its kind
 pub begins : (kind : BodyKind) (stream body rest : List ℕ)
     → IsBody kind stream body rest ↔ Awaits (reading (decoder_for limits (framing_of kind)) []) stream body rest
-begins kind stream body rest = (
-  λ is. record {
-    later = body;
-    trailers = is.trailers;
-    whole = refl;
-    completes = completes_from_body limits (framing_of kind) stream (body_of body is.trailers) rest is.reads;
-    few = is.few;
-    short = is.short;
-  },
-  λ waits. record {
-    trailers = waits.trailers;
-    reads = subst (λ b. ReadsBody limits (framing_of kind) stream (body_of b waits.trailers) rest) (sym waits.whole)
-        (body_from_completes limits (framing_of kind) stream (body_of waits.later waits.trailers) rest waits.completes);
-    few = waits.few;
-    short = waits.short;
-  },
-)
+begins kind stream body rest = grind (arith, completes_from_body, body_from_completes)
 
 -- Pieces.
 
@@ -71,52 +54,24 @@ data_after chunks next input piece len ran =
 -- what is too large after a piece was too large with it
 exceeds_before : (old new : Decoder) (body input piece : List ℕ) (len : ℕ) → Runs old input new len piece
     → ExceedsBy new (body ++ piece) (drop len input) → ExceedsBy old body input
-exceeds_before (Length left) new body input piece len runs more =
-    absurd (subst (λ d. ExceedsBy d (body ++ piece) (drop len input)) runs more)
+exceeds_before (Length left) new body input piece len runs more = grind arith
 exceeds_before (Chunked chunks longest) new body input piece len runs more =
-    let past = subst (λ d. ExceedsBy d (body ++ piece) (drop len input)) runs.1 more in
-    let held = ap length (data_after chunks runs.0 input piece len runs.2) in
-    omega (arith, past, held, length-append body piece, length-append piece (run runs.0 (drop len input)).body)
-exceeds_before UntilClose new body input piece len runs more =
-    absurd (subst (λ d. ExceedsBy d (body ++ piece) (drop len input)) runs more)
+    grind (arith, data_after chunks runs.0 input piece len, length-append body piece, length-append piece)
+exceeds_before UntilClose new body input piece len runs more = grind arith
 
 -- after a piece, the reader that has it waits for the remainder
 pub moves_on : (old new : Decoder) (body input piece : List ℕ) (len : ℕ) → Continues old input new len piece
     → Moves (reading old body) input (reading new (body ++ piece)) len
-moves_on old new body input piece len on = record {
-  within = on.within;
-  back = λ more whole rest waits. record {
-    later = piece ++ waits.later;
-    trailers = waits.trailers;
-    whole = waits.whole ∙ append_assoc body piece waits.later;
-    completes = on.back more (body_of waits.later waits.trailers) rest waits.completes;
-    few = waits.few;
-    short = waits.short;
-  };
-  forth = λ more whole rest waits.
-      let after = on.forth more (body_of waits.later waits.trailers) rest waits.completes in
-      record {
-        later = after.0.bytes;
-        trailers = after.0.trailers;
-        whole = waits.whole ∙ ap (λ b. body ++ b.bytes) after.1 ∙ sym (append_assoc body piece after.0.bytes);
-        completes = after.2;
-        few = subst (λ fields. length fields ≤ most_fields) (ap (λ b. b.trailers) after.1) waits.few;
-        short = waits.short;
-      };
-  exceeds = exceeds_before old new body input piece len on.runs;
-}
+moves_on old new body input piece len on = grind (arith, append_assoc, exceeds_before)
 
 -- a fit body is within the limit
 pub is_short : (d : Decoder) (body : List ℕ) → IsFit d body → length body ≤ most_bytes
-is_short (Length left) body fit = omega (arith, fit)
-is_short (Chunked chunks longest) body fit = fit
-is_short UntilClose body fit = absurd fit
+is_short d body fit = grind arith
 
 -- a piece that is too large comes in chunks
 pub too_large : (old new : Decoder) (body input piece : List ℕ) (len : ℕ) → IsFit old body → Continues old input new len piece
     → most_bytes < length body + length piece → ExceedsBy old body input
-too_large (Length left) new body input piece len fit on past =
-    absurd (omega (arith, fit, past, piece_fits left len input piece new on))
+too_large (Length left) new body input piece len fit on past = search (arith, piece_fits)
 too_large (Chunked chunks longest) new body input piece len fit on past =
     let held = ap length (data_after chunks on.runs.0 input piece len on.runs.2) in
     omega (arith, past, held, length-append piece (run on.runs.0 (drop len input)).body)
@@ -141,29 +96,9 @@ goes old new body input len fit starves = record {
 pub ends : (old new : Decoder) (body input : List ℕ) (spans : List HeaderSpan) (len count : ℕ) → IsFit old body
     → length spans ≡ most_fields → http1.Ends old input spans len count
     → Ends (reading old body) input (reading new body) len
-ends old new body input spans len count fit room end = record {
-  within = end.within.len_fits;
-  whole = λ more. record {
-    later = [];
-    trailers = end.trailers;
-    whole = sym (append-nil body);
-    completes = end.completes more;
-    few = omega (
-      arith,
-      room,
-      end.within.count_fits,
-      length-take-le count spans end.within.count_fits,
-      length-map (take count spans) (header_bytes input),
-      length-map end.trailers name_and_value,
-      ap length end.covered,
-    );
-    short = is_short old body fit;
-  };
-}
+ends old new body input spans len count fit room end = grind (arith, append-nil, length-take-le, length-map, is_short)
 
 -- A stream begins with one body.
 
 pub one_body : (kind : BodyKind) (stream a b x y : List ℕ) → IsBody kind stream a x → IsBody kind stream b y → (a ≡ b) × (x ≡ y)
-one_body kind stream a b x y one other =
-    let same = body_unique limits (framing_of kind) stream (body_of a one.trailers) (body_of b other.trailers) x y one.reads other.reads in
-    (ap (λ body. body.bytes) same.0, same.1)
+one_body kind stream a b x y one other = grind (arith, body_unique)

@@ -1,5 +1,6 @@
 -- The values of the fields of a name, one field after another. For find and says.
-use Rattle.std.proofs.Common.{◌≡◌, ◌∙◌, ap, sym, refl, ℕ, ◌+◌, ◌<◌, Bool, true, false, ◌||◌, List, [], ◌∷◌, ◌++◌, map, filter, length, take, drop, get_or, take-append-drop, arith, append-nil, length-append, All}
+use Rattle.std.proofs.Common.{◌≡◌, ◌∙◌, ap, sym, refl, ℕ, ◌+◌, ◌<◌, Bool, true, false, List, [], ◌∷◌, ◌++◌, length, take, drop, get_or, take-append-drop, arith, append-nil, length-append, All}
+use Rattle.std.proofs.lemmas.Bool.{or_parts, or_right}
 use Rattle.std.specs.List.{list_any}
 use Rattle.std.proofs.lemmas.List.{take_more, map-append}
 use Rattle.std.proofs.lemmas.List.Elements.{All-get_or, filter-append}
@@ -9,14 +10,11 @@ use Rattle.httparse.specs.Spans.{IsHeaderWithin, IsWithin, header_bytes, span_by
 use Rattle.http_messages.specs.Heads.{Named, is_alike, values_named}
 use Rattle.http_messages.specs.Fields.{IsFound, found_and, named_in}
 use Rattle.http_messages.specs.declared.heads.Found.{Found}
-use Rattle.http_messages.specs.declared.heads.Found.TheVariants.{Absent, Once, Again}
 
 -- the values of two lists of fields are those of the first, followed by those of the second
 values-append : (name : List ℕ) (xs ys : List Named)
     → values_named name (xs ++ ys) ≡ values_named name xs ++ values_named name ys
-values-append name xs ys =
-    ap (map (λ f. f.1)) (filter-append (λ f. is_alike f.0 name) xs ys)
-    ∙ map-append (λ (f : Named). f.1) (filter (λ f. is_alike f.0 name) xs) (filter (λ f. is_alike f.0 name) ys)
+values-append name xs ys = grind (arith, filter-append, map-append)
 
 -- a field of this name has one value
 values_said : (name : List ℕ) (f : Named) → is_alike f.0 name ≡ true → values_named name (f ∷ []) ≡ f.1 ∷ []
@@ -46,31 +44,14 @@ module _ (front name : List ℕ) (xs : List HeaderSpan) (i : ℕ) (d : HeaderSpa
   -- a field of another name adds no value
   pub values_without : is_alike (span_bytes front (get_or xs i d).name) name ≡ false
       → values_to (i + 1) ≡ values_to i
-  values_without other =
-      values_more ∙ ap (λ said. values_to i ++ said) (values_other name (header_bytes front (get_or xs i d)) other)
-      ∙ append-nil (values_to i)
+  values_without other = grind (arith, values_more, values_other, append-nil)
 
 -- one more value is found
 pub found_more : (front : List ℕ) (found : Found) (span : Span) (values : List (List ℕ))
     → IsWithin (length front) span
     → IsFound front found values
     → IsFound front (found_and found span) (values ++ span_bytes front span ∷ [])
-found_more front Absent span values within none = (within, ap (λ said. said ++ span_bytes front span ∷ []) none)
-found_more front (Once other) span values within one =
-    let two : length (values ++ span_bytes front span ∷ []) ≡ 2 =
-    ap (λ said. length (said ++ span_bytes front span ∷ [])) one.1 in omega arith
-found_more front Again span values within many =
-    omega (arith, length-append values (span_bytes front span ∷ []))
-
--- if a disjunction fails, both its parts fail
-both_false : (a b : Bool) → (a || b) ≡ false → (a ≡ false) × (b ≡ false)
-both_false false b none = (refl, none)
-both_false true b none = cc
-
--- a disjunction holds if its second part does
-or_true : (a b : Bool) → b ≡ true → (a || b) ≡ true
-or_true true b e = refl
-or_true false b e = e
+found_more front found span values within none = grind (arith, length-append)
 
 -- no value passes if none of the earlier ones did, and the next does not
 pub none_more : (test : List ℕ → Bool) (values : List (List ℕ)) (said : List ℕ)
@@ -79,7 +60,7 @@ pub none_more : (test : List ℕ → Bool) (values : List (List ℕ)) (said : Li
     → list_any test (values ++ said ∷ []) ≡ false
 none_more test [] said none other = rw other refl
 none_more test (v ∷ values) said none other =
-    let both = both_false (test v) (list_any test values) none in
+    let both = or_parts (test v) (list_any test values) none in
     rw (both.0) (none_more test values said both.1 other)
 
 -- some value passes if one of the earlier ones does
@@ -87,7 +68,7 @@ pub any_among : (test : List ℕ → Bool) (values others : List (List ℕ)) (sa
     → test said ≡ true
     → list_any test ((values ++ said ∷ []) ++ others) ≡ true
 any_among test [] others said is = rw is refl
-any_among test (v ∷ values) others said is = or_true (test v) _ (any_among test values others said is)
+any_among test (v ∷ values) others said is = or_right (test v) _ (any_among test values others said is)
 
 -- the values are those of the first so many fields, and then those of the others
 pub values_split : (front name : List ℕ) (xs : List HeaderSpan) (n : ℕ)
@@ -117,8 +98,7 @@ module _ (front name : List ℕ) (xs : List HeaderSpan) (i : ℕ) (d : HeaderSpa
       → new ≡ old
       → IsFound front old (values_named name (named_in front (take i xs)))
       → IsFound front new (values_named name (named_in front (take (i + 1) xs)))
-  found_elsewhere old new is_other is so_far =
-      rw (is, values_without front name xs i d inside (sym alike ∙ is_other)) so_far
+  found_elsewhere old new is_other is so_far = grind (arith, values_without)
 
   -- a field of the name passes where its value does
   pub says_here : (test : List ℕ → Bool)

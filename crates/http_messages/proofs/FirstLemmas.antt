@@ -1,5 +1,5 @@
 -- The first message of bytes that are in memory. For first_message, decided_front and messages_stay.
-use Rattle.std.proofs.Common.{◌≡◌, ◌∙◌, ap, sym, subst, refl, ℕ, suc, ◌+◌, ◌<◌, ◌≤◌, Bool, true, false, List, [], ◌∷◌, ◌++◌, map, length, take, drop, take-append-drop, append-nil, append_assoc, arith, length-append, length-drop, find, if◌then◌else◌, None, Some}
+use Rattle.std.proofs.Common.{◌≡◌, ◌∙◌, ap, sym, subst, refl, ℕ, suc, ◌+◌, ◌<◌, ◌≤◌, Bool, false, List, [], ◌∷◌, ◌++◌, map, length, take, drop, take-append-drop, append-nil, append_assoc, arith, length-append, length-drop, find, if◌then◌else◌, None, Some}
 use Rattle.std.specs.List.{concat}
 use Rattle.std.proofs.lemmas.List.{drop-take, length-take, length-take-le, take-take}
 use Rattle.std.proofs.lemmas.Grind.{common_steps}
@@ -25,8 +25,7 @@ find_map_none_by : (t : Bool) (test : List ℕ → Bool) (b : ℕ) (g : List ℕ
     → (find (λ x. test (b ∷ x)) fs ≡ None → find test (map (λ x. b ∷ x) fs) ≡ None)
     → (if t then Some g else find (λ x. test (b ∷ x)) fs) ≡ None
     → (if t then Some (b ∷ g) else find test (map (λ x. b ∷ x) fs)) ≡ None
-find_map_none_by true test b g fs later none = cc
-find_map_none_by false test b g fs later none = later none
+find_map_none_by t test b g fs later none = grind arith
 
 -- of lists that all begin with the same byte, none passes where no suffix does
 find_map_none : (test : List ℕ → Bool) (b : ℕ) (fs : List (List ℕ))
@@ -52,8 +51,7 @@ none_told search bytes went = find_none is_told bytes went.calm
 
 -- where no prefix is decided, there is no message
 pub no_front_none : (stream : List ℕ) → first_told stream ≡ None → HasNoMessage stream
-no_front_none stream none sent.NoHead rest begins = let first = begins.first in cc
-no_front_none stream none (sent.Asks h body) rest begins = let first = begins.first in cc
+no_front_none stream none x rest begins = grind arith
 
 module _ (stream behind : List ℕ) (bytes : List ℕ) (end : ℕ) (whole : stream ≡ bytes ++ behind) (told : IsToldAt bytes end) where
   -- the decided prefix
@@ -71,12 +69,7 @@ module _ (stream behind : List ℕ) (bytes : List ℕ) (end : ℕ) (whole : stre
 
   -- a prefix that is no head is a message
   pub begins_without_head : (rest : List ℕ) → rest ≡ drop end bytes → IsNoHead front → BeginsWith stream sent.NoHead (rest ++ behind)
-  begins_without_head rest is none = record {
-    front = front;
-    first = first_is;
-    is_none = none;
-    whole = cut_at ∙ ap (λ left. front ++ (left ++ behind)) (sym is);
-  }
+  begins_without_head rest is none = grind (arith, first_is, cut_at)
 
   module _ (h : RequestHead) (is_head : IsHead front h) where
     -- a head, followed by as many bytes as its length says, is a message
@@ -84,19 +77,11 @@ module _ (stream behind : List ℕ) (bytes : List ℕ) (end : ℕ) (whole : stre
         → length body ≡ body_length (parts_of h)
         → drop end bytes ≡ body ++ rest
         → BeginsWith stream (sent.Asks h body) (rest ++ behind)
-    begins_with_request body rest long is = record {
-      front = front;
-      first = first_is;
-      is_head = is_head;
-      is_long = long;
-      whole = cut_at ∙ ap (λ left. front ++ (left ++ behind)) is ∙ ap (λ left. front ++ left) (append_assoc body rest behind);
-    }
+    begins_with_request body rest long is = grind (arith, first_is, cut_at, append_assoc)
 
     -- a message that begins with a head has as many bytes as its length says
     pub is_whole : (m : sent.Message) (rest : List ℕ) → BeginsWith stream m rest → end + body_length (parts_of h) ≤ length stream
-    is_whole sent.NoHead rest begins =
-        let same : begins.front ≡ front = let first = begins.first in let here = first_is in cc in
-        absurd (begins.is_none h (subst (λ text. IsHead text h) (sym same) is_head))
+    is_whole sent.NoHead rest begins = grind (arith, first_is)
     is_whole (sent.Asks k body) rest begins =
         let same : begins.front ≡ front = let first = begins.first in let here = first_is in cc in
         let k_here : IsHead front k = subst (λ text. IsHead text k) same begins.is_head in
@@ -109,11 +94,7 @@ module _ (stream behind : List ℕ) (bytes : List ℕ) (end : ℕ) (whole : stre
 
 -- a prefix is decided in as many bytes as contain it
 told_within : (bytes : List ℕ) (end count : ℕ) → end ≤ count → IsToldAt bytes end → IsToldAt (take count bytes) end
-told_within bytes end count room at = record {
-  within = omega (arith, room, at.within, length-take count bytes);
-  told = ap is_told (take-take end count bytes room) ∙ at.told;
-  first = λ k less. ap is_told (take-take k count bytes (omega arith)) ∙ at.first k less;
-}
+told_within bytes end count room at = grind (arith, length-take, take-take)
 
 -- behind as many bytes as there are, nothing is left
 nothing_left : (bytes : List ℕ) (end : ℕ) → [] ≡ drop end (take end bytes)
@@ -123,13 +104,12 @@ nothing_left bytes end = grind (arith, common_steps)
 pub no_head_first : (bytes : List ℕ) (end : ℕ) → IsToldAt bytes end → IsNoHead (take end bytes) → IsFirstOf bytes taken.NoHead end
 no_head_first bytes end at none =
     let front = take end bytes in
-    let same : take end front ≡ front = take-take end end bytes (omega arith) in
     record {
       message = sent.NoHead;
       is_taken = tt;
       within = at.within;
       is_message = λ rest. begins_without_head (front ++ rest) rest front end refl (told_within bytes end end (omega arith) at) [] (nothing_left bytes end)
-          (subst IsNoHead (sym same) none);
+          (subst IsNoHead (sym (take-take end end bytes (omega arith))) none);
     }
 
 module _ (bytes : List ℕ) (end count : ℕ) (head : Head) (at : IsToldAt bytes end) (is : IsSomeHeadAt (take end bytes) head)
@@ -140,8 +120,7 @@ module _ (bytes : List ℕ) (end count : ℕ) (head : Head) (at : IsToldAt bytes
 
   -- fewer bytes have no whole message
   pub none_whole : length bytes < end + count → HasNoMessage bytes
-  none_whole few = λ m rest begins.
-      omega (arith, few, long_as, is_whole bytes [] bytes end (sym (append-nil bytes)) at is.0 is.1.is_head m rest begins)
+  none_whole few = grind (arith, is_whole bytes [] bytes end (sym (append-nil bytes)))
 
   -- as many bytes have
   pub request_first : (r : Request) → end + count ≤ length bytes
@@ -167,8 +146,4 @@ pub messages_stay : (texts : List (List ℕ)) (ms : List sent.Message) (rest : L
     → BeginsWithAll (concat texts ++ rest) ms rest
 messages_stay [] ms rest are = subst (λ (all : List sent.Message). BeginsWithAll rest all rest) (sym are) refl
 messages_stay (text ∷ texts) [] rest are = absurd are
-messages_stay (text ∷ texts) (m ∷ ms) rest are = (
-  concat texts ++ rest,
-  subst (λ stream. sent.BeginsWith stream m (concat texts ++ rest)) (sym (append_assoc text (concat texts) rest)) (are.0 (concat texts ++ rest)),
-  messages_stay texts ms rest are.1,
-)
+messages_stay (text ∷ texts) (m ∷ ms) rest are = grind (arith, append_assoc, messages_stay texts ms rest are.1)

@@ -1,16 +1,16 @@
 -- What httparse reads of a decided prefix. For Head::read and first_message.
-use Rattle.std.proofs.Common.{◌≡◌, ◌∙◌, ap, sym, subst, ℕ, ◌≤◌, List, [], ◌++◌, length, take, drop, take-append-drop, append-nil, append_assoc, arith, Some, true, inl, inr, length-append, ◌==◌}
-use Rattle.std.proofs.lemmas.Bool.{cases_lt}
+use Rattle.std.proofs.Common.{◌≡◌, ◌∙◌, ap, sym, ℕ, ◌≤◌, List, [], ◌++◌, length, take, drop, take-append-drop, append-nil, append_assoc, arith, Some, true, inl, inr, length-append, ◌==◌}
+use Rattle.std.proofs.lemmas.Bool.{cases_lt, or_right}
 use Rattle.std.proofs.lemmas.List.{length-take-le, take_all, take-take, length-take, length-map}
 use Rattle.httparse.specs.declared.spans.HeaderSpan.{HeaderSpan}
 use Rattle.httparse.specs.declared.spans.RequestSpans.{RequestSpans}
 use Rattle.httparse.specs.Grammar.{RequestHead, print_request}
-use Rattle.httparse.specs.Spans.{IsRequestAt, IsRequestWithin, header_bytes, name_and_value}
+use Rattle.httparse.specs.Spans.{IsRequestAt, IsRequestWithin}
 use Rattle.http_messages.specs.Heads.{IsHead, Named, Parts, most_fields, most_head_bytes, parts_of}
 use Rattle.http_messages.specs.Messages.{ends_in_empty_line, first_told, is_told}
 use Rattle.http_messages.specs.Places.{IsToldAt}
 use Rattle.http_messages.specs.Fields.{IsHeadAt, parts_in}
-use Rattle.http_messages.proofs.ToldLemmas.{find_front, head_is_told, or_right}
+use Rattle.http_messages.proofs.ToldLemmas.{find_front, head_is_told}
 
 -- the shortest decided prefix is the first one, whatever follows
 pub first_of_told : (bytes more : List ℕ) (end : ℕ)
@@ -49,32 +49,26 @@ parts_same : {m p : List ℕ} {t u : List ℕ} {v w : ℕ} {f g : List Named}
     → v ≡ w
     → f ≡ g
     → the_parts m t v f ≡ the_parts p u w g
-parts_same {m} {p} {t} {u} {v} {w} {f} {g} a b c d =
-    ap (λ x. the_parts x t v f) a ∙ ap (λ x. the_parts p x v f) b ∙ ap (λ x. the_parts p u x f) c ∙ ap (λ x. the_parts p u w x) d
+parts_same {m} {p} {t} {u} {v} {w} {f} {g} a b c d = cc
 
 module _ (front : List ℕ) (fields : List HeaderSpan) (line : RequestSpans) (told : IsToldAt front (length front))
     (room : length fields ≡ most_fields) (h : RequestHead) (at : IsRequestAt front fields line h) where
   -- the head has no more fields than there is room for
   few_fields : length h.fields ≤ most_fields
-  few_fields =
-      omega (arith, room, length-take line.headers fields, length-map (take line.headers fields) (header_bytes front), length-map h.fields name_and_value, ap length at.fields)
+  few_fields = grind (arith, length-take, length-map)
 
   -- what was read of the prefix is a head
   read_head : IsHead (print_request h) h
-  read_head = record {
-    reads = (at.reads.0, sym (append-nil (print_request h)));
-    short = omega (arith, told_is_short front (length front) told, ap length at.reads.1, length-append (print_request h) (drop line.len front));
-    few = few_fields;
-  }
+  read_head = grind (arith, append-nil, told_is_short, length-append, few_fields)
 
   -- the head is the whole prefix, which is not decided before
   whole_front : print_request h ≡ front
   whole_front =
-      let here : first_told front ≡ Some (print_request h) =
-      ap first_told at.reads.1 ∙ head_is_told (print_request h) (drop line.len front) h read_head in
-      let end : first_told front ≡ Some front =
-      ap first_told (sym (append-nil front)) ∙ first_of_told front [] (length front) told ∙ ap Some (take_all (length front) front (omega arith)) in
-      cc
+      cc (
+        ap first_told at.reads.1 ∙ head_is_told (print_request h) (drop line.len front) h read_head,
+        ap first_told (sym (append-nil front)) ∙ first_of_told front [] (length front) told
+            ∙ ap Some (take_all (length front) front (omega arith)),
+      )
 
   -- the parts of the head stand where they were found
   same_parts : parts_in front (record { line = line; fields = fields }) ≡ parts_of h
@@ -82,8 +76,4 @@ module _ (front : List ℕ) (fields : List HeaderSpan) (line : RequestSpans) (to
 
   -- the prefix is that head
   pub is_head_at : IsRequestWithin front fields line → IsHeadAt front (record { line = line; fields = fields }) h
-  is_head_at lies = record {
-    is_head = subst (λ text. IsHead text h) whole_front read_head;
-    lies = lies;
-    parts = same_parts;
-  }
+  is_head_at lies = grind (arith, whole_front, read_head, same_parts)

@@ -1,13 +1,12 @@
 -- After a head and its body the next message is looked for, whatever the body stands for. For the laws.
-use Rattle.std.proofs.Common.{◌≡◌, ◌∙◌, ap, sym, subst, refl, ℕ, ◌+◌, ◌-◌, Bool, true, false, ◌||◌, ◌==◌, List, [], ◌∷◌, ◌++◌, length, take, arith, append-nil, append_assoc, Result, Ok, Some, if◌then◌else◌, not, IsTrue}
+use Rattle.std.proofs.Common.{◌≡◌, ◌∙◌, ap, sym, subst, refl, ℕ, ◌+◌, ◌-◌, Bool, true, false, ◌==◌, List, [], ◌∷◌, ◌++◌, length, take, arith, append-nil, append_assoc, Result, Ok, Some, IsTrue, eqb-true}
 use Rattle.std.proofs.Math.Seq.{take-append-add}
-use Rattle.std.proofs.lemmas.Bool.{eqb-true}
 use Rattle.std.proofs.lemmas.List.{append_cancel_left}
 use Rattle.std.proofs.lemmas.List.Elements.{recursion_from_All}
 use Rattle.httparse.specs.Grammar.{IsToken, LineEnd, RequestHead, crlf, is_token_byte, lf, print_blank, print_request}
-use Rattle.httparse.proofs.GrammarLemmas.{ReadsSection-append, print_request-append, request_unique}
+use Rattle.httparse.proofs.GrammarLemmas.{print_request-append, request_unique}
 use Rattle.http_messages.specs.Heads.{IsHead, most_head_bytes, parts_of}
-use Rattle.http_messages.specs.Messages.{first_told, is_newline}
+use Rattle.http_messages.specs.Messages.{first_told}
 use Rattle.http_messages.proofs.ToldLemmas.{head_is_told}
 use Rattle.http_messages.specs.declared.framing.BodyKind.{BodyKind}
 use Rattle.http_messages.specs.declared.framing.BodyKind.TheVariants.{Sized, Chunked}
@@ -19,15 +18,14 @@ use Rattle.http_messages.proofs.BodyLemmas.{one_body}
 
 -- a token has no line end
 kept_out : (b c : ℕ) (t : Bool) → (b == c) ≡ t → is_token_byte c ≡ false → is_token_byte b ≡ true → t ≡ false
-kept_out b c true e none some = let same = ap is_token_byte (eqb-true b c e) in cc
-kept_out b c false e none some = refl
+kept_out b c t e none some = grind (arith, eqb-true)
 
 begins_a_method : (b : ℕ) (later : List ℕ) → is_token_byte b ≡ true → begins_no_method (b ∷ later) ≡ false
 begins_a_method b later token =
-    let cr = kept_out b 13 (b == 13) refl (unfold is_token_byte in refl) token in
-    let line = kept_out b 10 (b == 10) refl (unfold is_token_byte in refl) token in
-    let quiet : is_newline b ≡ false = ap (λ t. t || b == 10) cr ∙ line in
-    ap (λ t. if t then begins_no_method later else not (is_token_byte b)) quiet ∙ ap not token
+    cc (
+      kept_out b 13 (b == 13) refl (unfold is_token_byte in refl) token,
+      kept_out b 10 (b == 10) refl (unfold is_token_byte in refl) token,
+    )
 
 -- after empty lines a method begins
 after_blank : (ends : List LineEnd) (method later : List ℕ) → IsToken method → begins_no_method (print_blank ends ++ (method ++ later)) ≡ false
@@ -45,32 +43,8 @@ method_first front more h is =
 
 -- a body stays the same, whatever follows it
 pub body_more : (kind : BodyKind) (text body rest : List ℕ) → IsBody kind text body [] → IsBody kind (text ++ rest) body rest
-body_more (Sized count) text body rest is = record {
-  trailers = is.trailers;
-  reads = (is.reads.0, ap (λ t. t ++ rest) (is.reads.1 ∙ append-nil body), is.reads.2);
-  few = is.few;
-  short = is.short;
-}
-body_more Chunked text body rest is =
-    let chunked = is.reads in
-    let section = chunked.trailers in
-    record {
-      trailers = is.trailers;
-      reads = record {
-        chunks = chunked.chunks;
-        after = chunked.after ++ rest;
-        reads = (chunked.reads.0, ap (λ t. t ++ rest) chunked.reads.1 ∙ append_assoc _ chunked.after rest);
-        decoded = chunked.decoded;
-        trailers = record {
-          last = section.last;
-          reads = ReadsSection-append chunked.after is.trailers section.last [] rest section.reads;
-          strict = section.strict;
-          within_limit = section.within_limit;
-        };
-      };
-      few = is.few;
-      short = is.short;
-    }
+body_more (Sized count) text body rest is = grind (arith, append-nil)
+body_more Chunked text body rest is = grind (arith, append_assoc)
 
 -- the bytes that a head may have, of a stream that begins with one: the head, and some of what follows it
 reach : (front more : List ℕ) (h : RequestHead) → IsHead front h
@@ -81,8 +55,7 @@ reach front more h is =
 
 -- a head begins with a method
 method_here : (front more : List ℕ) (h : RequestHead) → IsHead front h → has_no_method (front ++ more) ≡ false
-method_here front more h is =
-    ap begins_no_method (reach front more h is) ∙ method_first front (take (most_head_bytes - length front) more) h is
+method_here front more h is = grind (arith, reach, method_first)
 
 pub same_front : (stream f g : List ℕ) → first_told stream ≡ Some f → first_told stream ≡ Some g → f ≡ g
 same_front stream f g one other = cc
@@ -115,8 +88,7 @@ module _ (front text body rest : List ℕ) (h : RequestHead) (kind : BodyKind)
   begins_alone k other left begins =
       let its = begins.2 in
       let f : its.front ≡ front = same_front stream its.front front its.begins.first (head_is_told front (text ++ rest) h is) in
-      let k_here : IsHead front k = subst (λ z. IsHead z k) f its.is_head in
-      let same : k ≡ h = (request_unique front k h [] [] k_here.reads is.reads).0 in
+      let same : k ≡ h = (request_unique front k h [] [] (subst (λ z. IsHead z k) f its.is_head).reads is.reads).0 in
       let kinds : begins.0 ≡ kind = same_kind begins.0 kind (head_kind (parts_of h)) (ap (λ z. head_kind (parts_of z)) (sym same) ∙ its.framed) framed in
       let after : begins.1 ≡ text ++ rest =
       append_cancel_left front begins.1 (text ++ rest) (ap (λ z. z ++ begins.1) (sym f) ∙ sym its.begins.whole) in

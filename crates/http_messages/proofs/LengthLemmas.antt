@@ -1,13 +1,13 @@
 -- The number that digits spell, one digit after another. For length_in.
-use Rattle.std.proofs.Common.{◌≡◌, ◌∙◌, ap, sym, refl, ℕ, zero, suc, ◌+◌, ◌-◌, ◌*◌, ◌<◌, ◌≤◌, Bool, true, false, List, [], ◌∷◌, ◌++◌, length, take, get_or, arith, add-one, ◌==◌, Some}
+use Rattle.std.proofs.Common.{◌≡◌, ◌∙◌, ap, refl, ℕ, zero, suc, ◌+◌, ◌-◌, ◌*◌, ◌<◌, ◌≤◌, Bool, true, false, List, [], ◌∷◌, ◌++◌, length, take, get_or, arith, add-one, ◌==◌, Some}
+use Rattle.std.proofs.lemmas.Bool.{and_parts, and_from}
 use Rattle.std.specs.List.{list_all}
 use Rattle.std.specs.Char.{digit_value, is_ascii_digit}
 use Rattle.std.specs.Str.Parse.{digits_value, digits_value_after}
 use Rattle.std.proofs.lemmas.List.{take_more, take_all}
 use Rattle.std.proofs.lemmas.Bool.Decides.{nat_tests}
-use Rattle.allotment.specs.Limits.{is_between, is_digit}
+use Rattle.allotment.specs.Limits.{is_digit}
 use Rattle.http_messages.specs.Fields.{length_of}
-use Rattle.http_messages.proofs.ListFacts.{and_both, and_make}
 
 -- 1 with so many zeros
 abbrev pub tens : ℕ → ℕ
@@ -40,10 +40,10 @@ all-append : (test : ℕ → Bool) (xs : List ℕ) (c : ℕ)
     → list_all test xs ≡ true
     → test c ≡ true
     → list_all test (xs ++ c ∷ []) ≡ true
-all-append test [] c all last = and_make (test c) true last refl
+all-append test [] c all last = and_from (test c) true last refl
 all-append test (x ∷ xs) c all last =
-    let both = and_both (test x) (list_all test xs) all in
-    and_make (test x) _ both.0 (all-append test xs c both.1 last)
+    let both = and_parts (test x) (list_all test xs) all in
+    and_from (test x) _ both.0 (all-append test xs c both.1 last)
 
 -- a digit is worth what it is above `0`
 digit_worth : (b : ℕ) → is_ascii_digit b ≡ true → (digit_value b ≡ b - 48) × (b - 48 ≤ 9) × (is_digit b ≡ true)
@@ -83,9 +83,4 @@ pub number_told : (text : List ℕ) (i n : ℕ)
     → length text ≤ i
     → IsNumberTo text i n
     → Some n ≡ length_of text
-number_told text i n some few all so_far =
-    let whole = take_all i text all in
-    let digits : list_all is_digit text ≡ true = ap (list_all is_digit) (sym whole) ∙ so_far.digits in
-    let worth : digits_value 10 text ≡ n = ap (digits_value 10) (sym whole) ∙ so_far.value in
-    let between : is_between 1 9 (length text) ≡ true = grind (arith, nat_tests) in
-    rw (between, digits, worth) refl
+number_told text i n some few all so_far = grind (arith, take_all, nat_tests)

@@ -1,4 +1,3 @@
-pub mod ListFacts
 pub mod FieldLemmas
 pub mod WordLemmas
 pub mod LengthLemmas
@@ -8,11 +7,7 @@ pub mod HeadLemmas
 pub mod FirstLemmas
 pub mod MessageLemmas
 pub mod BodyLemmas
-pub mod ReadLemmas
 pub mod LawLemmas
-pub mod CallLemmas
 pub mod WideLemmas
-pub mod StartLemmas
 pub mod PlainLemmas
 pub mod WideFirstLemmas
-pub mod DueLemmas

@@ -12,45 +12,31 @@ same_split [] (c ∷ b) x y l e = absurd (omega arith)
 same_split (c ∷ a) [] x y l e = absurd (omega arith)
 same_split (c ∷ a) (d ∷ b) x y l e =
     let heads : c ≡ d = cc in
-    let tails : a ++ x ≡ b ++ y = cc in
-    let more = same_split a b x y (omega arith) tails in
+    let more = same_split a b x y (omega arith) cc in
     (ap (λ z. z ∷ a) heads ∙ ap (λ z. d ∷ z) more.0, more.1)
 
 same_front : (stream f g : List ℕ) → first_told stream ≡ Some f → first_told stream ≡ Some g → f ≡ g
 same_front stream f g d e = cc
 
 pub one_message : (stream : List ℕ) (m n : Message) (x y : List ℕ) → BeginsWith stream m x → BeginsWith stream n y → (m ≡ n) × (x ≡ y)
-one_message stream NoHead NoHead x y a b =
-    let f = same_front stream a.front b.front a.first b.first in
-    (refl, append_cancel_left a.front x y (sym a.whole ∙ b.whole ∙ ap (λ z. z ++ y) (sym f)))
-one_message stream NoHead (Asks h body) x y a b =
-    let f = same_front stream b.front a.front b.first a.first in
-    let P : List ℕ → Type 0 = λ z. IsHead z h in
-    absurd (a.is_none h (subst P f b.is_head))
-one_message stream (Asks h body) NoHead x y a b =
-    let f = same_front stream a.front b.front a.first b.first in
-    let P : List ℕ → Type 0 = λ z. IsHead z h in
-    absurd (b.is_none h (subst P f a.is_head))
+one_message stream NoHead NoHead x y a b = grind (arith, same_front, append_cancel_left)
+one_message stream NoHead (Asks h body) x y a b = grind (arith, same_front)
+one_message stream (Asks h body) NoHead x y a b = grind (arith, same_front)
 one_message stream (Asks h body) (Asks k other) x y a b =
     let f = same_front stream b.front a.front b.first a.first in
-    let P : List ℕ → Type 0 = λ z. IsHead z k in
-    let k_here : IsHead a.front k = subst P f b.is_head in
+    let k_here : IsHead a.front k = subst (λ z. IsHead z k) f b.is_head in
     let same : h ≡ k = (request_unique a.front h k [] [] a.is_head.reads k_here.reads).0 in
     let after : body ++ x ≡ other ++ y = append_cancel_left a.front (body ++ x) (other ++ y) (sym a.whole ∙ b.whole ∙ ap (λ z. z ++ (other ++ y)) f) in
-    let lengths : length body ≡ length other = a.is_long ∙ ap (λ z. body_length (parts_of z)) same ∙ sym b.is_long in
-    let both = same_split body other x y lengths after in
+    let both = same_split body other x y (a.is_long ∙ ap (λ z. body_length (parts_of z)) same ∙ sym b.is_long) after in
     (ap (λ z. Asks z body) same ∙ ap (λ z. Asks k z) both.0, both.1)
 
 one_reading_of : (stream rest left : List ℕ) (ms ns : List Message) → BeginsWithAll stream ms rest → HasNoMessage rest → BeginsWithAll stream ns left → HasNoMessage left → ms ≡ ns
 one_reading_of stream rest left [] [] a u b v = refl
-one_reading_of stream rest left [] (n ∷ ns) a u b v =
-    let P : List ℕ → Type 0 = λ z. BeginsWith z n b.0 in absurd (u n b.0 (subst P a b.1))
-one_reading_of stream rest left (m ∷ ms) [] a u b v =
-    let P : List ℕ → Type 0 = λ z. BeginsWith z m a.0 in absurd (v m a.0 (subst P b a.1))
+one_reading_of stream rest left [] (n ∷ ns) a u b v = grind arith
+one_reading_of stream rest left (m ∷ ms) [] a u b v = grind arith
 one_reading_of stream rest left (m ∷ ms) (n ∷ ns) a u b v =
     let here = one_message stream m n a.0 b.0 a.1 b.1 in
-    let P : List ℕ → Type 0 = λ z. BeginsWithAll z ns left in
-    let later = one_reading_of a.0 rest left ms ns a.2 u (subst P (sym here.1) b.2) v in
+    let later = one_reading_of a.0 rest left ms ns a.2 u (subst (λ z. BeginsWithAll z ns left) (sym here.1) b.2) v in
     ap (λ z. z ∷ ms) here.0 ∙ ap (λ z. n ∷ z) later
 
 pub one_reading : (stream : List ℕ) (ms others : List Message) → AreMessages stream ms → AreMessages stream others → ms ≡ others

@@ -1,31 +1,23 @@
 -- The walk through a stream finds the shortest decided prefix. For look and decided_front.
-use Rattle.std.proofs.Common.{◌≡◌, ◌∙◌, ap, sym, subst, refl, ℕ, ◌+◌, ◌-◌, ◌<◌, ◌≤◌, Bool, true, false, ◌||◌, List, [], ◌∷◌, ◌++◌, length, take, drop, get_or, take-append-drop, arith, length-append, inl, inr, ◌==◌}
-use Rattle.std.proofs.lemmas.Bool.{cases_lt}
-use Rattle.std.proofs.lemmas.List.{take_more, take_all, length-take-le, take-append-le, get_or-drop, take_rest}
+use Rattle.std.proofs.Common.{◌≡◌, ◌∙◌, ap, sym, refl, ℕ, ◌+◌, ◌<◌, ◌≤◌, Bool, true, false, ◌||◌, List, [], ◌∷◌, ◌++◌, length, take, drop, get_or, take-append-drop, arith, length-append, inl, inr, ◌==◌}
+use Rattle.std.proofs.lemmas.Bool.{cases_lt, or_right, or_left, or_from}
+use Rattle.std.proofs.lemmas.List.{take_more, take_all, length-take-le, take-append-le}
 use Rattle.http_messages.specs.Heads.{most_head_bytes}
-use Rattle.http_messages.specs.Messages.{ends_in_empty_line, is_told}
-use Rattle.http_messages.specs.Places.{IsToldAt, LooksAt, WentThrough, WhereTold, is_told_place, next_place, walk}
+use Rattle.http_messages.specs.Messages.{is_told}
+use Rattle.http_messages.specs.Places.{IsToldAt, LooksAt, WentThrough, is_told_place, next_place, walk}
 use Rattle.http_messages.specs.declared.places.Place.{Place}
-use Rattle.http_messages.specs.declared.places.Place.TheVariants.{Before, Within, AfterLf, AfterCr, Told}
+use Rattle.http_messages.specs.declared.places.Place.TheVariants.{Before, Told}
 use Rattle.http_messages.specs.declared.places.Search.{Search}
-use Rattle.http_messages.proofs.ToldLemmas.{not_empty_line, or_false, or_left, or_right, told_at_end, walk_append}
+use Rattle.http_messages.proofs.ToldLemmas.{not_empty_line, told_at_end, walk_append}
 
 -- only one place is that of a decided prefix
 told_place : (place : Place) → is_told_place place ≡ true → place ≡ Told
-told_place Before is = cc
-told_place Within is = cc
-told_place AfterLf is = cc
-told_place AfterCr is = cc
-told_place Told is = refl
+told_place place is = grind arith
 
 -- the bytes are decided where the walk ends there, or where they are as many as a head may have
 told_here : (bytes : List ℕ) → (is_told_place (walk Before bytes) || length bytes == most_head_bytes) ≡ true
     → is_told bytes ≡ true
-told_here bytes is = told_by (is_told_place (walk Before bytes)) refl is
-  where
-    told_by : (b : Bool) → is_told_place (walk Before bytes) ≡ b → (b || length bytes == most_head_bytes) ≡ true → is_told bytes ≡ true
-    told_by true at is = or_left (ends_in_empty_line bytes) _ (told_at_end bytes (told_place (walk Before bytes) at))
-    told_by false at is = or_right (ends_in_empty_line bytes) _ is
+told_here bytes is = grind (arith, or_left, told_at_end, told_place, or_right)
 
 -- the bytes are decided nowhere else
 not_told : (bytes : List ℕ) → (is_told_place (walk Before bytes) || length bytes == most_head_bytes) ≡ false
@@ -33,8 +25,7 @@ not_told : (bytes : List ℕ) → (is_told_place (walk Before bytes) || length b
 not_told bytes is = not_told_by (is_told_place (walk Before bytes)) refl is
   where
     not_told_by : (b : Bool) → is_told_place (walk Before bytes) ≡ b → (b || length bytes == most_head_bytes) ≡ false → is_told bytes ≡ false
-    not_told_by true at is = cc
-    not_told_by false at is = or_false (ends_in_empty_line bytes) _ (not_empty_line bytes _ refl at) is
+    not_told_by b at is = search (arith, or_from, not_empty_line)
 
 -- bytes without a decided prefix stay so with one more byte that decides nothing
 calm_more : (seen : List ℕ) (byte : ℕ)
@@ -52,25 +43,7 @@ pub looks_more : (told : Bool) (old new : Search) (byte : ℕ)
     → new.place ≡ next_place old.place byte
     → told ≡ (is_told_place new.place || new.looked == most_head_bytes)
     → LooksAt told old new byte
-looks_more told old new byte far led is seen went =
-    let place : new.place ≡ walk Before (seen ++ byte ∷ []) =
-    led ∙ ap (λ p. next_place p byte) went.place ∙ sym (walk_append Before seen (byte ∷ [])) in
-    let count : new.looked ≡ length (seen ++ byte ∷ []) = omega (arith, far, went.far, length-append seen (byte ∷ [])) in
-    let test : told ≡ (is_told_place (walk Before (seen ++ byte ∷ [])) || length (seen ++ byte ∷ []) == most_head_bytes) =
-    is ∙ ap (λ p. is_told_place p || new.looked == most_head_bytes) place
-    ∙ ap (λ n. is_told_place (walk Before (seen ++ byte ∷ [])) || n == most_head_bytes) count in
-    by_answer told (sym test) count place
-  where
-    by_answer : (b : Bool) → (is_told_place (walk Before (seen ++ byte ∷ [])) || length (seen ++ byte ∷ []) == most_head_bytes) ≡ b
-        → new.looked ≡ length (seen ++ byte ∷ [])
-        → new.place ≡ walk Before (seen ++ byte ∷ [])
-        → WhereTold b new (seen ++ byte ∷ [])
-    by_answer true test count place = told_here (seen ++ byte ∷ []) test
-    by_answer false test count place = record {
-      far = count;
-      place = place;
-      calm = calm_more seen byte went.calm (not_told (seen ++ byte ∷ []) test);
-    }
+looks_more told old new byte far led is seen went = grind (arith, walk_append, length-append, told_here, calm_more, not_told)
 
 -- a shorter prefix of a prefix is a prefix
 take_shorter : (k n : ℕ) (bytes : List ℕ) → k ≤ n → n ≤ length bytes → take k (take n bytes) ≡ take k bytes

@@ -1,26 +1,20 @@
 -- What the profile reads in the fields of a plain request. For Head::request.
-use Rattle.std.proofs.Common.{◌≡◌, ◌∙◌, ap, sym, refl, ℕ, ◌<◌, ◌≤◌, Bool, true, false, ◌&&◌, ◌==◌, List, [], ◌∷◌, ◌++◌, map, length, append-nil, arith, None, ◌^◌, bytes_eq, codes, if◌then◌else◌, not, nat_le, option_and_then}
-use Rattle.std.specs.Char.{digit_char, digit_value}
+use Rattle.std.proofs.Common.{◌≡◌, ◌∙◌, ap, sym, refl, ℕ, ◌≤◌, Bool, true, false, ◌&&◌, ◌==◌, List, [], ◌∷◌, ◌++◌, map, length, append-nil, arith, None, bytes_eq, codes, if◌then◌else◌, option_and_then}
 use Rattle.std.specs.List.{list_all, list_any}
 use Rattle.std.specs.Str.Parse.{AllDigits}
-use Rattle.std.specs.Int.Digits.{digits_of}
-use Rattle.std.proofs.lemmas.Bool.{le-leb}
+use Rattle.std.proofs.lemmas.Bool.{le-leb, or_right, and_from}
 use Rattle.std.proofs.lemmas.Bool.Decides.{nat_tests}
 use Rattle.std.proofs.lemmas.Int.Digits.{length-digits_of-le}
 use Rattle.std.proofs.lemmas.List.{length-map}
 use Rattle.http1.specs.Text.{numeral}
 use Rattle.http1.proofs.NumeralLemmas.{numeral_reads_back}
-use Rattle.allotment.specs.Limits.{is_between, is_digit}
-use Rattle.allotment.specs.Making.{unless}
+use Rattle.allotment.specs.Limits.{is_digit}
 use Rattle.allotment.specs.Texts.{keep_if}
 use Rattle.commands.specs.Limits.{most_bytes}
 use Rattle.commands.specs.Names.{is_agent, is_key}
-use Rattle.commands.specs.declared.replies.Refusal.TheVariants as refusal
-use Rattle.http_messages.specs.Heads.{Named, Parts, are_lengths, asks_to_close, complaint_of, first_of, is_alike, is_length, is_meant, is_method, is_plain, length_in, lengths, meant_agents, tells_length, the_one, the_text, values_named}
+use Rattle.http_messages.specs.Heads.{Named, Parts, asks_to_close, complaint_of, is_alike, is_length, is_meant, meant_agents, the_one, the_text, values_named}
 use Rattle.http_messages.specs.Requests.{IsRequest}
 use Rattle.http_messages.specs.declared.requests.Request.{Request}
-use Rattle.http_messages.proofs.ListFacts.{and_make}
-use Rattle.http_messages.proofs.ToldLemmas.{or_right}
 use Rattle.http_messages.specs.Wide.{ends_after}
 use Rattle.http_messages.specs.Plain.{SaysPlainly, close_if, fields_of, plain_fields, plain_host, plain_key, plain_parts}
 
@@ -63,38 +57,28 @@ module _ (asked : Parts) (body : List ℕ) where
   after_all : (name : List ℕ) → is_alike (codes "Desk-Agent") name ≡ false → is_alike (codes "Desk-For") name ≡ false
       → is_alike (codes "Desk-Key") name ≡ false
       → values_named name (fields_of (codes "Desk-Agent") agents ++ meant_fields) ≡ values_named name (last_fields (ends_after asked))
-  after_all name agent whom key =
-      named_past name (codes "Desk-Agent") meant_fields agent agents
-      ∙ named_past name (codes "Desk-For") key_fields whom meant
-      ∙ named_past name (codes "Desk-Key") (last_fields (ends_after asked)) key keys
+  after_all name agent whom key = grind (arith, named_past)
 
   no_host : (ends : Bool) → values_named (codes "host") (last_fields ends) ≡ []
-  no_host true = refl
-  no_host false = refl
+  no_host ends = grind arith
 
   no_agent : (ends : Bool) → values_named (codes "desk-agent") (last_fields ends) ≡ []
-  no_agent true = refl
-  no_agent false = refl
+  no_agent ends = grind arith
 
   no_meant : (ends : Bool) → values_named (codes "desk-for") (last_fields ends) ≡ []
-  no_meant true = refl
-  no_meant false = refl
+  no_meant ends = grind arith
 
   no_key : (ends : Bool) → values_named (codes "desk-key") (last_fields ends) ≡ []
-  no_key true = refl
-  no_key false = refl
+  no_key ends = grind arith
 
   no_coding : (ends : Bool) → values_named (codes "transfer-encoding") (last_fields ends) ≡ []
-  no_coding true = refl
-  no_coding false = refl
+  no_coding ends = grind arith
 
   one_length : (ends : Bool) → values_named (codes "content-length") (last_fields ends) ≡ numeral 10 (length body) ∷ []
-  one_length true = refl
-  one_length false = refl
+  one_length ends = grind arith
 
   closing : (ends : Bool) → list_any (λ value. is_alike value (codes "close")) (values_named (codes "connection") (last_fields ends)) ≡ ends
-  closing true = refl
-  closing false = refl
+  closing ends = grind arith
 
   abbrev pub fields : List Named
   fields = plain_fields asked body
@@ -103,26 +87,13 @@ module _ (asked : Parts) (body : List ℕ) where
   host_is = ap (λ z. plain_host asked ∷ z) (after_all (codes "host") refl refl refl ∙ no_host (ends_after asked))
 
   pub agents_are : values_named (codes "desk-agent") fields ≡ agents
-  agents_are =
-      named_first (codes "desk-agent") (codes "Desk-Agent") meant_fields refl agents
-      ∙ ap (λ z. agents ++ z) (named_past (codes "desk-agent") (codes "Desk-For") key_fields refl meant
-      ∙ named_past (codes "desk-agent") (codes "Desk-Key") (last_fields (ends_after asked)) refl keys ∙ no_agent (ends_after asked))
-      ∙ append-nil agents
+  agents_are = grind (arith, named_first, named_past, no_agent, append-nil)
 
   pub meant_are : values_named (codes "desk-for") fields ≡ meant
-  meant_are =
-      named_past (codes "desk-for") (codes "Desk-Agent") meant_fields refl agents
-      ∙ named_first (codes "desk-for") (codes "Desk-For") key_fields refl meant
-      ∙ ap (λ z. meant ++ z) (named_past (codes "desk-for") (codes "Desk-Key") (last_fields (ends_after asked)) refl keys ∙ no_meant (ends_after asked))
-      ∙ append-nil meant
+  meant_are = grind (arith, named_past, named_first, no_meant, append-nil)
 
   pub keys_are : values_named (codes "desk-key") fields ≡ keys
-  keys_are =
-      named_past (codes "desk-key") (codes "Desk-Agent") meant_fields refl agents
-      ∙ named_past (codes "desk-key") (codes "Desk-For") key_fields refl meant
-      ∙ named_first (codes "desk-key") (codes "Desk-Key") (last_fields (ends_after asked)) refl keys
-      ∙ ap (λ z. keys ++ z) (no_key (ends_after asked))
-      ∙ append-nil keys
+  keys_are = grind (arith, named_past, named_first, no_key, append-nil)
 
   pub no_coding_is : values_named (codes "transfer-encoding") fields ≡ []
   no_coding_is = after_all (codes "transfer-encoding") refl refl refl ∙ no_coding (ends_after asked)
@@ -131,72 +102,38 @@ module _ (asked : Parts) (body : List ℕ) where
   length_is = after_all (codes "content-length") refl refl refl ∙ one_length (ends_after asked)
 
   pub closes_is : asks_to_close (plain_parts asked body) ≡ ends_after asked
-  closes_is =
-      ap (λ values. list_any (λ value. is_alike value (codes "close")) values) (after_all (codes "connection") refl refl refl)
-      ∙ closing (ends_after asked)
+  closes_is = grind (arith, after_all, closing)
 
 -- what follows from who is named and who is meant is the same
 by_both : {X : Type 0} (asked : Parts) (body : List ℕ) (of : List (List ℕ) → List (List ℕ) → X)
     → of (values_named (codes "desk-agent") (plain_fields asked body)) (values_named (codes "desk-for") (plain_fields asked body))
     ≡ of (agents asked body) (meant asked body)
-by_both asked body of =
-    ap (λ z. of z (values_named (codes "desk-for") (plain_fields asked body))) (agents_are asked body)
-    ∙ ap (of (agents asked body)) (meant_are asked body)
+by_both asked body of = grind (arith, agents_are, meant_are)
 
 -- The length of a body.
 
 digits_are : (text : List ℕ) → AllDigits 10 text → list_all is_digit text ≡ true
 digits_are [] all = refl
-digits_are (digit ∷ later) all = and_make _ _ (is_one digit all.0) (digits_are later all.1)
-  where
-    is_one : (c : ℕ) → digit_value c < 10 → is_digit c ≡ true
-    is_one c small = grind (arith, nat_tests)
+digits_are (digit ∷ later) all = grind (arith, and_from, nat_tests, digits_are later)
 
 few_digits : (n : ℕ) → n ≤ most_bytes → length (numeral 10 n) ≤ 9
 unfolding numeral
-few_digits n short = by_test (n == 0)
-  where
-    ten : 10 ^ 6 ≡ 1000000
-    ten = refl
-
-    by_test : (t : Bool) → length (if t then 48 ∷ [] else map digit_char (digits_of 10 n)) ≤ 9
-    by_test true = omega arith
-    by_test false = omega (arith, length-map (digits_of 10 n) digit_char, length-digits_of-le 10 6 n (omega arith) (omega (arith, short, ten)))
+few_digits n short = grind (arith, length-map, length-digits_of-le)
 
 is_good_length : (n : ℕ) → n ≤ most_bytes → is_length (numeral 10 n) ≡ true
-is_good_length n short =
-    let back = numeral_reads_back 10 n (omega arith) (omega arith) in
-    let size = length (numeral 10 n) in
-    and_make (is_between 1 9 size) (list_all is_digit (numeral 10 n))
-    (and_make (nat_le 1 size) (nat_le size 9) (le-leb 1 size back.not_empty) (le-leb size 9 (few_digits n short)))
-    (digits_are (numeral 10 n) back.digits)
+is_good_length n short = grind (arith, numeral_reads_back, and_from, le-leb, few_digits, digits_are)
 
 -- The whole head.
 
 -- it asks for no page without a body
 not_head : (t : Bool) (method : List ℕ) → bytes_eq method (codes "HEAD") ≡ t
     → bytes_eq (if t then codes "GET" else method) (codes "HEAD") ≡ false
-not_head true method is = refl
-not_head false method is = is
+not_head t method is = grind arith
 
 -- nothing is wrong with it
 no_complaint : (asked : Parts) (body : List ℕ) → length body ≤ most_bytes → complaint_of (plain_parts asked body) ≡ None
 no_complaint asked body short =
-    let fields = plain_fields asked body in
-    let text = numeral 10 (length body) in
-    let parts = plain_parts asked body in
-    let plain : is_plain parts ≡ true =
-    ap (λ z. (1 == 1) && (length z == 1) && (length (values_named (codes "transfer-encoding") fields) == 0) && are_lengths (lengths parts)) (host_is asked body)
-    ∙ ap (λ z. (1 == 1) && (length (plain_host asked ∷ []) == 1) && (length z == 0) && are_lengths (lengths parts)) (no_coding_is asked body)
-    ∙ ap are_lengths (length_is asked body) ∙ is_good_length (length body) short in
-    let value : length_in (lengths parts) ≡ length body =
-    ap length_in (length_is asked body) ∙ (numeral_reads_back 10 (length body) (omega arith) (omega arith)).value in
-    let small : nat_le (length_in (lengths parts)) most_bytes ≡ true = ap (λ n. nat_le n most_bytes) value ∙ le-leb (length body) most_bytes short in
-    let told : tells_length parts ≡ true =
-    or_right (not (is_method (codes "POST") parts)) (length (lengths parts) == 1) (ap (λ z. length z == 1) (length_is asked body)) in
-    ap (λ z. first_of (unless z refusal.BadHead ++ unless (nat_le (length_in (lengths parts)) most_bytes) refusal.TooLarge ++ unless (tells_length parts) refusal.NoLength)) plain
-    ∙ ap (λ z. first_of (unless z refusal.TooLarge ++ unless (tells_length parts) refusal.NoLength)) small
-    ∙ ap (λ z. first_of (unless z refusal.NoLength)) told
+    grind (arith, host_is, no_coding_is, length_is, is_good_length, numeral_reads_back, le-leb, or_right)
 
 -- what a request says plainly is what the profile reads in the plain head
 pub as_request : (r : Request) (asked : Parts) (body : List ℕ) → length body ≤ most_bytes → SaysPlainly r asked body

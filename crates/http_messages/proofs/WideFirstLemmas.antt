@@ -1,17 +1,16 @@
 -- The message that each answer is. For first_wide_message and go_on_is_due.
-use Rattle.std.proofs.Common.{◌≡◌, ◌∙◌, ap, sym, subst, refl, ℕ, ◌+◌, ◌-◌, ◌≤◌, inl, inr, true, false, List, [], ◌∷◌, ◌++◌, length, take, drop, replicate, take-append-drop, append-nil, append_assoc, arith, Some, None, Result, Ok, Err, length-append, IsSome}
-use Rattle.std.proofs.lemmas.List.{drop-drop, length-drop, length-replicate, length-take-le, take_all}
+use Rattle.std.proofs.Common.{◌≡◌, ◌∙◌, ap, sym, subst, refl, ℕ, ◌+◌, ◌-◌, ◌≤◌, inl, inr, true, false, List, [], ◌∷◌, ◌++◌, length, take, drop, replicate, take-append-drop, append-nil, append_assoc, arith, Some, None, Result, Ok, Err, length-append, IsSome, ◌<◌, Bool, ◌||◌, ◌==◌, not}
+use Rattle.std.proofs.lemmas.List.{drop-drop, length-drop, length-replicate, length-take-le, take_all, take-append-le}
 use Rattle.httparse.specs.Grammar.{RequestHead}
 use Rattle.http1.specs.ChunkedDecoder.{run, run_on, skips, start, step, stops, use_of, yields, Use}
 use Rattle.http1.specs.declared.chunked.ChunkedDecoder.{ChunkedDecoder}
 use Rattle.commands.specs.Limits.{most_bytes}
-use Rattle.http_messages.specs.Heads.{IsHead, IsNoHead, Parts, most_head_bytes, parts_of}
-use Rattle.http_messages.specs.Requests.{IsRequest}
-use Rattle.http_messages.specs.Messages.{first_told}
+use Rattle.http_messages.specs.Heads.{IsHead, IsNoHead, most_head_bytes, parts_of}
+use Rattle.http_messages.specs.Messages.{first_told, ends_in_empty_line, is_newline}
 use Rattle.http_messages.specs.Places.{IsToldAt}
 use Rattle.http_messages.specs.Bodies.{Ends, Exceeds, Goes, IsBody, NeverEnds, Reading, first_reading}
-use Rattle.http_messages.specs.Framing.{IsWithinLimit, asked_kind, denial_of, head_kind}
-use Rattle.http_messages.specs.Wide.{Asks, BadBody, BeginsWith, BeginsWithFront, BeginsWithHead, HasNoBody, IsLarge, NoHead, NoMethod, Unread, has_no_method}
+use Rattle.http_messages.specs.Framing.{IsWithinLimit, denial_of, head_kind}
+use Rattle.http_messages.specs.Wide.{Asks, BadBody, BeginsWith, BeginsWithFront, BeginsWithHead, HasNoBody, IsLarge, NoHead, NoMethod, Unread, has_no_method, begins_no_method}
 use Rattle.http_messages.specs.declared.denials.Denial.{Denial}
 use Rattle.http_messages.specs.declared.denials.Denial.TheVariants.{BadHead, TooLarge}
 use Rattle.http_messages.specs.declared.framing.BodyKind.{BodyKind}
@@ -22,12 +21,95 @@ use Rattle.http_messages.proofs.WideLemmas.{fronts, head_or_none, kind_same, not
 use Rattle.http_messages.proofs.LawLemmas.{same_kind}
 use Rattle.http_messages.specs.WideHeads.{IsDeniedFront}
 use Rattle.http_messages.specs.Fields.{parts_in}
-use Rattle.http_messages.specs.Plain.{plain_parts}
 use Rattle.http_messages.specs.declared.heads.Head.{Head}
 use Rattle.http_messages.specs.WideReading.{AsksAt, IsFirstOf, IsOpen, IsWideRequest}
 use Rattle.http_messages.specs.declared.wide_messages.WideMessage.TheVariants as taken
 use Rattle.http_messages.specs.declared.wide_messages.WideRequest.{WideRequest}
-use Rattle.http_messages.proofs.StartLemmas.{front_stays, no_method_stays}
+use Rattle.std.specs.List.{list_any}
+use Rattle.std.proofs.Math.Seq.{take-append-add}
+use Rattle.std.proofs.lemmas.Bool.{cases_lt, and_parts}
+use Rattle.http_messages.proofs.HeadLemmas.{first_of_told}
+use Rattle.http_messages.proofs.ToldLemmas.{not_long}
+
+-- a byte that begins no method stays the first one
+no_method_by : (t : Bool) (byte : ℕ) (later more : List ℕ) → is_newline byte ≡ t
+    → (begins_no_method later ≡ true → begins_no_method (later ++ more) ≡ true)
+    → begins_no_method (byte ∷ later) ≡ true → begins_no_method (byte ∷ (later ++ more)) ≡ true
+no_method_by t byte later more is on none = grind arith
+
+no_method_more : (bytes more : List ℕ) → begins_no_method bytes ≡ true → begins_no_method (bytes ++ more) ≡ true
+no_method_more [] more none = cc
+no_method_more (byte ∷ later) more none = grind (arith, no_method_by, no_method_more later)
+
+-- where some byte is no line end, more bytes change nothing
+visible_by : (t : Bool) (byte : ℕ) (later more : List ℕ) → is_newline byte ≡ t
+    → (list_any (λ b. not (is_newline b)) later ≡ true → begins_no_method (later ++ more) ≡ begins_no_method later)
+    → list_any (λ b. not (is_newline b)) (byte ∷ later) ≡ true
+    → begins_no_method (byte ∷ (later ++ more)) ≡ begins_no_method (byte ∷ later)
+visible_by t byte later more is on some = grind arith
+
+visible_more : (bytes more : List ℕ) → list_any (λ b. not (is_newline b)) bytes ≡ true
+    → begins_no_method (bytes ++ more) ≡ begins_no_method bytes
+visible_more [] more some = cc
+visible_more (byte ∷ later) more some = visible_by (is_newline byte) byte later more refl (visible_more later more) some
+
+-- of more bytes, those that a head may have are the old ones and some of the new
+reach : (bytes more : List ℕ) → length bytes ≤ most_head_bytes
+    → take most_head_bytes (bytes ++ more) ≡ bytes ++ take (most_head_bytes - length bytes) more
+reach bytes more short =
+    let all : most_head_bytes ≡ length bytes + (most_head_bytes - length bytes) = omega (arith, short) in
+    ap (λ n. take n (bytes ++ more)) all ∙ take-append-add bytes more (most_head_bytes - length bytes)
+
+-- bytes that begin no method begin none with more after them
+no_method_stays : (bytes more : List ℕ) → has_no_method bytes ≡ true → has_no_method (bytes ++ more) ≡ true
+no_method_stays bytes more none = elim (cases_lt (length bytes) most_head_bytes) [
+  | inl few ↦
+      ap begins_no_method (reach bytes more (omega (arith, few)))
+      ∙ no_method_more bytes (take (most_head_bytes - length bytes) more)
+      (sym (ap begins_no_method (take_all most_head_bytes bytes (omega (arith, few)))) ∙ none)
+  | inr many ↦ ap begins_no_method (take-append-le most_head_bytes bytes more many) ∙ none
+]
+
+-- a decided prefix that is shorter than a head may be has a byte that is no line end
+visible_in : (bytes : List ℕ) (end : ℕ) → IsToldAt bytes end → end < most_head_bytes
+    → list_any (λ b. not (is_newline b)) (take end bytes) ≡ true
+visible_in bytes end at short =
+    let front = take end bytes in
+    let count : length front < most_head_bytes = omega (arith, length-take-le end bytes at.within, short) in
+    let quiet : (length front == most_head_bytes) ≡ false = not_long (length front) (length front == most_head_bytes) refl count in
+    (and_parts _ _ (empty_line (ends_in_empty_line front) (length front == most_head_bytes) quiet at.told)).1
+  where
+    empty_line : (a b : Bool) → b ≡ false → (a || b) ≡ true → a ≡ true
+    empty_line a b quiet both = grind arith
+
+-- whether a decided prefix begins with a method does not change
+method_same : (bytes more : List ℕ) (end : ℕ) → IsToldAt bytes end → end < most_head_bytes
+    → begins_no_method (bytes ++ more) ≡ begins_no_method bytes
+method_same bytes more end at short =
+    ap begins_no_method (ap (λ z. z ++ more) (sym (take-append-drop end bytes))
+    ∙ append_assoc (take end bytes) (drop end bytes) more)
+    ∙ visible_more (take end bytes) (drop end bytes ++ more) (visible_in bytes end at short)
+    ∙ sym (visible_more (take end bytes) (drop end bytes) (visible_in bytes end at short))
+    ∙ ap begins_no_method (sym (sym (take-append-drop end bytes)))
+
+method_stays : (bytes more : List ℕ) (end : ℕ) → IsToldAt bytes end → has_no_method bytes ≡ false
+    → has_no_method (bytes ++ more) ≡ false
+method_stays bytes more end at some = elim (cases_lt (length bytes) most_head_bytes) [
+  | inl few ↦
+      ap begins_no_method (reach bytes more (omega (arith, few)))
+      ∙ method_same bytes (take (most_head_bytes - length bytes) more) end at (omega (arith, few, at.within))
+      ∙ sym (ap begins_no_method (take_all most_head_bytes bytes (omega (arith, few)))) ∙ some
+  | inr many ↦ ap begins_no_method (take-append-le most_head_bytes bytes more many) ∙ some
+]
+
+-- the decided prefix is that of all streams that begin with these bytes
+front_stays : (bytes more : List ℕ) (end : ℕ) → IsToldAt bytes end → has_no_method bytes ≡ false
+    → BeginsWithFront (bytes ++ more) (take end bytes) (drop end bytes ++ more)
+front_stays bytes more end at some = record {
+  method = method_stays bytes more end at some;
+  first = first_of_told bytes more end at;
+  whole = ap (λ z. z ++ more) (sym (take-append-drop end bytes)) ∙ append_assoc (take end bytes) (drop end bytes) more;
+}
 
 -- Without a decided prefix.
 
@@ -36,11 +118,7 @@ not_told bytes f none some = let both : IsSome {T = List ℕ} None = subst IsSom
 
 -- there is no message
 pub open_without_front : (bytes : List ℕ) → has_no_method bytes ≡ false → first_told bytes ≡ None → IsOpen bytes
-open_without_front bytes some none NoMethod rest begins = absurd (not_both (has_no_method bytes) begins.0 some)
-open_without_front bytes some none NoHead rest begins = absurd (not_told bytes begins.0 none begins.2.first)
-open_without_front bytes some none (Unread h why) rest begins = absurd (not_told bytes begins.1.front none begins.1.begins.first)
-open_without_front bytes some none (BadBody h) rest begins = refl
-open_without_front bytes some none (Asks h body) rest begins = absurd (not_told bytes begins.2.front none begins.2.begins.first)
+open_without_front bytes some none x rest begins = grind (arith, begins, not_both, not_told)
 
 -- Bodies.
 
@@ -49,12 +127,7 @@ longer_on : (u : Use) (d : ChunkedDecoder) (byte : ℕ) (later more : List ℕ)
     → length (run (step d byte) later).body ≤ length (run (step d byte) (later ++ more)).body
     → length (run_on u d byte later (run (step d byte) later)).body ≤ length (run_on u d byte (later ++ more) (run (step d byte) (later ++ more))).body
 longer_on skips d byte later more longer = longer
-longer_on yields d byte later more longer = omega (
-  arith,
-  longer,
-  length-append (byte ∷ []) (run (step d byte) later).body,
-  length-append (byte ∷ []) (run (step d byte) (later ++ more)).body,
-)
+longer_on yields d byte later more longer = grind (arith, length-append)
 longer_on stops d byte later more longer = omega arith
 
 pub data_longer : (d : ChunkedDecoder) (bytes more : List ℕ) → length (run d bytes).body ≤ length (run d (bytes ++ more)).body
@@ -65,14 +138,13 @@ data_longer d (byte ∷ later) more = longer_on (use_of d.state) d byte later mo
 -- chunks with too much data are no body
 pub large_never : (stream : List ℕ) → IsLarge stream → HasNoBody Chunked stream
 large_never stream large more body rest is =
-    let waits = (begins Chunked (stream ++ more) body rest).0 is in
     omega (
       arith,
       large,
       data_longer (start most_head_bytes) stream more,
-      ap length waits.whole,
-      ap length waits.completes.1,
-      waits.short,
+      ap length ((begins Chunked (stream ++ more) body rest).0 is).whole,
+      ap length ((begins Chunked (stream ++ more) body rest).0 is).completes.1,
+      ((begins Chunked (stream ++ more) body rest).0 is).short,
     )
 
 -- what a reader at the beginning finds too large
@@ -88,8 +160,7 @@ sized_ends count input short never =
     let filler : ℕ = 0 in
     let more : List ℕ = replicate count filler in
     let stream = input ++ more in
-    let enough : count ≤ length stream = omega (arith, length-append input more, length-replicate count filler) in
-    let whole = length-take-le count stream enough in
+    let whole = length-take-le count stream (omega (arith, length-append input more, length-replicate count filler)) in
     never more (take count stream) (drop count stream) (record {
       later = take count stream;
       trailers = [];
@@ -169,12 +240,7 @@ module _ (bytes : List ℕ) (end : ℕ) (at : IsToldAt bytes end) (some : has_no
 -- What is taken.
 
 pub takes_no_method : (bytes : List ℕ) → has_no_method bytes ≡ true → IsFirstOf bytes taken.NoMethod (length bytes)
-takes_no_method bytes none = record {
-  sent = NoMethod;
-  is_taken = tt;
-  within = omega arith;
-  begins = λ more. (no_method_stays bytes more none, refl);
-}
+takes_no_method bytes none = grind (arith, begins, no_method_stays)
 
 module _ (bytes : List ℕ) (end : ℕ) (at : IsToldAt bytes end) (some : has_no_method bytes ≡ false) where
   -- a prefix that is no head
@@ -249,10 +315,7 @@ module _ (bytes : List ℕ) (end : ℕ) (at : IsToldAt bytes end) (some : has_no
 -- what is asked by the places of a head is what the head asks
 pub asks_of : (front : List ℕ) (head : Head) (h : RequestHead) (body : List ℕ) (r : WideRequest) → parts_in front head ≡ parts_of h
     → AsksAt front head body r → IsWideRequest r h body
-asks_of prefix head h body r same asks = record {
-  kind = asks.kind ∙ ap (λ (parts : Parts). asked_kind parts.method) same;
-  request = subst (λ parts. IsRequest r.request (plain_parts parts body) body) same asks.request;
-}
+asks_of prefix head h body r same asks = grind arith
 
 -- a body that ends is short
 pub ends_short : (kind : BodyKind) (input : List ℕ) (new : Reading) (count : ℕ) → Ends (first_reading kind) input new count
@@ -262,6 +325,4 @@ ends_short kind input new count ends = (ends.whole []).short
 -- what a new reader finds in the bytes after a head
 pub at_first : (P : Reading → List ℕ → Type 0) (r : Reading) (kind : BodyKind) (bytes : List ℕ) (end : ℕ) → r ≡ first_reading kind
     → P r (take (length bytes - end) (drop end bytes)) → P (first_reading kind) (drop end bytes)
-at_first P r kind bytes end first found =
-    subst (λ s. P (first_reading kind) s) (take_all (length bytes - end) (drop end bytes) (omega (arith, length-drop end bytes)))
-    (subst (λ z. P z (take (length bytes - end) (drop end bytes))) first found)
+at_first P r kind bytes end first found = grind (arith, take_all, length-drop)

@@ -1,5 +1,5 @@
 -- A stream begins with at most one message, and after a request come the messages of what follows it. For the laws.
-use Rattle.std.proofs.Common.{◌≡◌, ◌∙◌, ap, sym, subst, refl, ℕ, Bool, true, false, ◌↔◌, List, [], ◌∷◌, ◌++◌, append-nil, Result, Ok, Err}
+use Rattle.std.proofs.Common.{◌≡◌, ◌∙◌, ap, sym, subst, refl, ℕ, Bool, true, false, ◌↔◌, List, [], ◌∷◌, ◌++◌, append-nil, Result, Ok, Err, arith}
 use Rattle.std.proofs.lemmas.List.{append_cancel_left}
 use Rattle.httparse.specs.Grammar.{RequestHead}
 use Rattle.httparse.proofs.GrammarLemmas.{request_unique}
@@ -9,7 +9,7 @@ use Rattle.http_messages.specs.declared.framing.BodyKind.TheVariants.{Chunked}
 use Rattle.http_messages.specs.declared.framing.Unframed.{Unframed}
 use Rattle.http_messages.specs.Framing.{head_kind}
 use Rattle.http_messages.specs.Bodies.{IsBody}
-use Rattle.http_messages.specs.Wide.{Asks, BadBody, BeginsWith, BeginsWithFront, BeginsWithHead, HasNoBody, NoHead, NoMethod, Unread, Wide, WideMessages, ends_after, ends_with, has_no_method}
+use Rattle.http_messages.specs.Wide.{Asks, BadBody, BeginsWith, BeginsWithFront, BeginsWithHead, HasNoBody, NoHead, NoMethod, Unread, Wide, WideMessages, ends_after, has_no_method}
 use Rattle.http_messages.proofs.BodyLemmas.{one_body}
 use Rattle.http_messages.proofs.LawLemmas.{begins_with, same_front, same_kind}
 
@@ -21,14 +21,9 @@ not_both b set unset = cc
 pub not_framed_both : (kind : BodyKind) (why : Unframed) (found : Result BodyKind Unframed) → found ≡ Ok kind → found ≡ Err why → ⊥
 not_framed_both kind why found one other = cc
 
-same_reason : (why other : Unframed) (found : Result BodyKind Unframed) → found ≡ Err why → found ≡ Err other → why ≡ other
-same_reason why other found one two = cc
-
 -- the first decided prefix is one, and so is what follows it
 pub front_same : (stream f g x y : List ℕ) → BeginsWithFront stream f x → BeginsWithFront stream g y → (f ≡ g) × (x ≡ y)
-front_same stream f g x y one other =
-    let same : f ≡ g = same_front stream f g one.first other.first in
-    (same, append_cancel_left f x y (sym one.whole ∙ other.whole ∙ ap (λ z. z ++ y) (sym same)))
+front_same stream f g x y one other = grind (arith, same_front, append_cancel_left)
 
 module _ (stream : List ℕ) (h k : RequestHead) (x y : List ℕ) (kind other : Result BodyKind Unframed)
     (one : BeginsWithHead stream h kind x) (two : BeginsWithHead stream k other y) where
@@ -37,9 +32,7 @@ module _ (stream : List ℕ) (h k : RequestHead) (x y : List ℕ) (kind other : 
 
   -- a stream begins with one head
   pub head_same : h ≡ k
-  head_same =
-      let here : IsHead one.front k = subst (λ f. IsHead f k) (sym fronts.0) two.is_head in
-      (request_unique one.front h k [] [] one.is_head.reads here.reads).0
+  head_same = (request_unique one.front h k [] [] one.is_head.reads (subst (λ f. IsHead f k) (sym fronts.0) two.is_head).reads).0
 
   pub kind_same : head_kind (parts_of h) ≡ other
   kind_same = ap (λ z. head_kind (parts_of z)) head_same ∙ two.framed
@@ -47,8 +40,7 @@ module _ (stream : List ℕ) (h k : RequestHead) (x y : List ℕ) (kind other : 
 -- a head is no prefix that is no head
 pub head_or_none : (stream f x : List ℕ) (h : RequestHead) (kind : Result BodyKind Unframed) (y : List ℕ)
     → BeginsWithFront stream f x → IsNoHead f → BeginsWithHead stream h kind y → ⊥
-head_or_none stream f x h kind y at none head =
-    none h (subst (λ z. IsHead z h) (front_same stream head.front f y x head.begins at).0 head.is_head)
+head_or_none stream f x h kind y at none head = grind (arith, front_same)
 
 -- where no body begins, none does
 pub no_body_here : (stream body rest : List ℕ) → HasNoBody Chunked stream → IsBody Chunked stream body rest → ⊥
@@ -91,10 +83,11 @@ one_first stream NoHead (Asks k b) x y one other = absurd (head_or_none stream o
 one_first stream (Unread h v) NoMethod x y one other = absurd (not_both (has_no_method stream) other.0 one.1.begins.method)
 one_first stream (Unread h v) NoHead x y one other = absurd (head_or_none stream other.0 other.1 h (Err v) one.0 other.2 other.3 one.1)
 one_first stream (Unread h v) (Unread k w) x y one other =
-    let same = head_same stream h k one.0 other.0 (Err v) (Err w) one.1 other.1 in
-    let reason : v ≡ w =
-    same_reason v w (head_kind (parts_of h)) one.1.framed (kind_same stream h k one.0 other.0 (Err v) (Err w) one.1 other.1) in
-    (ap (λ z. Unread z v) same ∙ ap (λ z. Unread k z) reason, one.2 ∙ sym other.2)
+    grind (
+      arith,
+      head_same stream h k one.0 other.0 (Err v) (Err w) one.1 other.1,
+      kind_same stream h k one.0 other.0 (Err v) (Err w) one.1,
+    )
 one_first stream (Unread h v) (BadBody k) x y one other =
     absurd (not_framed_both Chunked v (head_kind (parts_of h)) (kind_same stream h k one.0 other.0 (Err v) (Ok Chunked) one.1 other.1) one.1.framed)
 one_first stream (Unread h v) (Asks k b) x y one other =
@@ -130,10 +123,7 @@ module _ (front text body rest : List ℕ) (h : RequestHead) (kind : BodyKind)
   -- the first message is the request
   forth : (ms : List Wide) → WideMessages stream ms → Later ms
   forth [] none = absurd (none (Asks h body) rest begins)
-  forth (m ∷ later) are =
-      let first = one_first stream m (Asks h body) are.0 rest are.1 begins in
-      let on : ends_with m ≡ false = ap ends_with first.0 ∙ stays in
-      (later, ap (λ z. z ∷ later) first.0, subst (λ s. WideMessages s later) first.1 (are.3 on))
+  forth (m ∷ later) are = grind (arith, one_first stream m (Asks h body) are.0 rest are.1 begins)
 
   -- and its messages are those of what follows
   back : (ms : List Wide) → Later ms → WideMessages stream ms

@@ -1,5 +1,6 @@
 -- Bytes that are not UTF-8 spell no agent and no key. For agent_in and key_in.
-use Rattle.std.proofs.Common.{◌≡◌, ℕ, zero, suc, ◌<◌, Bool, true, false, List, [], ◌∷◌, refl, arith, Bor, IsUtf8, MatchResult, None, Result, Ok, Err}
+use Rattle.std.proofs.Common.{◌≡◌, ℕ, zero, suc, ◌<◌, Bool, true, List, [], ◌∷◌, refl, arith, Bor, IsUtf8, MatchResult, None, Result}
+use Rattle.std.proofs.lemmas.Bool.{and_parts}
 use Rattle.std.specs.List.{list_all}
 use Rattle.std.specs.Result.{result_ok}
 use Rattle.std.specs.Str.{IsAscii}
@@ -7,16 +8,14 @@ use Rattle.std.proofs.lemmas.Str.{IsUtf8-from_ascii}
 use Rattle.std.proofs.lemmas.Bool.Decides.{nat_tests}
 use Rattle.allotment.specs.Texts.{keep_if}
 use Rattle.commands.specs.Names.{is_agent, is_agent_byte, is_key, is_key_byte}
-use Rattle.http_messages.proofs.ListFacts.{and_both}
 
 -- bytes that pass are ASCII, where each byte that passes is
 passing_ascii : (passes : ℕ → Bool) → ((b : ℕ) → passes b ≡ true → b < 128)
     → (bytes : List ℕ) → list_all passes bytes ≡ true → IsAscii bytes
 passing_ascii passes small [] all i = omega arith
-passing_ascii passes small (b ∷ bytes) all zero =
-    small b (and_both (passes b) (list_all passes bytes) all).0
+passing_ascii passes small (b ∷ bytes) all zero = grind (arith, and_parts)
 passing_ascii passes small (b ∷ bytes) all (suc i) =
-    passing_ascii passes small bytes (and_both (passes b) (list_all passes bytes) all).1 i
+    passing_ascii passes small bytes (and_parts (passes b) (list_all passes bytes) all).1 i
 
 -- a byte of an agent is ASCII
 agent_byte_small : (b : ℕ) → is_agent_byte b ≡ true → b < 128
@@ -29,15 +28,13 @@ key_byte_small b passes = grind (arith, nat_tests)
 -- a text is not kept where it does not pass
 none_kept : (test : List ℕ → Bool) (bytes : List ℕ) (b : Bool) → test bytes ≡ b → ¬ (test bytes ≡ true)
     → keep_if test bytes ≡ None
-none_kept test bytes true is fails = absurd (fails is)
-none_kept test bytes false is fails = rw is refl
+none_kept test bytes b is fails = grind arith
 
 -- bytes that cannot be read as text are no text
 no_text : {E : Type 0} (bytes : List ℕ) (r : Result (Bor (List ℕ)) E) (Wrong : E → Type 0)
     → MatchResult r (λ s. (s.now ≡ bytes) × IsUtf8 bytes) (λ e. ¬ (IsUtf8 bytes) × Wrong e)
     → result_ok r ≡ None → ¬ (IsUtf8 bytes)
-no_text bytes (Ok s) Wrong cases none = absurd (cc)
-no_text bytes (Err e) Wrong cases none = cases.0
+no_text bytes r Wrong cases none = grind arith
 
 -- bytes that are no text are no agent
 pub no_agent : {E : Type 0} (bytes : List ℕ) (r : Result (Bor (List ℕ)) E) (Wrong : E → Type 0)
@@ -45,7 +42,7 @@ pub no_agent : {E : Type 0} (bytes : List ℕ) (r : Result (Bor (List ℕ)) E) (
     → result_ok r ≡ None → keep_if is_agent bytes ≡ None
 no_agent bytes r Wrong cases none =
     none_kept is_agent bytes (is_agent bytes) refl
-    (λ good. no_text bytes r Wrong cases none (IsUtf8-from_ascii bytes (passing_ascii is_agent_byte agent_byte_small bytes (and_both _ (list_all is_agent_byte bytes) good).1)))
+    (λ good. no_text bytes r Wrong cases none (IsUtf8-from_ascii bytes (passing_ascii is_agent_byte agent_byte_small bytes (and_parts _ (list_all is_agent_byte bytes) good).1)))
 
 -- bytes that are no text are no key
 pub no_key : {E : Type 0} (bytes : List ℕ) (r : Result (Bor (List ℕ)) E) (Wrong : E → Type 0)
@@ -53,4 +50,4 @@ pub no_key : {E : Type 0} (bytes : List ℕ) (r : Result (Bor (List ℕ)) E) (Wr
     → result_ok r ≡ None → keep_if is_key bytes ≡ None
 no_key bytes r Wrong cases none =
     none_kept is_key bytes (is_key bytes) refl
-    (λ good. no_text bytes r Wrong cases none (IsUtf8-from_ascii bytes (passing_ascii is_key_byte key_byte_small bytes (and_both _ (list_all is_key_byte bytes) good).1)))
+    (λ good. no_text bytes r Wrong cases none (IsUtf8-from_ascii bytes (passing_ascii is_key_byte key_byte_small bytes (and_parts _ (list_all is_key_byte bytes) good).1)))

@@ -1,9 +1,7 @@
 -- How many places of a cell are allotted, as events come. For the law that no cell is overfull.
-use Rattle.std.proofs.Common.{◌≡◌, ℕ, ◌≤◌, List, [], ◌∷◌, ◌++◌, refl, ap, sym, ◌∙◌, subst, append-nil, Bool, true, false, nat_le, Option, option_map, filter, flat_map, cond}
-use Rattle.std.proofs.lemmas.Bool.{leb-true, and_parts}
+use Rattle.std.proofs.Common.{◌≡◌, ℕ, ◌≤◌, List, [], ◌∷◌, ◌++◌, append-nil, true, Option, option_map, filter, flat_map, arith, unwrap_or}
 use Rattle.std.proofs.lemmas.Grind.{flat_map-append}
 use Rattle.std.proofs.lemmas.List.Elements.{filter-append}
-use Rattle.std.specs.Prelude.{unwrap_or}
 use Rattle.std.specs.List.{list_all}
 use Rattle.allotment.specs.Cells.{is_cell}
 use Rattle.allotment.specs.declared.cells.Cell.{Cell}
@@ -32,10 +30,8 @@ at_least-last n r (s ∷ rs) all = at_least-last n s rs all.1
 -- the last of earlier rows and these has at least n places, whether there is one of these or not
 at_least-append : (n : ℕ) (rs ss : List Row) → n ≤ last_places (last_of rs) → AtLeast n ss
     → n ≤ last_places (last_of (rs ++ ss))
-at_least-append n rs [] room all =
-    subst (λ xs. n ≤ last_places (last_of xs)) (sym (append-nil rs)) room
-at_least-append n rs (s ∷ ss) room all =
-    subst (λ o. n ≤ last_places o) (sym (last_of-append rs s ss)) (at_least-last n s ss all)
+at_least-append n rs [] room all = grind (arith, append-nil)
+at_least-append n rs (s ∷ ss) room all = grind (arith, last_of-append, at_least-last)
 
 -- of rows that are not below what is held, those of one cell have at least what is held of it
 at_least-rows : (l : List Event) (x : Cell) (rows : List Row)
@@ -43,44 +39,21 @@ at_least-rows : (l : List Event) (x : Cell) (rows : List Row)
     → AtLeast (held l x) (filter (λ (r : Row). is_cell x r.cell) rows)
 unfolding AtLeast
 at_least-rows l x [] all = tt
-at_least-rows l x (r ∷ rows) all =
-    go (is_cell x r.cell) refl (at_least-rows l x rows both.1)
-  where
-    both : (is_not_below_held l r ≡ true) × (list_all (is_not_below_held l) rows ≡ true)
-    both = and_parts (is_not_below_held l r) (list_all (is_not_below_held l) rows) all
-
-    go : (v : Bool) → is_cell x r.cell ≡ v
-        → AtLeast (held l x) (filter (λ (s : Row). is_cell x s.cell) rows)
-        → AtLeast (held l x) (cond v (r ∷ filter (λ (s : Row). is_cell x s.cell) rows)
-        (filter (λ (s : Row). is_cell x s.cell) rows))
-    go true e later =
-        let enough = ap (λ y. nat_le (held l y) r.places) (is_cell-same x r.cell e) ∙ both.0 in
-        (leb-true _ _ enough, later)
-    go false e later = later
+at_least-rows l x (r ∷ rows) all = grind (arith, is_cell-same x r.cell, at_least-rows l x rows)
 
 -- an event appends its rows to those that were loaded before
 rows-more : (l : List Event) (e : Event)
     → flat_map rows_of (l ++ e ∷ []) ≡ flat_map rows_of l ++ rows_of e
-rows-more l e =
-    flat_map-append rows_of l (e ∷ [])
-    ∙ ap (λ rs. flat_map rows_of l ++ rs) (append-nil (rows_of e))
+rows-more l e = grind (arith, flat_map-append, append-nil)
 
 -- an event without rows leaves each allotment
 pub allotment-same : (l : List Event) (e : Event) (x : Cell) → rows_of e ≡ []
     → allotment (l ++ e ∷ []) x ≡ allotment l x
-allotment-same l e x none =
-    ap (λ rs. option_map (λ (r : Row). r.places)
-    (last_of (filter (λ (r : Row). is_cell x r.cell) rs)))
-    (rows-more l e ∙ ap (λ rs. flat_map rows_of l ++ rs) none ∙ append-nil (flat_map rows_of l))
+allotment-same l e x none = grind (arith, rows-more, append-nil)
 
 -- a batch that is not below what is held leaves room for what is held
 pub allotment-loaded : (l : List Event) (name : List ℕ) (rows : List Row) (x : Cell)
     → list_all (is_not_below_held l) rows ≡ true → held l x ≤ unwrap_or (allotment l x) 0
     → held l x ≤ unwrap_or (allotment (l ++ Loaded name rows ∷ []) x) 0
 unfolding last_places
-allotment-loaded l name rows x enough room =
-    subst (λ rs. held l x ≤ last_places (last_of rs))
-    (sym (ap (filter (λ (r : Row). is_cell x r.cell)) (rows-more l (Loaded name rows))
-    ∙ filter-append (λ (r : Row). is_cell x r.cell) (flat_map rows_of l) rows))
-    (at_least-append (held l x) (filter (λ (r : Row). is_cell x r.cell) (flat_map rows_of l))
-    (filter (λ (r : Row). is_cell x r.cell) rows) room (at_least-rows l x rows enough))
+allotment-loaded l name rows x enough room = search (arith, rows-more, filter-append, at_least-append, at_least-rows)

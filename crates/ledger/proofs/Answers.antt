@@ -1,21 +1,18 @@
 -- What holds of each event that a request may make, with its reply, holds of its answer; so the event of an answer is
 -- allowed. For worlds, and for each book that answers.
-use Rattle.std.proofs.Common.{◌≡◌, ℕ, ◌+◌, ◌<◌, List, [], ◌∷◌, length, refl, ap, ◌∙◌, arith, Bool, true, false, not, ◌&&◌, ◌==◌, nat_le, Option, Some, None, is_some, option_map, find, position, if◌then◌else◌, IsTrue}
+use Rattle.std.proofs.Common.{◌≡◌, ℕ, ◌+◌, ◌<◌, List, length, ◌∙◌, arith, true, Option, Some, None, IsTrue, unwrap_or}
 use Rattle.std.proofs.lemmas.Bool.{and_from, leb-false}
 use Rattle.std.proofs.lemmas.Bool.Decides.{nat_tests}
-use Rattle.std.specs.Prelude.{unwrap_or}
 use Rattle.allotment.specs.declared.cells.Row.{Row}
 use Rattle.plan.specs.PlanModel.{Planned, is_plan}
 use Rattle.commands.specs.Names.{house}
-use Rattle.commands.specs.Request.{Request, Load, Begin, Step, Abort, Stop, Save}
+use Rattle.commands.specs.Request.{Request}
 use Rattle.commands.specs.declared.items.Item.{Item}
 use Rattle.commands.specs.declared.replies.Refusal.{Refusal}
-use Rattle.commands.specs.declared.replies.Refusal.TheVariants.{Finished, NoSavePoint, NoSave, BatchDiffers, Limit}
 use Rattle.commands.specs.declared.replies.Reply.{Reply}
 use Rattle.commands.specs.declared.replies.Reply.TheVariants as reply
-use Rattle.ledger.specs.History as h
-use Rattle.ledger.specs.Ledger.{Event, Loaded, Began, Did, Journey, journeys, journey_at, history, batches_named, is_not_below_held, may_do, is_batch, is_allowed}
-use Rattle.ledger.specs.Answer.{Answer, refused, are_same_rows, loaded, step_choices, abort_choices, stop_choices, save_choices, answer_new, answer_load, seen_journey, moved, answer_move, answer_within, limited, answer, most_events, is_request}
+use Rattle.ledger.specs.Ledger.{Event, Loaded, Began, Did, Journey, journeys, journey_at, history, batches_named, may_do, is_batch, is_allowed}
+use Rattle.ledger.specs.Answer.{Answer, loaded, answer_load, seen_journey, moved, answer_move, answer_within, limited, answer, most_events, is_request}
 use Rattle.ledger.proofs.Growing.{is_item_allowed-may_do}
 use Rattle.ledger.proofs.Lists.{find-passes, position-none}
 
@@ -40,20 +37,7 @@ module _ (P : Event → Reply → Type 0) (l : List Event) (who : Option (List �
   -- the item of a move is the first of the choices that is allowed, so it is allowed
   move-holds : (j : ℕ) (choices : Planned → List Item → List Item) (otherwise : Refusal) (o : Option Journey)
       → ((a : Journey) → o ≡ Some a → journey_at l j ≡ Some a) → Holds (answer_move l j choices otherwise o)
-  move-holds j choices otherwise None there = tt
-  move-holds j choices otherwise (Some a) there = by_phase (h.is_finished (h.phase a.plan (history l j)))
-    where
-      by_find : (o : Option Item) → find (λ next. may_do l j next a) (choices a.plan (history l j)) ≡ o
-          → Holds (unwrap_or (option_map (moved a.plan (history l j) j) o) (refused otherwise))
-      by_find None e = tt
-      by_find (Some next) e =
-          each.move j a next (there a refl) (find-passes (λ x. may_do l j x a) (choices a.plan (history l j)) next e)
-
-      by_phase : (v : Bool)
-          → Holds (if v then refused Finished
-          else unwrap_or (option_map (moved a.plan (history l j) j) (find (λ next. may_do l j next a) (choices a.plan (history l j)))) (refused otherwise))
-      by_phase true = tt
-      by_phase false = by_find (find (λ next. may_do l j next a) (choices a.plan (history l j))) refl
+  move-holds j choices otherwise o there = search (arith, find-passes)
 
   -- a journey that is seen is there
   seen-there : (j : ℕ) (a : Journey) → seen_journey l who j ≡ Some a → journey_at l j ≡ Some a
@@ -62,50 +46,22 @@ module _ (P : Event → Reply → Type 0) (l : List Event) (who : Option (List �
   -- a batch makes an event where its name is new and no row is below what is held
   load-holds : (name : List ℕ) (rows : List Row) → is_batch name rows ≡ true
       → Holds (answer_load l name rows (batches_named l name))
-  load-holds name rows good = go (batches_named l name) refl
-    where
-      new : (o : Option ℕ) → position (λ r. not (is_not_below_held l r)) rows ≡ o
-          → length (batches_named l name) ≡ 0 → Holds (answer_new name rows o)
-      new (Some i) e none = tt
-      new None e none =
-          each.load name rows good
-          (and_from _ _ (and_from _ _ good (position-none (is_not_below_held l) rows e)) (ap (λ n. n == 0) none))
-
-      known : (v : Bool) → Holds (if v then record { event = None; reply = loaded name rows } else refused BatchDiffers)
-      known true = tt
-      known false = tt
-
-      go : (b : List (List Row)) → batches_named l name ≡ b → Holds (answer_load l name rows b)
-      go [] e = new (position (λ r. not (is_not_below_held l r)) rows) refl (ap length e)
-      go (old ∷ more) e = known (are_same_rows rows old)
+  load-holds name rows good = grind (arith, and_from, position-none)
 
   -- each request, whatever the ledger's length
   within-holds : (asked : Request) → is_request asked ≡ true → Holds (answer_within l who asked)
-  within-holds (Load name rows) good = load-holds name rows good
-  within-holds (Begin plan) good = each.begin plan good
-  within-holds (Step j) good = move-holds j step_choices NoSavePoint (seen_journey l who j) (seen-there j)
-  within-holds (Abort j p) good = move-holds j (abort_choices p) NoSavePoint (seen_journey l who j) (seen-there j)
-  within-holds (Stop j) good = move-holds j stop_choices NoSavePoint (seen_journey l who j) (seen-there j)
-  within-holds (Save j) good = move-holds j save_choices NoSave (seen_journey l who j) (seen-there j)
+  within-holds asked good = grind (arith, load-holds, move-holds, seen-there)
 
 -- an answer has an event only if the ledger has room
 limited-holds : (P : Event → Reply → Type 0) (l : List Event) (a : Answer)
     → (length l < most_events → IfEvent P a.event a.reply) → IfEvent P (limited l a).event (limited l a).reply
-limited-holds P l a holds = go a.event holds (nat_le most_events (length l)) refl
-  where
-    go : (o : Option Event) → (length l < most_events → IfEvent P o a.reply)
-        → (v : Bool) → nat_le most_events (length l) ≡ v
-        → IfEvent P (if is_some o && v then refused Limit else record a { event = o }).event (if is_some o && v then refused Limit else record a { event = o }).reply
-    go None k v e = tt
-    go (Some x) k true e = tt
-    go (Some x) k false e = k (leb-false most_events (length l) e)
+limited-holds P l a holds = grind (arith, leb-false)
 
 -- what holds of each event that a request may make holds of its answer
 pub answer-holds : (P : Event → Reply → Type 0) (l : List Event) (who : Option (List ℕ)) (asked : Request)
     → is_request asked ≡ true → (length l < most_events → OfEach P l who)
     → IfEvent P (answer l who asked).event (answer l who asked).reply
-answer-holds P l who asked good each =
-    limited-holds P l (answer_within l who asked) (λ room. within-holds P l who (each room) asked good)
+answer-holds P l who asked good each = search (arith, limited-holds, within-holds)
 
 -- Legality.
 
@@ -125,5 +81,4 @@ answer-allowed l who asked good =
     }))
   where
     by_event : (o : Option Event) → IfEvent (λ e r. IsTrue (is_allowed l e)) o (answer l who asked).reply → IsAllowedEvent l o
-    by_event None holds = tt
-    by_event (Some e) holds = holds
+    by_event o holds = grind arith

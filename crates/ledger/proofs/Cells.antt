@@ -1,5 +1,5 @@
 -- Two cells for which the test passes are equal. For the places of a cell.
-use Rattle.std.proofs.Common.{◌≡◌, ℕ, zero, suc, refl, ap, sym, ◌∙◌, eqb-true, true, ◌&&◌, ◌==◌, bytes_eq}
+use Rattle.std.proofs.Common.{◌≡◌, ℕ, zero, suc, refl, ap, sym, ◌∙◌, eqb-true, true, ◌&&◌, ◌==◌, bytes_eq, arith}
 use Rattle.std.proofs.lemmas.Bool.{and_parts}
 use Rattle.allotment.specs.Cells.{is_cell, kind_number}
 use Rattle.allotment.specs.declared.cells.Cell.{Cell}
@@ -17,8 +17,7 @@ kind_of (suc (suc (suc n))) = Cover
 -- each kind is the kind of its number
 pub kind_of-number : (k : Kind) → kind_of (kind_number k) ≡ k
 unfolding kind_of
-kind_of-number Flight = refl
-kind_of-number _ = refl
+kind_of-number k = grind arith
 
 -- kinds with the same number are equal
 same_kind : (k m : Kind) → (kind_number k == kind_number m) ≡ true → k ≡ m
@@ -33,8 +32,6 @@ is_cell-same x y e =
     let all = and_parts (first && second && third) (x.night == y.night) e in
     let three = and_parts (first && second) third all.0 in
     let two = and_parts first second three.0 in
-    let kind = same_kind x.kind y.kind two.0 in
-    let supplier = same_bytes x.supplier y.supplier two.1 in
     let product = same_bytes x.product y.product three.1 in
     let night = eqb-true x.night y.night all.1 in
-    rw (kind, supplier, product, night) refl
+    rw ((same_kind x.kind y.kind two.0), same_bytes x.supplier y.supplier two.1, product, night) refl

@@ -1,18 +1,16 @@
 -- An open journey has just one step, and a finished one does not go on. For the law of steps.
-use Rattle.std.proofs.Common.{◌≡◌, ℕ, ◌+◌, List, refl, ap, sym, ◌∙◌, arith, Bool, true, false, Option, Some, None, option_map, find, if◌then◌else◌, IsTrue}
+use Rattle.std.proofs.Common.{◌≡◌, ℕ, ◌+◌, List, refl, sym, ◌∙◌, arith, Bool, true, false, Some, find, if◌then◌else◌, IsTrue}
 use Rattle.std.proofs.lemmas.Bool.{false_from_ne_true}
 use Rattle.std.proofs.lemmas.Bool.Decides.{nat_tests}
-use Rattle.std.specs.Prelude.{unwrap_or}
 use Rattle.plan.specs.PlanModel.{Planned}
 use Rattle.commands.specs.declared.items.Cause.TheVariants.{Refused}
 use Rattle.commands.specs.declared.items.Item.{Item}
 use Rattle.commands.specs.declared.items.Item.TheVariants.{Transaction, Compensation, Turn}
 use Rattle.commands.specs.declared.items.Phase.{Phase}
-use Rattle.commands.specs.declared.replies.Refusal.TheVariants.{NoSavePoint, Finished}
-use Rattle.ledger.specs.Answer.{refused, step_choices, moved, answer_move}
+use Rattle.ledger.specs.Answer.{step_choices}
 use Rattle.ledger.specs.History.{net, position_of, refused_target, next_option, next_want, phase, is_running, is_going_back, is_open, is_finished, may_come, last_of}
 use Rattle.ledger.specs.Laws.{HasOneStep, EachOpenJourneyHasOneStep, NoFinishedJourneyGoesOn}
-use Rattle.ledger.specs.Ledger.{Event, Journey, journey_at, history, fits, is_item_allowed, may_do, IsLegal}
+use Rattle.ledger.specs.Ledger.{Event, Journey, journey_at, history, fits, IsLegal}
 use Rattle.ledger.specs.Recovery.{is_forward}
 use Rattle.ledger.proofs.Coming.{step-comes, compensation-comes, refused-comes}
 use Rattle.ledger.proofs.Growing.{is_item_allowed-may_do, is_item_allowed-none}
@@ -37,8 +35,7 @@ record OneStep (plan : Planned) (h : List Item) (fits : Bool) : Type 0 where
   step : Item
   forward : IsTrue (is_forward step)
   comes : may_come plan h fits step ≡ true
-  alone : (other : Item) → IsTrue (is_forward other) → may_come plan h fits other ≡ true
-      → other ≡ step
+  alone : (other : Item) → IsTrue (is_forward other) → may_come plan h fits other ≡ true → other ≡ step
   found : find (may_come plan h fits) (step_choices plan h) ≡ Some step
 
 -- the step of a journey: of one that runs the next transaction or the refused turn, else the compensation of t
@@ -75,18 +72,14 @@ module _ (plan : Planned) (h : List Item) (fits : Bool) (t : ℕ × ℕ) (open_y
 
   -- no other item that a step makes may come
   step-alone : (x : Item) → is_forward x ≡ true → may_come plan h fits x ≡ true → x ≡ step_of plan h fits t
-  step-alone (Transaction i c) forward may = let comes = step-comes plan h fits i c may in grind (arith, nat_tests)
-  step-alone (Compensation i c) forward may = let comes = compensation-comes plan h fits i c may in grind (arith, nat_tests, last)
-  step-alone (Turn p Refused) forward may = let comes = refused-comes plan h fits p may in grind (arith, nat_tests)
-  step-alone _ forward may = cc
+  step-alone x forward may = search (arith, step-comes, nat_tests, compensation-comes, refused-comes)
 
   -- it is the first of the choices of a step that may come
   step-found : find (may_come plan h fits) (step_choices plan h) ≡ Some (step_of plan h fits t)
   step-found = grind (arith, nat_tests, last)
 
 -- an open journey that follows its word has one step
-one-step : (plan : Planned) (h : List Item) (fits : Bool) → Goes plan h
-    → is_open (phase plan h) ≡ true → OneStep plan h fits
+one-step : (plan : Planned) (h : List Item) (fits : Bool) → Goes plan h → is_open (phase plan h) ≡ true → OneStep plan h fits
 one-step plan h fits g unfinished =
     let last = last-standing plan h g in
     record {
@@ -99,48 +92,14 @@ one-step plan h fits g unfinished =
 
 -- Of a ledger.
 
--- whether journey j, if it is this one, is in a phase that passes
-abbrev in_phase : (Phase → Bool) → List Event → ℕ → Option Journey → Bool
-in_phase passes l j o =
-    unwrap_or
-    (option_map passes (option_map (λ (a : Journey). phase a.plan (history l j)) o))
-    false
-
 -- the step of a journey's history is its step in the ledger, and what the desk answers
-has_one : (l : List Event) (j : ℕ) (a : Journey) → journey_at l j ≡ Some a
-    → is_open (phase a.plan (history l j)) ≡ true
+has_one : (l : List Event) (j : ℕ) (a : Journey) → journey_at l j ≡ Some a → is_open (phase a.plan (history l j)) ≡ true
     → OneStep a.plan (history l j) (fits l (next_want a.plan (history l j))) → HasOneStep l j
-has_one l j a at unfinished s = record {
-  step = s.step;
-  forward = s.forward;
-  allowed = is_item_allowed-may_do l j s.step a at ∙ s.comes;
-  alone = λ other forward may.
-      s.alone other forward (sym (is_item_allowed-may_do l j other a at) ∙ may);
-  answered =
-      ap (λ o. (answer_move l j step_choices NoSavePoint o).event) at
-      ∙ ap (λ v. (if v then refused Finished
-      else unwrap_or
-      (option_map (moved a.plan (history l j) j)
-      (find (λ next. may_do l j next a) (step_choices a.plan (history l j))))
-      (refused NoSavePoint)).event)
-      (open-unfinished (phase a.plan (history l j)) unfinished)
-      ∙ ap (λ o. (unwrap_or (option_map (moved a.plan (history l j) j) o)
-      (refused NoSavePoint)).event) s.found;
-}
+has_one l j a at unfinished s = grind (arith, is_item_allowed-may_do, open-unfinished)
 
 -- in a legal ledger each open journey has one step
 pub each_open_has_one : (l : List Event) → IsLegal l → EachOpenJourneyHasOneStep l
-each_open_has_one l legal j unfinished = go (journey_at l j) refl
-  where
-    go : (o : Option Journey) → journey_at l j ≡ o → HasOneStep l j
-    go None at =
-        let bad : true ≡ false = sym unfinished ∙ ap (in_phase is_open l j) at in cc
-    go (Some a) at =
-        let here : is_open (phase a.plan (history l j)) ≡ true =
-        sym (ap (in_phase is_open l j) at) ∙ unfinished in
-        has_one l j a at here
-        (one-step a.plan (history l j) (fits l (next_want a.plan (history l j)))
-        ((all_go l legal).go j a at) here)
+each_open_has_one l legal j unfinished = search (arith, has_one, one-step, all_go)
 
 -- nothing may come in a finished history
 pub finished-none : (plan : Planned) (h : List Item) (fits : Bool) (item : Item)
@@ -149,12 +108,5 @@ finished-none plan h fits item e may = grind (arith, nat_tests)
 
 -- no item is allowed of a finished journey
 pub no_finished_goes_on : (l : List Event) → NoFinishedJourneyGoesOn l
-no_finished_goes_on l j item finished = go (journey_at l j) refl
-  where
-    go : (o : Option Journey) → journey_at l j ≡ o → is_item_allowed l j item ≡ false
-    go None at = is_item_allowed-none l j item at
-    go (Some a) at =
-        false_from_ne_true _ (λ may.
-        finished-none a.plan (history l j) (fits l (next_want a.plan (history l j))) item
-        (sym (ap (in_phase is_finished l j) at) ∙ finished)
-        (sym (is_item_allowed-may_do l j item a at) ∙ may))
+no_finished_goes_on l j item finished =
+    grind (arith, is_item_allowed-none, false_from_ne_true, finished-none, is_item_allowed-may_do)

@@ -10,7 +10,7 @@ use Rattle.commands.specs.declared.items.Cause.TheVariants.{Stop, Refused, Asked
 use Rattle.commands.specs.declared.items.Item.{Item}
 use Rattle.commands.specs.declared.items.Item.TheVariants.{Transaction, Compensation, Turn, Save}
 use Rattle.commands.specs.declared.items.Phase.{Phase}
-use Rattle.commands.specs.declared.items.Phase.TheVariants.{Ended, Undone}
+use Rattle.commands.specs.declared.items.Phase.TheVariants.{Undone}
 use Rattle.ledger.specs.History.{position_of, going_to, has_turned_to_start, phase, phase_at, is_finished, may_come, may_turn}
 use Rattle.ledger.specs.Ledger.{Event, Journey, journey_at, history, IsLegal}
 use Rattle.ledger.proofs.Coming.{step-comes, compensation-comes, stop-comes, refused-comes, save-comes}
@@ -46,16 +46,12 @@ all_come-snoc plan before (y ∷ h) x all one = (
 
 -- the items of each journey of a legal ledger may come one after another
 all_come : (l : List Event) → IsLegal l → Each (λ plan h. AllCome plan [] h) l
-all_come = each_journey (λ plan h. AllCome plan [] h) (λ plan good. tt)
-    (λ plan h fits x may all. all_come-snoc plan [] h x all (record { fits = fits; may = may }))
+all_come = search (arith, each_journey, all_come-snoc)
 
 -- after a prefix of a history the journey follows its word, and each later item may come
 all_come-split : (plan : Planned) (before h rest : List Item) → Goes plan before
     → AllCome plan before (h ++ rest) → Goes plan (before ++ h) × AllCome plan (before ++ h) rest
-all_come-split plan before [] rest g all = (
-  subst (Goes plan) (sym (append-nil before)) g,
-  subst (λ b. AllCome plan b rest) (sym (append-nil before)) all,
-)
+all_come-split plan before [] rest g all = grind (arith, append-nil)
 all_come-split plan before (x ∷ h) rest g all =
     let both = all_come-split plan (before ++ x ∷ []) h rest
     (goes-more plan before all.0.fits x g all.0.may) all.1 in (
@@ -83,17 +79,11 @@ goes_on l legal j a at h x later e =
 module _ (plan : Planned) (h later : List Item) where
   pub stands-transaction : (i c : ℕ) → GoesOn plan h (Transaction i c) later
       → position_of (h ++ Transaction i c ∷ []) ≡ i
-  stands-transaction i c on =
-      let comes = step-comes plan h on.comes.fits i c on.comes.may in
-      position_of-transaction h i c ∙ sym comes.step
+  stands-transaction i c on = grind (arith, step-comes, position_of-transaction)
 
   pub stands-compensation : (i c : ℕ) → GoesOn plan h (Compensation i c) later
       → position_of (h ++ Compensation i c ∷ []) ≡ i - 1
-  stands-compensation i c on =
-      let k = compensates h i c on.goes.stands (compensation-comes plan h on.comes.fits i c on.comes.may).last in
-      let last = k.is_last in
-      let lower = k.lower in
-      omega arith
+  stands-compensation i c on = search (arith, compensates, compensation-comes)
 
 -- Which item finishes it.
 
@@ -106,10 +96,7 @@ finished_at n pos turned going = grind (arith, nat_tests)
 finished_by : (plan : Planned) (h : List Item) (pos : ℕ) (turned : Bool) → position_of h ≡ pos
     → has_turned_to_start h ≡ turned
     → is_finished (phase plan h) ≡ ((pos == step_count plan) || (turned && (pos == 0)))
-finished_by plan h pos turned at is =
-    finished_at (step_count plan) (position_of h) (has_turned_to_start h) (going_to h)
-    ∙ ap (λ p. (p == step_count plan) || (has_turned_to_start h && (p == 0))) at
-    ∙ ap (λ t. (pos == step_count plan) || (t && (pos == 0))) is
+finished_by plan h pos turned at is = cc (finished_at (step_count plan) (position_of h) (has_turned_to_start h) (going_to h))
 
 swapped : (a b : ℕ) → (a == b) ≡ (b == a)
 swapped a b = grind (arith, nat_tests)
@@ -122,46 +109,23 @@ module _ (plan : Planned) (h later : List Item) where
   -- a transaction finishes it if it is that of the last step
   pub finished-transaction : (i c : ℕ) → GoesOn plan h (Transaction i c) later
       → is_finished (phase plan (h ++ Transaction i c ∷ [])) ≡ (i == step_count plan)
-  finished-transaction i c on =
-      let comes = step-comes plan h on.comes.fits i c on.comes.may in
-      let up = running-rises plan h on.goes.mode comes.running in
-      finished_by plan (h ++ Transaction i c ∷ []) i false (stands-transaction plan h later i c on)
-      (turned-other h (Transaction i c) refl ∙ up.0.unturned)
-      ∙ or-false (i == step_count plan)
+  finished-transaction i c on = search (arith, step-comes, running-rises, finished_by, stands-transaction, turned-other, or-false)
 
   -- a compensation finishes it if it is that of the first step
   pub finished-compensation : (i c : ℕ) → GoesOn plan h (Compensation i c) later
       → is_finished (phase plan (h ++ Compensation i c ∷ [])) ≡ (i == 1)
   finished-compensation i c on =
-      let comes = compensation-comes plan h on.comes.fits i c on.comes.may in
-      let f = going_back-falls plan h on.goes.mode comes.back in
-      let k = compensates h i c on.goes.stands comes.last in
-      let last = k.is_last in
-      let lower = k.lower in
-      let top = f.falls in
-      let short = f.short in
-      let above = f.above in
-      finished_by plan (h ++ Compensation i c ∷ []) (i - 1) (0 == f.target) (omega arith)
-      (turned-other h (Compensation i c) refl ∙ f.turned)
-      ∙ ap (λ v. v || ((0 == f.target) && (i - 1 == 0))) (ne_eqb (i - 1) (step_count plan) (λ e. omega arith))
-      ∙ first_back i f.target (omega arith)
+      search (arith, compensation-comes, going_back-falls, compensates, finished_by, turned-other, ne_eqb, first_back)
 
   -- a turn finishes it if it leads to the start where no step stands
   turned_running : (p : ℕ) (cause : Cause) → Rising plan h × (position_of h < step_count plan)
       → is_finished (phase plan (h ++ Turn p cause ∷ [])) ≡ ((p == 0) && (position_of h == 0))
-  turned_running p cause up =
-      let below = up.1 in
-      finished_by plan (h ++ Turn p cause ∷ []) (position_of h) (0 == p) (position_of-turn h p cause)
-      (turned-turn h p cause up.0.unturned)
-      ∙ ap (λ v. v || ((0 == p) && (position_of h == 0))) (ne_eqb (position_of h) (step_count plan) (λ e. omega arith))
-      ∙ ap (λ v. v && (position_of h == 0)) (swapped 0 p)
+  turned_running p cause up = grind (arith, finished_by, position_of-turn, turned-turn, ne_eqb, swapped)
 
   pub finished-turn : (p : ℕ) (cause : Cause) → GoesOn plan h (Turn p cause) later
       → is_finished (phase plan (h ++ Turn p cause ∷ [])) ≡ ((p == 0) && (position_of h == 0))
-  finished-turn p Stop on =
-      turned_running p Stop (running-rises plan h on.goes.mode (stop-comes plan h on.comes.fits p on.comes.may).0)
-  finished-turn p Refused on =
-      turned_running p Refused (running-rises plan h on.goes.mode (refused-comes plan h on.comes.fits p on.comes.may).running)
+  finished-turn p Stop on = grind (arith, turned_running, running-rises, stop-comes)
+  finished-turn p Refused on = grind (arith, turned_running, running-rises, refused-comes)
   finished-turn p Asked on = by_mode on.goes.mode
     where
       at : (q : Phase) → phase plan h ≡ q → may_turn plan h q p ≡ true
@@ -169,31 +133,14 @@ module _ (plan : Planned) (h later : List Item) where
 
       by_mode : Mode plan h
           → is_finished (phase plan (h ++ Turn p Asked ∷ [])) ≡ ((p == 0) && (position_of h == 0))
-      by_mode (rises r) = elim (upward plan h r) [
-        | runs below e ↦ turned_running p Asked (r, below)
-        | ended top e ↦ absurd (let bad : false ≡ true = at Ended e in cc)
-      ]
-      by_mode (falls f) =
-          let top = f.falls in
-          let short = f.short in
-          let above = f.above in
-          let stands = ne_eqb (position_of h) 0 (λ e. omega arith) in
-          let t = has_turned_to_start (h ++ Turn p Asked ∷ []) in
-          finished_by plan (h ++ Turn p Asked ∷ []) (position_of h) t (position_of-turn h p Asked) refl
-          ∙ ap (λ v. v || (t && (position_of h == 0))) (ne_eqb (position_of h) (step_count plan) (λ e. omega arith))
-          ∙ ap (λ v. t && v) stands ∙ and_right t false refl
-          ∙ sym (ap (λ v. (p == 0) && v) stands ∙ and_right (p == 0) false refl)
+      by_mode (rises r) = grind (arith, upward, runs, turned_running, ended)
+      by_mode (falls f) = grind (arith, ne_eqb, finished_by, position_of-turn, and_right)
       by_mode (fell f) = absurd (let bad : false ≡ true = at Undone (phase-fallen plan h f) in cc)
 
   -- a save-point never finishes it
   pub finished-save : (p : ℕ) → GoesOn plan h (Save p) later
       → is_finished (phase plan (h ++ Save p ∷ [])) ≡ false
-  finished-save p on =
-      let up = running-rises plan h on.goes.mode (save-comes plan h on.comes.fits p on.comes.may) in
-      let below = up.1 in
-      finished_by plan (h ++ Save p ∷ []) (position_of h) false (position_of-save h p)
-      (turned-other h (Save p) refl ∙ up.0.unturned)
-      ∙ ap (λ v. v || false) (ne_eqb (position_of h) (step_count plan) (λ e. omega arith))
+  finished-save p on = grind (arith, running-rises, save-comes, finished_by, position_of-save, turned-other, ne_eqb)
 
   -- after the item that finishes it no item comes
   pub none_later : (x : Item) → GoesOn plan h x later

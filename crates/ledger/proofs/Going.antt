@@ -1,5 +1,5 @@
 -- What one more item changes of the journey's target and of its save-points. For its modes.
-use Rattle.std.proofs.Common.{◌≡◌, ℕ, ◌≤◌, ◌⊎◌, List, [], ◌∷◌, ◌++◌, refl, ap, ◌∙◌, arith, inl, inr, Bool, true, false, ◌||◌, ◌&&◌, ◌==◌, Some, None, IsTrue}
+use Rattle.std.proofs.Common.{◌≡◌, ℕ, ◌≤◌, ◌⊎◌, List, [], ◌∷◌, ◌++◌, ap, ◌∙◌, arith, Bool, true, false, ◌||◌, ◌&&◌, ◌==◌, Some, None, IsTrue}
 use Rattle.std.proofs.Math.Bool.{or-false}
 use Rattle.std.proofs.lemmas.Bool.Decides.{nat_tests}
 use Rattle.std.proofs.lemmas.List.{reverse-append}
@@ -64,14 +64,12 @@ is_save_point-turn plan h q cause p = grind (arith, nat_tests, position_of-turn,
 pub kept-turn : (plan : Planned) (h : List Item) (q : ℕ) (cause : Cause) (p : ℕ)
     → (p ≡ 0) ⊎ IsTrue (is_save_point plan h p)
     → (p ≡ 0) ⊎ IsTrue (is_save_point plan (h ++ Turn q cause ∷ []) p)
-kept-turn plan h q cause p (inl e) = inl e
-kept-turn plan h q cause p (inr e) = inr (is_save_point-turn plan h q cause p ∙ e)
+kept-turn plan h q cause p x = grind (arith, is_save_point-turn)
 
 -- a mark that counted still counts where the position is not below it
 keeps_mark : (marked old taken : Bool) → ((marked && old) || taken) ≡ true
     → ((marked && true) || taken) ≡ true
-keeps_mark true old taken e = refl
-keeps_mark false old taken e = e
+keeps_mark marked old taken e = grind arith
 
 -- a save-point that the journey has not passed stays when another step is compensated
 pub is_save_point-compensation : (plan : Planned) (h : List Item) (i c p : ℕ)

@@ -1,7 +1,6 @@
 -- How a legal ledger grows by one event, and induction over its events. For what holds of all legal ledgers.
-use Rattle.std.proofs.Common.{◌≡◌, ℕ, List, [], ◌∷◌, ◌++◌, ap, sym, ◌∙◌, append_assoc, subst, append-nil, Bool, true, false, ◌==◌, Some, None, option_map, if◌then◌else◌, IsTrue}
+use Rattle.std.proofs.Common.{◌≡◌, ℕ, List, [], ◌∷◌, ◌++◌, sym, ◌∙◌, append_assoc, subst, append-nil, Bool, true, false, ◌==◌, Some, None, if◌then◌else◌, IsTrue}
 use Rattle.std.proofs.lemmas.List.Elements.{filter_map-append}
-use Rattle.std.specs.Prelude.{unwrap_or}
 use Rattle.std.specs.List.{cons_option}
 use Rattle.commands.specs.declared.items.Item.{Item}
 use Rattle.ledger.specs.Ledger.{Event, Loaded, Began, Did, Journey, journeys, journey_at, begun_by, history, item_of, is_allowed, is_item_allowed, may_do, AreAllowedAfter, IsLegal}
@@ -53,34 +52,28 @@ journeys-began l agent plan = filter_map-append begun_by l (Began agent plan ∷
 -- a batch begins no journey
 pub journeys-loaded : (l : List Event) (name : List ℕ) (rows : _)
     → journeys (l ++ Loaded name rows ∷ []) ≡ journeys l
-journeys-loaded l name rows =
-    filter_map-append begun_by l (Loaded name rows ∷ []) ∙ append-nil (journeys l)
+journeys-loaded l name rows = cc (filter_map-append begun_by l (Loaded name rows ∷ []), append-nil (journeys l))
 
 -- an item begins no journey
 pub journeys-did : (l : List Event) (k : ℕ) (item : Item)
     → journeys (l ++ Did k item ∷ []) ≡ journeys l
-journeys-did l k item =
-    filter_map-append begun_by l (Did k item ∷ []) ∙ append-nil (journeys l)
+journeys-did l k item = cc (filter_map-append begun_by l (Did k item ∷ []), append-nil (journeys l))
 
 -- a begin leaves each history
 pub history-began : (l : List Event) (agent : List ℕ) (plan : _) (j : ℕ)
     → history (l ++ Began agent plan ∷ []) j ≡ history l j
-history-began l agent plan j =
-    filter_map-append (item_of j) l (Began agent plan ∷ []) ∙ append-nil (history l j)
+history-began l agent plan j = cc (filter_map-append (item_of j) l (Began agent plan ∷ []), append-nil (history l j))
 
 -- a batch leaves each history
 pub history-loaded : (l : List Event) (name : List ℕ) (rows : _) (j : ℕ)
     → history (l ++ Loaded name rows ∷ []) j ≡ history l j
-history-loaded l name rows j =
-    filter_map-append (item_of j) l (Loaded name rows ∷ []) ∙ append-nil (history l j)
+history-loaded l name rows j = cc (filter_map-append (item_of j) l (Loaded name rows ∷ []), append-nil (history l j))
 
 -- an item is appended to the history of its journey, and to no other
 history-item : (l : List Event) (k : ℕ) (item : Item) (j : ℕ) (v : Bool) → (j == k) ≡ v
     → history (l ++ Did k item ∷ []) j
     ≡ history l j ++ cons_option (if v then Some item else None) []
-history-item l k item j v e =
-    filter_map-append (item_of j) l (Did k item ∷ [])
-    ∙ ap (λ b. history l j ++ cons_option (if b then Some item else None) []) e
+history-item l k item j v e = cc (filter_map-append (item_of j) l (Did k item ∷ []))
 
 -- an item is appended to the history of its own journey
 pub history-did_same : (l : List Event) (k : ℕ) (item : Item) (j : ℕ) → (j == k) ≡ true
@@ -97,14 +90,12 @@ history-did_other l k item j e = history-item l k item j false e ∙ append-nil 
 -- an allowed item is one that its journey may do
 pub is_item_allowed-may_do : (l : List Event) (k : ℕ) (item : Item) (a : Journey)
     → journey_at l k ≡ Some a → is_item_allowed l k item ≡ may_do l k item a
-is_item_allowed-may_do l k item a at =
-    ap (λ o. unwrap_or (option_map (may_do l k item) o) false) at
+is_item_allowed-may_do l k item a at = cc
 
 -- no item is allowed where there is no journey
 pub is_item_allowed-none : (l : List Event) (k : ℕ) (item : Item) → journey_at l k ≡ None
     → is_item_allowed l k item ≡ false
-is_item_allowed-none l k item absent =
-    ap (λ o. unwrap_or (option_map (may_do l k item) o) false) absent
+is_item_allowed-none l k item absent = cc
 
 -- it is absurd that an item is allowed where there is no journey
 pub absurd_item : {X : Type 0} (l : List Event) (k : ℕ) (item : Item) → journey_at l k ≡ None

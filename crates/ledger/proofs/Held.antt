@@ -1,8 +1,6 @@
 -- How many places of a cell are held, as events come. For the law that no cell is overfull.
-use Rattle.std.proofs.Common.{◌≡◌, ℕ, suc, ◌+◌, ◌≤◌, List, [], ◌∷◌, ◌++◌, length, refl, ap, sym, ◌∙◌, arith, subst, eq-eqb, length-append, not, ◌==◌, Option, Some, None, option_map, sum_by}
-use Rattle.std.proofs.lemmas.Bool.{ne_eqb}
+use Rattle.std.proofs.Common.{◌≡◌, ℕ, suc, ◌+◌, ◌≤◌, List, [], ◌∷◌, ◌++◌, length, refl, ap, sym, ◌∙◌, arith, eq-eqb, length-append, Option, Some, None, option_map, sum_by, ne_eqb, unwrap_or}
 use Rattle.std.proofs.lemmas.List.Sums.{sum_by-cons, sum_by-append}
-use Rattle.std.specs.Prelude.{unwrap_or}
 use Rattle.allotment.specs.Cells.{numbers_from}
 use Rattle.allotment.specs.declared.cells.Cell.{Cell}
 use Rattle.plan.specs.PlanModel.{Planned, numbered, want_at}
@@ -10,7 +8,6 @@ use Rattle.commands.specs.declared.items.Cause.{Cause}
 use Rattle.commands.specs.declared.items.Item.{Item}
 use Rattle.commands.specs.declared.items.Item.TheVariants.{Transaction, Compensation, Turn, Save}
 use Rattle.ledger.specs.Ledger.{Event, Loaded, Began, Did, Journey, journeys, journey_at, numbers, history, places_in, held_by, held_by_journey, held}
-use Rattle.ledger.specs.History.{net}
 use Rattle.ledger.proofs.Growing.{journeys-began, journeys-loaded, journeys-did, history-began, history-loaded, history-did_same, history-did_other}
 use Rattle.ledger.proofs.Ledgers.{AllGo}
 use Rattle.ledger.proofs.Lists.{numbered-some, numbered-past, number-within}
@@ -26,18 +23,11 @@ held_in x h o = unwrap_or (option_map (λ (a : Journey). held_by a.plan h x) o) 
 -- a batch changes nothing that is held
 pub held-loaded : (l : List Event) (name : List ℕ) (rows : _) (x : Cell)
     → held (l ++ Loaded name rows ∷ []) x ≡ held l x
-held-loaded l name rows x =
-    ap (λ js. sum_by (held_by_journey (l ++ Loaded name rows ∷ []) x) (numbers_from 1 (length js)))
-    (journeys-loaded l name rows)
-    ∙ sum_by-same (held_by_journey (l ++ Loaded name rows ∷ []) x) (held_by_journey l x) (numbers l)
-    (λ j. ap (λ h. held_in x h (journey_at (l ++ Loaded name rows ∷ []) j))
-    (history-loaded l name rows j)
-    ∙ ap (λ js. held_in x (history l j) (numbered js j)) (journeys-loaded l name rows))
+held-loaded l name rows x = search (arith, journeys-loaded, sum_by-same, history-loaded)
 
 -- without items nothing is held, whether there is a journey or not
 held_in-nothing : (x : Cell) (o : Option Journey) → held_in x [] o ≡ 0
-held_in-nothing x None = refl
-held_in-nothing x (Some a) = refl
+held_in-nothing x o = grind arith
 
 -- a journey that is begun holds nothing, and the others hold what they held
 held_by_journey-began : (l : List Event) (agent : List ℕ) (plan : Planned) (x : Cell) → AllGo l
@@ -67,7 +57,6 @@ held-began l agent plan x all =
     ∙ ap (sum_by holds) (numbers_from-append 1 (length (journeys l)) 1)
     ∙ sum_by-append holds (numbers l) ((1 + length (journeys l)) ∷ [])
     ∙ (let rest = sum_by-same holds (held_by_journey l x) (numbers l) each in
-    let last = sum_by-cons holds (1 + length (journeys l)) [] in
     let none : holds (1 + length (journeys l)) ≡ 0 = each (1 + length (journeys l)) ∙ past in
     let k : sum_by holds (numbers l) + sum_by holds ((1 + length (journeys l)) ∷ []) ≡ held l x =
     omega arith in
@@ -80,9 +69,7 @@ held-began l agent plan x all =
     each = held_by_journey-began l agent plan x all
 
     count : length (journeys (l ++ Began agent plan ∷ [])) ≡ length (journeys l) + 1
-    count =
-        ap length (journeys-began l agent plan)
-        ∙ length-append (journeys l) (record { agent = agent; plan = plan } ∷ [])
+    count = grind (arith, journeys-began, length-append)
 
     past : held_by_journey l x (1 + length (journeys l)) ≡ 0
     past =
@@ -109,9 +96,7 @@ held-did l k item a x at =
     omega arith
   where
     other : (j : ℕ) → (j ≡ k → ⊥) → held_by_journey (l ++ Did k item ∷ []) x j ≡ held_by_journey l x j
-    other j apart =
-        ap (λ h. held_in x h (journey_at (l ++ Did k item ∷ []) j)) (history-did_other l k item j (ne_eqb j k apart))
-        ∙ ap (λ js. held_in x (history l j) (numbered js j)) (journeys-did l k item)
+    other j apart = search (arith, history-did_other, ne_eqb, journeys-did)
 
 -- What an item of a journey does to what that journey holds.
 
@@ -124,21 +109,13 @@ pub held_by-transaction : (plan : Planned) (h : List Item) (i c : ℕ) (x : Cell
     → held_by plan (h ++ Transaction i c ∷ []) x
     ≡ held_by plan h x + places_in x (want_at plan i c)
 unfolding places_of
-held_by-transaction plan h i c x =
-    ap (sum_by (places_of plan x)) (net-transaction h i c)
-    ∙ sum_by-append (places_of plan x) (net h) ((i, c) ∷ [])
-    ∙ ap (λ n. held_by plan h x + n)
-    (sum_by-cons (places_of plan x) (i, c) []
-    ∙ (let e : places_in x (want_at plan i c) + 0 ≡ places_in x (want_at plan i c) = omega arith in
-    e))
+held_by-transaction plan h i c x = grind (arith, net-transaction, sum_by-append, sum_by-cons)
 
 -- a compensation only takes transactions away, so no more is held than before
 pub held_by-compensation : (plan : Planned) (h : List Item) (i c : ℕ) (x : Cell)
     → held_by plan (h ++ Compensation i c ∷ []) x ≤ held_by plan h x
 unfolding places_of
-held_by-compensation plan h i c x =
-    subst (λ ts. sum_by (places_of plan x) ts ≤ held_by plan h x) (sym (net-compensation h i c))
-    (sum_by-filter (places_of plan x) (λ t. not (t.0 == i)) (net h))
+held_by-compensation plan h i c x = grind (arith, net-compensation, sum_by-filter)
 
 -- a turn leaves what is held
 pub held_by-turn : (plan : Planned) (h : List Item) (p : ℕ) (cause : Cause) (x : Cell)

@@ -86,10 +86,9 @@ goes-more plan h fits (Turn p Refused) g may =
     (has_tries-refused plan h p comes.target g.tries)
 goes-more plan h fits (Turn p Asked) g may = asked plan h p g may
 goes-more plan h fits (Save p) g may =
-    let up = running-rises plan h g.mode (save-comes plan h fits p may) in
     record {
       stands = standing-save h p g.stands;
-      mode = rises (rising-save plan h p up.0);
+      mode = rises (rising-save plan h p (running-rises plan h g.mode (save-comes plan h fits p may)).0);
       tries = has_tries-other plan h (Save p) refl g.tries;
     }
 

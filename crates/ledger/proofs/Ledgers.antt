@@ -1,9 +1,9 @@
 -- Induction over the items of each history of a legal ledger, and that each journey follows an up-and-down word. For the
 -- laws of words and steps.
-use Rattle.std.proofs.Common.{◌≡◌, ℕ, zero, suc, ◌⊎◌, List, [], ◌∷◌, ◌++◌, refl, sym, ◌∙◌, subst, eqb-true, inl, inr, Bool, true, false, ◌==◌, Some, None, IsTrue}
+use Rattle.std.proofs.Common.{◌≡◌, ℕ, ◌⊎◌, List, [], ◌∷◌, ◌++◌, refl, ◌∙◌, eqb-true, inl, inr, Bool, ◌==◌, Some, None, IsTrue, arith}
 use Rattle.plan.specs.PlanModel.{Planned, is_plan}
 use Rattle.commands.specs.declared.items.Item.{Item}
-use Rattle.ledger.specs.History.{net, may_come}
+use Rattle.ledger.specs.History.{may_come}
 use Rattle.ledger.specs.Ledger.{Event, Loaded, Began, Did, Journey, journeys, journey_at, history, is_allowed, IsLegal}
 use Rattle.ledger.specs.Laws.{EveryJourneyIsUpAndDown}
 use Rattle.ledger.proofs.Growing.{Keeps, induct, journeys-began, journeys-loaded, journeys-did, history-began, history-loaded, history-did_same, history-did_other, is_item_allowed-may_do, absurd_item}
@@ -44,8 +44,7 @@ module _ (P : Planned → List Item → Type 0) (begin : AtBegin P) (more : AtIt
           → (journey_at l j ≡ Some a) ⊎ ((journey_at l j ≡ None) × (record { agent = agent; plan = plan } ≡ a))
           → P a.plan (history l j)
       old_or_new j a (inl old) = all.go j a old
-      old_or_new j a (inr new) =
-          rw (all.none j new.0) (begin a.plan (subst (λ (b : Journey). IsTrue (is_plan b.plan)) new.1 good))
+      old_or_new j a (inr new) = grind arith
 
   -- an item takes its own journey on, and leaves the others
   each-did : (l : List Event) (k : ℕ) (x : Item) → IsTrue (is_allowed l (Did k x)) → Each P l
@@ -58,15 +57,11 @@ module _ (P : Planned → List Item → Type 0) (begin : AtBegin P) (more : AtIt
     where
       went : (j : ℕ) (a : Journey) → journey_at l j ≡ Some a → (v : Bool) → (j == k) ≡ v
           → P a.plan (history (l ++ Did k x ∷ []) j)
-      went j a is true e =
-          rw (history-did_same l k x j e) (more a.plan (history l j) _ x
-          (sym (is_item_allowed-may_do l j x a is) ∙ rw (eqb-true j k e) may) (all.go j a is))
-      went j a is false e = rw (history-did_other l k x j e) (all.go j a is)
+      went j a is v e = grind (arith, history-did_same, is_item_allowed-may_do, eqb-true, history-did_other)
 
       absent : (j : ℕ) → journey_at l j ≡ None → (v : Bool) → (j == k) ≡ v
           → history (l ++ Did k x ∷ []) j ≡ []
-      absent j is true e = absurd_item l j x is (rw (eqb-true j k e) may)
-      absent j is false e = history-did_other l k x j e ∙ all.none j is
+      absent j is v e = grind (arith, absurd_item, eqb-true, history-did_other)
 
   -- each allowed event keeps the property of each journey
   each-more : Keeps (Each P)
@@ -82,8 +77,7 @@ module _ (P : Planned → List Item → Type 0) (begin : AtBegin P) (more : AtIt
   each_journey = induct (Each P) (record { go = λ j a is. absurd (no_journey j a is); none = λ j is. refl }) each-more
     where
       no_journey : (j : ℕ) (a : Journey) → journey_at [] j ≡ Some a → ⊥
-      no_journey zero a is = cc
-      no_journey (suc i) a is = cc
+      no_journey j a is = grind arith
 
 -- every journey follows its word, and a number without a journey has no history
 abbrev pub AllGo : List Event → Type 0
@@ -95,13 +89,4 @@ all_go = each_journey Goes (λ plan good. goes-begin plan) (λ plan h fits x may
 
 -- each journey of a legal ledger reads as an up-and-down word
 pub up_and_down : (l : List Event) → IsLegal l → EveryJourneyIsUpAndDown l
-up_and_down l legal j a e =
-    let g = (all_go l legal).go j a e in
-    let h = history l j in
-    record {
-      begins = begins-word a.plan h g;
-      ended = λ is. (ended-word a.plan h g is).0;
-      undone = λ is. (undone-word a.plan h g is).0;
-      holds_all = λ is. (ended-word a.plan h g is).1;
-      holds_none = λ is. map-none (λ t. t.0) (net h) (undone-word a.plan h g is).1;
-    }
+up_and_down l legal j a e = search (arith, all_go, begins-word, ended-word, undone-word, map-none)

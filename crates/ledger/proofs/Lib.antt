@@ -12,7 +12,6 @@ pub mod Growing
 pub mod Ledgers
 pub mod Deciding
 pub mod Ending
-pub mod Plain
 pub mod Phases
 pub mod Recovering
 pub mod Stopping

@@ -1,8 +1,8 @@
 -- Lists: their last element, the element of a number, and the first that passes a test. For
 -- ledgers, allotments and answers.
-use Rattle.std.proofs.Common.{◌≡◌, ℕ, zero, suc, ◌+◌, ◌<◌, ◌≤◌, ◌⊎◌, List, [], ◌∷◌, ◌++◌, length, map, refl, ap, sym, ◌∙◌, arith, Bool, true, false, not, Some, None, find, position, slice_get, cond, ◌==◌, if◌then◌else◌}
+use Rattle.std.proofs.Common.{◌≡◌, ℕ, zero, suc, ◌+◌, ◌<◌, ◌≤◌, ◌⊎◌, List, [], ◌∷◌, ◌++◌, length, map, refl, ap, arith, Bool, true, false, not, Some, None, find, position, slice_get, cond, ◌==◌, if◌then◌else◌}
 use Rattle.std.proofs.lemmas.Bool.Decides.{nat_tests}
-use Rattle.std.proofs.lemmas.Option.{slice_get_within, slice_get_past, same_Some}
+use Rattle.std.proofs.lemmas.Option.{slice_get_within, slice_get_past}
 use Rattle.std.specs.List.{list_any, list_all}
 use Rattle.plan.specs.PlanModel.{numbered}
 use Rattle.ledger.specs.History.{last_of}
@@ -14,8 +14,7 @@ pub last_of-is : {X : Type 0} (xs : List X) (t : X) → last_of xs ≡ Some t
     → (front : List X) × (xs ≡ front ++ t ∷ [])
 last_of-is [] t e = cc
 last_of-is (x ∷ []) t e = let is : x ≡ t = cc in ([], ap (λ y. y ∷ []) is)
-last_of-is (x ∷ y ∷ ys) t e =
-    let rest = last_of-is (y ∷ ys) t e in (x ∷ rest.0, ap (λ zs. x ∷ zs) rest.1)
+last_of-is (x ∷ y ∷ ys) t e = (x ∷ (last_of-is (y ∷ ys) t e).0, ap (λ zs. x ∷ zs) (last_of-is (y ∷ ys) t e).1)
 
 -- a list that is not empty has a last element
 pub last_of-some : {X : Type 0} (xs : List X) → 0 < length xs → (t : X) × (last_of xs ≡ Some t)
@@ -45,10 +44,7 @@ front_of-snoc (x ∷ y ∷ ys) a = ap (λ zs. x ∷ zs) (front_of-snoc (y ∷ ys
 
 -- two lists with one more element at their ends are the same only if both parts are
 pub snoc-same : {X : Type 0} (xs ys : List X) (a b : X) → xs ++ a ∷ [] ≡ ys ++ b ∷ [] → (xs ≡ ys) × (a ≡ b)
-snoc-same xs ys a b e = (
-  sym (front_of-snoc xs a) ∙ ap front_of e ∙ front_of-snoc ys b,
-  same_Some _ _ (sym (last_of-append xs a []) ∙ ap last_of e ∙ last_of-append ys b []),
-)
+snoc-same xs ys a b e = grind (arith, front_of-snoc xs, front_of-snoc ys b, last_of-append xs a, last_of-append ys b)
 
 -- The element with a number.
 
@@ -64,22 +60,17 @@ slice_get-snoc (x ∷ xs) a (suc i) = let later = slice_get-snoc xs a i in grind
 pub numbered-snoc : {X : Type 0} (xs : List X) (a : X) (j : ℕ) (b : X)
     → numbered (xs ++ a ∷ []) j ≡ Some b
     → (numbered xs j ≡ Some b) ⊎ ((numbered xs j ≡ None) × (a ≡ b))
-numbered-snoc xs a zero b e = cc
-numbered-snoc xs a (suc i) b e =
-    let now = slice_get-snoc xs a i in let past = slice_get_past xs i in grind (arith, nat_tests)
+numbered-snoc xs a j b e = grind (arith, slice_get-snoc, slice_get_past, nat_tests)
 
 -- a number that the longer list does not have, the shorter one does not have either
 pub numbered-none : {X : Type 0} (xs : List X) (a : X) (j : ℕ)
     → numbered (xs ++ a ∷ []) j ≡ None → numbered xs j ≡ None
-numbered-none xs a zero e = refl
-numbered-none xs a (suc i) e = let now = slice_get-snoc xs a i in grind (arith, nat_tests)
+numbered-none xs a j e = grind (arith, slice_get-snoc, nat_tests)
 
 -- an appended element leaves the elements that were there
 pub numbered-some : {X : Type 0} (xs : List X) (a : X) (j : ℕ) (b : X)
     → numbered xs j ≡ Some b → numbered (xs ++ a ∷ []) j ≡ Some b
-numbered-some xs a zero b e = cc
-numbered-some xs a (suc i) b e =
-    let now = slice_get-snoc xs a i in let past = slice_get_past xs i in grind (arith, nat_tests)
+numbered-some xs a j b e = grind (arith, slice_get-snoc, slice_get_past, nat_tests)
 
 -- numbers end where the list does
 pub numbered-past : {X : Type 0} (xs : List X) → numbered xs (suc (length xs)) ≡ None
@@ -88,8 +79,7 @@ numbered-past (x ∷ xs) = numbered-past xs
 
 -- the number of an element is one from 1 to how many there are
 pub number-within : {X : Type 0} (xs : List X) (j : ℕ) (a : X) → numbered xs j ≡ Some a → (1 ≤ j) × (j < 1 + length xs)
-number-within xs zero a at = cc
-number-within xs (suc i) a at = let below = slice_get_within xs i a at in (omega arith, omega arith)
+number-within xs j a at = grind (arith, slice_get_within)
 
 -- Tests.
 

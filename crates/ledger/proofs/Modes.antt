@@ -1,6 +1,6 @@
 -- Where a journey may be in its up-and-down word: on its way up, on its way down, or all the way down. What its phase is
 -- there, and what that says of its whole word. For each item that may come, and for the law of words.
-use Rattle.std.proofs.Common.{◌≡◌, ℕ, ◌<◌, ◌≤◌, ◌⊎◌, List, ◌++◌, refl, ap, sym, ◌∙◌, arith, append_assoc, eqb-true, Bool, true, false, ◌==◌, Some, IsTrue, [], subst, append-nil, inl, inr}
+use Rattle.std.proofs.Common.{◌≡◌, ℕ, ◌<◌, ◌≤◌, ◌⊎◌, List, ◌++◌, ap, sym, ◌∙◌, arith, append_assoc, eqb-true, Bool, true, false, ◌==◌, Some, IsTrue, [], subst, append-nil, inl, inr}
 use Rattle.std.proofs.lemmas.Bool.{eqb-false}
 use Rattle.std.proofs.lemmas.Bool.Decides.{nat_tests}
 use Rattle.allotment.specs.Cells.{numbers_from}
@@ -34,14 +34,12 @@ since-append s more = record {
 -- if the last part goes up to the end, so does the history
 pub goes_to_end : {plan : Planned} {h : List Item} {from : ℕ} (s : Since plan h from) → from ≤ step_count plan
     → word s.part ≡ up from (step_count plan) → GoesToEnd plan h
-goes_to_end {from = from} s low reads =
-    record { before = s.before; part = s.part; from = from; returns = s.returns; whole = s.whole; no_higher = low; reads = reads }
+goes_to_end {from = from} s low reads = grind arith
 
 -- if the last part goes up and down to the start, so does the history
 pub goes_to_start : {plan : Planned} {h : List Item} {from : ℕ} (s : Since plan h from) (top : ℕ)
     → IsTurnPart plan from top 0 s.part → GoesToStart plan h
-goes_to_start {from = from} s top turns =
-    record { before = s.before; part = s.part; from = from; top = top; returns = s.returns; whole = s.whole; turns = turns }
+goes_to_start {from = from} s top turns = grind arith
 
 -- the journey is on its way up: since it last was at `from` it did the steps from there on
 pub record Rising (plan : Planned) (h : List Item) : Type 0 where
@@ -92,9 +90,7 @@ pub record Goes (plan : Planned) (h : List Item) : Type 0 where
 
 -- no journey is above its end
 pub position_of-most : (plan : Planned) (h : List Item) → Mode plan h → position_of h ≤ step_count plan
-position_of-most plan h (rises r) = r.within
-position_of-most plan h (falls f) = let a = f.falls in let b = f.short in omega arith
-position_of-most plan h (fell f) = let a = f.low in omega arith
+position_of-most plan h x = grind arith
 
 -- Phases.
 
@@ -126,15 +122,7 @@ pub data Upward (plan : Planned) (h : List Item) : Type 0 where
 
 -- by whether it is at its end
 pub upward : (plan : Planned) (h : List Item) → Rising plan h → Upward plan h
-upward plan h r = go (position_of h == step_count plan) refl
-  where
-    go : (v : Bool) → (position_of h == step_count plan) ≡ v → Upward plan h
-    go true e = let is = eqb-true _ _ e in ended is (phase-ended plan h is)
-    go false e =
-        let ne = eqb-false _ _ e in
-        let w = r.within in
-        let below : position_of h < step_count plan = omega arith in
-        runs below (phase-rising plan h r below)
+upward plan h r = grind (arith, eqb-true, phase-ended, eqb-false, phase-rising)
 
 -- two phases for which a test answers differently are different
 pub told_apart : {X : Type 0} (test : Phase → Bool) (p q : Phase) → test p ≡ true → p ≡ q
@@ -145,23 +133,12 @@ told_apart test p q passes same fails =
 -- a running journey is on its way up, and not at its end
 pub running-rises : (plan : Planned) (h : List Item) → Mode plan h
     → is_running (phase plan h) ≡ true → Rising plan h × (position_of h < step_count plan)
-running-rises plan h (rises r) run = elim (upward plan h r) [
-  | runs below e ↦ (r, below)
-  | ended at e ↦ told_apart is_running _ _ run e refl
-]
-running-rises plan h (falls f) run = told_apart is_running _ _ run (phase-falling plan h f) refl
-running-rises plan h (fell f) run = told_apart is_running _ _ run (phase-fallen plan h f) refl
+running-rises plan h x run = grind (arith, upward, phase-falling, phase-fallen)
 
 -- a journey that goes back is on its way down
 pub going_back-falls : (plan : Planned) (h : List Item) → Mode plan h
     → is_going_back (phase plan h) ≡ true → Falling plan h
-going_back-falls plan h (rises r) back = elim (upward plan h r) [
-  | runs below e ↦ told_apart is_going_back _ _ back e refl
-  | ended at e ↦ told_apart is_going_back _ _ back e refl
-]
-going_back-falls plan h (falls f) back = f
-going_back-falls plan h (fell f) back =
-    told_apart is_going_back _ _ back (phase-fallen plan h f) refl
+going_back-falls plan h x back = search (arith, upward, phase-fallen)
 
 -- What the mode of a journey says of its whole word.
 
@@ -178,18 +155,7 @@ rising-begins plan h r =
 -- on its way down it is completed by the compensations that are left
 falling-begins : (plan : Planned) (h : List Item) (f : Falling plan h)
     → GoesToStart plan (h ++ fall (position_of h) 0)
-falling-begins plan h f =
-    let rest = fall (position_of h) 0 in
-    goes_to_start (since-append f.since rest) f.top (record {
-      rises = f.rises;
-      short = f.short;
-      falls = omega arith;
-      reads =
-          word-append f.since.part rest ∙ ap (λ w. w ++ word rest) f.reads
-          ∙ append_assoc (up f.from f.top) (down f.top (position_of h)) (word rest)
-          ∙ ap (λ w. up f.from f.top ++ (down f.top (position_of h) ++ w)) (word-fall (position_of h) 0)
-          ∙ ap (λ w. up f.from f.top ++ w) (sym (down-join 0 (position_of h) f.top (omega arith) f.falls));
-    })
+falling-begins plan h f = grind (arith, fall, goes_to_start, word-append, append_assoc, word-fall, down-join)
 
 -- in each mode the history begins an up-and-down word
 pub begins-word : (plan : Planned) (h : List Item) → Goes plan h → BeginsUpAndDown plan h
@@ -203,15 +169,7 @@ begins-word plan h g = by_mode g.mode
 -- an ended journey went up to its end, and all its steps stand
 pub ended-word : (plan : Planned) (h : List Item) → Goes plan h → phase plan h ≡ Ended
     → GoesToEnd plan h × (standing h ≡ numbers_from 1 (step_count plan))
-ended-word plan h g e = by_mode g.mode
-  where
-    by_mode : Mode plan h → GoesToEnd plan h × (standing h ≡ numbers_from 1 (step_count plan))
-    by_mode (rises r) = elim (upward plan h r) [
-      | runs below run ↦ (let bad : Run ≡ Ended = sym run ∙ e in cc)
-      | ended at same ↦ (goes_to_end r.since (let a = r.low in omega arith) (r.reads ∙ ap (up r.from) at), g.stands ∙ ap (numbers_from 1) at)
-    ]
-    by_mode (falls f) = let bad : Back f.target ≡ Ended = sym (phase-falling plan h f) ∙ e in cc
-    by_mode (fell f) = let bad : Undone ≡ Ended = sym (phase-fallen plan h f) ∙ e in cc
+ended-word plan h g e = search (arith, standing, upward, goes_to_end, phase-falling, phase-fallen)
 
 -- an undone journey went all the way down, and no step stands
 pub undone-word : (plan : Planned) (h : List Item) → Goes plan h → phase plan h ≡ Undone
@@ -219,9 +177,6 @@ pub undone-word : (plan : Planned) (h : List Item) → Goes plan h → phase pla
 undone-word plan h g e = by_mode g.mode
   where
     by_mode : Mode plan h → GoesToStart plan h × (standing h ≡ [])
-    by_mode (rises r) = elim (upward plan h r) [
-      | runs below run ↦ (let bad : Run ≡ Undone = sym run ∙ e in cc)
-      | ended at same ↦ (let bad : Ended ≡ Undone = sym same ∙ e in cc)
-    ]
+    by_mode (rises r) = grind (arith, upward)
     by_mode (falls f) = let bad : Back f.target ≡ Undone = sym (phase-falling plan h f) ∙ e in cc
     by_mode (fell f) = (f.start, g.stands ∙ ap (numbers_from 1) f.low)

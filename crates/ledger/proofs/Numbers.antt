@@ -1,6 +1,6 @@
 -- Consecutive numbers: how such lists join, the runs up and down of words, and sums over them. For the words of journeys,
 -- and for the places that journeys hold.
-use Rattle.std.proofs.Common.{[], ◌≡◌, ℕ, zero, suc, ◌+◌, ◌-◌, ◌≤◌, ◌∷◌, ◌++◌, ap, ◌∙◌, arith, List, map, reverse, refl, ◌<◌, inl, inr, Bool, true, false, filter, sum_by, cond}
+use Rattle.std.proofs.Common.{[], ◌≡◌, ℕ, zero, suc, ◌+◌, ◌-◌, ◌≤◌, ◌∷◌, ◌++◌, ap, ◌∙◌, arith, List, map, reverse, refl, ◌<◌, inl, inr, Bool, filter, sum_by, cond}
 use Rattle.allotment.specs.Cells.{numbers_from}
 use Rattle.std.proofs.lemmas.List.{reverse-append, map-append}
 use Rattle.commands.specs.declared.items.Item.{Item}
@@ -13,8 +13,7 @@ use Rattle.std.proofs.lemmas.List.Sums.{sum_by-cons}
 -- n + m consecutive numbers are the first n of them, followed by m more
 pub numbers_from-append : (first n m : ℕ)
     → numbers_from first (n + m) ≡ numbers_from first n ++ numbers_from (first + n) m
-numbers_from-append first zero m =
-    ap (numbers_from first) (omega arith) ∙ ap (λ k. numbers_from k m) (omega arith)
+numbers_from-append first zero m = grind arith
 numbers_from-append first (suc n) m =
     ap (numbers_from first) (let e : suc n + m ≡ suc (n + m) = omega arith in e)
     ∙ ap (λ xs. first ∷ xs)
@@ -24,11 +23,7 @@ numbers_from-append first (suc n) m =
 -- the numbers from a + 1 to d are those up to b, followed by those after b
 pub numbers_between-join : (a b d : ℕ) → a ≤ b → b ≤ d
     → numbers_from (suc a) (d - a) ≡ numbers_from (suc a) (b - a) ++ numbers_from (suc b) (d - b)
-numbers_between-join a b d low high =
-    ap (numbers_from (suc a)) (let e : d - a ≡ (b - a) + (d - b) = omega arith in e)
-    ∙ numbers_from-append (suc a) (b - a) (d - b)
-    ∙ ap (λ m. numbers_from (suc a) (b - a) ++ numbers_from m (d - b))
-    (let e : suc a + (b - a) ≡ suc b = omega arith in e)
+numbers_between-join a b d low high = grind (arith, numbers_from-append (suc a) (b - a) (d - b))
 
 -- from a + 1 to a there is no number
 pub numbers_between-none : (a : ℕ) → numbers_from (suc a) (a - a) ≡ []
@@ -66,8 +61,7 @@ down-one a = ap (λ ns. map Down (reverse ns)) (numbers_between-one a)
 -- up to b and on up to d is up to d
 pub up-join : (a b d : ℕ) → a ≤ b → b ≤ d → up a d ≡ up a b ++ up b d
 up-join a b d low high =
-    ap (map Up) (numbers_between-join a b d low high)
-    ∙ map-append Up (numbers_from (suc a) (b - a)) (numbers_from (suc b) (d - b))
+    grind (arith, numbers_between-join a b d low, map-append Up (numbers_from (suc a) (b - a)) (numbers_from (suc b) (d - b)))
 
 -- down to b and on down to a is down to a
 pub down-join : (a b d : ℕ) → a ≤ b → b ≤ d → down d a ≡ down d b ++ down b a
@@ -113,8 +107,7 @@ word-fall b a = word-downs (reverse (numbers_from (suc a) (b - a)))
 -- where each term is the same, so is the sum
 pub sum_by-same : {X : Type 0} (f g : X → ℕ) (xs : List X) → ((x : X) → f x ≡ g x)
     → sum_by f xs ≡ sum_by g xs
-sum_by-same f g [] same = refl
-sum_by-same f g (x ∷ xs) same = let later = sum_by-same f g xs same in grind (arith, common_steps, same x)
+sum_by-same f g xs same = grind (arith, common_steps)
 
 -- a filtered list sums to no more than the list
 pub sum_by-filter : {X : Type 0} (f : X → ℕ) (test : X → Bool) (xs : List X)
@@ -124,20 +117,13 @@ sum_by-filter f test (x ∷ xs) = go (test x) (sum_by-filter f test xs)
   where
     go : (v : Bool) → sum_by f (filter test xs) ≤ sum_by f xs
         → sum_by f (cond v (x ∷ filter test xs) (filter test xs)) ≤ sum_by f (x ∷ xs)
-    go true rest =
-        let a = sum_by-cons f x (filter test xs) in let b = sum_by-cons f x xs in omega arith
-    go false rest = let b = sum_by-cons f x xs in omega arith
+    go v rest = grind (arith, sum_by-cons)
 
 -- after the only number where terms differ, sums are the same
 sum_by-behind : (f g : ℕ → ℕ) (k first n : ℕ) → ((j : ℕ) → (j ≡ k → ⊥) → g j ≡ f j) → k < first
     → sum_by g (numbers_from first n) ≡ sum_by f (numbers_from first n)
 sum_by-behind f g k first zero same behind = refl
-sum_by-behind f g k first (suc n) same behind =
-    let a = sum_by-cons g first (numbers_from (suc first) n) in
-    let b = sum_by-cons f first (numbers_from (suc first) n) in
-    let one = same first (λ e. omega arith) in
-    let rest = sum_by-behind f g k (suc first) n same (omega arith) in
-    omega arith
+sum_by-behind f g k first (suc n) same behind = grind (arith, sum_by-cons, sum_by-behind f g k (suc first) n same (omega arith))
 
 -- if terms differ at one number only, the sums differ as these terms do
 pub sum_by-changed : (f g : ℕ → ℕ) (k first n : ℕ) → ((j : ℕ) → (j ≡ k → ⊥) → g j ≡ f j)
@@ -155,7 +141,6 @@ sum_by-changed f g k first (suc n) same low high =
           omega arith
           )
       | inr other ↦ (
-          let one = same first other in
           let rest = sum_by-changed f g k (suc first) n same (omega arith) (omega arith) in
           omega arith
           )

@@ -1,10 +1,10 @@
 -- What a request changes: a legal ledger grows by its event and stays legal, kept replies stay kept, and under each agent
 -- and key at most one event is made. For the law of worlds.
-use Rattle.std.proofs.Common.{◌≡◌, ℕ, List, ◌++◌, refl, sym, append-nil, Bool, true, false, ◌&&◌, Option, Some, None, is_some, option_to_list, if◌then◌else◌, bytes_eq, [], ◌∷◌, ap, subst, ◌∙◌, append_assoc, ◌+◌, ◌≤◌, ◌⊎◌, arith, inl, inr}
+use Rattle.std.proofs.Common.{◌≡◌, ℕ, List, ◌++◌, refl, sym, append-nil, Bool, true, false, ◌&&◌, Option, Some, None, is_some, option_to_list, if◌then◌else◌, bytes_eq, [], ◌∷◌, ap, ◌∙◌, append_assoc, ◌+◌, ◌≤◌, ◌⊎◌, arith}
 use Rattle.commands.specs.Asks.{Asked}
 use Rattle.commands.specs.Request.{Request}
 use Rattle.commands.specs.declared.replies.Reply.{Reply}
-use Rattle.ledger.specs.Answer.{answer, is_request, State, KeptReply, Kept, keep, state_with, asker, kept_for, outcome_for, outcome}
+use Rattle.ledger.specs.Answer.{answer, is_request, State, Kept, keep, state_with, outcome}
 use Rattle.ledger.specs.Ledger.{Event, IsLegal}
 use Rattle.ledger.proofs.Answers.{IsAllowedEvent, answer-allowed}
 use Rattle.ledger.proofs.Growing.{IsLegal-append}
@@ -24,35 +24,19 @@ legal-with s ask answered (Some e) legal may = IsLegal-append s.ledger e legal m
 -- allowed
 pub outcome-legal : (s : State) (ask : Option Asked) (asked : Request)
     → IsLegal s.ledger → is_request asked ≡ true → IsLegal (outcome s ask asked).state.ledger
-outcome-legal s ask asked legal good = go (kept_for s ask)
-  where
-    go : (k : Option KeptReply) → IsLegal (outcome_for s ask asked k).state.ledger
-    go (Some k) = legal
-    go None =
-        legal-with s ask (answer s.ledger (asker ask) asked).reply
-        (answer s.ledger (asker ask) asked).event legal
-        (answer-allowed s.ledger (asker ask) asked good)
+outcome-legal s ask asked legal good = grind (arith, legal-with, answer-allowed)
 
 -- Growth.
 
 -- an answer appends its event to the ledger
 ledger-with : (s : State) (ask : Option Asked) (answered : Reply) (e : Option Event)
     → (state_with s ask answered e).ledger ≡ s.ledger ++ option_to_list e
-ledger-with s ask answered None = sym (append-nil s.ledger)
-ledger-with s ask answered (Some e) = refl
+ledger-with s ask answered e = grind (arith, append-nil)
 
 -- the ledger grows by the event of the request alone
 pub outcome-ledger : (s : State) (ask : Option Asked) (asked : Request)
     → (outcome s ask asked).state.ledger ≡ s.ledger ++ option_to_list (outcome s ask asked).event
-outcome-ledger s ask asked = go (kept_for s ask)
-  where
-    go : (k : Option KeptReply)
-        → (outcome_for s ask asked k).state.ledger
-        ≡ s.ledger ++ option_to_list (outcome_for s ask asked k).event
-    go (Some k) = sym (append-nil s.ledger)
-    go None =
-        ledger-with s ask (answer s.ledger (asker ask) asked).reply
-        (answer s.ledger (asker ask) asked).event
+outcome-ledger s ask asked = grind (arith, append-nil, ledger-with)
 
 -- Kept replies.
 
@@ -63,54 +47,29 @@ IsKept kept agent key = is_some (kept agent key) ≡ true
 -- keeping one more reply leaves what was kept, or replaces it
 keep-kept : (kept : Kept) (ask : Asked) (answered : Reply) (agent key : List ℕ)
     → IsKept kept agent key → IsKept (keep kept ask answered) agent key
-keep-kept kept ask answered agent key e = go (bytes_eq agent ask.agent && bytes_eq key ask.key)
-  where
-    go : (v : Bool)
-        → is_some (if v then Some (record { text = ask.text; reply = answered })
-        else kept agent key) ≡ true
-    go true = refl
-    go false = e
+keep-kept kept ask answered agent key e = grind arith
 
 -- an answer leaves what was kept, or replaces it
 kept-with : (s : State) (ask : Option Asked) (answered : Reply) (e : Option Event)
     (agent key : List ℕ) → IsKept s.kept agent key
     → IsKept (state_with s ask answered e).kept agent key
-kept-with s ask answered None agent key k = k
-kept-with s None answered (Some e) agent key k = k
-kept-with s (Some ask) answered (Some e) agent key k = keep-kept s.kept ask answered agent key k
+kept-with s ask answered e agent key k = grind (arith, keep-kept)
 
 -- under a key with a kept reply a reply stays kept
 pub outcome-kept : (s : State) (ask : Option Asked) (asked : Request) (agent key : List ℕ)
     → IsKept s.kept agent key → IsKept (outcome s ask asked).state.kept agent key
-outcome-kept s ask asked agent key k = go (kept_for s ask)
-  where
-    go : (o : Option KeptReply) → IsKept (outcome_for s ask asked o).state.kept agent key
-    go (Some r) = k
-    go None =
-        kept-with s ask (answer s.ledger (asker ask) asked).reply
-        (answer s.ledger (asker ask) asked).event agent key k
+outcome-kept s ask asked agent key k = grind (arith, kept-with)
 
 -- Worlds.
 
 -- what makes an event only within the limits makes none beyond them
 no_event : (o : Option Event) (v : Bool) → (is_some o ≡ true → v ≡ true) → v ≡ false → o ≡ None
-no_event None v keeps bad = refl
-no_event (Some e) v keeps bad =
-    let k = keeps refl in let wrong : true ≡ false = sym k ∙ bad in cc
+no_event o v keeps bad = grind arith
 
 -- a request leaves the ledger legal: where it does not keep the limits, it makes no event
 stays-legal : (s : State) (ask : Option Asked) (asked : Request) → IsLegal s.ledger
     → KeepsLimits s ask asked → IsLegal (outcome s ask asked).state.ledger
-stays-legal s ask asked legal keeps = go (is_request asked) refl
-  where
-    go : (v : Bool) → is_request asked ≡ v → IsLegal (outcome s ask asked).state.ledger
-    go true good = outcome-legal s ask asked legal good
-    go false bad =
-        let none = no_event (outcome s ask asked).event (is_request asked) keeps bad in
-        subst IsLegal
-        (sym (outcome-ledger s ask asked ∙ ap (λ o. s.ledger ++ option_to_list o) none
-        ∙ append-nil s.ledger))
-        legal
+stays-legal s ask asked legal keeps = grind (arith, outcome-legal, no_event, outcome-ledger, append-nil)
 
 -- all requests of a world leave the ledger legal
 pub after-legal : (s : State) (w : List Moment) → IsLegal s.ledger → GoesOn s w
@@ -146,8 +105,7 @@ counted under e = if under && is_some e then 1 else 0
 -- without an event nothing is counted
 counted-none : (v : Bool) → counted v None ≡ 0
 unfolding counted
-counted-none true = refl
-counted-none false = refl
+counted-none v = grind arith
 
 -- what a request does under this agent and key: at most one event; none where a reply was kept; and
 -- where it makes one, its reply is kept
@@ -159,80 +117,26 @@ record Once (agent key : List ℕ) (s : State) (ask : Option Asked) (asked : Req
 -- a request that does not act under this key
 idle : (agent key : List ℕ) (s : State) (ask : Option Asked) (asked : Request)
     → acts agent key s ask asked ≡ 0 → Once agent key s ask asked
-idle agent key s ask asked zero_is =
-    record { at_most = omega arith; known = λ k. zero_is; kept = inl zero_is }
+idle agent key s ask asked zero_is = grind arith
 
 -- a request without an event does not act
 no_event-idle : (agent key : List ℕ) (s : State) (a : Asked) (asked : Request)
     → (outcome s (Some a) asked).event ≡ None → Once agent key s (Some a) asked
 unfolding counted
-no_event-idle agent key s a asked none =
-    idle agent key s (Some a) asked
-    (ap (counted (bytes_eq agent a.agent && bytes_eq key a.key)) none
-    ∙ counted-none (bytes_eq agent a.agent && bytes_eq key a.key))
+no_event-idle agent key s a asked none = grind (arith, idle, counted-none)
 
 -- an event under a key that was free: the reply is kept with it
 acting : (agent key : List ℕ) (s : State) (a : Asked) (asked : Request) (e : Event)
     → s.kept a.agent a.key ≡ None → (answer s.ledger (Some a.agent) asked).event ≡ Some e
     → (bytes_eq agent a.agent && bytes_eq key a.key) ≡ true → Once agent key s (Some a) asked
 unfolding counted
-acting agent key s a asked e fresh made under =
-    record {
-      at_most = let acted = one in omega arith;
-      known = λ k. let bad : true ≡ false = sym k ∙ free in cc;
-      kept = inr (ap (λ o. is_some ((outcome_for s (Some a) asked o).state.kept agent key)) fresh
-          ∙ ap (λ o. is_some ((state_with s (Some a) reply o).kept agent key)) made
-          ∙ ap (λ v. is_some (if v then Some (record { text = a.text; reply = reply })
-          else s.kept agent key)) under);
-    }
-  where
-    reply : Reply
-    reply = (answer s.ledger (Some a.agent) asked).reply
-
-    same : (agent ≡ a.agent) × (key ≡ a.key)
-    same =
-        let both = and_parts (bytes_eq agent a.agent) (bytes_eq key a.key) under in
-        ((bytes_eq-Decides agent a.agent).0 both.0, (bytes_eq-Decides key a.key).0 both.1)
-
-    free : is_some (s.kept agent key) ≡ false
-    free =
-        ap (λ g. is_some (s.kept g key)) same.0 ∙ ap (λ n. is_some (s.kept a.agent n)) same.1
-        ∙ ap is_some fresh
-
-    one : acts agent key s (Some a) asked ≡ 1
-    one =
-        ap (counted (bytes_eq agent a.agent && bytes_eq key a.key))
-        (ap (λ o. (outcome_for s (Some a) asked o).event) fresh ∙ made)
-        ∙ ap (λ v. counted v (Some e)) under
+acting agent key s a asked e fresh made under = grind (arith, and_parts, bytes_eq-Decides)
 
 -- each request acts at most once: it has another key, or a kept reply, or no event, or it acts
 once : (agent key : List ℕ) (s : State) (ask : Option Asked) (asked : Request)
     → Once agent key s ask asked
 unfolding counted
-once agent key s None asked = idle agent key s None asked refl
-once agent key s (Some a) asked = by_key (bytes_eq agent a.agent && bytes_eq key a.key) refl
-  where
-    by_event : (e : Option Event) → (answer s.ledger (Some a.agent) asked).event ≡ e
-        → s.kept a.agent a.key ≡ None
-        → (bytes_eq agent a.agent && bytes_eq key a.key) ≡ true → Once agent key s (Some a) asked
-    by_event None none fresh under =
-        no_event-idle agent key s a asked
-        (ap (λ o. (outcome_for s (Some a) asked o).event) fresh ∙ none)
-    by_event (Some e) made fresh under = acting agent key s a asked e fresh made under
-
-    by_kept : (o : Option KeptReply) → s.kept a.agent a.key ≡ o
-        → (bytes_eq agent a.agent && bytes_eq key a.key) ≡ true → Once agent key s (Some a) asked
-    by_kept None fresh under =
-        by_event (answer s.ledger (Some a.agent) asked).event refl fresh under
-    by_kept (Some r) known under =
-        no_event-idle agent key s a asked (ap (λ o. (outcome_for s (Some a) asked o).event) known)
-
-    by_key : (v : Bool) → (bytes_eq agent a.agent && bytes_eq key a.key) ≡ v
-        → Once agent key s (Some a) asked
-    by_key true under = by_kept (s.kept a.agent a.key) refl under
-    by_key false other =
-        idle agent key s (Some a) asked
-        (ap (λ v. counted v (outcome s (Some a) asked).event) other)
+once agent key s ask asked = grind (arith, idle, no_event-idle, acting)
 
 -- Worlds with a key.
 
@@ -241,31 +145,16 @@ never_again : (agent key : List ℕ) (s : State) (w : List Moment) → IsKept s.
     → times_acted agent key s w ≡ 0
 never_again agent key s [] k = refl
 never_again agent key s (Done asked ask reply ∷ later) k =
-    let a = (once agent key s ask asked).known k in
-    let b = never_again agent key (outcome s ask asked).state later
-    (outcome-kept s ask asked agent key k) in
-    omega arith
+    grind (arith, once, outcome-kept, never_again agent key (outcome s ask asked).state later)
 never_again agent key s (Cut asked ask true ∷ later) k =
-    let a = (once agent key s ask asked).known k in
-    let b = never_again agent key (outcome s ask asked).state later
-    (outcome-kept s ask asked agent key k) in
-    omega arith
+    grind (arith, once, outcome-kept, never_again agent key (outcome s ask asked).state later)
 never_again agent key s (_ ∷ later) k = never_again agent key s later k
 
 -- after a request that acts its reply is kept; after one that does not, the later ones act at most once
 one_more : (agent key : List ℕ) (s : State) (ask : Option Asked) (asked : Request)
     (later : List Moment) → times_acted agent key (outcome s ask asked).state later ≤ 1
     → acts agent key s ask asked + times_acted agent key (outcome s ask asked).state later ≤ 1
-one_more agent key s ask asked later rest =
-    let o = once agent key s ask asked in
-    elim o.kept [
-      | inl z ↦ omega (arith, z, rest)
-      | inr k ↦ (
-          let n = never_again agent key (outcome s ask asked).state later k in
-          let m = o.at_most in
-          omega arith
-          )
-    ]
+one_more agent key s ask asked later rest = grind (arith, once, never_again)
 
 -- in all, a key acts at most once
 pub acts_once : (agent key : List ℕ) (s : State) (w : List Moment) → times_acted agent key s w ≤ 1

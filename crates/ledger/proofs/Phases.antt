@@ -1,16 +1,14 @@
 -- In which phases the journeys of a ledger are: what the items of other journeys leave, and what follows if none is in
 -- such a phase. For the parts that recovery adds.
-use Rattle.std.proofs.Common.{◌≡◌, ℕ, zero, suc, ◌+◌, ◌<◌, ◌≤◌, List, [], ◌∷◌, ◌++◌, length, refl, ap, sym, ◌∙◌, arith, append_assoc, append-nil, eqb-true, Bool, true, false, ◌==◌, nat_lt, Option, option_map}
+use Rattle.std.proofs.Common.{◌≡◌, ℕ, zero, suc, ◌+◌, ◌<◌, ◌≤◌, List, [], ◌∷◌, ◌++◌, length, refl, ap, sym, ◌∙◌, arith, append_assoc, append-nil, eqb-true, Bool, true, false, ◌==◌, nat_lt, Option, option_map, unwrap_or}
 use Rattle.std.proofs.lemmas.Bool.{and_parts, ltb-true, ltb-false, eqb-false, or_parts, ne_eqb, not-true}
 use Rattle.std.proofs.lemmas.Option.{slice_get_past}
-use Rattle.std.specs.Prelude.{unwrap_or}
 use Rattle.std.specs.List.{list_all, list_any}
 use Rattle.allotment.specs.Cells.{numbers_from}
-use Rattle.plan.specs.PlanModel.{numbered}
 use Rattle.commands.specs.declared.items.Item.{Item}
 use Rattle.commands.specs.declared.items.Phase.{Phase}
 use Rattle.ledger.specs.History.{phase}
-use Rattle.ledger.specs.Ledger.{Event, Did, Journey, journeys, journey_at, history, is_in}
+use Rattle.ledger.specs.Ledger.{Event, Did, Journey, journeys, is_in}
 use Rattle.ledger.specs.Recovery.{journey_of, are_items, has_none}
 use Rattle.ledger.proofs.Growing.{journeys-did, history-did_other}
 
@@ -24,10 +22,7 @@ passing passes h o =
 -- an item of another journey leaves the phase of this one
 is_in-did_other : (passes : Phase → Bool) (l : List Event) (k : ℕ) (item : Item) (j : ℕ)
     → (j == k) ≡ false → is_in passes (l ++ Did k item ∷ []) j ≡ is_in passes l j
-is_in-did_other passes l k item j other =
-    ap (λ h. passing passes h (journey_at (l ++ Did k item ∷ []) j))
-    (history-did_other l k item j other)
-    ∙ ap (λ js. passing passes (history l j) (numbered js j)) (journeys-did l k item)
+is_in-did_other passes l k item j other = grind (arith, history-did_other, journeys-did)
 
 -- items of later journeys leave the phase of this one, however many there are
 pub is_in-later : (passes : Phase → Bool) (test : Item → Bool) (j : ℕ) (l p : List Event)
@@ -35,11 +30,10 @@ pub is_in-later : (passes : Phase → Bool) (test : Item → Bool) (j : ℕ) (l 
     → is_in passes (l ++ p) j ≡ is_in passes l j
 is_in-later passes test j l [] items later = ap (λ m. is_in passes m j) (append-nil l)
 is_in-later passes test j l (Did k item ∷ p) items later =
-    let rest = and_parts (test item) (list_all (are_items test) p) items in
     let above = and_parts (nat_lt j k) (list_all (λ d. nat_lt j (journey_of d)) p) later in
     let higher = ltb-true j k above.0 in
     ap (λ m. is_in passes m j) (sym (append_assoc l (Did k item ∷ []) p))
-    ∙ is_in-later passes test j (l ++ Did k item ∷ []) p rest.1 above.1
+    ∙ is_in-later passes test j (l ++ Did k item ∷ []) p (and_parts (test item) (list_all (are_items test) p) items).1 above.1
     ∙ is_in-did_other passes l k item j (ne_eqb j k (λ e. omega arith))
 is_in-later passes test j l (_ ∷ p) items later = cc
 
@@ -56,8 +50,7 @@ none-numbered test first (suc n) j none low high =
   where
     go : test first ≡ false → (suc first ≤ j → test j ≡ false) → (v : Bool) → (first == j) ≡ v
         → test j ≡ false
-    go fails rest true e = ap test (sym (eqb-true _ _ e)) ∙ fails
-    go fails rest false e = let ne = eqb-false _ _ e in rest (omega arith)
+    go fails rest v e = grind (arith, eqb-true, eqb-false)
 
 -- where no journey is in such a phase, this one is not
 pub has_none-at : (passes : Phase → Bool) (l : List Event) (j : ℕ) → has_none passes l ≡ true
@@ -70,6 +63,4 @@ has_none-at passes l (suc i) none = go (nat_lt i (length (journeys l))) refl
         let within = ltb-true _ _ e in
         none-numbered (is_in passes l) 1 (length (journeys l)) (suc i) (not-true _ none)
         (omega arith) (omega arith)
-    go false e =
-        ap (passing passes (history l (suc i)))
-        (slice_get_past (journeys l) i (ltb-false _ _ e))
+    go false e = grind (arith, slice_get_past, ltb-false)

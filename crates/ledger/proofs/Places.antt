@@ -1,17 +1,15 @@
 -- In every legal ledger no cell holds more than its allotment. For the law of places.
-use Rattle.std.proofs.Common.{◌≡◌, ℕ, ◌+◌, ◌≤◌, List, [], ◌∷◌, ◌++◌, refl, ap, sym, ◌∙◌, arith, subst, Bool, true, false, ◌&&◌, ◌==◌, nat_le, Option, Some, None, option_map, length, if◌then◌else◌}
+use Rattle.std.proofs.Common.{◌≡◌, ℕ, ◌+◌, ◌≤◌, List, [], ◌∷◌, ◌++◌, refl, ap, sym, ◌∙◌, arith, subst, Bool, true, false, nat_le, Option, Some, None, option_map, if◌then◌else◌, unwrap_or}
 use Rattle.std.proofs.lemmas.Bool.{leb-true, and_parts}
-use Rattle.std.specs.Prelude.{unwrap_or}
-use Rattle.std.specs.List.{list_all}
 use Rattle.allotment.specs.Want.{Wanted}
 use Rattle.allotment.specs.Cells.{is_cell, cells_of, wants_cell}
 use Rattle.allotment.specs.declared.cells.Cell.{Cell}
 use Rattle.allotment.specs.declared.cells.Row.{Row}
 use Rattle.plan.specs.PlanModel.{want_at}
 use Rattle.commands.specs.declared.items.Item.{Item}
-use Rattle.commands.specs.declared.items.Item.TheVariants.{Transaction, Compensation, Turn, Save}
+use Rattle.commands.specs.declared.items.Item.TheVariants.{Transaction}
 use Rattle.ledger.specs.History.{position_of, next_want}
-use Rattle.ledger.specs.Ledger.{Event, Loaded, Began, Did, Journey, journey_at, history, allotment, places_in, held_by, held, has_free, fits, is_allowed, is_not_below_held, is_batch, batches_named, may_do, IsLegal}
+use Rattle.ledger.specs.Ledger.{Event, Loaded, Did, Journey, journey_at, history, allotment, places_in, held_by, held, has_free, fits, is_allowed, may_do, IsLegal}
 use Rattle.ledger.specs.Laws.{NoCellIsOverfull}
 use Rattle.ledger.proofs.Allotted.{allotment-same, allotment-loaded}
 use Rattle.ledger.proofs.Cells.{is_cell-same}
@@ -27,8 +25,7 @@ use Rattle.ledger.proofs.Lists.{list_any-and_all}
 free-room : (n count : ℕ) (o : Option ℕ)
     → unwrap_or (option_map (λ places. nat_le (n + count) places) o) false ≡ true
     → n + count ≤ unwrap_or o 0
-free-room n count None e = cc
-free-room n count (Some places) e = leb-true _ _ e
+free-room n count o e = grind (arith, leb-true)
 
 -- with a want that fits no cell holds more than its allotment: its own cells have room for it, and
 -- it takes nothing of the others
@@ -55,12 +52,7 @@ did-room : (l : List Event) (k : ℕ) (item : Item) (a : Journey) (d : Cell → 
     ≤ held_by a.plan (history l k) x + d x)
     → ((x : Cell) → held l x + d x ≤ unwrap_or (allotment l x) 0)
     → NoCellIsOverfull (l ++ Did k item ∷ [])
-did-room l k item a d at adds room x =
-    let more = held-did l k item a x at in
-    let own = adds x in
-    let enough = room x in
-    subst (λ o. held (l ++ Did k item ∷ []) x ≤ unwrap_or o 0)
-    (sym (allotment-same l (Did k item) x refl)) (omega arith)
+did-room l k item a d at adds room x = grind (arith, held-did, allotment-same)
 
 -- an item that adds nothing
 still-room : (l : List Event) (k : ℕ) (item : Item) (a : Journey) → journey_at l k ≡ Some a
@@ -88,41 +80,18 @@ step-room l k a i c at may room =
 -- only a transaction adds to what is held
 item-room : (l : List Event) (k : ℕ) (a : Journey) (item : Item) → journey_at l k ≡ Some a
     → may_do l k item a ≡ true → NoCellIsOverfull l → NoCellIsOverfull (l ++ Did k item ∷ [])
-item-room l k a (Transaction i c) at may room = step-room l k a i c at may room
-item-room l k a (Compensation i c) at may room =
-    still-room l k (Compensation i c) a at
-    (λ x. held_by-compensation a.plan (history l k) i c x) room
-item-room l k a (Turn p cause) at may room =
-    still-room l k (Turn p cause) a at
-    (λ x. let e = held_by-turn a.plan (history l k) p cause x in omega arith) room
-item-room l k a (Save p) at may room =
-    still-room l k (Save p) a at
-    (λ x. let e = held_by-save a.plan (history l k) p x in omega arith) room
+item-room l k a item at may room = search (arith, step-room, still-room, held_by-compensation, held_by-turn, held_by-save)
 
 -- a batch whose rows are not below what is held
 load-room : (l : List Event) (name : List ℕ) (rows : List Row)
     → is_allowed l (Loaded name rows) ≡ true → NoCellIsOverfull l
     → NoCellIsOverfull (l ++ Loaded name rows ∷ [])
-load-room l name rows may room x =
-    let new = and_parts (is_batch name rows && list_all (is_not_below_held l) rows)
-    (length (batches_named l name) == 0) may in
-    let enough = and_parts (is_batch name rows) (list_all (is_not_below_held l) rows) new.0 in
-    subst (λ n. n ≤ unwrap_or (allotment (l ++ Loaded name rows ∷ []) x) 0)
-    (sym (held-loaded l name rows x)) (allotment-loaded l name rows x enough.1 (room x))
+load-room l name rows may room x = grind (arith, and_parts, held-loaded, allotment-loaded)
 
 -- each allowed event keeps room in every cell
 room-more : Keeps NoCellIsOverfull
-room-more l (Loaded name rows) legal may room = load-room l name rows may room
-room-more l (Began agent plan) legal may room = λ x.
-    subst (λ o. held (l ++ Began agent plan ∷ []) x ≤ unwrap_or o 0)
-    (sym (allotment-same l (Began agent plan) x refl))
-    (subst (λ n. n ≤ unwrap_or (allotment l x) 0)
-    (sym (held-began l agent plan x (all_go l legal))) (room x))
-room-more l (Did k item) legal may room = go (journey_at l k) refl
-  where
-    go : (o : Option Journey) → journey_at l k ≡ o → NoCellIsOverfull (l ++ Did k item ∷ [])
-    go None absent = absurd_item l k item absent may
-    go (Some a) at = item-room l k a item at (sym (is_item_allowed-may_do l k item a at) ∙ may) room
+room-more l x legal may room =
+    search (arith, load-room, allotment-same, held-began, all_go, absurd_item, item-room, is_item_allowed-may_do)
 
 -- no cell of a legal ledger is overfull
 pub no_cell_overfull : (l : List Event) → IsLegal l → NoCellIsOverfull l

@@ -5,11 +5,8 @@ use Rattle.std.proofs.lemmas.Bool.{and_parts, or_from}
 use Rattle.std.specs.List.{list_all, list_any}
 use Rattle.allotment.specs.Cells.{numbers_from}
 use Rattle.plan.specs.PlanModel.{Planned}
-use Rattle.commands.specs.declared.items.Cause.TheVariants.{Refused}
 use Rattle.commands.specs.declared.items.Item.{Item}
-use Rattle.commands.specs.declared.items.Item.TheVariants.{Transaction, Compensation, Turn}
 use Rattle.commands.specs.declared.items.Phase.{Phase}
-use Rattle.commands.specs.declared.items.Phase.TheVariants.{Back}
 use Rattle.ledger.specs.History.{next_want, phase, is_going_back, is_open, is_compensation, may_come}
 use Rattle.ledger.specs.Ledger.{Event, Did, Journey, journeys, journey_at, history, fits, is_in, is_item_allowed, IsLegal}
 use Rattle.ledger.specs.Recovery.{are_items, is_forward}
@@ -30,19 +27,13 @@ pub record IsStage (test : Item → Bool) (passes : Phase → Bool) : Type 0 whe
 
 -- a journey that goes back is open
 back-open : (p : Phase) → is_going_back p ≡ true → is_open p ≡ true
-back-open (Back q) e = refl
-back-open _ e = cc
+back-open p e = grind arith
 
 -- of the items that a step makes only a compensation may come in it
 back-compensates : (plan : Planned) (h : List Item) (fits : Bool) (x : Item)
     → is_going_back (phase plan h) ≡ true → is_forward x ≡ true → may_come plan h fits x ≡ true
     → is_compensation x ≡ true
-back-compensates plan h fits (Transaction i c) back forward may =
-    run_or_back (phase plan h) (step-comes plan h fits i c may).running back
-back-compensates plan h fits (Compensation i c) back forward may = refl
-back-compensates plan h fits (Turn p Refused) back forward may =
-    run_or_back (phase plan h) (refused-comes plan h fits p may).running back
-back-compensates plan h fits _ back forward may = cc
+back-compensates plan h fits x back forward may = grind (arith, run_or_back, step-comes, refused-comes)
 
 -- journeys that go back go on by compensations
 pub back-stage : IsStage is_compensation is_going_back
@@ -54,10 +45,7 @@ back-stage = record { steps = compensation-forward; has = has }
       where
         go : (o : Option Journey) → journey_at l j ≡ o
             → (x : Item) × (is_compensation x ≡ true) × (is_item_allowed l j x ≡ true)
-        go None at =
-            let bad : true ≡ false =
-            sym back ∙ ap (passing is_going_back (history l j)) at in
-            cc
+        go None at = grind (arith, passing)
         go (Some a) at =
             let goes : is_going_back (phase a.plan (history l j)) ≡ true =
             sym (ap (passing is_going_back (history l j)) at) ∙ back in
@@ -86,9 +74,8 @@ pub journeys-items : (test : Item → Bool) (p l : List Event) → list_all (are
     → journeys (l ++ p) ≡ journeys l
 journeys-items test [] l items = ap journeys (append-nil l)
 journeys-items test (Did k x ∷ p) l items =
-    let both = and_parts (test x) (list_all (are_items test) p) items in
     ap journeys (sym (append_assoc l (Did k x ∷ []) p))
-    ∙ journeys-items test p (l ++ Did k x ∷ []) both.1 ∙ journeys-did l k x
+    ∙ journeys-items test p (l ++ Did k x ∷ []) (and_parts (test x) (list_all (are_items test) p) items).1 ∙ journeys-did l k x
 journeys-items test (_ ∷ p) l items = cc
 
 -- a test that fails at each of consecutive numbers is passed by none
@@ -96,15 +83,9 @@ pub none-pass : (test : ℕ → Bool) (n first : ℕ)
     → ((j : ℕ) → first ≤ j → j < first + n → test j ≡ false)
     → list_any test (numbers_from first n) ≡ false
 none-pass test zero first each = refl
-none-pass test (suc n) first each =
-    or_from _ _ (each first (omega arith) (omega arith))
-    (none-pass test n (suc first) (λ j low high. each j (omega arith) (omega arith)))
+none-pass test (suc n) first each = grind (arith, or_from, none-pass test n (suc first))
 
 -- compensations are steps
 pub compensations-forward : (p : List Event) → list_all (are_items is_compensation) p ≡ true
     → list_all (are_items is_forward) p ≡ true
-compensations-forward = list_all_weaker (are_items is_compensation) (are_items is_forward) one
-  where
-    one : (e : Event) → are_items is_compensation e ≡ true → are_items is_forward e ≡ true
-    one (Did k x) is = compensation-forward x is
-    one _ is = cc
+compensations-forward = grind (arith, list_all_weaker, compensation-forward)

@@ -1,13 +1,12 @@
 -- A ledger has at most one recovered ledger. For the law of recovery.
-use Rattle.std.proofs.Common.{◌≡◌, ℕ, ◌<◌, ◌≤◌, List, [], ◌∷◌, ◌++◌, refl, ap, sym, ◌∙◌, arith, append_assoc, append-nil, subst, Bool, true, false, not, nat_le, nat_lt, Option, Some, None}
+use Rattle.std.proofs.Common.{◌≡◌, ℕ, ◌<◌, ◌≤◌, List, [], ◌∷◌, ◌++◌, refl, ap, sym, ◌∙◌, arith, append_assoc, append-nil, subst, Bool, true, false, nat_le, nat_lt}
 use Rattle.std.proofs.lemmas.Bool.{and_parts, and_from, leb-true, ltb-true, ltb-false, lt-ltb}
 use Rattle.std.specs.List.{list_all}
 use Rattle.commands.specs.declared.items.Item.{Item}
-use Rattle.commands.specs.declared.items.Item.TheVariants.{Compensation, Turn, Save}
 use Rattle.commands.specs.declared.items.Phase.{Phase}
-use Rattle.ledger.specs.History.{next_want, phase, is_compensation, is_going_back, is_open, is_finished}
+use Rattle.ledger.specs.History.{is_compensation, is_going_back, is_open}
 use Rattle.ledger.specs.Laws.{AtMostOneIsRecovered}
-use Rattle.ledger.specs.Ledger.{Event, Did, Journey, journey_at, history, fits, is_in, is_item_allowed, AreAllowedAfter, IsLegal}
+use Rattle.ledger.specs.Ledger.{Event, Did, is_in, is_item_allowed, AreAllowedAfter, IsLegal}
 use Rattle.ledger.specs.Recovery.{stops, is_by_number, journey_of, are_items, has_none, is_forward, IsRecovered}
 use Rattle.allotment.proofs.TestLemmas.{list_all_weaker}
 use Rattle.ledger.proofs.Coming.{compensation-comes}
@@ -37,9 +36,7 @@ NeedsPhase test passes = (l : List Event) (j : ℕ) (x : Item) → test x ≡ tr
 -- what is not below k is above j, if j is below k
 pub above-lower : (j k : ℕ) (p : List Event) → j < k → list_all (λ d. nat_le k (journey_of d)) p ≡ true
     → list_all (λ d. nat_lt j (journey_of d)) p ≡ true
-above-lower j k p lower =
-    list_all_weaker (λ d. nat_le k (journey_of d)) (λ d. nat_lt j (journey_of d))
-    (λ d e. let here = leb-true k (journey_of d) e in lt-ltb j (journey_of d) (omega arith)) p
+above-lower j k p lower = grind (arith, list_all_weaker, leb-true, lt-ltb)
 
 -- a part that begins with a later journey leaves this one as it is, so this one cannot be in such a phase
 not_passed : {X : Type 0} (test : Item → Bool) (passes : Phase → Bool) (l : List Event) (j k : ℕ)
@@ -66,13 +63,7 @@ not_left test passes l j part in_it =
 -- a part without its first event is a part of what follows that event
 rest-part : (test : Item → Bool) (passes : Phase → Bool) (l : List Event) (e : Event)
     (p : List Event) → IsPart test passes l (e ∷ p) → IsPart test passes (l ++ e ∷ []) p
-rest-part test passes l e p part = record {
-  allowed = part.allowed.1;
-  items = (and_parts (are_items test e) (list_all (are_items test) p) part.items).1;
-  sorted = (and_parts (list_all (λ d. nat_le (journey_of e) (journey_of d)) p) (is_by_number p)
-      part.sorted).1;
-  none = ap (has_none passes) (append_assoc l (e ∷ []) p) ∙ part.none;
-}
+rest-part test passes l e p part = grind (arith, and_parts, append_assoc)
 
 -- the first events of two parts are the same: neither can skip the journey of the other
 first-same : (test : Item → Bool) (passes : Phase → Bool) → IsAlone test → NeedsPhase test passes
@@ -88,9 +79,7 @@ first-same test passes alone needs l j k x y p q legal first second = go (nat_lt
     y_is = (and_parts (test y) (list_all (are_items test) q) second.items).0
 
     same : j ≡ k → Did k y ≡ Did j x
-    same e =
-        let may = ap (λ n. is_item_allowed l n y) e ∙ second.allowed.0 in
-        ap (λ n. Did n y) (sym e) ∙ ap (Did j) (alone l j y x legal y_is x_is may first.allowed.0)
+    same e = grind arith
 
     not_below : (v : Bool) → nat_lt k j ≡ v → k ≤ j → Did k y ≡ Did j x
     not_below true e low =
@@ -131,60 +120,32 @@ part-unique test passes alone needs [] (_ ∷ q) l legal first second = cc secon
 
 -- a step may come in an open journey alone
 step-needs_open : NeedsPhase is_forward is_open
-step-needs_open l j x forward may = go (journey_at l j) refl
-  where
-    open_if : (a : Journey) → journey_at l j ≡ Some a → (v : Bool)
-        → is_finished (phase a.plan (history l j)) ≡ v → is_in is_open l j ≡ true
-    open_if a at true e =
-        let bad : true ≡ false =
-        sym may
-        ∙ no_finished_goes_on l j x (ap (passing is_finished (history l j)) at ∙ e) in
-        cc
-    open_if a at false e = ap (passing is_open (history l j)) at ∙ ap not e
-
-    go : (o : Option Journey) → journey_at l j ≡ o → is_in is_open l j ≡ true
-    go None at = absurd_item l j x at may
-    go (Some a) at = open_if a at (is_finished (phase a.plan (history l j))) refl
+step-needs_open l j x forward may = search (arith, no_finished_goes_on, passing, absurd_item)
 
 -- in an open journey only one step may come
 step-alone : IsAlone is_forward
 step-alone l j x y legal x_is y_is x_may y_may =
-    let one = each_open_has_one l legal j (step-needs_open l j x x_is x_may) in
-    one.alone x x_is x_may ∙ sym (one.alone y y_is y_may)
+    grind (arith, each_open_has_one l legal j (step-needs_open l j x x_is x_may), step-needs_open l j x x_is)
 
 -- a compensation is a step
 pub compensation-forward : (x : Item) → is_compensation x ≡ true → is_forward x ≡ true
-compensation-forward (Turn p cause) e = cc
-compensation-forward (Save p) e = cc
-compensation-forward _ e = refl
+compensation-forward x e = grind arith
 
 -- only one compensation may come
 compensation-alone : IsAlone is_compensation
-compensation-alone l j x y legal x_is y_is x_may y_may =
-    step-alone l j x y legal (compensation-forward x x_is) (compensation-forward y y_is) x_may y_may
+compensation-alone l j x y legal x_is y_is x_may y_may = grind (arith, step-alone, compensation-forward)
 
 -- a compensation may come only in a journey that goes back
 compensation-needs_back : NeedsPhase is_compensation is_going_back
-compensation-needs_back l j (Compensation i c) is may = go (journey_at l j) refl
-  where
-    go : (o : Option Journey) → journey_at l j ≡ o → is_in is_going_back l j ≡ true
-    go None at = absurd_item l j (Compensation i c) at may
-    go (Some a) at =
-        ap (passing is_going_back (history l j)) at
-        ∙ (compensation-comes a.plan (history l j) (fits l (next_want a.plan (history l j))) i c
-        (sym (is_item_allowed-may_do l j (Compensation i c) a at) ∙ may)).back
-compensation-needs_back l j _ is may = cc
+compensation-needs_back l j x is may = grind (arith, absurd_item, passing, compensation-comes, is_item_allowed-may_do)
 
 -- Recovery.
 
 -- events that are allowed are allowed as a prefix and the suffix after it
 pub AreAllowedAfter-split : (before xs ys : List Event) → AreAllowedAfter before (xs ++ ys)
     → AreAllowedAfter before xs × AreAllowedAfter (before ++ xs) ys
-AreAllowedAfter-split before [] ys all =
-    (tt, subst (λ l. AreAllowedAfter l ys) (sym (append-nil before)) all)
-AreAllowedAfter-split before (e ∷ xs) ys all =
-    let rest = AreAllowedAfter-split (before ++ e ∷ []) xs ys all.1 in
-    ((all.0, rest.0), subst (λ l. AreAllowedAfter l ys) (append_assoc before (e ∷ []) xs) rest.1)
+AreAllowedAfter-split before [] ys all = grind (arith, append-nil)
+AreAllowedAfter-split before (e ∷ xs) ys all = grind (arith, append_assoc, AreAllowedAfter-split (before ++ e ∷ []) xs ys all.1)
 
 -- the parts of a recovered ledger, after its turns
 pub record Parts (l r : List Event) : Type 0 where
@@ -198,29 +159,7 @@ pub record Parts (l r : List Event) : Type 0 where
 
 -- each recovered ledger has these parts
 pub parts : (l r : List Event) → IsRecovered l r → Parts l r
-parts l r e =
-    let last = AreAllowedAfter-split [] ((l ++ stops l) ++ e.backward) e.forward
-    (subst IsLegal e.whole e.legal) in
-    let first = AreAllowedAfter-split [] (l ++ stops l) e.backward last.0 in
-    record {
-      backward = e.backward;
-      forward = e.forward;
-      whole = e.whole;
-      turned = first.0;
-      back = record {
-        allowed = first.1;
-        items = e.compensations;
-        sorted = e.by_number;
-        none = e.none_back;
-      };
-      returned = last.0;
-      on = record {
-        allowed = last.1;
-        items = e.steps;
-        sorted = e.in_order;
-        none = ap (has_none is_open) (sym e.whole) ∙ e.all_finished;
-      };
-    }
+parts l r e = grind (arith, AreAllowedAfter-split)
 
 -- the turns are determined, the compensations are the only ones, and so are the steps
 pub recovered-unique : (l : List Event) → AtMostOneIsRecovered l

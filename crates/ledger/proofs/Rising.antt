@@ -19,7 +19,6 @@ pub rising-transaction : (plan : Planned) (h : List Item) (i c : ℕ) → Rising
     → Rising plan (h ++ Transaction i c ∷ [])
 rising-transaction plan h i c r below is =
     let pos = position_of-transaction h i c in
-    let next : suc (position_of h) ≡ position_of (h ++ Transaction i c ∷ []) = omega arith in
     record {
       from = r.from;
       since = since-append r.since (Transaction i c ∷ []);
@@ -31,7 +30,7 @@ rising-transaction plan h i c r below is =
           (let k : i ≡ suc (position_of h) = omega arith in k)
           ∙ ap (λ w. up r.from (position_of h) ++ w) (sym (up-one (position_of h)))
           ∙ sym (up-join r.from (position_of h) (suc (position_of h)) r.low (omega arith))
-          ∙ ap (up r.from) next;
+          ∙ ap (up r.from) (omega arith);
       unturned = turned-other h (Transaction i c) refl ∙ r.unturned;
       arrived = λ p e. let none = going_to-transaction h i c in cc;
     }
@@ -55,9 +54,7 @@ stays plan h x r silent pos unturned arrived = record {
 -- a save-point changes neither the word nor the direction
 pub rising-save : (plan : Planned) (h : List Item) (p : ℕ) → Rising plan h
     → Rising plan (h ++ Save p ∷ [])
-rising-save plan h p r =
-    stays plan h (Save p) r refl (position_of-save h p) (turned-other h (Save p) refl ∙ r.unturned)
-    (λ q e. r.arrived q (sym (going_to-save h p) ∙ e))
+rising-save plan h p r = grind (arith, stays, position_of-save, turned-other, going_to-save)
 
 -- a turn to a target below is the top of the way up, and the way down begins
 turn-down : (plan : Planned) (h : List Item) (p : ℕ) (cause : Cause) → Rising plan h
@@ -87,30 +84,14 @@ turn-down plan h p cause r below kept lower =
 -- a turn to where the journey is, which is not the start, leaves it on its way up
 turn-here : (plan : Planned) (h : List Item) (p : ℕ) (cause : Cause) → Rising plan h
     → position_of h ≤ p → 0 < p → Rising plan (h ++ Turn p cause ∷ [])
-turn-here plan h p cause r here more =
-    stays plan h (Turn p cause) r refl (position_of-turn h p cause)
-    (turned-turn h p cause r.unturned ∙ ne_eqb 0 p (λ e. omega arith))
-    (λ q e.
-    let same : Some q ≡ Some p = sym e ∙ going_to-turn h p cause in
-    let k : q ≡ p = cc in
-    omega arith)
+turn-here plan h p cause r here more = grind (arith, stays, position_of-turn, turned-turn, ne_eqb, going_to-turn)
 
 -- a turn to the start, at the start, ends the journey: no step had to be compensated
 turn-at_start : (plan : Planned) (h : List Item) (p : ℕ) (cause : Cause) → Rising plan h
     → position_of h < step_count plan → position_of h ≡ 0 → p ≡ 0
     → Fallen plan (h ++ Turn p cause ∷ [])
-turn-at_start plan h p cause r below at_start p_is = record {
-  start = goes_to_start (since-append r.since (Turn p cause ∷ [])) 0 (record {
-    rises = let a = r.low in omega arith;
-    short = omega arith;
-    falls = omega arith;
-    reads =
-        word-append r.since.part (Turn p cause ∷ []) ∙ append-nil (word r.since.part) ∙ r.reads
-        ∙ ap (up r.from) at_start ∙ sym (append-nil (up r.from 0));
-  });
-  low = position_of-turn h p cause ∙ at_start;
-  turned = turned-turn h p cause r.unturned ∙ ap (λ k. 0 == k) p_is;
-}
+turn-at_start plan h p cause r below at_start p_is =
+    search (arith, goes_to_start, since-append, rises, falls, word-append, append-nil, position_of-turn, turned-turn)
 
 -- a turn on the way up leads down, or leaves the journey where it is, or ends it at the start
 pub rising-turn : (plan : Planned) (h : List Item) (p : ℕ) (cause : Cause) → Rising plan h
@@ -180,11 +161,7 @@ module _ (plan : Planned) (h : List Item) (i c : ℕ) (f : Falling plan h) (k : 
   -- the target stays the start or a save-point while the journey is not below it
   kept-compensation : f.target ≤ position_of next
       → (f.target ≡ 0) ⊎ IsTrue (is_save_point plan next f.target)
-  kept-compensation low = elim f.kept [
-    | inl e ↦ inl e
-    | inr e ↦ inr (is_save_point-compensation plan h i c f.target low
-        (λ same. let a = k.is_last in let b = f.above in omega arith) e)
-  ]
+  kept-compensation low = grind (arith, is_save_point-compensation)
 
   -- a compensation is no turn, so the target of the last turn stays
   turned-compensation : has_turned_to_start next ≡ (0 == f.target)
@@ -234,8 +211,7 @@ module _ (plan : Planned) (h : List Item) (i c : ℕ) (f : Falling plan h) (k : 
     where
       saved : (f.target ≡ 0) ⊎ IsTrue (is_save_point plan next f.target)
           → IsTrue (is_save_point plan next (position_of next))
-      saved (inl z) = absurd (omega arith)
-      saved (inr s) = subst (λ n. IsTrue (is_save_point plan next n)) (sym here) s
+      saved x = grind arith
 
       save : IsTrue (is_save_point plan (f.since.before ++ onward.part) (position_of next))
       save =

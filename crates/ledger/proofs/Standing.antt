@@ -49,8 +49,7 @@ net-save h p = net-other h (Save p) (λ j. refl) ∙ append-nil (net h)
 pub net-compensation : (h : List Item) (i c : ℕ)
     → net (h ++ Compensation i c ∷ []) ≡ filter (λ t. not (t.0 == i)) (net h)
 net-compensation [] i c = refl
-net-compensation (Transaction j d ∷ h) i c =
-    grind (arith, list_any-append (is_compensation_of j) h (Compensation i c ∷ []), or-false, net-compensation h i c)
+net-compensation (Transaction j d ∷ h) i c = grind (arith, list_any-append, or-false, net-compensation h i)
 net-compensation (_ ∷ h) i c = net-compensation h i c
 
 -- Positions.
@@ -58,8 +57,7 @@ net-compensation (_ ∷ h) i c = net-compensation h i c
 -- a transaction is one step further
 pub position_of-transaction : (h : List Item) (i c : ℕ)
     → position_of (h ++ Transaction i c ∷ []) ≡ position_of h + 1
-position_of-transaction h i c =
-    ap length (net-transaction h i c) ∙ length-append (net h) ((i, c) ∷ [])
+position_of-transaction h i c = grind (arith, net-transaction, length-append)
 
 -- a turn does not move the journey
 pub position_of-turn : (h : List Item) (p : ℕ) (cause : Cause)
@@ -76,29 +74,20 @@ position_of-save h p = ap length (net-save h p)
 pub standing-turn : (h : List Item) (p : ℕ) (cause : Cause)
     → standing h ≡ numbers_from 1 (position_of h)
     → standing (h ++ Turn p cause ∷ []) ≡ numbers_from 1 (position_of (h ++ Turn p cause ∷ []))
-standing-turn h p cause e =
-    ap (map (λ t. t.0)) (net-turn h p cause) ∙ e
-    ∙ ap (numbers_from 1) (sym (position_of-turn h p cause))
+standing-turn h p cause e = grind (arith, net-turn, position_of-turn)
 
 -- after a save-point the same steps stand
 pub standing-save : (h : List Item) (p : ℕ)
     → standing h ≡ numbers_from 1 (position_of h)
     → standing (h ++ Save p ∷ []) ≡ numbers_from 1 (position_of (h ++ Save p ∷ []))
-standing-save h p e =
-    ap (map (λ t. t.0)) (net-save h p) ∙ e ∙ ap (numbers_from 1) (sym (position_of-save h p))
+standing-save h p e = grind (arith, net-save, position_of-save)
 
 -- the next transaction adds the next step
 pub standing-transaction : (h : List Item) (i c : ℕ) → i ≡ position_of h + 1
     → standing h ≡ numbers_from 1 (position_of h)
     → standing (h ++ Transaction i c ∷ [])
     ≡ numbers_from 1 (position_of (h ++ Transaction i c ∷ []))
-standing-transaction h i c is e =
-    ap (map (λ t. t.0)) (net-transaction h i c) ∙ map-append (λ t. t.0) (net h) ((i, c) ∷ [])
-    ∙ ap (λ ns. ns ++ i ∷ []) e
-    ∙ ap (λ k. numbers_from 1 (position_of h) ++ k ∷ [])
-    (let k : i ≡ 1 + position_of h = omega arith in k)
-    ∙ sym (numbers_from-append 1 (position_of h) 1)
-    ∙ ap (numbers_from 1) (sym (position_of-transaction h i c))
+standing-transaction h i c is e = grind (arith, net-transaction, map-append, numbers_from-append, position_of-transaction)
 
 -- leaving out a number above all of these changes nothing
 filter-above : (xs : List (ℕ × ℕ)) (first n m : ℕ) → map (λ t. t.0) xs ≡ numbers_from first n

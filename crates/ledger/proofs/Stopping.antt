@@ -1,10 +1,9 @@
 -- What the turns of recovery do: each is allowed, each running journey turns once, and with the steps that are left after
 -- them they are within the bound of the ledger. For the law of recovery.
-use Rattle.std.proofs.Common.{◌≡◌, ℕ, zero, suc, ◌+◌, ◌*◌, ◌<◌, ◌≤◌, List, [], ◌∷◌, ◌++◌, length, map, refl, ap, sym, ◌∙◌, arith, append-nil, eq-eqb, Bool, true, false, ◌&&◌, nat_le, nat_lt, Option, Some, None, option_map, filter, filter_map, cond, if◌then◌else◌, IsTrue, sum_by}
+use Rattle.std.proofs.Common.{◌≡◌, ℕ, zero, suc, ◌+◌, ◌*◌, ◌<◌, ◌≤◌, List, [], ◌∷◌, ◌++◌, length, map, refl, ap, sym, ◌∙◌, arith, append-nil, eq-eqb, Bool, true, false, ◌&&◌, nat_le, nat_lt, Option, Some, None, option_map, filter, filter_map, cond, if◌then◌else◌, IsTrue, sum_by, unwrap_or}
 use Rattle.std.proofs.lemmas.Bool.{and_from, ne_eqb, le-leb, lt-ltb}
 use Rattle.std.proofs.lemmas.Bool.Decides.{nat_tests}
 use Rattle.std.proofs.lemmas.List.Elements.{filter_map-append}
-use Rattle.std.specs.Prelude.{unwrap_or}
 use Rattle.allotment.specs.Cells.{numbers_from}
 use Rattle.plan.specs.PlanModel.{Planned, numbered, step_count}
 use Rattle.commands.specs.declared.items.Cause.TheVariants.{Stop}

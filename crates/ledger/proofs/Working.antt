@@ -1,6 +1,6 @@
 -- How many more steps a journey may make at most, and all journeys of a ledger; each step leaves fewer. For the bound of
 -- recovery.
-use Rattle.std.proofs.Common.{◌≡◌, ℕ, ◌+◌, ◌-◌, ◌*◌, ◌<◌, ◌≤◌, List, [], ◌∷◌, ◌++◌, refl, ap, sym, ◌∙◌, arith, Bool, true, false, length, append_assoc, append-nil, eq-eqb, ◌==◌, Option, Some, None, option_map, sum_by}
+use Rattle.std.proofs.Common.{◌≡◌, ℕ, ◌+◌, ◌-◌, ◌*◌, ◌<◌, ◌≤◌, List, [], ◌∷◌, ◌++◌, refl, ap, sym, ◌∙◌, arith, Bool, true, false, length, append_assoc, append-nil, eq-eqb, ◌==◌, Option, Some, None, option_map, sum_by, unwrap_or}
 use Rattle.std.proofs.Math.Nat.{mul-le-mul_left}
 use Rattle.plan.specs.PlanModel.{Planned, step_count, numbered}
 use Rattle.commands.specs.declared.items.Cause.TheVariants.{Refused}
@@ -16,7 +16,6 @@ use Rattle.ledger.proofs.Refusing.{refusals-other, refusals-refused}
 use Rattle.ledger.proofs.Rising.{rising-transaction}
 use Rattle.ledger.proofs.Standing.{position_of-transaction, position_of-turn, compensates}
 use Rattle.std.proofs.lemmas.Bool.{and_parts, ne_eqb}
-use Rattle.std.specs.Prelude.{unwrap_or}
 use Rattle.std.specs.List.{list_all}
 use Rattle.allotment.specs.Cells.{numbers_from}
 use Rattle.ledger.specs.Ledger.{Event, Did, Journey, journeys, journey_at, numbers, history, fits, is_item_allowed, AreAllowedAfter, IsLegal}

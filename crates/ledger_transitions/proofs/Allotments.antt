@@ -1,19 +1,16 @@
 -- What one more event changes of the allotment of a cell. For each desk that stores how many places are allotted.
-use Rattle.std.proofs.Common.{◌≡◌, ℕ, List, [], ◌∷◌, ◌++◌, length, refl, ap, sym, ◌∙◌, append-nil, Bool, true, false, not, ◌==◌, ◌&&◌, cond, filter, find, flat_map, Option, Some, None, option_map, option_to_list, IsTrue}
+use Rattle.std.proofs.Common.{◌≡◌, ℕ, List, [], ◌∷◌, ◌++◌, refl, ap, sym, ◌∙◌, append-nil, Bool, true, false, not, cond, filter, find, Option, Some, option_map, option_to_list, IsTrue, arith}
 use Rattle.std.proofs.lemmas.Bool.{and_parts, or_parts, not-true}
 use Rattle.std.proofs.lemmas.Grind.{flat_map-append}
 use Rattle.std.proofs.lemmas.List.Elements.{filter-append}
-use Rattle.std.specs.List.{list_any, list_all}
-use Rattle.commands.specs.Limits.{most_rows}
+use Rattle.std.specs.List.{list_any}
 use Rattle.allotment.specs.Cells.{is_cell}
-use Rattle.allotment.specs.Limits.{is_between}
 use Rattle.allotment.specs.declared.cells.Cell.{Cell}
 use Rattle.allotment.specs.declared.cells.Row.{Row}
 use Rattle.plan.specs.PlanModel.{Planned}
-use Rattle.commands.specs.Names.{is_batch_name}
 use Rattle.commands.specs.declared.items.Item.{Item}
 use Rattle.ledger.specs.History.{last_of}
-use Rattle.ledger.specs.Ledger.{Event, Loaded, Began, Did, rows_of, allotment, are_distinct, is_good_row, is_not_below_held, is_batch, batches_named, is_allowed}
+use Rattle.ledger.specs.Ledger.{Event, Loaded, Began, Did, allotment, are_distinct, is_allowed}
 use Rattle.ledger.proofs.Allotted.{allotment-same}
 use Rattle.ledger.proofs.Cells.{is_cell-same}
 use Rattle.ledger.proofs.Lists.{last_of-append}
@@ -36,11 +33,10 @@ filter-none : (x y : Cell) (rows : List Row) → x ≡ y
 filter-none x y [] same none = refl
 filter-none x y (r ∷ rows) same none =
     let both = or_parts (is_cell y r.cell) (list_any (λ (s : Row). is_cell y s.cell) rows) none in
-    let rest = filter-none x y rows same both.1 in
     ap (λ b. cond b (r ∷ filter (λ (s : Row). is_cell x s.cell) rows)
     (filter (λ (s : Row). is_cell x s.cell) rows))
     (ap (λ z. is_cell z r.cell) same ∙ both.0)
-    ∙ rest
+    ∙ (filter-none x y rows same both.1)
 
 -- of rows that name each cell once, those of a cell are the first one, if there is one
 filter-distinct : (x : Cell) (rows : List Row) → are_distinct rows ≡ true
@@ -77,9 +73,8 @@ last-newer : (rows more : List Row)
     → last_places (rows ++ more) ≡ newer (last_places more) (last_places rows)
 last-newer rows [] = ap last_places (append-nil rows)
 last-newer rows (r ∷ more) =
-    let last = last_of-some r more in
-    ap (option_map (λ (s : Row). s.places)) (last_of-append rows r more ∙ last.1)
-    ∙ sym (ap (λ o. newer (option_map (λ (s : Row). s.places) o) (last_places rows)) last.1)
+    ap (option_map (λ (s : Row). s.places)) (last_of-append rows r more ∙ (last_of-some r more).1)
+    ∙ sym (ap (λ o. newer (option_map (λ (s : Row). s.places) o) (last_places rows)) (last_of-some r more).1)
 
 -- a batch gives a cell the places of its last row for it, if it has one
 pub allotment-loaded_last : (l : List Event) (name : List ℕ) (rows : List Row) (x : Cell)
@@ -87,36 +82,20 @@ pub allotment-loaded_last : (l : List Event) (name : List ℕ) (rows : List Row)
     ≡ newer
     (option_map (λ (r : Row). r.places) (last_of (filter (λ (r : Row). is_cell x r.cell) rows)))
     (allotment l x)
-allotment-loaded_last l name rows x =
-    ap (λ rs. last_places (filter (λ (r : Row). is_cell x r.cell) rs))
-    (flat_map-append rows_of l (Loaded name rows ∷ [])
-    ∙ ap (λ rs. flat_map rows_of l ++ rs) (append-nil rows))
-    ∙ ap last_places (filter-append (λ (r : Row). is_cell x r.cell) (flat_map rows_of l) rows)
-    ∙ last-newer (filter (λ (r : Row). is_cell x r.cell) (flat_map rows_of l))
-    (filter (λ (r : Row). is_cell x r.cell) rows)
+allotment-loaded_last l name rows x = grind (arith, flat_map-append, append-nil, filter-append, last-newer)
 
 -- the last of at most one row is that one
 last-only : (o : Option Row)
     → last_places (option_to_list o) ≡ option_map (λ (r : Row). r.places) o
-last-only None = refl
-last-only (Some r) = refl
+last-only o = grind arith
 
 -- a batch that names each cell once gives its cells their places, and leaves the others
 pub allotment-loaded : (l : List Event) (name : List ℕ) (rows : List Row) (x : Cell)
     → are_distinct rows ≡ true
     → allotment (l ++ Loaded name rows ∷ []) x ≡ newer (places_in_rows rows x) (allotment l x)
-allotment-loaded l name rows x distinct =
-    allotment-loaded_last l name rows x
-    ∙ ap (λ o. newer o (allotment l x))
-    (ap last_places (filter-distinct x rows distinct)
-    ∙ last-only (find (λ (r : Row). is_cell x r.cell) rows))
+allotment-loaded l name rows x distinct = grind (arith, allotment-loaded_last, filter-distinct, last-only)
 
 -- a batch that is allowed names each cell once
 pub loaded_distinct : (l : List Event) (name : List ℕ) (rows : List Row)
     → IsTrue (is_allowed l (Loaded name rows)) → are_distinct rows ≡ true
-loaded_distinct l name rows may =
-    let new = and_parts (is_batch name rows && list_all (is_not_below_held l) rows)
-    (length (batches_named l name) == 0) may in
-    let held_too = and_parts (is_batch name rows) (list_all (is_not_below_held l) rows) new.0 in
-    (and_parts (is_batch_name name && is_between 1 most_rows (length rows) && list_all is_good_row rows)
-    (are_distinct rows) held_too.0).1
+loaded_distinct l name rows may = grind (arith, and_parts)

@@ -1,14 +1,12 @@
 -- What one more event changes of the ledger itself: its length, its journeys and their numbers, their histories, and
 -- the batches of a name.
-use Rattle.std.proofs.Common.{◌≡◌, ℕ, zero, suc, ◌+◌, List, [], ◌∷◌, ◌++◌, length, refl, ap, ◌∙◌, arith, append-nil, length-append, eq-eqb, Bool, true, false, Some, None, if◌then◌else◌, bytes_eq}
-use Rattle.std.proofs.lemmas.Bool.{ne_eqb}
+use Rattle.std.proofs.Common.{◌≡◌, ℕ, zero, suc, ◌+◌, List, [], ◌∷◌, ◌++◌, length, refl, ap, ◌∙◌, arith, append-nil, length-append, eq-eqb, Some, None, if◌then◌else◌, bytes_eq, ne_eqb}
 use Rattle.std.proofs.lemmas.List.Elements.{filter_map-append}
-use Rattle.std.specs.List.{cons_option}
 use Rattle.allotment.specs.Cells.{numbers_from}
 use Rattle.allotment.specs.declared.cells.Row.{Row}
 use Rattle.plan.specs.PlanModel.{Planned, numbered}
 use Rattle.commands.specs.declared.items.Item.{Item}
-use Rattle.ledger.specs.Ledger.{Event, Loaded, Began, Did, Journey, journeys, journey_at, numbers, history, batches_named, rows_if_named, IsLegal}
+use Rattle.ledger.specs.Ledger.{Event, Loaded, Began, Did, Journey, journeys, journey_at, numbers, history, batches_named, IsLegal}
 pub use Rattle.ledger.proofs.Growing.{journeys-loaded, journeys-began, journeys-did, history-loaded, history-began}
 use Rattle.ledger.proofs.Growing as growing
 use Rattle.ledger.proofs.Ledgers.{all_go}
@@ -30,8 +28,7 @@ begun agent plan = record { agent = agent; plan = plan }
 -- a begin adds one journey
 pub journey_count-began : (l : List Event) (agent : List ℕ) (plan : Planned)
     → length (journeys (l ++ Began agent plan ∷ [])) ≡ length (journeys l) + 1
-journey_count-began l agent plan =
-    ap length (journeys-began l agent plan) ∙ length-append (journeys l) (begun agent plan ∷ [])
+journey_count-began l agent plan = grind (arith, journeys-began, length-append)
 
 -- a batch leaves each journey
 pub journey_at-loaded : (l : List Event) (name : List ℕ) (rows : List Row) (j : ℕ)
@@ -71,10 +68,7 @@ numbered-other _ x _ other = refl
 pub journey_at-began_other : (l : List Event) (agent : List ℕ) (plan : Planned) (j : ℕ)
     → (j ≡ length (journeys l) + 1 → ⊥)
     → journey_at (l ++ Began agent plan ∷ []) j ≡ journey_at l j
-journey_at-began_other l agent plan j other =
-    ap (λ js. numbered js j) (journeys-began l agent plan)
-    ∙ numbered-other (journeys l) (begun agent plan) j
-    (λ e. other (let k : j ≡ length (journeys l) + 1 = omega arith in k))
+journey_at-began_other l agent plan j other = grind (arith, journeys-began, numbered-other)
 
 -- before a begin no journey has the next number
 pub journey_at-next : (l : List Event) → journey_at l (length (journeys l) + 1) ≡ None
@@ -98,11 +92,7 @@ numbers-did l k item = ap (λ js. numbers_from 1 (length js)) (journeys-did l k 
 -- a begin adds the next number
 pub numbers-began : (l : List Event) (agent : List ℕ) (plan : Planned)
     → numbers (l ++ Began agent plan ∷ []) ≡ numbers l ++ (length (journeys l) + 1) ∷ []
-numbers-began l agent plan =
-    ap (numbers_from 1) (journey_count-began l agent plan)
-    ∙ numbers_from-append 1 (length (journeys l)) 1
-    ∙ ap (λ n. numbers l ++ n ∷ [])
-    (let e : 1 + length (journeys l) ≡ length (journeys l) + 1 = omega arith in e)
+numbers-began l agent plan = grind (arith, journey_count-began, numbers_from-append)
 
 -- Histories.
 
@@ -123,9 +113,7 @@ history-none l j legal absent = (all_go l legal).none j absent
 -- a journey that is begun has no history yet
 pub history-began_new : (l : List Event) (agent : List ℕ) (plan : Planned) → IsLegal l
     → history (l ++ Began agent plan ∷ []) (length (journeys l) + 1) ≡ []
-history-began_new l agent plan legal =
-    history-began l agent plan (length (journeys l) + 1)
-    ∙ history-none l (length (journeys l) + 1) legal (journey_at-next l)
+history-began_new l agent plan legal = simp (history-began, history-none, journey_at-next)
 
 -- Batches.
 
@@ -133,24 +121,14 @@ history-began_new l agent plan legal =
 pub batches_named-loaded : (l : List Event) (other : List ℕ) (rows : List Row) (name : List ℕ)
     → batches_named (l ++ Loaded other rows ∷ []) name
     ≡ batches_named l name ++ (if bytes_eq name other then rows ∷ [] else [])
-batches_named-loaded l other rows name =
-    filter_map-append (rows_if_named name) l (Loaded other rows ∷ []) ∙ go (bytes_eq name other)
-  where
-    go : (v : Bool)
-        → batches_named l name ++ cons_option (if v then Some rows else None) []
-        ≡ batches_named l name ++ (if v then rows ∷ [] else [])
-    go true = refl
-    go false = refl
+batches_named-loaded l other rows name = grind (arith, filter_map-append)
 
 -- a begin is no batch
 pub batches_named-began : (l : List Event) (agent : List ℕ) (plan : Planned) (name : List ℕ)
     → batches_named (l ++ Began agent plan ∷ []) name ≡ batches_named l name
-batches_named-began l agent plan name =
-    filter_map-append (rows_if_named name) l (Began agent plan ∷ [])
-    ∙ append-nil (batches_named l name)
+batches_named-began l agent plan name = grind (arith, filter_map-append, append-nil)
 
 -- an item is no batch
 pub batches_named-did : (l : List Event) (k : ℕ) (item : Item) (name : List ℕ)
     → batches_named (l ++ Did k item ∷ []) name ≡ batches_named l name
-batches_named-did l k item name =
-    filter_map-append (rows_if_named name) l (Did k item ∷ []) ∙ append-nil (batches_named l name)
+batches_named-did l k item name = grind (arith, filter_map-append, append-nil)

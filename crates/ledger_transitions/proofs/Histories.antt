@@ -1,6 +1,6 @@
 -- Invariants of the history of each journey of a legal ledger: it follows the rules. For what an item changes, and for
 -- answers.
-use Rattle.std.proofs.Common.{◌≡◌, ℕ, ◌+◌, ◌<◌, ◌≤◌, List, [], ◌∷◌, ◌++◌, map, refl, ap, sym, ◌∙◌, arith, subst, eqb-true, inl, inr, Bool, true, false, not, ◌==◌, ◌||◌, ◌&&◌, nat_lt, filter, cond, Some, IsTrue}
+use Rattle.std.proofs.Common.{◌≡◌, ℕ, ◌+◌, ◌<◌, ◌≤◌, List, [], ◌∷◌, ◌++◌, map, refl, ap, sym, ◌∙◌, arith, subst, eqb-true, Bool, true, not, ◌==◌, ◌||◌, ◌&&◌, filter, Some, IsTrue}
 use Rattle.std.proofs.lemmas.Bool.{and_parts, or_cases, and_from, eqb-false, ltb-true, le-leb, not-true}
 use Rattle.std.specs.List.{list_all}
 use Rattle.plan.specs.Limits.{most_steps}
@@ -11,7 +11,7 @@ use Rattle.plan.specs.PlanModel.{Planned, is_plan, step_count, option_count}
 use Rattle.savepoints.proofs.OptionLemmas.{one_le-option_count}
 use Rattle.commands.specs.declared.items.Item.{Item}
 use Rattle.commands.specs.declared.items.Item.TheVariants.{Transaction, Compensation, Turn, Save}
-use Rattle.ledger.specs.History.{net, position_of, is_taken, is_save_point, phase, is_running, next_option, may_come}
+use Rattle.ledger.specs.History.{net, position_of, is_taken, next_option, may_come}
 use Rattle.ledger.specs.Ledger.{Event, Journey, journey_at, history, IsLegal}
 use Rattle.ledger.proofs.Coming.{step-comes, compensation-comes}
 use Rattle.ledger.proofs.Journeys.{goes-begin, goes-more}
@@ -53,57 +53,29 @@ pub record Follows (plan : Planned) (h : List Item) : Type 0 where
 -- one more item leaves a save-point within, if the position is not below it
 still : (plan : Planned) (h : List Item) (x : Item) (p : ℕ) → TakenWithin plan h
     → IsTrue (is_taken h p) → p ≤ position_of (h ++ x ∷ []) → IsWithin plan (h ++ x ∷ []) p
-still plan h x p all before here =
-    let w = all p before in record { from_one = w.from_one; reached = here; short = w.short }
+still plan h x p all before here = grind arith
 
 -- a save-point is taken where the journey runs, above the start
 taken-save : (plan : Planned) (h : List Item) (may_fit : Bool) (q p : ℕ) → Goes plan h
     → IsTrue (may_come plan h may_fit (Save q)) → TakenWithin plan h
     → IsTrue ((p == q) || is_taken h p) → IsWithin plan (h ++ Save q ∷ []) p
 taken-save plan h may_fit q p g may all e =
-    let same = position_of-save h q in
-    elim (or_cases (p == q) (is_taken h p) e) [
-      | inr before ↦ still plan h (Save q) p all before
-          (let w = (all p before).reached in omega arith)
-      | inl now ↦ (let is = eqb-true _ _ now in
-          let tests = and_parts (is_running (phase plan h) && (q == position_of h) && nat_lt 0 q)
-          (not (is_save_point plan h q)) may in
-          let first = and_parts (is_running (phase plan h) && (q == position_of h))
-          (nat_lt 0 q) tests.0 in
-          let two = and_parts (is_running (phase plan h)) (q == position_of h) first.0 in
-          let here = eqb-true _ _ two.1 in
-          let above = ltb-true _ _ first.1 in
-          let below = (running-rises plan h g.mode two.0).1 in
-          record { from_one = omega arith; reached = omega arith; short = omega arith })
-    ]
+    grind (arith, position_of-save, or_cases, still, eqb-true, and_parts, ltb-true, running-rises)
 
 -- a compensation drops the save-point of its step, so the others are below
 taken-compensation : (plan : Planned) (h : List Item) (may_fit : Bool) (i c p : ℕ) → Goes plan h
     → IsTrue (may_come plan h may_fit (Compensation i c)) → TakenWithin plan h
     → IsTrue (not (p == i) && is_taken h p) → IsWithin plan (h ++ Compensation i c ∷ []) p
 taken-compensation plan h may_fit i c p g may all e =
-    let both = and_parts (not (p == i)) (is_taken h p) e in
-    let k = compensates h i c g.stands (compensation-comes plan h may_fit i c may).last in
-    let last = k.is_last in
-    let lower = k.lower in
-    let other = eqb-false _ _ (not-true _ both.0) in
-    let w = (all p both.1).reached in
-    let apart : p ≡ position_of h → ⊥ = λ e. other (omega arith) in
-    still plan h (Compensation i c) p all both.1 (omega arith)
+    grind (arith, and_parts, compensates, compensation-comes, eqb-false, not-true, still)
 
 -- each item that may come leaves the save-points within
 taken-more : AtItem TakenWithin
-taken-more plan h may_fit (Transaction i c) g may all p e =
-    let before = sym (is_taken-more h (Transaction i c) p) ∙ e in
-    still plan h (Transaction i c) p all before
-    (let w = (all p before).reached in let k = position_of-transaction h i c in omega arith)
+taken-more plan h may_fit (Transaction i c) g may all p e = grind (arith, is_taken-more, still, position_of-transaction)
 taken-more plan h may_fit (Compensation i c) g may all p e =
     taken-compensation plan h may_fit i c p g may all
     (sym (is_taken-more h (Compensation i c) p) ∙ e)
-taken-more plan h may_fit (Turn q cause) g may all p e =
-    let before = sym (is_taken-more h (Turn q cause) p) ∙ e in
-    still plan h (Turn q cause) p all before
-    (let w = (all p before).reached in let k = position_of-turn h q cause in omega arith)
+taken-more plan h may_fit (Turn q cause) g may all p e = grind (arith, is_taken-more, still, position_of-turn)
 taken-more plan h may_fit (Save q) g may all p e =
     taken-save plan h may_fit q p g may all (sym (is_taken-more h (Save q) p) ∙ e)
 
@@ -118,24 +90,13 @@ record Chosen (plan : Planned) (h : List Item) : Type 0 where
 filter-passing : {X : Type 0} (p keeps : X → Bool) (xs : List X) → list_all p xs ≡ true
     → list_all p (filter keeps xs) ≡ true
 filter-passing p keeps [] all = refl
-filter-passing p keeps (x ∷ xs) all =
-    let both = and_parts (p x) (list_all p xs) all in
-    go (keeps x) both.0 (filter-passing p keeps xs both.1)
-  where
-    go : (v : Bool) → p x ≡ true → list_all p (filter keeps xs) ≡ true
-        → list_all p (cond v (x ∷ filter keeps xs) (filter keeps xs)) ≡ true
-    go true here later = and_from _ _ here later
-    go false here later = later
+filter-passing p keeps (x ∷ xs) all = grind (arith, and_parts, and_from, filter-passing p keeps xs)
 
 -- the option that the next step takes is one of its own
 next_option-within : (plan : Planned) (h : List Item) (i c : ℕ) → IsTrue (is_plan plan)
     → position_of h < step_count plan → i ≡ position_of h + 1 → c ≡ next_option plan h
     → is_option_of plan (i, c) ≡ true
-next_option-within plan h i c good below is option_is =
-    let some = one_le-option_count plan (position_of h + 1) good (omega arith) (omega arith) in
-    let same : option_count plan i ≡ option_count plan (position_of h + 1) =
-    ap (option_count plan) is in
-    and_from _ _ (le-leb 1 c (omega arith)) (le-leb c (option_count plan i) (omega arith))
+next_option-within plan h i c good below is option_is = grind (arith, one_le-option_count, and_from, le-leb)
 
 -- all of a list and one more pass
 list_all-snoc : {X : Type 0} (p : X → Bool) (xs : List X) (x : X) → list_all p xs ≡ true
@@ -143,70 +104,33 @@ list_all-snoc : {X : Type 0} (p : X → Bool) (xs : List X) (x : X) → list_all
     → list_all p (xs ++ x ∷ []) ≡ true
 list_all-snoc p [] x all here = and_from _ _ here refl
 list_all-snoc p (y ∷ ys) x all here =
-    let both = and_parts (p y) (list_all p ys) all in
-    and_from _ _ both.0 (list_all-snoc p ys x both.1 here)
+    and_from _ _ (and_parts (p y) (list_all p ys) all).0 (list_all-snoc p ys x (and_parts (p y) (list_all p ys) all).1 here)
 
 -- each item that may come leaves each transaction with an option of its step
 chosen-more : AtItem Chosen
 chosen-more plan h may_fit (Transaction i c) g may all =
     let comes = step-comes plan h may_fit i c may in
-    let below = (running-rises plan h g.mode comes.running).1 in
     record {
       good = all.good;
       options =
           ap (list_all (is_option_of plan)) (net-transaction h i c)
           ∙ list_all-snoc (is_option_of plan) (net h) (i, c) all.options
-          (next_option-within plan h i c all.good below comes.step comes.option);
+          (next_option-within plan h i c all.good ((running-rises plan h g.mode comes.running).1) comes.step comes.option);
     }
-chosen-more plan h may_fit (Compensation i c) g may all = record {
-  good = all.good;
-  options =
-      ap (list_all (is_option_of plan)) (net-compensation h i c)
-      ∙ filter-passing (is_option_of plan) (λ t. not (t.0 == i)) (net h) all.options;
-}
-chosen-more plan h may_fit (Turn p cause) g may all = record {
-  good = all.good;
-  options = ap (list_all (is_option_of plan)) (net-turn h p cause) ∙ all.options;
-}
-chosen-more plan h may_fit (Save p) g may all = record {
-  good = all.good;
-  options = ap (list_all (is_option_of plan)) (net-save h p) ∙ all.options;
-}
+chosen-more plan h may_fit (Compensation i c) g may all = grind (arith, net-compensation, filter-passing)
+chosen-more plan h may_fit (Turn p cause) g may all = grind (arith, net-turn)
+chosen-more plan h may_fit (Save p) g may all = grind (arith, net-save)
 
 -- Legal ledgers.
 
 -- a journey that is just begun follows the rules
 pub follows-begin : AtBegin Follows
-follows-begin plan good =
-    record {
-      good = good;
-      few = few_steps plan good;
-      goes = goes-begin plan;
-      within = omega arith;
-      stands = refl;
-      options = refl;
-      taken = λ p e. never p e;
-    }
-  where
-    never : (p : ℕ) → false ≡ true → IsWithin plan [] p
-    never p e = cc
+follows-begin plan good = grind (arith, few_steps, goes-begin)
 
 -- a journey follows the rules with each item that may come
 pub follows-more : (plan : Planned) (h : List Item) (may_fit : Bool) (x : Item) → Follows plan h
     → IsTrue (may_come plan h may_fit x) → Follows plan (h ++ x ∷ [])
-follows-more plan h may_fit x f may =
-    let g = goes-more plan h may_fit x f.goes may in
-    let chosen = chosen-more plan h may_fit x f.goes may
-    (record { good = f.good; options = f.options }) in
-    record {
-      good = f.good;
-      few = f.few;
-      goes = g;
-      within = position_of-most plan (h ++ x ∷ []) g.mode;
-      stands = g.stands;
-      options = chosen.options;
-      taken = taken-more plan h may_fit x f.goes may f.taken;
-    }
+follows-more plan h may_fit x f may = grind (arith, goes-more, chosen-more, position_of-most, taken-more)
 
 -- the history of each journey of a legal ledger follows the rules
 pub follows : (l : List Event) → IsLegal l → (j : ℕ) (a : Journey) → journey_at l j ≡ Some a

@@ -1,15 +1,12 @@
 -- The answer to a request about a journey, by the first of its choices that is allowed. For each such request.
-use Rattle.std.proofs.Common.{◌≡◌, ℕ, List, [], ◌∷◌, ap, ◌∙◌, Bool, true, false, if◌then◌else◌, find, Option, Some, None, option_map, option_and_then}
-use Rattle.std.specs.Prelude.{unwrap_or}
+use Rattle.std.proofs.Common.{◌≡◌, ℕ, List, [], ◌∷◌, ap, ◌∙◌, Bool, true, false, if◌then◌else◌, find, Option, Some, None, option_map, arith, unwrap_or}
 use Rattle.plan.specs.PlanModel.{Planned}
-use Rattle.commands.specs.declared.items.Cursor.{Cursor}
 use Rattle.commands.specs.declared.items.Item.{Item}
 use Rattle.commands.specs.declared.replies.Refusal.{Refusal}
 use Rattle.commands.specs.declared.replies.Refusal.TheVariants.{Finished}
-use Rattle.commands.specs.declared.replies.Reply.TheVariants as reply
-use Rattle.ledger.specs.History.{next_want, phase, is_finished}
-use Rattle.ledger.specs.Ledger.{Event, Did, Journey, journey_at, history, fits, may_do, IsLegal}
-use Rattle.ledger.specs.Replies.{Answer, refused, sees, seen_journey, moved, answer_choices, answer_move}
+use Rattle.ledger.specs.History.{phase, is_finished}
+use Rattle.ledger.specs.Ledger.{Event, Journey, journey_at, history, may_do, IsLegal}
+use Rattle.ledger.specs.Replies.{refused, sees, seen_journey, moved, answer_move}
 pub use Rattle.ledger.proofs.Lists.{find-next, find-first}
 use Rattle.ledger_transitions.specs.Answers.{moves}
 use Rattle.ledger_transitions.specs.Cursors.{cursor_of}
@@ -21,23 +18,18 @@ use Rattle.ledger_transitions.proofs.Items.{cursor_of-more}
 -- a journey that the caller sees is there
 pub seen : (l : List Event) (who : Option (List ℕ)) (j : ℕ) (a : Journey) → journey_at l j ≡ Some a
     → sees who a ≡ true → seen_journey l who j ≡ Some a
-seen l who j a at e =
-    ap (λ o. option_and_then (λ (b : Journey). if sees who b then Some b else None) o) at
-    ∙ ap (λ v. if v then Some a else None) e
+seen l who j a at e = cc
 
 -- another agent's journey looks absent
 pub unseen : (l : List Event) (who : Option (List ℕ)) (j : ℕ) (a : Journey)
     → journey_at l j ≡ Some a
     → sees who a ≡ false → seen_journey l who j ≡ None
-unseen l who j a at e =
-    ap (λ o. option_and_then (λ (b : Journey). if sees who b then Some b else None) o) at
-    ∙ ap (λ v. if v then Some a else None) e
+unseen l who j a at e = cc
 
 -- if there is no journey, none is seen
 pub seen-none : (l : List Event) (who : Option (List ℕ)) (j : ℕ) → journey_at l j ≡ None
     → seen_journey l who j ≡ None
-seen-none l who j absent =
-    ap (λ o. option_and_then (λ (b : Journey). if sees who b then Some b else None) o) absent
+seen-none l who j absent = cc
 
 -- Moves.
 
@@ -46,9 +38,7 @@ pub move-finished : (l : List Event) (j : ℕ) (choices : Planned → List Item 
     (otherwise : Refusal)
     (a : Journey) → is_finished (phase a.plan (history l j)) ≡ true
     → answer_move l j choices otherwise (Some a) ≡ refused Finished
-move-finished l j choices otherwise a finished =
-    ap (λ v. if v then refused Finished
-    else answer_choices l j a (choices a.plan (history l j)) otherwise) finished
+move-finished l j choices otherwise a finished = cc
 
 -- the test of a journey's next item
 abbrev pub may : List Event → ℕ → Journey → Item → Bool
@@ -61,23 +51,14 @@ move-first : (l : List Event) (j : ℕ) (choices : Planned → List Item → Lis
     → find (may l j a) (choices a.plan (history l j)) ≡ o
     → answer_move l j choices otherwise (Some a)
     ≡ unwrap_or (option_map (moved a.plan (history l j) j) o) (refused otherwise)
-move-first l j choices otherwise a o unfinished found =
-    ap (λ v. if v then refused Finished
-    else answer_choices l j a (choices a.plan (history l j)) otherwise) unfinished
-    ∙ ap (λ p. unwrap_or (option_map (moved a.plan (history l j) j) p) (refused otherwise)) found
+move-first l j choices otherwise a o unfinished found = cc
 
 -- the reply to an item says where the journey is then
 moved-moves : (l : List Event) (j : ℕ) (a : Journey) (x : Item) → IsLegal l
     → journey_at l j ≡ Some a
     → may l j a x ≡ true
     → moved a.plan (history l j) j x ≡ moves j a.plan (cursor_of a.plan (history l j)) x
-moved-moves l j a x legal at comes =
-    ap (λ c. answered c)
-    (cursor_of-more a.plan (history l j) (fits l (next_want a.plan (history l j))) x
-    (follows l legal j a at) comes)
-  where
-    answered : Cursor → Answer
-    answered c = record { event = Some (Did j x); reply = reply.Moved j x c.pos c.phase }
+moved-moves l j a x legal at comes = grind (arith, cursor_of-more, follows)
 
 -- the item that is found is made
 pub move-found : (l : List Event) (j : ℕ) (choices : Planned → List Item → List Item)
@@ -101,6 +82,4 @@ pub move-only : (l : List Event) (j : ℕ) (choices : Planned → List Item → 
 move-only l j choices otherwise a x true legal at unfinished only comes =
     move-found l j choices otherwise a x legal at unfinished
     (ap (find (may l j a)) only ∙ find-first (may l j a) x [] comes) comes
-move-only l j choices otherwise a x false legal at unfinished only fails =
-    move-first l j choices otherwise a None unfinished
-    (ap (find (may l j a)) only ∙ find-next (may l j a) x [] fails)
+move-only l j choices otherwise a x false legal at unfinished only fails = grind (arith, move-first, find-next)

@@ -1,15 +1,13 @@
 -- What one more event changes of the places that are held of a cell. For each desk that stores how many are free.
-use Rattle.std.proofs.Common.{◌≡◌, ℕ, ◌+◌, ◌≤◌, List, [], ◌∷◌, ◌++◌, length, ap, ◌∙◌, arith, subst, true, if◌then◌else◌, sum_by, Some, None, IsTrue}
+use Rattle.std.proofs.Common.{◌≡◌, ℕ, ◌+◌, ◌≤◌, List, [], ◌∷◌, ◌++◌, length, ap, ◌∙◌, arith, subst, true, if◌then◌else◌, sum_by, Some, None, IsTrue, unwrap_or}
 use Rattle.std.proofs.lemmas.List.Sums.{sum_by_push}
-use Rattle.std.specs.Prelude.{unwrap_or}
 use Rattle.allotment.specs.Cells.{wants_cell}
 use Rattle.allotment.specs.Want.{Wanted}
 use Rattle.allotment.specs.declared.cells.Cell.{Cell}
 use Rattle.plan.specs.PlanModel.{Planned, want_at}
 use Rattle.commands.specs.declared.items.Cause.{Cause}
-use Rattle.commands.specs.declared.items.Item.{Item}
 use Rattle.commands.specs.declared.items.Item.TheVariants.{Transaction, Compensation, Turn, Save}
-use Rattle.ledger.specs.History.{net, position_of, next_want}
+use Rattle.ledger.specs.History.{net, next_want}
 use Rattle.ledger.specs.Ledger.{Event, Began, Did, Journey, journeys, journey_at, history, allotment, places_in, held_by, held, fits, is_allowed, IsLegal}
 use Rattle.ledger.proofs.Coming.{step-comes}
 use Rattle.ledger.proofs.Held as held_before
@@ -19,8 +17,7 @@ pub use Rattle.ledger.proofs.Held.{held-loaded}
 use Rattle.ledger.proofs.Held.{held-did}
 use Rattle.ledger.proofs.Lists.{number-within}
 pub use Rattle.ledger_transitions.proofs.Allotments.{allotment-began, allotment-did, allotment-loaded}
-use Rattle.ledger_transitions.proofs.Histories.{follows}
-use Rattle.ledger_transitions.proofs.Inductions.{may_come-allowed}
+use Rattle.ledger_transitions.proofs.Histories.{follows, may_come-allowed}
 use Rattle.ledger_transitions.proofs.Items as items
 
 -- the number of a journey is one from 1 to how many there are
@@ -38,16 +35,13 @@ pub held-transaction : (l : List Event) (j i c : ℕ) (a : Journey) (x : Cell)
     → journey_at l j ≡ Some a
     → held (l ++ Did j (Transaction i c) ∷ []) x ≡ held l x + places_in x (want_at a.plan i c)
 held-transaction l j i c a x at =
-    let changed = held-did l j (Transaction i c) a x at in
-    let own = held_before.held_by-transaction a.plan (history l j) i c x in
-    omega arith
+    omega (arith, held-did l j (Transaction i c) a x at, held_before.held_by-transaction a.plan (history l j) i c x)
 
 -- its compensation releases the places of its want
 pub held-compensation : (l : List Event) (j i c : ℕ) (a : Journey) (x : Cell) → IsLegal l
     → journey_at l j ≡ Some a → IsTrue (is_allowed l (Did j (Compensation i c)))
     → held l x ≡ held (l ++ Did j (Compensation i c) ∷ []) x + places_in x (want_at a.plan i c)
 held-compensation l j i c a x legal at may =
-    let h : List Item = history l j in
     let changed = held-did l j (Compensation i c) a x at in
     let left = items.net-compensation a.plan (history l j)
     (fits l (next_want a.plan (history l j))) i c
@@ -63,17 +57,12 @@ held-compensation l j i c a x legal at may =
 pub held-turn : (l : List Event) (j p : ℕ) (cause : Cause) (a : Journey) (x : Cell)
     → journey_at l j ≡ Some a → held (l ++ Did j (Turn p cause) ∷ []) x ≡ held l x
 held-turn l j p cause a x at =
-    let changed = held-did l j (Turn p cause) a x at in
-    let own = held_before.held_by-turn a.plan (history l j) p cause x in
-    omega arith
+    omega (arith, held-did l j (Turn p cause) a x at, held_before.held_by-turn a.plan (history l j) p cause x)
 
 -- a save-point leaves what is held
 pub held-save : (l : List Event) (j p : ℕ) (a : Journey) (x : Cell)
     → journey_at l j ≡ Some a → held (l ++ Did j (Save p) ∷ []) x ≡ held l x
-held-save l j p a x at =
-    let changed = held-did l j (Save p) a x at in
-    let own = held_before.held_by-save a.plan (history l j) p x in
-    omega arith
+held-save l j p a x at = omega (arith, held-did l j (Save p) a x at, held_before.held_by-save a.plan (history l j) p x)
 
 -- a want takes so many places of its own cells
 pub places_in-cell : (w : Wanted) (x : Cell) → wants_cell w x ≡ true
@@ -83,14 +72,7 @@ places_in-cell w x e = ap (λ b. if b then w.count else 0) e
 -- a transaction that is allowed takes a want that fits
 pub transaction_fits : (l : List Event) (j i c : ℕ) (a : Journey) → journey_at l j ≡ Some a
     → IsTrue (is_allowed l (Did j (Transaction i c))) → fits l (want_at a.plan i c) ≡ true
-transaction_fits l j i c a at may =
-    let h : List Item = history l j in
-    let comes = step-comes a.plan (history l j) (fits l (next_want a.plan (history l j))) i c
-    (may_come-allowed l j a (Transaction i c) at may) in
-    ap (fits l)
-    (ap (λ n. want_at a.plan n c) comes.step
-    ∙ ap (want_at a.plan (position_of (history l j) + 1)) comes.option)
-    ∙ comes.fitting
+transaction_fits l j i c a at may = grind (arith, step-comes, may_come-allowed)
 
 -- of a cell with an allotment no more than that is held
 pub held_within : (l : List Event) (x : Cell) (n : ℕ) → IsLegal l → allotment l x ≡ Some n
@@ -99,7 +81,4 @@ held_within l x n legal at = subst (λ o. held l x ≤ unwrap_or o 0) at (no_cel
 
 -- of a cell without an allotment nothing is held
 pub held_none : (l : List Event) (x : Cell) → IsLegal l → allotment l x ≡ None → held l x ≡ 0
-held_none l x legal absent =
-    let none : held l x ≤ 0 = subst (λ o. held l x ≤ unwrap_or o 0) absent
-    (no_cell_overfull l legal x) in
-    omega arith
+held_none l x legal absent = grind (arith, no_cell_overfull)

@@ -1,6 +1,6 @@
 -- The set of the save-points that were taken, as a desk stores it: what it means for a history, and what one more item
 -- changes of it.
-use Rattle.std.proofs.Common.{◌≡◌, ℕ, zero, suc, ◌+◌, ◌-◌, ◌≤◌, List, [], ◌∷◌, ◌++◌, refl, ap, sym, ◌∙◌, arith, eqb-true, Bool, true, false, not, ◌==◌, ◌||◌, ◌&&◌, cond, filter, nat_le, nat_lt, IsTrue}
+use Rattle.std.proofs.Common.{◌≡◌, ℕ, zero, suc, ◌+◌, ◌-◌, ◌≤◌, List, [], ◌∷◌, ◌++◌, refl, ap, sym, ◌∙◌, arith, eqb-true, Bool, true, false, not, ◌==◌, ◌||◌, ◌&&◌, filter, nat_le, nat_lt, IsTrue}
 use Rattle.std.proofs.lemmas.Bool.{and_from, eqb-false, lt-ltb, le-leb, lt-leb}
 use Rattle.std.proofs.lemmas.Bool.Decides.{nat_tests}
 use Rattle.std.specs.FinSet as set
@@ -44,30 +44,12 @@ list_any-filter : (passes : ℕ → Bool) (first more p : ℕ)
     → list_any (λ q. q == p) (filter passes (numbers_from first more))
     ≡ (nat_le first p && nat_lt p (first + more) && passes p)
 list_any-filter passes first zero p = none_between (passes p) first p
-list_any-filter passes first (suc more) p =
-    let members : List ℕ = filter passes (numbers_from (suc first) more) in
-    let later = list_any-filter passes (suc first) more p in
-    elim (passes first) as (λ b. passes first ≡ b
-    → list_any (λ q. q == p) (cond b (first ∷ members) members)
-    ≡ (nat_le first p && nat_lt p (first + suc more) && passes p)) [
-      | true ↦ λ passed. first_passes (passes p) first more p _
-          (λ e. ap passes (sym e) ∙ passed) later
-      | false ↦ λ failed. first_fails (passes p) first more p _
-          (λ e. ap passes (sym e) ∙ failed) later
-    ] refl
+list_any-filter passes first (suc more) p = grind (arith, first_passes, first_fails, list_any-filter passes (suc first) more p)
 
 -- a test that passes only between 1 and the last mark needs no limits
 without_limits : (test : Bool) (p : ℕ) → (test ≡ true → 1 ≤ p) → (test ≡ true → p ≤ last_mark)
     → (nat_le 1 p && nat_lt p (1 + last_mark) && test) ≡ test
-without_limits true p low high =
-    let a = low refl in
-    let b = high refl in
-    and_from _ _ (and_from _ _ (le-leb 1 p a) (lt-ltb p (1 + last_mark) (omega arith))) refl
-without_limits false p low high = none (nat_le 1 p && nat_lt p (1 + last_mark))
-  where
-    none : (b : Bool) → (b && false) ≡ false
-    none true = refl
-    none false = refl
+without_limits test p low high = grind (arith, and_from, le-leb, lt-ltb)
 
 -- Histories.
 
@@ -143,20 +125,7 @@ marks_of-save plan h may_fit p marks f may added =
 -- save-points stand up to the position: leaving out that of the last step leaves out those above the step before
 cut_below : (q i pos : ℕ) (taken : Bool) → i ≡ pos → 1 ≤ pos → (taken ≡ true → q ≤ pos)
     → (nat_le q (pos - 1) && taken) ≡ (not (q == i) && taken)
-cut_below q i pos false step above reached = none (nat_le q (pos - 1)) ∙ sym (none (not (q == i)))
-  where
-    none : (b : Bool) → (b && false) ≡ false
-    none true = refl
-    none false = refl
-cut_below q i pos true step above reached =
-    let low = reached refl in
-    elim (q == i) as (λ v. (q == i) ≡ v → (nat_le q (pos - 1) && true) ≡ (not v && true)) [
-      | true ↦ λ e. let same =
-          eqb-true _ _ e in ap (λ b. b && true) (lt-leb q (pos - 1) (omega arith))
-      | false ↦ λ e. let other = eqb-false _ _ e in
-          let apart : q ≡ pos → ⊥ = λ z. other (omega arith) in
-          ap (λ b. b && true) (le-leb q (pos - 1) (omega arith))
-    ] refl
+cut_below q i pos taken step above reached = grind (arith, eqb-true, lt-leb, eqb-false, le-leb)
 
 -- a compensation cuts the set at the new position
 pub marks_of-compensation : (plan : Planned) (h : List Item) (may_fit : Bool) (i c : ℕ)
@@ -165,12 +134,11 @@ pub marks_of-compensation : (plan : Planned) (h : List Item) (may_fit : Bool) (i
     → ((q : ℕ) → is_taken_in marks q ≡ (nat_le q (position_of h - 1) && is_taken_in (marks_of h) q))
     → marks ≡ marks_of (h ++ Compensation i c ∷ [])
 marks_of-compensation plan h may_fit i c marks f may cut =
-    let step = compensation-step plan h may_fit i c f may in
     marks_of-is plan (h ++ Compensation i c ∷ []) marks
     (follows-more plan h may_fit (Compensation i c) f may)
     (λ q. cut q
     ∙ ap (λ b. nat_le q (position_of h - 1) && b) (is_taken_in-marks_of plan h q f)
-    ∙ cut_below q i (position_of h) (is_taken h q) step
+    ∙ cut_below q i (position_of h) (is_taken h q) (compensation-step plan h may_fit i c f may)
     (compensation_above plan h may_fit i c f may)
     (λ e. (f.taken q e).reached)
     ∙ sym (is_taken-more h (Compensation i c) q))
@@ -178,25 +146,14 @@ marks_of-compensation plan h may_fit i c marks f may cut =
 -- sets are equal if their tests agree on each of consecutive numbers
 filter-same : (f g : ℕ → Bool) (first more : ℕ) → ((p : ℕ) → f p ≡ g p)
     → filter f (numbers_from first more) ≡ filter g (numbers_from first more)
-filter-same f g first zero same = refl
-filter-same f g first (suc more) same =
-    ap (λ b. cond b (first ∷ filter f (numbers_from (suc first) more))
-    (filter f (numbers_from (suc first) more)))
-    (same first)
-    ∙ ap (λ xs. cond (g first) (first ∷ xs) xs) (filter-same f g (suc first) more same)
+filter-same f g first more same = grind arith
 
 -- a transaction leaves the set
 pub marks_of-transaction : (h : List Item) (i c : ℕ)
     → marks_of (h ++ Transaction i c ∷ []) ≡ marks_of h
-marks_of-transaction h i c =
-    ap set.from_list
-    (filter-same (is_taken (h ++ Transaction i c ∷ [])) (is_taken h) 1 last_mark
-    (is_taken-more h (Transaction i c)))
+marks_of-transaction h i c = simp (filter-same, is_taken-more)
 
 -- a turn leaves the set
 pub marks_of-turn : (h : List Item) (p : ℕ) (cause : Cause)
     → marks_of (h ++ Turn p cause ∷ []) ≡ marks_of h
-marks_of-turn h p cause =
-    ap set.from_list
-    (filter-same (is_taken (h ++ Turn p cause ∷ [])) (is_taken h) 1 last_mark
-    (is_taken-more h (Turn p cause)))
+marks_of-turn h p cause = simp (filter-same, is_taken-more)

@@ -1,5 +1,5 @@
 -- A draft in which nothing is wrong means a plan that keeps the limits. For plans that are read, and for those that are made.
-use Rattle.std.proofs.Common.{◌≡◌, ℕ, suc, ◌+◌, true, not, ◌&&◌, ◌==◌, List, [], ◌∷◌, length, map, refl, sym, ap, ◌∙◌, arith, eq-eqb, Option, Some, None, Ok, filter_map, option_map, is_some}
+use Rattle.std.proofs.Common.{◌≡◌, ℕ, ◌+◌, true, List, [], ◌∷◌, length, map, refl, ap, ◌∙◌, arith, Option, Some, None, Ok, filter_map, option_map, is_some}
 use Rattle.std.specs.List.{AllByRecursion, list_all, enumerate_from}
 use Rattle.allotment.specs.Want.{Wanted}
 use Rattle.allotment.specs.Limits.{is_between, is_night, is_want}
@@ -7,7 +7,7 @@ use Rattle.allotment.proofs.TestLemmas.{and_both, and_make}
 use Rattle.plan.specs.Limits.{most_options, most_steps}
 use Rattle.plan.specs.PlanModel.{Planned, StepPlan, is_step, is_last_unmarked, is_plan}
 use Rattle.plan.specs.Drafts.{OptionDraft, StepDraft, Draft, number_or_none, option_faults, step_faults, faults, want_of, step_of, plan_of, judged}
-use Rattle.plan.proofs.ListFacts.{append_none, not_left, unless_none, flat_map_none, first_fault_ok}
+use Rattle.plan.proofs.ListFacts.{append_none, unless_none, flat_map_none, first_fault_ok}
 
 -- the first night of an option, where it has one, is a night
 abbrev pub HasNight : Option OptionDraft → Type 0
@@ -32,14 +32,7 @@ wants_of os = filter_map (option_map want_of) os
 
 -- the want of an option in which nothing is wrong keeps the limits
 option_keeps : (i : ℕ) (o : OptionDraft) → HasNight (Some o) → option_faults i (Some o) ≡ [] → is_want (want_of o) ≡ true
-option_keeps i o night e =
-    let last = append_none _ _ e in
-    let fourth = append_none _ _ last.0 in
-    let third = append_none _ _ fourth.0 in
-    let second = append_none _ _ third.0 in
-    let nights = and_both _ _ (unless_none _ _ fourth.1) in
-    let count = and_both _ _ (unless_none _ _ last.1) in
-    and_make _ _ (and_make _ _ (and_make _ _ (unless_none _ _ second.1) (night (unless_none _ _ third.1))) nights.1) count.1
+option_keeps i o night e = grind (arith, append_none, and_both, unless_none, and_make)
 
 -- the wants of such options: as many, and each keeps the limits
 record KeepOptions (os : List (Option OptionDraft)) : Type 0 where
@@ -50,9 +43,7 @@ options_keep : (i : ℕ) (os : List (Option OptionDraft)) → AllByRecursion Has
     → AllByRecursion (λ o. option_faults i o ≡ []) os → KeepOptions os
 options_keep i [] nights e = record { good = refl; many = refl }
 options_keep i (None ∷ os) nights e = let bad = e.0 in cc
-options_keep i (Some o ∷ os) nights e =
-    let later = options_keep i os nights.1 e.1 in
-    record { good = and_make _ _ (option_keeps i o nights.0 e.0) later.good; many = ap (λ z. suc z) later.many }
+options_keep i (Some o ∷ os) nights e = grind (arith, and_make, option_keeps, options_keep i os nights.1 e.1)
 
 -- Steps.
 
@@ -67,12 +58,6 @@ step_keeps n i s nights e =
     let options = options_keep i s.options nights (flat_map_none (option_faults i) s.options last.1) in
     and_make _ _ (ap (is_between 1 most_options) options.many ∙ unless_none _ _ (append_none _ _ last.0).1) options.good
 
--- the step whose number is that of the last has no mark
-last_unmarked : (s : StepPlan) (steps : List StepPlan) (n i : ℕ) → i + length (s ∷ steps) ≡ n + 1
-    → not (s.is_marked && i == n) ≡ true → is_last_unmarked steps ≡ true → is_last_unmarked (s ∷ steps) ≡ true
-last_unmarked s [] n i l e h = let same : i ≡ n = omega arith in not_left s.is_marked (i == n) (eq-eqb i n same) e
-last_unmarked s (t ∷ steps) n i l e h = h
-
 -- the steps of such drafts, from one of them on to the last of so many: as many, each keeps the limits, the last has no mark
 record KeepSteps (ss : List (Option StepDraft)) : Type 0 where
   pub good : list_all is_step (steps_of ss) ≡ true
@@ -83,14 +68,7 @@ steps_keep : (n i : ℕ) (ss : List (Option StepDraft)) → i + length ss ≡ n 
     → AllByRecursion (λ x. step_faults n x ≡ []) (enumerate_from i ss) → KeepSteps ss
 steps_keep n i [] l nights e = record { good = refl; unmarked = refl; many = refl }
 steps_keep n i (None ∷ ss) l nights e = let bad = e.0 in cc
-steps_keep n i (Some s ∷ ss) l nights e =
-    let later = steps_keep n (i + 1) ss (omega arith) nights.1 e.1 in
-    let mark = unless_none _ _ (append_none _ _ (append_none _ _ e.0).0).0 in
-    record {
-      good = and_make _ _ (step_keeps n i s nights.0 e.0) later.good;
-      unmarked = last_unmarked (step_of s) (steps_of ss) n i (omega (arith, later.many)) mark later.unmarked;
-      many = ap (λ z. suc z) later.many;
-    }
+steps_keep n i (Some s ∷ ss) l nights e = grind (arith, step_keeps, steps_keep n (i + 1) ss (omega arith) nights.1)
 
 -- A plan.
 
@@ -106,5 +84,4 @@ draft_keeps d nights e =
 
 -- so does the plan that a draft is judged to be
 pub judged_keeps : (d : Draft) (p : Planned) → AllByRecursion HasNights d.steps → judged (Some d) ≡ Ok p → is_plan p ≡ true
-judged_keeps d p nights e =
-    let both = first_fault_ok (plan_of (Some d)) p (faults (Some d)) e in ap is_plan (sym both.1) ∙ draft_keeps d nights both.0
+judged_keeps d p nights e = grind (arith, first_fault_ok, draft_keeps)

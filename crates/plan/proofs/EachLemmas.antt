@@ -1,9 +1,8 @@
 -- Reading one part after another, up to the first fault. For the readers of the options of a step and of the steps.
 use mathlib.Core.List.{map-map}
-use Rattle.std.proofs.Common.{◌≡◌, ℕ, suc, ◌+◌, ◌<◌, List, [], ◌∷◌, ◌++◌, map, length, drop, refl, sym, ap, ◌∙◌, arith, append_assoc, get_or, Option, Some, None, Ok, Err, filter_map, flat_map, option_map, Result}
+use Rattle.std.proofs.Common.{◌≡◌, ℕ, suc, ◌+◌, ◌<◌, List, [], ◌∷◌, ◌++◌, map, length, drop, refl, sym, ap, ◌∙◌, arith, append_assoc, get_or, Option, Some, Ok, Err, filter_map, flat_map, option_map, Result, append-nil}
 use Rattle.std.specs.List.{enumerate_from}
 use Rattle.std.proofs.Math.Seq.{drop-cons}
-use Rattle.std.proofs.lemmas.List.{append-nil}
 use Rattle.serde_json.specs.View.{view}
 use Rattle.serde_json.specs.declared.value.Value.{Value}
 use Rattle.allotment.specs.Want.{Wanted}
@@ -37,22 +36,18 @@ behind done (Err f) = Err f
 
 -- nothing prepended to a result leaves it the same
 pub none_behind : {X F : Type 0} (r : Result (List X) F) → behind [] r ≡ r
-none_behind (Ok xs) = refl
-none_behind (Err f) = refl
+none_behind r = grind arith
 
 -- a value that is read next is appended to those that were read
 pub behind_more : {X F : Type 0} (done : List X) (x : X) (r : Result (List X) F)
     → behind (done ++ x ∷ []) r ≡ behind done (onto (Ok x) r)
-behind_more done x (Ok xs) = ap Ok (append_assoc done (x ∷ []) xs)
-behind_more done x (Err f) = refl
+behind_more done x r = grind (arith, append_assoc)
 
 -- the parts from one of them on
 each_from : {A X F : Type 0} (read : ℕ → A → Result X F) (i k : ℕ) (ts : List A) (t : A)
     → k < length ts → t ≡ get_or ts k t
     → each read i (drop k ts) ≡ onto (read i t) (each read (i + 1) (drop (suc k) ts))
-each_from read i k ts t l e =
-    ap (each read i) (drop-cons ts k t l)
-    ∙ ap (λ z. onto (read i z) (each read (i + 1) (drop (suc k) ts))) (sym e)
+each_from read i k ts t l e = grind (arith, drop-cons)
 
 -- one more part was read
 pub each_more : {A X F : Type 0} (read : ℕ → A → Result X F) (i k : ℕ) (ts : List A) (t : A)
@@ -74,11 +69,7 @@ pub each_fails : {A X F : Type 0} (read : ℕ → A → Result X F) (i k : ℕ) 
     (done : List X) (f : F) (whole : Result (List X) F)
     → k < length ts → t ≡ get_or ts k t → read i t ≡ Err f
     → behind done (each read i (drop k ts)) ≡ whole → whole ≡ Err f
-each_fails read i k ts t done f whole l e r h =
-    let later = each read (i + 1) (drop (suc k) ts) in
-    sym h
-    ∙ ap (behind done) (each_from read i k ts t l e)
-    ∙ ap (λ z. behind done (onto z later)) r
+each_fails read i k ts t done f whole l e r h = grind (arith, each_from read i k ts t l)
 
 -- after all elements there is nothing left
 drop_all : {X : Type 0} (xs : List X) → drop (length xs) xs ≡ []
@@ -88,20 +79,14 @@ drop_all (x ∷ xs) = drop_all xs
 -- all parts were read
 pub each_ends : {A X F : Type 0} (read : ℕ → A → Result X F) (i k : ℕ) (ts : List A) (done : List X)
     (whole : Result (List X) F) → k ≡ length ts → behind done (each read i (drop k ts)) ≡ whole → whole ≡ Ok done
-each_ends read i k ts done whole e h =
-    sym h
-    ∙ ap (λ z. behind done (each read i (drop z ts))) e
-    ∙ ap (λ z. behind done (each read i z)) (drop_all ts)
-    ∙ ap Ok (append-nil done)
+each_ends read i k ts done whole e h = grind (arith, drop_all, append-nil)
 
 -- The first fault of a list.
 
 -- the first fault of a list is that of its head, or else of its tail
 pub first_onto : {X F : Type 0} (x : X) (xs : List X) (fs more : List F)
     → first_fault (x ∷ xs) (fs ++ more) ≡ onto (first_fault x fs) (first_fault xs more)
-first_onto x xs [] [] = refl
-first_onto x xs [] (f ∷ more) = refl
-first_onto x xs (g ∷ fs) more = refl
+first_onto x xs fs more = grind arith
 
 -- Options, by their drafts.
 
@@ -112,9 +97,7 @@ options_judged i os = first_fault (filter_map (option_map want_of) os) (flat_map
 -- the first fault of options is that of the first one, or else of the later ones
 options_onto : (i : ℕ) (o : Option OptionDraft) (os : List (Option OptionDraft))
     → options_judged i (o ∷ os) ≡ onto (judged_option i o) (options_judged i os)
-options_onto i None os = refl
-options_onto i (Some o) os =
-    first_onto (want_of o) (filter_map (option_map want_of) os) (option_faults i (Some o)) (flat_map (option_faults i) os)
+options_onto i o os = grind (arith, first_onto)
 
 -- options are read one after another, whatever their numbers
 options_each : {A : Type 0} (draft : A → Option OptionDraft) (i k : ℕ) (ts : List A)
@@ -144,10 +127,7 @@ steps_judged n i ss = first_fault (filter_map (option_map step_of) ss) (flat_map
 -- the first fault of steps is that of the first one, or else of the later ones
 steps_onto : (n i : ℕ) (s : Option StepDraft) (ss : List (Option StepDraft))
     → steps_judged n i (s ∷ ss) ≡ onto (judged_step n i s) (steps_judged n (i + 1) ss)
-steps_onto n i None ss = refl
-steps_onto n i (Some s) ss =
-    first_onto (step_of s) (filter_map (option_map step_of) ss) (step_faults n (i, Some s))
-    (flat_map (step_faults n) (enumerate_from (i + 1) ss))
+steps_onto n i s ss = grind (arith, first_onto)
 
 -- steps are read one after another
 steps_each : {A : Type 0} (draft : A → Option StepDraft) (n i : ℕ) (ts : List A)

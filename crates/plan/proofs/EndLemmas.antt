@@ -1,11 +1,10 @@
 -- The mark at the end of a step, and the tries at the end of a line. For what cuts them off.
-use Rattle.std.proofs.Common.{◌≡◌, ◌≢◌, ℕ, zero, suc, ◌+◌, ◌-◌, ◌<◌, ◌≤◌, ◌⊎◌, inl, inr, Bool, true, false, List, [], ◌∷◌, ◌++◌, length, take, drop, refl, sym, ap, subst, ◌∙◌, arith, Option, Some, None, bytes_eq, decimal, is_some, if◌then◌else◌, MatchOption, IfNone}
+use Rattle.std.proofs.Common.{◌≡◌, ◌≢◌, ℕ, zero, suc, ◌+◌, ◌-◌, ◌<◌, ◌≤◌, ◌⊎◌, Bool, true, false, List, [], ◌∷◌, ◌++◌, length, take, drop, refl, sym, ap, ◌∙◌, arith, Option, Some, None, is_some, if◌then◌else◌, MatchOption, IfNone, Bor, length-append, take-append-drop}
 use Rattle.std.specs.Fmt.{digits}
 use Rattle.std.specs.List.{slice_get}
 use Rattle.std.specs.Str.Pattern.{FindsCharSuffix}
 use Rattle.std.proofs.Math.Seq.{drop-append_seam, take-append_seam}
 use Rattle.std.proofs.lemmas.Fmt.{decimal_digit}
-use Rattle.std.proofs.lemmas.List.{length-append, take-append-drop}
 use Rattle.std.proofs.lemmas.Str.Pattern.{strip_suffix_char}
 use Rattle.allotment.specs.Texts.{star}
 use Rattle.plan.specs.Limits.{most_tries}
@@ -13,7 +12,6 @@ use Rattle.plan.specs.Drafts.{number_or_none}
 use Rattle.plan.specs.PlanLine.{has_mark, without_mark, tries_text, tries_in, front_of, end_of}
 use Rattle.allotment.proofs.TestLemmas.{same_bytes}
 use Rattle.plan.proofs.ReadLemmas.{tries_read}
-use denote.Ref.{Bor}
 
 -- The mark.
 
@@ -23,25 +21,18 @@ seam front c = omega (arith, length-append front (c ∷ []))
 
 -- a text with a `*` at its end has a mark
 pub marked : (front : List ℕ) → has_mark (front ++ star ∷ []) ≡ true
-marked front =
-    ap (λ z. bytes_eq (star ∷ []) z)
-    (ap (λ z. drop z (front ++ star ∷ [])) (seam front star) ∙ drop-append_seam front (star ∷ []))
+marked front = grind (arith, seam, drop-append_seam)
 
 -- the text without its mark is what stands before the `*`
 pub marked_front : (front : List ℕ) → without_mark (front ++ star ∷ []) ≡ front
-marked_front front =
-    let text = front ++ star ∷ [] in
-    ap (λ b. if b then take (length text - 1) text else text) (marked front)
-    ∙ ap (λ z. take z text) (seam front star) ∙ take-append_seam front (star ∷ [])
+marked_front front = grind (arith, marked, seam, take-append_seam)
 
 -- a text that is no prefix followed by `*` has no mark
 unmarked_by : (text : List ℕ) (b : Bool) → has_mark text ≡ b
     → ((front : List ℕ) → text ≢ front ++ star ∷ []) → has_mark text ≡ false
 unmarked_by text true e none =
-    let end : drop (length text - 1) text ≡ star ∷ [] =
-    sym (same_bytes (star ∷ []) (drop (length text - 1) text) e) in
-    absurd (none (take (length text - 1) text)
-    (sym (take-append-drop (length text - 1) text) ∙ ap (λ z. take (length text - 1) text ++ z) end))
+    absurd (none (take (length text - 1) text) (sym (take-append-drop (length text - 1) text)
+    ∙ ap (λ z. take (length text - 1) text ++ z) (sym (same_bytes (star ∷ []) (drop (length text - 1) text) e))))
 unmarked_by text false e none = e
 
 -- a text that ends with no `*` has no mark
@@ -65,9 +56,7 @@ two_behind (x ∷ front) c d = ap (λ z. x ∷ z) (two_behind front c d)
 
 -- the two bytes after a prefix are the end
 pub end_of_two : (front : List ℕ) (c d : ℕ) → end_of ((front ++ c ∷ []) ++ d ∷ []) ≡ c ∷ d ∷ []
-end_of_two front c d =
-    ap (λ z. drop z ((front ++ c ∷ []) ++ d ∷ [])) (two_seam front c d)
-    ∙ ap (drop (length front)) (two_behind front c d) ∙ drop-append_seam front (c ∷ d ∷ [])
+end_of_two front c d = grind (arith, two_seam, two_behind, drop-append_seam)
 
 -- the text of few tries is read as their number
 pub tries_again : (n : ℕ) → n ≤ most_tries → tries_in (tries_text n) ≡ Some n
@@ -88,14 +77,9 @@ tries_again (suc (suc (suc (suc (suc (suc (suc (suc (suc (suc n)))))))))) l = ab
 pub tries_found : (text front body : List ℕ) (d : ℕ) → text ≡ front ++ d ∷ [] → front ≡ body ++ 33 ∷ []
     → 48 ≤ d → d ≤ 57 → tries_in (end_of text) ≡ Some (d - 48)
 tries_found text front body d e f low high =
-    let n = d - 48 in
-    let digit : 48 + n ≡ d = omega arith in
-    let few : n ≤ most_tries = omega arith in
-    let two : decimal n ≡ d ∷ [] = decimal_digit n (omega arith) ∙ ap (λ z. z ∷ []) digit in
-    ap (λ z. tries_in (end_of z)) (e ∙ ap (λ z. z ++ d ∷ []) f)
-    ∙ ap tries_in (end_of_two body 33 d)
-    ∙ ap (λ z. tries_in (33 ∷ z)) (sym two)
-    ∙ tries_again n few
+    ap (λ z. tries_in (end_of z)) (e ∙ ap (λ z. z ++ d ∷ []) f) ∙ ap tries_in (end_of_two body 33 d)
+    ∙ ap (λ z. tries_in (33 ∷ z)) (sym (decimal_digit (d - 48) (omega arith) ∙ ap (λ z. z ∷ []) (omega arith)))
+    ∙ tries_again (d - 48) (omega arith)
 
 -- a line that ends with tries
 record EndsInTries (text : List ℕ) : Type 0 where
@@ -123,8 +107,7 @@ ends_in_tries text e =
 
 -- a line has tries, or none
 none_by : (text : List ℕ) (o : Option ℕ) → tries_in (end_of text) ≡ o → (EndsInTries text → ⊥) → tries_in (end_of text) ≡ None
-none_by text None e none = e
-none_by text (Some n) e none = absurd (none (ends_in_tries text (ap is_some e)))
+none_by text o e none = grind (arith, ends_in_tries)
 
 -- a line that ends in no tries has none
 tries_none : (text : List ℕ) → (EndsInTries text → ⊥) → tries_in (end_of text) ≡ None
@@ -137,9 +120,7 @@ behind_front (x ∷ front) d = behind_front front d
 
 -- the last byte
 last_byte : (text front : List ℕ) (d : ℕ) → text ≡ front ++ d ∷ [] → slice_get text (length text - 1) ≡ Some d
-last_byte text front d e =
-    ap (λ z. slice_get z (length z - 1)) e
-    ∙ ap (slice_get (front ++ d ∷ [])) (seam front d) ∙ behind_front front d
+last_byte text front d e = grind (arith, seam, behind_front)
 
 -- what stands before the last byte
 before_last : (front : List ℕ) (d : ℕ) → take (length (front ++ d ∷ []) - 1) (front ++ d ∷ []) ≡ front
@@ -147,37 +128,27 @@ before_last front d = ap (λ z. take z (front ++ d ∷ [])) (seam front d) ∙ t
 
 -- an empty line has no tries
 pub tries_empty : (text : List ℕ) → slice_get text (length text - 1) ≡ None → tries_in (end_of text) ≡ None
-tries_empty text e =
-    tries_none text (λ ends. let last = last_byte text (ends.front ++ 33 ∷ []) ends.digit ends.whole in cc)
+tries_empty text e = grind (arith, tries_none, last_byte)
 
 -- a line that ends with no digit has no tries
 pub tries_no_digit : (text : List ℕ) (d : ℕ) → slice_get text (length text - 1) ≡ Some d → (d < 48) ⊎ (57 < d)
     → tries_in (end_of text) ≡ None
-tries_no_digit text d e out =
-    tries_none text (λ ends.
-    let last = last_byte text (ends.front ++ 33 ∷ []) ends.digit ends.whole in
-    let same : d ≡ ends.digit = cc in
-    elim out [
-      | inl below ↦ absurd (omega (arith, ends.low))
-      | inr above ↦ absurd (omega (arith, ends.high))
-    ])
+tries_no_digit text d e out = grind (arith, tries_none, last_byte)
 
 -- a line with no `!` before its last digit has no tries
 pub tries_no_mark : (text front : List ℕ) (d : ℕ) → text ≡ front ++ d ∷ []
     → ((body : List ℕ) → front ≢ body ++ 33 ∷ []) → tries_in (end_of text) ≡ None
 tries_no_mark text front d e none =
     tries_none text (λ ends.
-    let same : front ++ d ∷ [] ≡ (ends.front ++ 33 ∷ []) ++ ends.digit ∷ [] = sym e ∙ ends.whole in
     none ends.front
-    (sym (before_last front d) ∙ ap (λ z. take (length z - 1) z) same
+    (sym (before_last front d) ∙ ap (λ z. take (length z - 1) z) (sym e ∙ ends.whole)
     ∙ before_last (ends.front ++ 33 ∷ []) ends.digit))
 
 -- What is not cut off.
 
 -- what is said of both cases is said of the one
 none_only : {X : Type 0} (P : Type 0) (Q : X → Type 0) (r : Option X) → MatchOption r P Q → IfNone r P
-none_only P Q None h = h
-none_only P Q (Some x) h = tt
+none_only P Q r h = grind arith
 
 -- where nothing was cut off, the text does not end so
 pub not_cut : (c last : ℕ) (text : List ℕ) (r : Option (Bor (List ℕ))) → c ≡ last → c < 128
@@ -185,6 +156,4 @@ pub not_cut : (c last : ℕ) (text : List ℕ) (r : Option (Bor (List ℕ))) →
     (λ x. (n : ℕ) × FindsCharSuffix c text (Some n) × (x.now ≡ take (length text - n) text)
     × (length x.now + n ≡ length text))
     → IfNone r ((front : List ℕ) → text ≢ front ++ last ∷ [])
-not_cut c last text r same small h =
-    let P : ℕ → Type 0 = λ z. IfNone r ((front : List ℕ) → text ≢ front ++ z ∷ []) in
-    subst P same (none_only _ _ r (strip_suffix_char c text r h small))
+not_cut c last text r same small h = grind (arith, none_only, strip_suffix_char)

@@ -1,18 +1,16 @@
 -- At which step a fault may be. For the readers of lines and of JSON.
-use Rattle.std.proofs.Common.{◌≡◌, ℕ, ◌+◌, ◌≤◌, ◌&&◌, ◌==◌, not, Bool, true, false, List, [], ◌∷◌, ◌++◌, length, refl, subst, arith, Option, Some, None, Err, flat_map, is_some, nat_le}
+use Rattle.std.proofs.Common.{◌≡◌, ℕ, ◌+◌, ◌≤◌, ◌&&◌, Bool, true, false, List, [], ◌∷◌, ◌++◌, length, refl, subst, arith, Option, Some, None, Err, flat_map, is_some, nat_le}
 use Rattle.std.specs.List.{AllByRecursion, enumerate_from}
-use Rattle.std.proofs.lemmas.Bool.{leb-true}
 use Rattle.serde_json.specs.Data.{Data}
-use Rattle.allotment.specs.Limits.{is_between, is_code, is_count, are_nights}
+use Rattle.allotment.specs.Limits.{is_between}
 use Rattle.allotment.specs.Making.{unless, first_fault}
-use Rattle.plan.specs.Limits.{most_options, most_steps, most_tries}
+use Rattle.plan.specs.Limits.{most_steps, most_tries}
 use Rattle.plan.specs.declared.causes.PlanCause.{PlanCause}
 use Rattle.plan.specs.declared.causes.PlanCause.TheVariants as cause
 use Rattle.plan.specs.declared.faults.BadPlan.{BadPlan}
-use Rattle.plan.specs.Drafts.{Draft, StepDraft, OptionDraft, at, kind_or_any, number_or_none, option_faults, step_faults, plan_of, judged}
+use Rattle.plan.specs.Drafts.{Draft, StepDraft, OptionDraft, at, number_or_none, option_faults, step_faults, plan_of, judged}
 use Rattle.plan.specs.PlanLine.{line_draft, plan_in}
 use Rattle.plan.specs.PlanJson.{json_draft, plan_in_json}
-use Rattle.allotment.proofs.TestLemmas.{and_both}
 
 -- a fact of two lists
 all_append : {X : Type 0} (P : X → Type 0) (xs ys : List X) → AllByRecursion P xs → AllByRecursion P ys → AllByRecursion P (xs ++ ys)
@@ -21,13 +19,7 @@ all_append P (x ∷ xs) ys p q = (p.0, all_append P xs ys p.1 q)
 
 -- a fact of what may be wrong
 all_unless : {X : Type 0} (P : X → Type 0) (b : Bool) (x : X) → P x → AllByRecursion P (unless b x)
-all_unless P true x p = tt
-all_unless P false x p = (p, tt)
-
--- the first fault is one of the faults
-first_of_all : {X F : Type 0} (P : F → Type 0) (x : X) (fs : List F) (f : F) → first_fault x fs ≡ Err f → AllByRecursion P fs → P f
-first_of_all P x [] f e all = cc
-first_of_all P x (g ∷ fs) f e all = let same : g ≡ f = cc in subst P same all.0
+all_unless P b x p = grind arith
 
 -- a fault is at a step up to this one
 abbrev up_to : ℕ → BadPlan → Type 0
@@ -41,27 +33,12 @@ wrong_step n i b cause l = all_unless (up_to n) b (at i cause) l
 parts_step : (n i : ℕ) (k c f m q : Bool) → i ≤ n → AllByRecursion (up_to n)
     (unless k (at i cause.Kind) ++ unless c (at i cause.Code) ++ unless f (at i cause.Night)
     ++ unless m (at i cause.Nights) ++ unless q (at i cause.Count))
-parts_step n i k c f m q l =
-    let kind = unless k (at i cause.Kind) in
-    let code = unless c (at i cause.Code) in
-    let night = unless f (at i cause.Night) in
-    let nights = unless m (at i cause.Nights) in
-    let count = unless q (at i cause.Count) in
-    all_append (up_to n) (kind ++ code ++ night ++ nights) count
-    (all_append (up_to n) (kind ++ code ++ night) nights
-    (all_append (up_to n) (kind ++ code) night
-    (all_append (up_to n) kind code (wrong_step n i k cause.Kind l) (wrong_step n i c cause.Code l))
-    (wrong_step n i f cause.Night l))
-    (wrong_step n i m cause.Nights l))
-    (wrong_step n i q cause.Count l)
+parts_step n i k c f m q l = grind (arith, all_append, wrong_step)
 
 -- all that may be wrong with an option
 option_step : (n i : ℕ) (o : Option OptionDraft) → i ≤ n → AllByRecursion (up_to n) (option_faults i o)
 option_step n i None l = (l, tt)
-option_step n i (Some o) l =
-    parts_step n i (is_some o.kind) (is_code o.supplier && is_code o.product) (is_some o.first)
-    (is_some o.nights && are_nights (kind_or_any o.kind) (number_or_none o.first) (number_or_none o.nights))
-    (is_some o.count && is_count (number_or_none o.count)) l
+option_step n i (Some o) l = search (arith, parts_step)
 
 -- all that may be wrong with options
 options_step : (n i : ℕ) (os : List (Option OptionDraft)) → i ≤ n → AllByRecursion (up_to n) (flat_map (option_faults i) os)
@@ -71,14 +48,7 @@ options_step n i (o ∷ os) l = all_append (up_to n) (option_faults i o) _ (opti
 -- all that may be wrong with a step
 step_step : (n last i : ℕ) (s : Option StepDraft) → i ≤ n → AllByRecursion (up_to n) (step_faults last (i, s))
 step_step n last i None l = (l, tt)
-step_step n last i (Some s) l =
-    let mark = not (s.is_marked && i == last) in
-    let many = is_between 1 most_options (length s.options) in
-    let save = unless mark (at i cause.Save) in
-    let options = unless many (at i cause.Options) in
-    all_append (up_to n) (save ++ options) (flat_map (option_faults i) s.options)
-    (all_append (up_to n) save options (wrong_step n i mark cause.Save l) (wrong_step n i many cause.Options l))
-    (options_step n i s.options l)
+step_step n last i (Some s) l = search (arith, all_append, wrong_step, options_step)
 
 -- all that may be wrong with steps
 steps_step : (n last i : ℕ) (ss : List (Option StepDraft)) → i + length ss ≤ n + 1
@@ -90,8 +60,7 @@ steps_step n last i (s ∷ ss) l =
 -- where there are too many steps or no tries, that fault is reported, at step 0
 told_at_0 : (a : Bool) (fs : List BadPlan) (f : BadPlan) {X : Type 0} (x : X)
     → first_fault x (unless a (at 0 cause.Tries) ++ unless false (at 0 cause.Steps) ++ fs) ≡ Err f → f.step ≤ most_steps
-told_at_0 false fs f x e = let same : at 0 cause.Tries ≡ f = cc in subst (up_to most_steps) same (omega arith)
-told_at_0 true fs f x e = let same : at 0 cause.Steps ≡ f = cc in subst (up_to most_steps) same (omega arith)
+told_at_0 a fs f x e = grind arith
 
 -- the reported fault of a draft names no step after the last one that a plan may have, however many steps it has
 draft_fault : (o : Option Draft) (f : BadPlan) → judged o ≡ Err f → f.step ≤ most_steps
@@ -107,12 +76,7 @@ draft_fault (Some d) f e = by (is_between 1 most_steps (length d.steps)) refl e
     by : (b : Bool) → is_between 1 most_steps (length d.steps) ≡ b
         → first_fault (plan_of (Some d)) (unless tries (at 0 cause.Tries) ++ unless b (at 0 cause.Steps) ++ steps) ≡ Err f → f.step ≤ most_steps
     by false e h = told_at_0 tries steps f _ h
-    by true e h =
-        let few : length d.steps ≤ most_steps = leb-true _ most_steps (and_both (nat_le 1 (length d.steps)) _ e).1 in
-        first_of_all (up_to most_steps) _ ((unless tries (at 0 cause.Tries) ++ []) ++ steps) f h
-        (all_append (up_to most_steps) (unless tries (at 0 cause.Tries) ++ []) steps
-        (all_append (up_to most_steps) (unless tries (at 0 cause.Tries)) [] (wrong_step most_steps 0 tries cause.Tries (omega arith)) tt)
-        (steps_step most_steps (length d.steps) 1 d.steps (omega arith)))
+    by true e h = grind (arith, wrong_step most_steps 0 tries cause.Tries, steps_step most_steps (length d.steps) 1 d.steps)
 
 -- so does that of a line
 pub fault_step : (text : List ℕ) (f : BadPlan) → plan_in text ≡ Err f → f.step ≤ most_steps

@@ -1,5 +1,5 @@
 -- What is read of a JSON option, in the words of a want that is made of its members. For the reader of JSON options.
-use Rattle.std.proofs.Common.{◌≡◌, ℕ, true, false, List, refl, sym, ap, ◌∙◌, Some, None, Err, codes, if◌then◌else◌, Result}
+use Rattle.std.proofs.Common.{◌≡◌, ℕ, true, false, List, refl, ap, ◌∙◌, Some, None, Err, codes, if◌then◌else◌, Result, arith}
 use Rattle.serde_json.specs.Data.{Data}
 use Rattle.allotment.specs.Want.{Wanted}
 use Rattle.allotment.specs.Limits.{is_count, are_nights}
@@ -41,11 +41,7 @@ want_shaped i d e =
 -- its kind is no word of a kind
 pub want_unkind : (i : ℕ) (d : Data) (k : List ℕ) → has_just option_members d ≡ true → None ≡ kind_of_word k
     → k ≡ text_of (codes "kind") d → Err (at i cause.Kind) ≡ want_of_json i d
-want_unkind i d k e none same =
-    ap (λ o. told_option i o (text_of (codes "supplier") d) (text_of (codes "product") d) (text_of (codes "first") d)
-    (number_or_none (in_member (codes "nights") whole_number d)) (number_or_none (in_member (codes "count") whole_number d)))
-    (none ∙ ap kind_of_word same)
-    ∙ sym (want_shaped i d e)
+want_unkind i d k e none same = grind (arith, told_option, want_shaped)
 
 -- the members of an option, as they are read
 pub record ReadsMembers (d : Data) (kind : Kind) (s p f : List ℕ) (n c : ℕ) : Type 0 where
@@ -61,6 +57,4 @@ pub record ReadsMembers (d : Data) (kind : Kind) (s p f : List ℕ) (n c : ℕ) 
 pub want_told : (i : ℕ) (d : Data) (kind : Kind) (s p f : List ℕ) (n c : ℕ) (r : Result Wanted Bad)
     → ReadsMembers d kind s p f n c → r ≡ want_made kind s p f n c → told_want i r ≡ want_of_json i d
 want_told i d kind s p f n c r m made =
-    ap (told_want i) made
-    ∙ six_equal (told_option i) m.kind_is m.supplier m.product m.first m.nights m.count
-    ∙ sym (want_shaped i d m.shape)
+    grind (arith, six_equal (told_option i) m.kind_is m.supplier m.product m.first m.nights m.count, want_shaped i d)

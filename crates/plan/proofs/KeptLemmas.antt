@@ -1,17 +1,17 @@
 -- Wants, steps and plans, and their drafts: the only faults of these are the limits that they break. For plans that are
 -- made of steps, and for lines.
-use Rattle.std.proofs.Common.{◌≡◌, ◌≢◌, ℕ, ◌+◌, ◌<◌, ◌≤◌, ◌^◌, ◌⊎◌, inl, inr, Bool, true, false, not, ◌&&◌, ◌==◌, List, [], ◌∷◌, ◌++◌, map, length, refl, sym, ap, ◌∙◌, arith, Some, Ok, Err, flat_map, filter_map, option_map, nat_le, Result}
+use Rattle.std.proofs.Common.{◌≡◌, ◌≢◌, ℕ, ◌+◌, ◌<◌, ◌≤◌, ◌^◌, ◌⊎◌, Bool, true, false, not, ◌&&◌, ◌==◌, List, [], ◌∷◌, ◌++◌, map, length, refl, sym, ap, ◌∙◌, arith, Some, Ok, Err, flat_map, filter_map, option_map, Result}
 use Rattle.std.specs.List.{AllByRecursion, list_all, enumerate_from}
 use Rattle.std.proofs.lemmas.Bool.{le-leb, leb-true, lt-leb}
 use Rattle.std.proofs.lemmas.List.{length-map}
 use Rattle.allotment.specs.Want.{Wanted}
-use Rattle.allotment.specs.Limits.{is_between, is_night, is_code, is_count, are_nights, most_nights, is_want}
+use Rattle.allotment.specs.Limits.{is_between, is_night, is_code, is_count, are_nights, is_want}
 use Rattle.allotment.specs.Making.{unless, first_fault}
 use Rattle.plan.specs.Limits.{most_options, most_steps, most_tries}
 use Rattle.plan.specs.declared.causes.PlanCause.TheVariants as cause
 use Rattle.plan.specs.declared.faults.BadPlan.{BadPlan}
 use Rattle.plan.specs.PlanModel.{Planned, StepPlan, is_last_unmarked, is_step, is_plan}
-use Rattle.plan.specs.Drafts.{at, option_faults, step_faults, want_of, step_of, plan_of, drafted, drafted_step, drafted_plan, judged, plan_made}
+use Rattle.plan.specs.Drafts.{at, option_faults, step_faults, want_of, step_of, drafted, drafted_step, drafted_plan, judged, plan_made}
 use Rattle.plan.specs.Levels.{step_limits, step_kept, steps_kept}
 use Rattle.allotment.proofs.TestLemmas.{and_both}
 use Rattle.plan.proofs.LimitLemmas.{limited}
@@ -34,48 +34,25 @@ pub record IsGood (w : Wanted) : Type 0 where
 
 -- such a want has all of that
 pub is_good : (w : Wanted) → is_want w ≡ true → IsGood w
-is_good w e =
-    let fourth = and_both _ (is_count w.count) e in
-    let third = and_both _ (are_nights w.kind w.first w.nights) fourth.0 in
-    let second = and_both (is_code w.supplier && is_code w.product) (is_night w.first) third.0 in
-    let within = and_both (is_between 1 (most_nights w.kind) w.nights) _ third.1 in
-    let high = and_both (nat_le 1 w.nights) (nat_le w.nights (most_nights w.kind)) within.0 in
-    let few = nights_few w.kind w.nights (leb-true _ _ high.1) in
-    let counts = and_both (nat_le 1 w.count) (nat_le w.count 50) fourth.1 in
-    let small : w.count ≤ 50 = leb-true _ _ counts.1 in
-    record {
-      codes = second.0;
-      night = second.1;
-      nights = third.1;
-      count = fourth.1;
-      nights_small = omega arith;
-      count_small = omega arith;
-    }
+is_good w e = grind (arith, and_both, nights_few, leb-true)
 
 -- a test that passes finds nothing wrong
 unless_yes : {F : Type 0} (b : Bool) (f : F) → b ≡ true → unless b f ≡ []
-unless_yes true f e = refl
-unless_yes false f e = cc
+unless_yes b f e = cc
 
 -- nothing and nothing is nothing
 none_append : {X : Type 0} (xs ys : List X) → xs ≡ [] → ys ≡ [] → xs ++ ys ≡ []
-none_append [] ys e f = f
-none_append (x ∷ xs) ys e f = cc
+none_append xs ys e f = cc
 
 -- nothing is wrong with the option of a want
 option_clean : (i : ℕ) (w : Wanted) → IsGood w → option_faults i (Some (drafted w)) ≡ []
-option_clean i w g =
-    none_append _ _
-    (none_append _ _ (none_append _ _ (none_append _ _ refl (unless_yes _ _ g.codes)) refl) (unless_yes _ _ g.nights))
-    (unless_yes _ _ g.count)
+option_clean i w g = grind (arith, none_append, unless_yes)
 
 -- nothing is wrong with the options of wants
 options_clean : (i : ℕ) (ws : List Wanted) → list_all is_want ws ≡ true
     → flat_map (option_faults i) (map (λ w. Some (drafted w)) ws) ≡ []
 options_clean i [] e = refl
-options_clean i (w ∷ ws) e =
-    let both = and_both (is_want w) (list_all is_want ws) e in
-    none_append _ _ (option_clean i w (is_good w both.0)) (options_clean i ws both.1)
+options_clean i (w ∷ ws) e = grind (arith, and_both, none_append, option_clean, is_good, options_clean i ws)
 
 -- what drafts of values mean are the values
 drafted_back : {X Y : Type 0} (draft : X → Y) (mean : Y → X) → ((x : X) → mean (draft x) ≡ x) → (xs : List X)
@@ -95,29 +72,19 @@ steps_back = drafted_back drafted_step step_of (λ s.
 -- nothing is wrong with a step that keeps both limits, and whose wants keep theirs
 step_clean : (n i : ℕ) (s : StepPlan) → not (s.is_marked && i == n) ≡ true → is_between 1 most_options (length s.options) ≡ true
     → list_all is_want s.options ≡ true → step_faults n (i, Some (drafted_step s)) ≡ []
-step_clean n i s mark count good =
-    none_append _ _
-    (none_append _ _ (unless_yes _ _ mark)
-    (unless_yes _ _ (ap (is_between 1 most_options) (length-map s.options (λ w. Some (drafted w))) ∙ count)))
-    (options_clean i s.options good)
+step_clean n i s mark count good = search (arith, none_append, unless_yes, length-map, options_clean)
 
 -- a limit that a step breaks is reported
 pub kept_refused : (n i : ℕ) (s : StepPlan) (f : BadPlan) → Err f ≡ step_limits n i s.is_marked (length s.options)
     → step_kept n i s ≡ Err f
 unfolding step_kept
-kept_refused n i s f limits =
-    let draft = drafted_step s in
-    limits_fail (not (s.is_marked && i == n)) (is_between 1 most_options (length draft.options)) i s
-    (flat_map (option_faults i) draft.options) f
-    (limits ∙ ap (step_limits n i s.is_marked) (sym (length-map s.options (λ w. Some (drafted w)))))
+kept_refused n i s f limits = grind (arith, limits_fail, length-map)
 
 -- where a step keeps both limits, it is read unchanged
 pub kept_within : (n i : ℕ) (s : StepPlan) → list_all is_want s.options ≡ true
     → Ok tt ≡ step_limits n i s.is_marked (length s.options) → step_kept n i s ≡ Ok s
 unfolding step_kept
-kept_within n i s good limits =
-    let pass = limits_pass (not (s.is_marked && i == n)) (is_between 1 most_options (length s.options)) i limits in
-    ap (first_fault s) (step_clean n i s pass.0 pass.1 good)
+kept_within n i s good limits = grind (arith, limits_pass, step_clean)
 
 -- The steps.
 
@@ -139,19 +106,16 @@ kept_whole n steps = none_behind _ ∙ kept_each n 1 steps
 
 -- a test that does not hold is false
 not_so : (b : Bool) → not b ≡ true → b ≡ false
-not_so true e = cc
-not_so false e = refl
+not_so b e = grind arith
 
 -- no mark stands on the last of so many
 mark_in_place : (n i : ℕ) (s : StepPlan) (steps : List StepPlan) → i + length (s ∷ steps) ≡ n + 1
     → is_last_unmarked (s ∷ steps) ≡ true → (s.is_marked ≡ false) ⊎ (i ≢ n)
-mark_in_place n i s [] l u = inl (not_so s.is_marked u)
-mark_in_place n i s (t ∷ steps) l u = inr (λ same. absurd (omega arith))
+mark_in_place n i s steps l u = grind (arith, not_so)
 
 -- no mark stands on the last of the later ones
 rest_unmarked : (s : StepPlan) (steps : List StepPlan) → is_last_unmarked (s ∷ steps) ≡ true → is_last_unmarked steps ≡ true
-rest_unmarked s [] u = refl
-rest_unmarked s (t ∷ steps) u = u
+rest_unmarked s steps u = grind arith
 
 -- nothing is wrong with steps that keep the limits
 steps_clean : (n i : ℕ) (steps : List StepPlan) → i + length steps ≡ n + 1 → is_last_unmarked steps ≡ true
@@ -167,17 +131,7 @@ steps_clean n i (s ∷ steps) l u e =
 
 -- what a draft of a plan that keeps the limits means, or the fault in it, is the plan
 pub drafted_again : (p : Planned) → is_plan p ≡ true → judged (Some (drafted_plan p)) ≡ Ok p
-drafted_again p e =
-    let all = limited p e in
-    let count : length (map (λ s. Some (drafted_step s)) p.steps) ≡ length p.steps = length-map p.steps (λ s. Some (drafted_step s)) in
-    let clean = none_append _ _
-    (none_append _ _ (unless_yes _ (at 0 cause.Tries) (le-leb p.tries most_tries all.few_tries))
-    (unless_yes _ (at 0 cause.Steps)
-    (ap (is_between 1 most_steps) count ∙ between_yes (length p.steps) most_steps all.some_steps all.few_steps)))
-    (ap (λ n. flat_map (step_faults n) (enumerate_from 1 (map (λ s. Some (drafted_step s)) p.steps))) count
-    ∙ steps_clean (length p.steps) 1 p.steps (omega arith) all.last_unmarked all.each_step) in
-    ap (first_fault (plan_of (Some (drafted_plan p)))) clean
-    ∙ ap (λ z. Ok (record { steps = z; tries = p.tries })) (steps_back p.steps)
+drafted_again p e = grind (arith, limited, length-map, none_append, unless_yes, le-leb, between_yes, steps_clean, steps_back)
 
 -- too many tries
 pub made_tries : (p : Planned) → most_tries < p.tries → plan_made p ≡ Err (at 0 cause.Tries)
@@ -188,30 +142,24 @@ made_tries p many = draft_no_tries (drafted_plan p) (lt-leb p.tries most_tries m
 pub made_miscounted : (p : Planned) (n : ℕ) → n ≡ length p.steps → p.tries ≤ most_tries → (n ≡ 0) ⊎ (most_steps < n)
     → plan_made p ≡ Err (at 0 cause.Steps)
 unfolding plan_made
-made_miscounted p n same few out =
-    draft_miscounted (drafted_plan p) n (length-map p.steps (λ s. Some (drafted_step s)) ∙ sym same) (le-leb p.tries most_tries few) out
+made_miscounted p n same few out = grind (arith, draft_miscounted, length-map, le-leb)
 
 -- where tries and number are in order, the first fault of a plan is that of its steps
 pub made_by_steps : (p : Planned) (n : ℕ) (r : Result (List StepPlan) BadPlan) → n ≡ length p.steps → p.tries ≤ most_tries
     → 1 ≤ n → n ≤ most_steps → steps_kept n p.steps ≡ r → plan_made p ≡ with_tries p.tries r
 unfolding plan_made steps_kept
-made_by_steps p n r same few low high kept =
-    draft_by_steps (drafted_plan p) n r (length-map p.steps (λ s. Some (drafted_step s)) ∙ sym same) (le-leb p.tries most_tries few) low high
-    (ap (λ z. first_fault z (flat_map (step_faults n) (enumerate_from 1 (map (λ s. Some (drafted_step s)) p.steps)))) (steps_back p.steps) ∙ kept)
+made_by_steps p n r same few low high kept = grind (arith, draft_by_steps, length-map, le-leb, steps_back)
 
 -- the first nights of wants that keep the limits are nights
 wants_nights : (ws : List Wanted) → list_all is_want ws ≡ true → AllByRecursion HasNight (map (λ w. Some (drafted w)) ws)
 wants_nights [] e = tt
-wants_nights (w ∷ ws) e =
-    let both = and_both (is_want w) (list_all is_want ws) e in ((λ there. (is_good w both.0).night), wants_nights ws both.1)
+wants_nights (w ∷ ws) e = grind (arith, and_both, is_good, wants_nights ws)
 
 -- so are those of steps
 steps_nights : (steps : List StepPlan) → list_all is_step steps ≡ true
     → AllByRecursion HasNights (map (λ s. Some (drafted_step s)) steps)
 steps_nights [] e = tt
-steps_nights (s ∷ steps) e =
-    let both = and_both (is_step s) (list_all is_step steps) e in
-    (wants_nights s.options (and_both _ (list_all is_want s.options) both.0).1, steps_nights steps both.1)
+steps_nights (s ∷ steps) e = grind (arith, and_both, wants_nights, steps_nights steps)
 
 -- a plan that is made of steps that keep the limits keeps them
 pub made_keeps : (p : Planned) → list_all is_step p.steps ≡ true → plan_made p ≡ Ok p → is_plan p ≡ true

@@ -13,9 +13,7 @@ pub mod FaultLemmas
 pub mod KeptLemmas
 pub mod PrintLemmas
 pub mod StepLemmas
-pub mod LackLemmas
 pub mod SpellLemmas
 pub mod MemberLemmas
 pub mod JsonOptionLemmas
 pub mod JsonKeptLemmas
-pub mod JsonAgainLemmas

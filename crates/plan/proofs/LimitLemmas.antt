@@ -54,8 +54,7 @@ few_steps plan good = (limited plan good).few_steps
 few_of : (steps : List StepPlan) → list_all is_step steps ≡ true → (i : ℕ)
     → unwrap_or (option_map (λ (s : StepPlan). length s.options) (slice_get steps i)) 0 ≤ most_options
 few_of [] all i = omega arith
-few_of (s ∷ steps) all zero =
-    (step_limited s (and_both (is_step s) (list_all is_step steps) all).0).few_options
+few_of (s ∷ steps) all zero = grind (arith, step_limited, and_both)
 few_of (s ∷ steps) all (suc i) = few_of steps (and_both (is_step s) (list_all is_step steps) all).1 i
 
 -- a step of such a plan has at most so many options

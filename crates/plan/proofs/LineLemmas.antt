@@ -1,6 +1,6 @@
 -- What is read of a plan, by its tries, the number of its steps and what they are. For the readers of lines and JSON, and
 -- for the call that makes a plan of steps.
-use Rattle.std.proofs.Common.{◌≡◌, ℕ, ◌<◌, ◌≤◌, ◌⊎◌, inl, inr, Bool, true, false, ◌&&◌, List, [], ◌∷◌, ◌++◌, length, refl, sym, ap, ◌∙◌, arith, Option, Some, None, Ok, Err, flat_map, is_some, nat_le, option_map, Result}
+use Rattle.std.proofs.Common.{◌≡◌, ℕ, ◌<◌, ◌≤◌, ◌⊎◌, inr, Bool, true, false, ◌&&◌, List, ◌++◌, length, refl, sym, ap, ◌∙◌, arith, Option, Some, None, Ok, Err, flat_map, is_some, nat_le, option_map, Result}
 use Rattle.std.specs.List.{enumerate_from}
 use Rattle.std.proofs.lemmas.Bool.{le-leb, lt-leb}
 use Rattle.std.proofs.lemmas.List.{length-map}
@@ -15,9 +15,9 @@ use Rattle.plan.specs.declared.causes.PlanCause.TheVariants as cause
 use Rattle.plan.specs.declared.faults.BadPlan.{BadPlan}
 use Rattle.plan.specs.PlanModel.{Planned, StepPlan}
 use Rattle.plan.specs.Drafts.{Draft, at, number_or_none, step_faults, plan_of, judged}
-use Rattle.plan.specs.PlanLine.{front_of, end_of, tries_in, step_draft, line_draft, plan_in}
+use Rattle.plan.specs.PlanLine.{front_of, end_of, tries_in, line_draft, plan_in}
 use Rattle.plan.specs.PlanJson.{json_step, json_steps, json_tries, draft_with, plan_in_json}
-use Rattle.plan.specs.Levels.{step_drafts, steps_in}
+use Rattle.plan.specs.Levels.{steps_in}
 use Rattle.plan.specs.JsonLevels.{steps_of_json, views}
 use Rattle.allotment.proofs.CutLemmas.{some_part}
 use Rattle.allotment.proofs.TestLemmas.{and_make}
@@ -29,8 +29,7 @@ use Rattle.plan.proofs.ReadLemmas.{tries_read}
 
 -- 0, or a number over the most, is not from 1 to the most
 pub between_no : (n most : ℕ) → (n ≡ 0) ⊎ (most < n) → is_between 1 most n ≡ false
-between_no n most (inl none) = ap (is_between 1 most) none
-between_no n most (inr many) = and_false (nat_le 1 n) (nat_le n most) (lt-leb n most many)
+between_no n most x = grind (arith, and_false, lt-leb)
 
 -- a number from 1 to the most is between them
 pub between_yes : (n most : ℕ) → 1 ≤ n → n ≤ most → is_between 1 most n ≡ true
@@ -50,18 +49,14 @@ with_tries tries (Err f) = Err f
 -- the first fault of a plan of these steps is theirs
 tried_so : (tries : ℕ) (steps : List StepPlan) (fs : List BadPlan)
     → let p : Planned = record { steps = steps; tries = tries } in first_fault p fs ≡ with_tries tries (first_fault steps fs)
-tried_so tries steps [] = refl
-tried_so tries steps (f ∷ fs) = refl
+tried_so tries steps fs = grind arith
 
 -- the first fault of a draft, by the tests of its tries and of the number of its steps
 draft_told : (d : Draft) (a b : Bool) → are_tries d.tries ≡ a → is_between 1 most_steps (length d.steps) ≡ b
     → judged (Some d)
     ≡ first_fault (plan_of (Some d))
     (unless a (at 0 cause.Tries) ++ unless b (at 0 cause.Steps) ++ flat_map (step_faults (length d.steps)) (enumerate_from 1 d.steps))
-draft_told d a b e h =
-    let told : Bool → Bool → Result Planned BadPlan = λ y z. first_fault (plan_of (Some d))
-    (unless y (at 0 cause.Tries) ++ unless z (at 0 cause.Steps) ++ flat_map (step_faults (length d.steps)) (enumerate_from 1 d.steps)) in
-    ap (λ y. told y (is_between 1 most_steps (length d.steps))) e ∙ ap (told a) h
+draft_told d a b e h = cc
 
 -- its tries are none
 pub draft_no_tries : (d : Draft) → are_tries d.tries ≡ false → judged (Some d) ≡ Err (at 0 cause.Tries)
@@ -70,17 +65,12 @@ draft_no_tries d e = draft_told d false _ e refl
 -- it has no step, or too many
 pub draft_miscounted : (d : Draft) (n : ℕ) → length d.steps ≡ n → are_tries d.tries ≡ true → (n ≡ 0) ⊎ (most_steps < n)
     → judged (Some d) ≡ Err (at 0 cause.Steps)
-draft_miscounted d n many e out =
-    draft_told d true false e (ap (is_between 1 most_steps) many ∙ between_no n most_steps out)
+draft_miscounted d n many e out = grind (arith, draft_told, between_no)
 
 -- where tries and number are in order, the first fault of a draft is that of its steps
 pub draft_by_steps : (d : Draft) (n : ℕ) (r : Result (List StepPlan) BadPlan) → length d.steps ≡ n → are_tries d.tries ≡ true
     → 1 ≤ n → n ≤ most_steps → steps_judged n 1 d.steps ≡ r → judged (Some d) ≡ with_tries (number_or_none d.tries) r
-draft_by_steps d n r many e low high read =
-    draft_told d true true e (ap (is_between 1 most_steps) many ∙ between_yes n most_steps low high)
-    ∙ tried_so (number_or_none d.tries) (plan_of (Some d)).steps (flat_map (step_faults (length d.steps)) (enumerate_from 1 d.steps))
-    ∙ ap (λ z. with_tries (number_or_none d.tries) (steps_judged z 1 d.steps)) many
-    ∙ ap (with_tries (number_or_none d.tries)) read
+draft_by_steps d n r many e low high read = grind (arith, draft_told, between_yes, tried_so, steps_judged)
 
 -- A line.
 
@@ -94,15 +84,11 @@ module _ (text front : List ℕ) (tries n : ℕ) (cut : front ≡ front_of text)
     (many : n ≡ length (parts semicolon front)) where
   -- its draft has so many steps
   line_count : length (line_draft text).steps ≡ n
-  line_count =
-      length-map (parts semicolon (front_of text)) (λ t. Some (step_draft t))
-      ∙ ap (λ z. length (parts semicolon z)) (sym cut) ∙ sym many
+  line_count = grind (arith, length-map)
 
   -- tries that are read are at most 9
   line_tries : are_tries (tries_in (end_of text)) ≡ true
-  line_tries =
-      let is = tries_read (end_of text) (ap is_some read) in
-      ap are_tries read ∙ le-leb tries most_tries (omega (arith, is.few, ap number_or_none read))
+  line_tries = grind (arith, tries_read (end_of text) (ap is_some read))
 
   -- more steps than a plan may have
   pub line_too_long : most_steps < n → plan_in text ≡ Err (at 0 cause.Steps)
@@ -112,11 +98,7 @@ module _ (text front : List ℕ) (tries n : ℕ) (cut : front ≡ front_of text)
   -- where they are not too many, the first fault of a line is that of its steps
   pub line_by_steps : (r : Result (List StepPlan) BadPlan) → n ≤ most_steps → steps_in n front ≡ r → plan_in text ≡ with_tries tries r
   unfolding plan_in steps_in
-  line_by_steps r short steps =
-      let some : 1 ≤ n = omega (arith, many, some_part semicolon front) in
-      draft_by_steps (line_draft text) n r line_count line_tries some short
-      (ap (λ z. steps_judged n 1 (step_drafts z)) (sym cut) ∙ steps)
-      ∙ ap (λ z. with_tries (number_or_none z) r) read
+  line_by_steps r short steps = grind (arith, some_part, draft_by_steps, line_count, line_tries, steps_judged)
 
 -- A JSON value.
 
@@ -129,8 +111,7 @@ json_unshaped d e = ap (λ o. judged (option_map (draft_with (json_tries d)) o))
 json_shaped : (d : Data) (vs : List Value) (tries : Option ℕ) → Some (views vs) ≡ json_steps d → tries ≡ json_tries d
     → plan_in_json d ≡ judged (Some (draft_with tries (views vs)))
 unfolding plan_in_json
-json_shaped d vs tries e same =
-    ap (λ o. judged (option_map (draft_with (json_tries d)) o)) (sym e) ∙ ap (λ t. judged (Some (draft_with t (views vs)))) (sym same)
+json_shaped d vs tries e same = cc
 
 -- its tries are none
 pub json_no_tries : (d : Data) (vs : List Value) → Some (views vs) ≡ json_steps d → None ≡ json_tries d

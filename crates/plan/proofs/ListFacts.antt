@@ -1,6 +1,5 @@
 -- Facts on lists of faults and on searches. For reading a line and for its spelling.
-use Rattle.std.proofs.Common.{◌≡◌, Bool, true, false, not, ◌&&◌, List, [], ◌∷◌, ◌++◌, cond, refl, sym, ap, ◌∙◌, Option, Some, None, Ok, flat_map, find, is_some}
-use Rattle.std.specs.Prelude.{unwrap_or}
+use Rattle.std.proofs.Common.{◌≡◌, Bool, true, List, [], ◌∷◌, ◌++◌, cond, refl, Option, Some, Ok, flat_map, find, is_some, arith, unwrap_or}
 use Rattle.std.specs.List.{AllByRecursion}
 use Rattle.allotment.specs.Making.{unless, first_fault}
 
@@ -9,15 +8,9 @@ pub append_none : {X : Type 0} (xs ys : List X) → xs ++ ys ≡ [] → (xs ≡ 
 append_none [] ys e = (refl, e)
 append_none (x ∷ xs) ys e = cc
 
--- where the second holds and not both, the first does not hold
-pub not_left : (a b : Bool) → b ≡ true → not (a && b) ≡ true → not a ≡ true
-not_left true b p e = cc
-not_left false b p e = refl
-
 -- where nothing is wrong, the test holds
 pub unless_none : {F : Type 0} (b : Bool) (f : F) → unless b f ≡ [] → b ≡ true
-unless_none true f e = refl
-unless_none false f e = cc
+unless_none b f e = grind arith
 
 -- where nothing is wrong with all, nothing is wrong with each
 pub flat_map_none : {X Y : Type 0} (f : X → List Y) (xs : List X) → flat_map f xs ≡ [] → AllByRecursion (λ x. f x ≡ []) xs
@@ -26,13 +19,11 @@ flat_map_none f (x ∷ xs) e = let both = append_none (f x) (flat_map f xs) e in
 
 -- an `Ok` result has no fault
 pub first_fault_ok : {X F : Type 0} (x y : X) (fs : List F) → first_fault x fs ≡ Ok y → (fs ≡ []) × (x ≡ y)
-first_fault_ok x y [] e = (refl, cc)
-first_fault_ok x y (f ∷ fs) e = cc
+first_fault_ok x y fs e = grind arith
 
 -- the first element passes, or a later one does
 find_if : {X : Type 0} (test : X → Bool) (y x : X) (xs : List X) (b : Bool) → test y ≡ b → (find test xs ≡ Some x → test x ≡ true) → cond b (Some y) (find test xs) ≡ Some x → test x ≡ true
-find_if test y x xs true t h e = let same : y ≡ x = cc in ap test (sym same) ∙ t
-find_if test y x xs false t h e = h e
+find_if test y x xs b t h e = grind arith
 
 -- what a search finds passes
 pub find_passes : {X : Type 0} (test : X → Bool) (xs : List X) (x : X) → find test xs ≡ Some x → test x ≡ true
@@ -41,5 +32,4 @@ find_passes test (y ∷ ys) x e = find_if test y x ys (test y) refl (find_passes
 
 -- an option that is there
 pub some_is : {X : Type 0} (o : Option X) (d : X) → is_some o ≡ true → o ≡ Some (unwrap_or o d)
-some_is (Some x) d e = refl
-some_is None d e = cc
+some_is o d e = grind arith

@@ -1,8 +1,6 @@
 -- What a JSON value has, by what is found in it. For what is taken out of values.
-use Rattle.std.proofs.Common.{◌≡◌, ℕ, suc, ◌&&◌, ◌==◌, Bool, false, List, [], ◌∷◌, map, length, refl, sym, ap, ◌∙◌, Option, Some, None, String, option_map, option_and_then, is_some}
-use Rattle.std.specs.Prelude.{unwrap_or}
+use Rattle.std.proofs.Common.{◌≡◌, ℕ, suc, ◌&&◌, ◌==◌, Bool, List, [], ◌∷◌, map, length, refl, ap, Option, Some, String, option_map, is_some, arith, Bor}
 use Rattle.std.specs.List.{list_all}
-use denote.Ref.{Bor}
 use Rattle.std.specs.declared.alloc.Global.{Global}
 use Rattle.std.proofs.lemmas.List.{length-map}
 use Rattle.std.proofs.lemmas.List.Folds.{list_all-map}
@@ -25,15 +23,12 @@ values_of-items_of (d ∷ ds) = ap (λ z. d ∷ z) (values_of-items_of ds)
 
 -- what shows is there
 pub is_some-option_map : {X Y : Type 0} (f : X → Y) (o : Option X) → is_some (option_map f o) ≡ is_some o
-is_some-option_map f (Some x) = refl
-is_some-option_map f None = refl
+is_some-option_map f o = grind arith
 
 -- an object of so many members
 pub members_counted : (es : List (String Global × Value)) (d : Data) (n m : ℕ) → Some (members_view es) ≡ as_object d
     → m ≡ length es → (m == n) ≡ has_members n d
-members_counted es d n m e many =
-    ap (λ z. z == n) (many ∙ sym (member_count-members_view es))
-    ∙ ap (λ o. unwrap_or (option_map (λ members. member_count members == n) o) false) e
+members_counted es d n m e many = grind (arith, member_count-members_view)
 
 -- the texts of some names
 abbrev pub spelled_out : List (Bor (List ℕ)) → List (List ℕ)
@@ -42,16 +37,9 @@ spelled_out names = map (λ name. name.now) names
 -- an object with so many members has just these where it has each
 pub just_each : (names : List (Bor (List ℕ))) (d : Data) (m b : Bool) → m ≡ has_members (length names) d
     → b ≡ list_all (λ name. is_some (get name.now d)) names → (m && b) ≡ has_just (spelled_out names) d
-just_each names d m b e h =
-    ap (λ z. z && b) (e ∙ ap (λ n. has_members n d) (sym (length-map names (λ name. name.now))))
-    ∙ ap (λ z. has_members (length (spelled_out names)) d && z)
-    (h ∙ sym (list_all-map (λ name. is_some (get name d)) (λ (name : Bor (List ℕ)). name.now) names))
+just_each names d m b e h = grind (arith, length-map, list_all-map)
 
 -- a list that is found
 pub list_found : (name : List ℕ) (d e : Data) (vs xs : List Value) → xs ≡ vs → Some (items_view vs) ≡ as_array e
     → Some e ≡ get name d → Some (views xs) ≡ in_member name list_of d
-list_found name d e vs xs same list found =
-    ap (λ z. Some (views z)) same
-    ∙ ap Some (sym (values_of-items_of (views vs)))
-    ∙ ap (option_map values_of) list
-    ∙ ap (option_and_then list_of) found
+list_found name d e vs xs same list found = grind (arith, values_of-items_of)

@@ -1,13 +1,11 @@
 -- What is read of an option, in the words of a want that is made of its parts. For the reader of options.
-use Rattle.std.proofs.Common.{◌≡◌, ℕ, ◌≤◌, Bool, true, false, ◌&&◌, List, [], ◌∷◌, ◌++◌, refl, sym, ap, ◌∙◌, arith, Option, Some, None, Ok, Err, is_some, nat_le, option_and_then, if◌then◌else◌, Result}
-use Rattle.std.proofs.lemmas.Bool.{le-leb, leb-true}
+use Rattle.std.proofs.Common.{◌≡◌, ℕ, ◌≤◌, Bool, true, false, ◌&&◌, List, [], ◌∷◌, ◌++◌, refl, ap, ◌∙◌, arith, Option, Some, None, Ok, Err, is_some, option_and_then, Result, le-leb, leb-true}
 use Rattle.allotment.specs.Want.{Wanted}
 use Rattle.allotment.specs.Limits.{is_between, is_code, is_count, are_nights, most_nights}
 use Rattle.allotment.specs.Making.{unless, first_fault, want_made}
 use Rattle.allotment.specs.Nights.{night_in}
 use Rattle.allotment.specs.Texts.{parts, slash, keep_if, number_in, kind_of_letter}
 use Rattle.allotment.specs.declared.codes.Kind.{Kind}
-use Rattle.allotment.specs.declared.codes.Kind.TheVariants.{Flight}
 use Rattle.allotment.specs.declared.wants.Bad.{Bad}
 use Rattle.allotment.specs.declared.wants.Bad.TheVariants as bad
 use Rattle.plan.specs.declared.causes.PlanCause.TheVariants as cause
@@ -24,23 +22,15 @@ small o = number_or_none (option_and_then (keep_if (is_between 1 255)) o)
 
 -- no kind may have more than 60 nights
 pub nights_few : (k : Kind) (n : ℕ) → n ≤ most_nights k → n ≤ 60
-nights_few Flight n l = omega arith
-nights_few _ n l = omega arith
+nights_few k n l = grind arith
 
 -- nights that a kind may have are from 1 to 255
 nights_between : (k : Kind) (f n : ℕ) → are_nights k f n ≡ true → is_between 1 255 n ≡ true
-nights_between k f n e =
-    let within = and_both (is_between 1 (most_nights k) n) _ e in
-    let both = and_both (nat_le 1 n) (nat_le n (most_nights k)) within.0 in
-    let few = nights_few k n (leb-true n (most_nights k) both.1) in
-    and_make _ _ both.0 (le-leb n 255 (omega arith))
+nights_between k f n e = grind (arith, and_both, nights_few, leb-true, and_make, le-leb)
 
 -- a count that a want may have is from 1 to 255
 count_between : (n : ℕ) → is_count n ≡ true → is_between 1 255 n ≡ true
-count_between n e =
-    let both = and_both (nat_le 1 n) (nat_le n 50) e in
-    let most : n ≤ 50 = leb-true n 50 both.1 in
-    and_make _ _ both.0 (le-leb n 255 (omega arith))
+count_between n e = grind (arith, and_both, leb-true, and_make, le-leb)
 
 -- a test says of an option's number, if there is one, what it says of this one; where it passes, this is the number
 pub record Tells (test : ℕ → Bool) (o : Option ℕ) (n : ℕ) : Type 0 where
@@ -49,21 +39,12 @@ pub record Tells (test : ℕ → Bool) (o : Option ℕ) (n : ℕ) : Type 0 where
 
 -- so it is with a test that 0 does not pass, and the number or 0
 pub tells_there : (test : ℕ → Bool) (o : Option ℕ) → test 0 ≡ false → Tells test o (number_or_none o)
-tells_there test None zero = record { same = sym zero; value = λ e. refl }
-tells_there test (Some n) zero = record { same = refl; value = λ e. refl }
+tells_there test o x = grind arith
 
 -- and with a test that no number over 255 passes either, and the number from 1 to 255 or 0
 tells_small : (test : ℕ → Bool) (o : Option ℕ) → ((n : ℕ) → test n ≡ true → is_between 1 255 n ≡ true) → test 0 ≡ false
     → Tells test o (small o)
-tells_small test None in_range zero = tells_there test None zero
-tells_small test (Some n) in_range zero = by (is_between 1 255 n) refl
-  where
-    by : (b : Bool) → is_between 1 255 n ≡ b → Tells test (Some n) (number_or_none (if b then Some n else None))
-    by true e = record { same = refl; value = λ t. refl }
-    by false e = record {
-      same = fails_too (test n) (is_between 1 255 n) (in_range n) e ∙ sym zero;
-      value = λ t. let bad : true ≡ false = sym t ∙ zero in cc;
-    }
+tells_small test o in_range x = grind (arith, tells_there, fails_too)
 
 -- the result of an option whose want is made of its parts so
 abbrev pub told_want : ℕ → Result Wanted Bad → Result Wanted BadPlan
@@ -77,8 +58,7 @@ pub first_told : (i : ℕ) (codes night nights count : Bool) (v w : Wanted) → 
     ++ unless nights (at i cause.Nights) ++ unless count (at i cause.Count))
     ≡ told_want i (first_fault w
     (unless codes bad.Code ++ unless night bad.Night ++ unless nights bad.Nights ++ unless count bad.Count))
-first_told i true true true true v w same = ap Ok (same refl refl)
-first_told i _ _ _ _ v w same = refl
+first_told i codes night nights count v w same = grind arith
 
 -- an option of these six parts
 abbrev pub six_said : Option Kind → List ℕ → List ℕ → List ℕ → Option ℕ → Option ℕ → OptionDraft

@@ -1,12 +1,10 @@
 -- What is read as a plan is spelled as its line. For the law that a plan has one spelling.
-use Rattle.std.proofs.Common.{◌≡◌, ℕ, zero, suc, ◌+◌, ◌-◌, ◌<◌, ◌≤◌, Bool, true, false, ◌&&◌, List, [], ◌∷◌, ◌++◌, map, length, take, drop, refl, sym, ap, subst, ◌∙◌, arith, Option, Some, None, Ok, find, is_some, bytes_eq, decimal, if◌then◌else◌}
+use Rattle.std.proofs.Common.{◌≡◌, ℕ, zero, suc, ◌+◌, ◌-◌, ◌<◌, ◌≤◌, Bool, true, ◌&&◌, List, [], ◌∷◌, ◌++◌, map, length, take, drop, refl, sym, ap, subst, ◌∙◌, arith, Option, Some, None, Ok, find, is_some, bytes_eq, decimal, if◌then◌else◌, append-nil, take-append-drop}
 use Rattle.std.specs.List.{AllByRecursion, enumerate_from}
-use Rattle.std.specs.Str.Parse.{digits_value}
 use Rattle.std.proofs.lemmas.List.Splits.{join_with_byte-slice_split}
-use Rattle.std.proofs.lemmas.List.{append-nil, take-append-drop}
 use Rattle.allotment.specs.Cells.{numbers_from}
 use Rattle.allotment.specs.Limits.{is_night}
-use Rattle.allotment.specs.Texts.{parts, joined, number_in, slash, bar, semicolon, star, kind_letter, kinds, kind_of_letter, want_text}
+use Rattle.allotment.specs.Texts.{parts, joined, number_in, slash, bar, semicolon, kind_letter, kinds, kind_of_letter, want_text}
 use Rattle.allotment.specs.Nights.{night_text, night_in, named_night}
 use Rattle.allotment.specs.declared.codes.Kind.TheVariants.{Flight}
 use Rattle.plan.specs.Limits.{most_tries}
@@ -32,20 +30,14 @@ night_read t e =
 
 -- a number that is read has that text
 number_read : (t : List ℕ) → is_some (number_in t) ≡ true → decimal (number_or_none (number_in t)) ≡ t
-number_read t e =
-    let kept = keep_if_some (λ n. bytes_eq (decimal n) t) (digits_value 10 t) (number_or_none (number_in t)) (some_is (number_in t) 0 e) in
-    same_bytes _ t kept.1
+number_read t e = grind (arith, keep_if_some, some_is, same_bytes)
 
 -- An option.
 
 -- texts of equal parts are equal
 six_same : (s p : List ℕ) {a b c d x y z w : List ℕ} → a ≡ x → b ≡ y → c ≡ z → d ≡ w
     → joined slash (a ∷ s ∷ p ∷ b ∷ c ∷ d ∷ []) ≡ joined slash (x ∷ s ∷ p ∷ y ∷ z ∷ w ∷ [])
-six_same s p {a} {b} {c} {d} {x} {y} {z} {w} e f g h =
-    ap (λ v. joined slash (v ∷ s ∷ p ∷ b ∷ c ∷ d ∷ [])) e
-    ∙ ap (λ v. joined slash (x ∷ s ∷ p ∷ v ∷ c ∷ d ∷ [])) f
-    ∙ ap (λ v. joined slash (x ∷ s ∷ p ∷ y ∷ v ∷ d ∷ [])) g
-    ∙ ap (λ v. joined slash (x ∷ s ∷ p ∷ y ∷ z ∷ v ∷ [])) h
+six_same s p {a} {b} {c} {d} {x} {y} {z} {w} e f g h = cc
 
 -- an option has the shape of one, and its want has this text
 abbrev Spells : Option OptionDraft → List ℕ → Type 0
@@ -58,10 +50,8 @@ option_reads i (k ∷ s ∷ p ∷ f ∷ n ∷ c ∷ []) e =
     let last = append_none _ _ e in
     let fourth = append_none _ _ last.0 in
     let third = append_none _ _ fourth.0 in
-    let nights = and_both _ _ (unless_none _ _ fourth.1) in
-    let count = and_both _ _ (unless_none _ _ last.1) in
     six_same s p (kind_read k (unless_none _ _ (append_none _ _ third.0).0)) (night_read f (unless_none _ _ third.1)).1
-    (number_read n nights.0) (number_read c count.0)
+    (number_read n (and_both _ _ (unless_none _ _ fourth.1)).0) (number_read c (and_both _ _ (unless_none _ _ last.1)).0)
 option_reads i _ e = cc
 
 -- the first night of an option is read as a night
@@ -74,8 +64,7 @@ option_night _ = tt
 -- one option, and the later ones
 options_cons : (o : Option OptionDraft) (os : List (Option OptionDraft)) (t : List ℕ) (ts : List (List ℕ)) → Spells o t
     → map want_text (wants_of os) ≡ ts → map want_text (wants_of (o ∷ os)) ≡ t ∷ ts
-options_cons None os t ts here later = absurd here
-options_cons (Some o) os t ts here later = ap (λ z. z ∷ map want_text (wants_of os)) here ∙ ap (λ z. t ∷ z) later
+options_cons o os t ts here later = grind (arith, wants_of)
 
 -- options without a fault are spelled by their texts
 options_read : (i : ℕ) (ts : List (List ℕ)) → AllByRecursion (λ o. option_faults i o ≡ []) (map option_draft ts)
@@ -89,10 +78,7 @@ options_read i (t ∷ ts) e =
 
 -- a text is what it is without its mark, and its mark
 marked_text : (t : List ℕ) (b : Bool) → has_mark t ≡ b → (if b then take (length t - 1) t else t) ++ mark_text b ≡ t
-marked_text t true e =
-    let end : drop (length t - 1) t ≡ star ∷ [] = sym (same_bytes (star ∷ []) (drop (length t - 1) t) e) in
-    ap (λ z. take (length t - 1) t ++ z) (sym end) ∙ take-append-drop (length t - 1) t
-marked_text t false e = append-nil t
+marked_text t b e = grind (arith, same_bytes, take-append-drop, append-nil)
 
 -- a step without a fault is spelled by its options, joined again, and its mark
 step_reads : (n i : ℕ) (t : List ℕ) → step_faults n (i, Some (step_draft t)) ≡ [] → step_text (step_of (step_draft t)) ≡ t
@@ -113,14 +99,11 @@ drafts_of ts = map (λ t. Some (step_draft t)) ts
 steps_read : (n i : ℕ) (ts : List (List ℕ)) → AllByRecursion (λ x. step_faults n x ≡ []) (enumerate_from i (drafts_of ts))
     → map step_text (steps_of (drafts_of ts)) ≡ ts
 steps_read n i [] e = refl
-steps_read n i (t ∷ ts) e =
-    ap (λ z. z ∷ map step_text (steps_of (drafts_of ts))) (step_reads n i t e.0) ∙ ap (λ z. t ∷ z) (steps_read n (i + 1) ts e.1)
+steps_read n i (t ∷ ts) e = grind (arith, steps_of, step_reads, steps_read n (i + 1) ts)
 
 -- their first nights are read as nights
 steps_nights : (ts : List (List ℕ)) → AllByRecursion HasNights (drafts_of ts)
-steps_nights ts =
-    all_images HasNights (λ t. Some (step_draft t))
-    (λ t. all_images HasNight option_draft (λ u. option_night (parts slash u)) (parts bar (without_mark t))) ts
+steps_nights ts = search (arith, all_images, option_night)
 
 -- The tries.
 
@@ -128,8 +111,7 @@ steps_nights ts =
 found_within : (test : ℕ → Bool) (a n x : ℕ) (b : Bool)
     → (find test (numbers_from (suc a) n) ≡ Some x → x < suc a + n)
     → (if b then Some a else find test (numbers_from (suc a) n)) ≡ Some x → x < a + suc n
-found_within test a n x true h e = let same : a ≡ x = cc in omega arith
-found_within test a n x false h e = let l = h e in omega arith
+found_within test a n x b h e = grind arith
 
 -- a number that is found is one of those that are searched
 find_within : (test : ℕ → Bool) (a n x : ℕ) → find test (numbers_from a n) ≡ Some x → x < a + n
@@ -144,11 +126,7 @@ pub record ReadsTries (t : List ℕ) : Type 0 where
 -- tries that are read have this text, and are at most 9
 pub tries_read : (t : List ℕ) → is_some (tries_in t) ≡ true → ReadsTries t
 unfolding tries_in
-tries_read t e =
-    let found = some_is (tries_in t) 0 e in
-    let test : ℕ → Bool = λ n. bytes_eq (tries_text n) t in
-    let within : number_or_none (tries_in t) < 0 + 10 = find_within test 0 10 _ found in
-    record { spelled = same_bytes _ t (find_passes test (numbers_from 0 10) _ found); few = omega arith }
+tries_read t e = search (arith, some_is, find_within, same_bytes, find_passes)
 
 -- The line.
 
@@ -160,13 +138,12 @@ whole_line t e =
     let ts = parts semicolon (take k t) in
     let n = length (drafts_of ts) in
     let steps = steps_read n 1 ts (flat_map_none (step_faults n) (enumerate_from 1 (drafts_of ts)) last.1) in
-    let tries = tries_read (drop k t) (and_both _ _ (unless_none _ _ (append_none _ _ last.0).0)).0 in
     record {
       keeps_limits = draft_keeps (line_draft t) (steps_nights ts) e;
       spelled = sym (
           ap (λ z. joined semicolon z ++ tries_text (number_or_none (tries_in (drop k t)))) steps
           ∙ ap (λ z. z ++ tries_text (number_or_none (tries_in (drop k t)))) (join_with_byte-slice_split semicolon (take k t))
-          ∙ ap (λ z. take k t ++ z) tries.spelled
+          ∙ ap (λ z. take k t ++ z) (tries_read (drop k t) (and_both _ _ (unless_none _ _ (append_none _ _ last.0).0)).0).spelled
           ∙ take-append-drop k t);
     }
 
@@ -174,6 +151,4 @@ whole_line t e =
 pub read_is_spelled : (t : List ℕ) (p : Planned) → plan_in t ≡ Ok p → IsPlanLine t p
 unfolding plan_in
 read_is_spelled t p e =
-    let both = first_fault_ok (plan_of (Some (line_draft t))) p (faults (Some (line_draft t))) e in
-    let P : Planned → Type 0 = λ z. IsPlanLine t z in
-    subst P both.1 (whole_line t both.0)
+    grind (arith, first_fault_ok (plan_of (Some (line_draft t))) p (faults (Some (line_draft t))) e, whole_line t)

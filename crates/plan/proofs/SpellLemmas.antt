@@ -1,46 +1,59 @@
 -- What is spelled as the line of a plan is read as it. For the law that a plan has one spelling.
-use Rattle.std.proofs.Common.{◌≡◌, ℕ, ◌-◌, ◌≤◌, Bool, true, false, not, ◌==◌, List, [], ◌∷◌, ◌++◌, map, length, take, drop, refl, sym, ap, ◌∙◌, arith, Option, Some, Ok, decimal, if◌then◌else◌}
+use Rattle.std.proofs.Common.{◌≡◌, ℕ, ◌-◌, ◌≤◌, Bool, true, false, not, ◌==◌, List, [], ◌∷◌, ◌++◌, map, length, take, drop, refl, ap, ◌∙◌, arith, Option, Some, Ok, decimal, zero, suc}
 use Rattle.std.specs.List.{list_all}
 use Rattle.std.proofs.Math.Seq.{drop-append_seam, take-append_seam}
 use Rattle.std.proofs.lemmas.Fmt.{decimal_digit}
 use Rattle.std.proofs.lemmas.List.{append-nil, length-append, length-map}
 use Rattle.std.proofs.lemmas.List.Folds.{list_all-map}
 use Rattle.allotment.specs.Want.{Wanted}
-use Rattle.allotment.specs.Limits.{is_code, is_want}
+use Rattle.allotment.specs.Limits.{is_want}
 use Rattle.allotment.specs.Nights.{night_text, night_in}
-use Rattle.allotment.specs.Texts.{parts, joined, number_in, kind_letter, kind_of_letter, want_text, slash, bar, semicolon, star}
+use Rattle.allotment.specs.Texts.{parts, joined, number_in, kind_letter, kind_of_letter, want_text, slash, semicolon, star}
 use Rattle.allotment.specs.declared.codes.Kind.{Kind}
-use Rattle.allotment.specs.declared.codes.Kind.TheVariants.{Flight}
 use Rattle.plan.specs.Limits.{most_tries}
 use Rattle.plan.specs.PlanModel.{Planned, StepPlan, is_step, is_plan}
-use Rattle.plan.specs.Drafts.{OptionDraft, StepDraft, Draft, drafted, drafted_step, drafted_plan, judged, plan_made}
+use Rattle.plan.specs.Drafts.{OptionDraft, StepDraft, Draft, drafted, drafted_step, drafted_plan, plan_made}
 use Rattle.plan.specs.PlanLine.{step_text, mark_text, tries_text, tries_in, plan_line, IsPlanLine, option_of_parts, option_draft, has_mark, without_mark, step_draft, front_of, end_of, line_draft, plan_in}
 use Rattle.allotment.proofs.TestLemmas.{and_both, and_make, list_all_weaker, same_bytes}
 use Rattle.allotment.proofs.NightLemmas.{night_in-night_text}
 use Rattle.allotment.proofs.PlainLemmas.{is_plain_byte, is_plain, night_plain, code_plain, decimal_plain, letter_plain}
 use Rattle.allotment.proofs.JoinLemmas.{lacks, all_lack, parts_joined}
-use Rattle.plan.proofs.LackLemmas.{lacks_append, lacks_joined, lacks_drop}
 use Rattle.plan.proofs.NumberLemmas.{number_again}
 use Rattle.plan.proofs.EndLemmas.{tries_again, marked, marked_front}
 use Rattle.plan.proofs.KeptLemmas.{IsGood, is_good, drafted_again}
 use Rattle.plan.proofs.LimitLemmas.{IsLimitedStep, step_limited, limited}
+
+-- two texts without a byte are joined without it
+lacks_append : (c : ℕ) (x y : List ℕ) → lacks c x ≡ true → lacks c y ≡ true → lacks c (x ++ y) ≡ true
+lacks_append c [] y e f = f
+lacks_append c (b ∷ x) y e f =
+    let both = and_both (not (b == c)) (lacks c x) e in and_make _ _ both.0 (lacks_append c x y both.1 f)
+
+-- texts without a byte that are joined by another byte are joined without it
+lacks_joined : (c d : ℕ) (ts : List (List ℕ)) → not (d == c) ≡ true
+    → list_all (lacks c) ts ≡ true → lacks c (joined d ts) ≡ true
+lacks_joined c d [] o e = refl
+lacks_joined c d (t ∷ []) o e = (and_both (lacks c t) true e).0
+lacks_joined c d (t ∷ u ∷ ts) o e = grind (arith, and_both, lacks, lacks_append, and_make, lacks_joined c d (u ∷ ts) o)
+
+-- a suffix of a text without a byte is without it
+lacks_drop : (c k : ℕ) (t : List ℕ) → lacks c t ≡ true → lacks c (drop k t) ≡ true
+lacks_drop c zero t e = e
+lacks_drop c (suc k) [] e = refl
+lacks_drop c (suc k) (b ∷ t) e = lacks_drop c k t (and_both (not (b == c)) (lacks c t) e).1
 
 -- what is printed of values that pass is read back as their drafts
 pub map_again : {X A Y : Type 0} (test : X → Bool) (print : X → A) (read : A → Y) (draft : X → Y)
     → ((x : X) → test x ≡ true → read (print x) ≡ draft x)
     → (xs : List X) → list_all test xs ≡ true → map read (map print xs) ≡ map draft xs
 map_again test print read draft again [] e = refl
-map_again test print read draft again (x ∷ xs) e =
-    let both = and_both (test x) (list_all test xs) e in
-    ap (λ z. z ∷ map read (map print xs)) (again x both.0)
-    ∙ ap (λ z. draft x ∷ z) (map_again test print read draft again xs both.1)
+map_again test print read draft again (x ∷ xs) e = grind (arith, and_both, map_again test print read draft again xs)
 
 -- Parts of an option.
 
 -- the letter of a kind is read as the kind
 letter_again : (k : Kind) → kind_of_letter (kind_letter k) ≡ Some k
-letter_again Flight = refl
-letter_again _ = refl
+letter_again k = grind arith
 
 -- the parts of a want after its letter
 abbrev five_of : Wanted → List (List ℕ)
@@ -48,14 +61,7 @@ five_of w = w.supplier ∷ w.product ∷ night_text w.first ∷ decimal w.nights
 
 -- no part of a want contains a separator
 six_plain : (w : Wanted) → IsGood w → list_all is_plain (kind_letter w.kind ∷ five_of w) ≡ true
-six_plain w g =
-    let two = and_both (is_code w.supplier) (is_code w.product) g.codes in
-    and_make _ _ (letter_plain w.kind)
-    (and_make _ _ (code_plain w.supplier two.0)
-    (and_make _ _ (code_plain w.product two.1)
-    (and_make _ _ (night_plain w.first g.night)
-    (and_make _ _ (decimal_plain w.nights g.nights_small)
-    (and_make _ _ (decimal_plain w.count g.count_small) refl)))))
+six_plain w g = search (arith, and_both, and_make, letter_plain, code_plain, night_plain, decimal_plain)
 
 -- the option of these parts
 abbrev made : Wanted → Option Kind → Option ℕ → Option ℕ → Option ℕ → OptionDraft
@@ -64,93 +70,64 @@ made w k f n c = record { kind = k; supplier = w.supplier; product = w.product; 
 -- the text of a want is cut into its parts, each of which is read as it was
 option_again : (w : Wanted) → IsGood w → option_draft (want_text w) ≡ Some (drafted w)
 option_again w g =
-    let k = kind_of_letter (kind_letter w.kind) in
-    let f = night_in (night_text w.first) in
     let n = number_in (decimal w.nights) in
     let c = number_in (decimal w.count) in
     ap option_of_parts (parts_joined slash (kind_letter w.kind) (five_of w)
     (all_lack slash (kind_letter w.kind ∷ five_of w) refl (six_plain w g)))
-    ∙ ap (λ z. Some (made w z f n c)) (letter_again w.kind)
+    ∙ ap (λ z. Some (made w z (night_in (night_text w.first)) n c)) (letter_again w.kind)
     ∙ ap (λ z. Some (made w (Some w.kind) z n c)) (night_in-night_text w.first g.night)
     ∙ ap (λ z. Some (made w (Some w.kind) (Some w.first) z c)) (number_again w.nights g.nights_small)
     ∙ ap (λ z. Some (made w (Some w.kind) (Some w.first) (Some w.nights) z)) (number_again w.count g.count_small)
 
 -- the text of a want contains no separator of options or steps
 want_lacks : (c : ℕ) (w : Wanted) → not (slash == c) ≡ true → is_plain_byte c ≡ false → IsGood w → lacks c (want_text w) ≡ true
-want_lacks c w o odd g =
-    lacks_joined c slash (kind_letter w.kind ∷ five_of w) o (all_lack c (kind_letter w.kind ∷ five_of w) odd (six_plain w g))
+want_lacks c w o odd g = search (arith, lacks_joined, all_lack, six_plain)
 
 -- The options of a step.
 
 -- the texts of options contain no separator of options or steps
 wants_lack : (c : ℕ) (ws : List Wanted) → not (slash == c) ≡ true → is_plain_byte c ≡ false → list_all is_want ws ≡ true
     → list_all (lacks c) (map want_text ws) ≡ true
-wants_lack c ws o odd e =
-    list_all-map (lacks c) want_text ws
-    ∙ list_all_weaker is_want (λ w. lacks c (want_text w)) (λ w good. want_lacks c w o odd (is_good w good)) ws e
+wants_lack c ws o odd e = grind (arith, list_all-map, lacks, list_all_weaker, want_lacks, is_good)
 
 -- A step.
 
 -- a text without stars has no mark
 unmarked : (x : List ℕ) (b : Bool) → has_mark x ≡ b → lacks star x ≡ true → b ≡ false
-unmarked x true e l =
-    let end : drop (length x - 1) x ≡ star ∷ [] = sym (same_bytes (star ∷ []) (drop (length x - 1) x) e) in
-    let h = ap (lacks star) (sym end) ∙ lacks_drop star (length x - 1) x l in cc
+unmarked x true e l = grind (arith, same_bytes (star ∷ []) (drop (length x - 1) x), lacks_drop star (length x - 1) x l)
 unmarked x false e l = refl
 
 -- the mark after a text without stars is read back as it was
 mark_again : (x : List ℕ) (b : Bool) → lacks star x ≡ true → has_mark (x ++ mark_text b) ≡ b
-mark_again x true l = marked x
-mark_again x false l = ap has_mark (append-nil x) ∙ unmarked x (has_mark x) refl l
+mark_again x b l = grind (arith, marked, append-nil, unmarked)
 
 -- the mark after a text without stars is taken off
 without_again : (x : List ℕ) (b : Bool) → lacks star x ≡ true → without_mark (x ++ mark_text b) ≡ x
-without_again x true l = marked_front x
-without_again x false l =
-    let t = x ++ [] in
-    ap (λ z. if z then take (length t - 1) t else t) (mark_again x false l) ∙ append-nil x
+without_again x b l = grind (arith, marked_front, mark_again, append-nil)
 
 -- cutting joined texts gives them back
 parts_back : (c : ℕ) (ts : List (List ℕ)) → 1 ≤ length ts → list_all (lacks c) ts ≡ true → parts c (joined c ts) ≡ ts
 parts_back c [] some e = absurd (omega arith)
 parts_back c (t ∷ ts) some e = parts_joined c t ts e
 
--- the draft of a step of these texts
-abbrev step_made : List (List ℕ) → Bool → StepDraft
-step_made ts b = record { options = map option_draft ts; is_marked = b }
-
 -- the text of a step is read as the step
 step_again : (s : StepPlan) → IsLimitedStep s → step_draft (step_text s) ≡ drafted_step s
 step_again s g =
-    let x = joined bar (map want_text s.options) in
-    let l = lacks_joined star bar (map want_text s.options) refl (wants_lack star s.options refl refl g.each_want) in
-    ap (λ z. step_made (parts bar z) (has_mark (step_text s))) (without_again x s.is_marked l)
-    ∙ ap (λ z. step_made (parts bar x) z) (mark_again x s.is_marked l)
-    ∙ ap (λ z. step_made z s.is_marked)
-    (parts_back bar (map want_text s.options) (omega (arith, g.some_options, length-map s.options want_text))
-    (wants_lack bar s.options refl refl g.each_want))
-    ∙ ap (λ z. record { options = z; is_marked = s.is_marked })
-    (map_again is_want want_text option_draft (λ w. Some (drafted w)) (λ w good. option_again w (is_good w good)) s.options g.each_want)
+    grind (arith, lacks_joined, wants_lack, without_again, mark_again, parts_back, length-map, map_again, option_again, is_good)
 
 -- a mark is one byte, or none
 mark_lacks : (c : ℕ) (b : Bool) → not (star == c) ≡ true → lacks c (mark_text b) ≡ true
-mark_lacks c true e = and_make _ _ e refl
-mark_lacks c false e = refl
+mark_lacks c b e = grind (arith, and_make)
 
 -- the text of a step contains no separator of steps
 step_lacks : (s : StepPlan) → IsLimitedStep s → lacks semicolon (step_text s) ≡ true
-step_lacks s g =
-    lacks_append semicolon (joined bar (map want_text s.options)) (mark_text s.is_marked)
-    (lacks_joined semicolon bar (map want_text s.options) refl (wants_lack semicolon s.options refl refl g.each_want))
-    (mark_lacks semicolon s.is_marked refl)
+step_lacks s g = grind (arith, lacks_append, lacks_joined, wants_lack, mark_lacks)
 
 -- The steps.
 
 -- the texts of steps contain no separator of steps
 steps_lack : (steps : List StepPlan) → list_all is_step steps ≡ true → list_all (lacks semicolon) (map step_text steps) ≡ true
-steps_lack steps e =
-    list_all-map (lacks semicolon) step_text steps
-    ∙ list_all_weaker is_step (λ s. lacks semicolon (step_text s)) (λ s good. step_lacks s (step_limited s good)) steps e
+steps_lack steps e = grind (arith, list_all-map, lacks, list_all_weaker, step_lacks, step_limited)
 
 -- The line.
 
@@ -180,11 +157,7 @@ line_again p some few good =
 -- what is spelled as the line of a plan is read as it
 pub spelled_is_read : (t : List ℕ) (p : Planned) → IsPlanLine t p → plan_in t ≡ Ok p
 unfolding plan_in
-spelled_is_read t p line =
-    let all = limited p line.keeps_limits in
-    ap (λ z. judged (Some (line_draft z))) line.spelled
-    ∙ ap (λ z. judged (Some z)) (line_again p all.some_steps all.few_tries all.each_step)
-    ∙ drafted_again p line.keeps_limits
+spelled_is_read t p line = grind (arith, limited, line_again, drafted_again)
 
 -- a plan that keeps the limits is made as it is
 pub made_again : (p : Planned) → is_plan p ≡ true → plan_made p ≡ Ok p

@@ -15,7 +15,7 @@ use Rattle.recovery.specs.declared.passes.Pass.{Pass}
 use Rattle.recovery.proofs.CarryLemmas.{in-open}
 use Rattle.saga_core.proofs.FirstLemmas.{IsFirst, first-found, first-none}
 use Rattle.recovery.proofs.PassLemmas.{grew-as, grew-full, grew-join, full-join, may-join, may-just, journeys-fewer}
-use Rattle.recovery.proofs.ReachLemmas.{reached-further, reached-carried, reached-past}
+use Rattle.ledger.proofs.Reaching.{reached-further, reached-carried, reached-past}
 use Rattle.recovery.proofs.TurnedLemmas.{first-in}
 
 -- the pass is done with the journeys up to this number

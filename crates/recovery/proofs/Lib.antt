@@ -2,7 +2,6 @@ pub mod AskLemmas
 pub mod TellLemmas
 pub mod PassLemmas
 pub mod FollowLemmas
-pub mod ReachLemmas
 pub mod TurnLemmas
 pub mod RecoverLemmas
 pub mod CarryLemmas

@@ -1,6 +1,6 @@
 -- The cells that are asked for, kind after kind, are those that are asked for; and their report in its parts. For `write_stock`
 -- and `write_kinds`.
-use Rattle.std.proofs.Common.{◌≡◌, ℕ, suc, ◌+◌, ◌<◌, ◌≤◌, ◌==◌, ◌&&◌, List, [], ◌∷◌, ◌++◌, filter, cond, length, Bool, true, false, Option, Ordering, Less, Equal, Greater, is_lt, nat_cmp, refl, sym, ap, ap₂, subst, ◌∙◌, arith, append_assoc, eqb-true, codes, nat_le, IsErr, Result, Ok, Err}
+use Rattle.std.proofs.Common.{◌≡◌, ℕ, suc, ◌+◌, ◌<◌, ◌≤◌, ◌==◌, ◌&&◌, List, [], ◌∷◌, ◌++◌, filter, cond, length, Bool, true, false, Option, Ordering, is_lt, nat_cmp, refl, sym, ap, ap₂, ◌∙◌, arith, append_assoc, eqb-true, codes, nat_le, IsErr, Result, Ok, rules, Less, Equal, Greater, subst, Err}
 use Rattle.std.specs.List.{AllByRecursion, flat_map}
 use Rattle.std.specs.Ordering.{ordering_then}
 use Rattle.std.specs.Io.KnownBytes.{Appends}
@@ -33,12 +33,7 @@ use Rattle.report_writers.proofs.ShowLemmas.{shows_as, shows_then}
 
 -- the cells of the list are in order of their kinds
 by_kind : (a b : ℕ) (rest : Ordering) → is_lt (ordering_then (nat_cmp a b) rest) ≡ true → a ≤ b
-by_kind a b rest e = go (nat_cmp a b) refl e
-  where
-    go : (o : Ordering) → nat_cmp a b ≡ o → is_lt (ordering_then o rest) ≡ true → a ≤ b
-    go Less f g = grind (arith, nat_tests, f)
-    go Equal f g = grind (arith, nat_tests, f)
-    go Greater f g = absurd (cc)
+by_kind a b rest e = search (rules, arith, nat_tests)
 
 abbrev key : Cell × Places → ℕ
 key r = kind_number r.0.kind
@@ -54,16 +49,13 @@ kinds_rise (r ∷ later) e =
 
 -- tests that agree on each element keep the same
 filter_same : {X : Type 0} (p q : X → Bool) (xs : List X) → ((x : X) → p x ≡ q x) → filter p xs ≡ filter q xs
-filter_same p q [] same = refl
-filter_same p q (x ∷ xs) same = ap₂ (λ b more. cond b (x ∷ more) more) (same x) (filter_same p q xs same)
+filter_same p q xs same = search (rules, arith)
 
 and_false : (b : Bool) → (b && false) ≡ false
-and_false true = refl
-and_false false = refl
+and_false b = search (rules, arith)
 
 and_true : (b : Bool) → (b && true) ≡ b
-and_true true = refl
-and_true false = refl
+and_true b = search (rules, arith)
 
 module _ (p : Cell × Places → Bool) where
   -- those of a kind's number, and those from it on
@@ -152,8 +144,7 @@ module _ (p : Cell × Places → Bool) where
       low Cover = refl
 
 -- the cells that are asked for are those of the four kinds, one after another
-pub by_kinds : (f : CellFilter) (rows : List (Cell × Places)) → are_in_order rows ≡ true
-    → asked_cells f rows
+pub by_kinds : (f : CellFilter) (rows : List (Cell × Places)) → are_in_order rows ≡ true → asked_cells f rows
     ≡ cells_of_kind Flight f rows ++ (cells_of_kind Room f rows ++ (cells_of_kind Transfer f rows ++ cells_of_kind Cover f rows))
 by_kinds f rows order =
     let p : Cell × Places → Bool = λ r. is_cell_asked f r.0 in
@@ -175,9 +166,7 @@ flat_append f (x ∷ xs) ys = ap (λ more. f x ++ more) (flat_append f xs ys) �
 
 length_append : {X : Type 0} (xs ys : List X) → length (xs ++ ys) ≡ length xs + length ys
 length_append [] ys = let e : length ys ≡ 0 + length ys = omega arith in e
-length_append (x ∷ xs) ys =
-    let rest = length_append xs ys in
-    let e : suc (length (xs ++ ys)) ≡ suc (length xs) + length ys = omega (arith, rest) in e
+length_append (x ∷ xs) ys = search (rules, arith, length_append xs ys)
 
 -- The report in its parts: the head, the lines of its cells, the ending.
 
@@ -232,15 +221,13 @@ module _ (held half holds : Option (List ℕ)) (format : Format) (xs ys : List (
 
 writes_less : (held holds : Option (List ℕ)) (format : Format) (cells : List (Cell × Places)) (before : Progress) (result : Result Progress ReportFault)
     → IsErr result → WroteFront held holds (flat_map (stock_row format) cells) → WritesCells held holds format cells before result
-writes_less held holds format cells before (Ok after) failed front = let no : false ≡ true = failed in absurd (cc)
-writes_less held holds format cells before (Err fault) failed front = record { whole = tt; front = front; going = tt; counted = tt }
+writes_less held holds format cells before result failed front = search (rules, arith)
 
 module _ {S : Type 0} (g : Ghosts S) (format : Format) where
   -- one more list of cells was shown
   pub shows_both : {old mid new : Held S} {held half holds : Option (List ℕ)} {one two : List (Cell × Places) → List (Cell × Places)}
       {before between : Progress} {result : Result Progress ReportFault}
-      → ShowsCells g old mid held half format one before (Ok between)
-      → ShowsCells g mid new half holds format two between result
+      → ShowsCells g old mid held half format one before (Ok between) → ShowsCells g mid new half holds format two between result
       → ShowsCells g old new held holds format (λ all. one all ++ two all) before result
   shows_both {held = held} {half} {holds} {one} {two} {before} {between} {result} first second =
       shows_then g first second (λ s wrote more going all stock. (
@@ -250,8 +237,7 @@ module _ {S : Type 0} (g : Ghosts S) (format : Format) where
   -- a fault came before the next one
   pub shows_less : {old new : Held S} {held holds : Option (List ℕ)} {one : List (Cell × Places) → List (Cell × Places)}
       {before : Progress} {result : Result Progress ReportFault} (two : List (Cell × Places) → List (Cell × Places))
-      (after : Result Progress ReportFault) → IsErr after
-      → ShowsCells g old new held holds format one before result
+      (after : Result Progress ReportFault) → IsErr after → ShowsCells g old new held holds format one before result
       → ShowsCells g old new held holds format (λ all. one all ++ two all) before after
   shows_less {held = held} {holds} {one} {before} {result} two after failed first =
       shows_as g first (λ s desk wrote going all stock.
@@ -261,8 +247,7 @@ module _ {S : Type 0} (g : Ghosts S) (format : Format) where
 
   -- those of the four kinds are those that are asked for
   pub shows_asked : {old new : Held S} {held holds : Option (List ℕ)} {before : Progress} {result : Result Progress ReportFault}
-      (f : CellFilter)
-      → ShowsCells g old new held holds format
+      (f : CellFilter) → ShowsCells g old new held holds format
       (λ all. cells_of_kind Flight f all ++ (cells_of_kind Room f all ++ (cells_of_kind Transfer f all ++ cells_of_kind Cover f all))) before result
       → ShowsCells g old new held holds format (asked_cells f) before result
   shows_asked {held = held} {holds} {before} {result} f shows =
@@ -273,13 +258,9 @@ module _ {S : Type 0} (g : Ghosts S) (format : Format) where
 
 -- a cell is of the kind and asked for where it is of the kind, the kind is asked for, and its other values are
 kind_same : (kind : Kind) (f : CellFilter) (x : Cell) (b : Bool) → (kind_number x.kind == kind_number kind) ≡ b
-    → (is_cell_asked f x && b)
-    ≡ (is_kind_asked f.kind (kind_number kind)
+    → (is_cell_asked f x && b) ≡ (is_kind_asked f.kind (kind_number kind)
     && (b && (is_name_asked f.supplier x.supplier && (is_name_asked f.product x.product && is_night_asked f.from f.to x.night))))
-kind_same kind f x true e =
-    let same : kind_number x.kind ≡ kind_number kind = eqb-true _ _ e in
-    and_true _ ∙ ap (λ n. is_kind_asked f.kind n && (is_name_asked f.supplier x.supplier && (is_name_asked f.product x.product && is_night_asked f.from f.to x.night))) same
-kind_same kind f x false e = and_false _ ∙ sym (and_false _)
+kind_same kind f x b e = search (rules, arith, eqb-true, and_true, and_false)
 
 each_same : (kind : Kind) (f : CellFilter) (r : Cell × Places)
     → (is_cell_asked f r.0 && (kind_number r.0.kind == kind_number kind)) ≡ (is_kind_asked f.kind (kind_number kind) && is_cell_of kind f r.0)

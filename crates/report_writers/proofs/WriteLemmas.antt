@@ -1,5 +1,5 @@
 -- What was written of a report. For the writers of the reports.
-use Rattle.std.proofs.Common.{◌≡◌, ◌∙◌, ◌++◌, [], ap, false, refl, sym, subst, true, ℕ, Bool, List, Option, Result, None, Some, Ok, Err, IsErr, option_map}
+use Rattle.std.proofs.Common.{◌≡◌, [], false, refl, sym, subst, true, ℕ, Bool, List, Option, Result, None, Some, Ok, Err, IsErr, option_map, arith, rules}
 use Rattle.saga_core.specs.declared.records.Record.{Record}
 use Rattle.streams.specs.Written.{WroteFront}
 use Rattle.streams.proofs.ByteLemmas.{keeps_same}
@@ -20,15 +20,13 @@ module _ (held : Option (List ℕ)) (text : List ℕ) where
   -- a prefix of it was written, and a fault came
   pub wrote_front : {T : Type 0} (holds : Option (List ℕ)) (r : Result T ReportFault) → IsErr r → WroteFront held holds text
       → WritesText held holds text r
-  wrote_front holds (Ok x) failed front = let no : false ≡ true = failed in absurd (cc)
-  wrote_front holds (Err f) failed front = record { whole = tt; front = front }
+  wrote_front holds r failed front = search (rules, arith)
 
 -- The report of a journey, if there is one of its number.
 
 -- there is one
 pub written_there : (held holds : Option (List ℕ)) (text : Record → List ℕ) (found : Option Record) (journey : Record)
-    (result : Result Bool ReportFault)
-    → found ≡ Some journey → WritesIfThere held holds (Some (text journey)) result
+    (result : Result Bool ReportFault) → found ≡ Some journey → WritesIfThere held holds (Some (text journey)) result
     → WritesIfThere held holds (option_map text found) result
 written_there held holds text found journey result is wrote =
     subst (λ o. WritesIfThere held holds (option_map text o) result) (sym is) wrote
@@ -41,23 +39,14 @@ module _ (held : Option (List ℕ)) where
 
   -- a fault, where nothing was written
   pub written_fault : (text : Option (List ℕ)) (f : ReportFault) → WritesIfThere held held text (Err f)
-  written_fault None f = (tt, keeps_same held)
-  written_fault (Some text) f = (tt, wrote_none held text f)
+  written_fault text f = search (rules, arith, keeps_same, wrote_none)
 
 -- What was written to an empty list is the text of the report, if there is one.
 
 pub text_there : (held made : List ℕ) (text : Option (List ℕ)) {r : Result Bool ReportFault} → held ≡ [] → r ≡ Ok true
     → WritesIfThere (Some held) (Some made) text r → Some made ≡ text
-text_there held made text none is wrote = go text (subst (WritesIfThere (Some held) (Some made) text) is wrote)
-  where
-    go : (text : Option (List ℕ)) → WritesIfThere (Some held) (Some made) text (Ok true) → Some made ≡ text
-    go None wrote = let no : true ≡ false = wrote.0 in absurd (cc)
-    go (Some t) wrote = ap Some (wrote.1.whole ∙ ap (λ h. h ++ t) none)
+text_there held made text none is wrote = search (rules, arith)
 
 pub text_absent : (held holds : Option (List ℕ)) (text : Option (List ℕ)) {r : Result Bool ReportFault} → r ≡ Ok false
     → WritesIfThere held holds text r → None ≡ text
-text_absent held holds text is wrote = go text (subst (WritesIfThere held holds text) is wrote)
-  where
-    go : (text : Option (List ℕ)) → WritesIfThere held holds text (Ok false) → None ≡ text
-    go None wrote = refl
-    go (Some t) wrote = let no : false ≡ true = wrote.0 in absurd (cc)
+text_absent held holds text is wrote = search (rules, arith)

@@ -1,8 +1,7 @@
 -- Journeys of a ledger, found one after another by rising number. For calls that walk over a book's journeys, whichever of
 -- them they look for.
-use Rattle.std.proofs.Common.{◌≡◌, ◌∙◌, ap, sym, subst, refl, ℕ, zero, suc, ◌<◌, ◌≤◌, List, [], ◌∷◌, cond, length, Bool, true, false, Option, Some, None, arith, filter, filter_map, find, option_map, nat_lt, ◌&&◌}
+use Rattle.std.proofs.Common.{◌≡◌, refl, ℕ, zero, suc, ◌<◌, ◌≤◌, List, [], ◌∷◌, cond, length, Bool, true, Option, Some, None, arith, filter, filter_map, find, option_map, nat_lt, ◌&&◌, le-ltb, lt-ltb, ltb-true}
 use Rattle.std.specs.List.{cons_option}
-use Rattle.std.proofs.lemmas.Bool.{le-ltb, lt-ltb, ltb-true}
 use Rattle.allotment.specs.Cells.{numbers_from}
 use Rattle.ledger.specs.Ledger.{Event, Journey, journeys, journey_at, numbers, history}
 use Rattle.saga_core.specs.Views.{brief_of, brief_of_journey}
@@ -24,8 +23,7 @@ rises_from l n (suc m) = go (journey_at l n) (rises_from l (suc n) m)
   where
     go : (found : Option Journey) → RisesFrom (suc n) (filter_map (brief_of l) (numbers_from (suc n) m))
         → RisesFrom n (cons_option (option_map (brief_of_journey n (history l n)) found) (filter_map (brief_of l) (numbers_from (suc n) m)))
-    go None more = rises_lower n (suc n) (filter_map (brief_of l) (numbers_from (suc n) m)) (omega arith) more
-    go (Some a) more = (let e : n ≤ n = omega arith in e, more)
+    go found more = grind (arith, rises_lower)
 
 -- the briefs of a ledger's journeys
 abbrev pub briefs_of : List Event → List Brief
@@ -42,55 +40,24 @@ above passes a b = nat_lt a b.id && passes b
 found_from : (n : ℕ) (test : Brief → Bool) (bs : List Brief) (b : Brief) → RisesFrom n bs
     → find test bs ≡ Some b → n ≤ b.id
 found_from n test [] b rise is = cc
-found_from n test (x ∷ bs) b rise is = go (test x) is (found_from (suc x.id) test bs b rise.1)
-  where
-    go : (v : Bool) → cond v (Some x) (find test bs) ≡ Some b → (find test bs ≡ Some b → suc x.id ≤ b.id) → n ≤ b.id
-    go true same more = let e : x ≡ b = cc in subst (λ (y : Brief). n ≤ y.id) e rise.0
-    go false same more = let e = more same in omega (arith, e, rise.0)
+found_from n test (x ∷ bs) b rise is = grind (arith, found_from (suc x.id) test bs b)
 
 module _ (passes : Brief → Bool) where
   -- where all numbers are above this one, those above it that pass are all that pass
   pub all_above : (a : ℕ) (bs : List Brief) → RisesFrom (suc a) bs → filter (above passes a) bs ≡ filter passes bs
   all_above a [] rise = refl
-  all_above a (b ∷ bs) rise =
-      let over : nat_lt a b.id ≡ true = lt-ltb a b.id (omega (arith, rise.0)) in
-      let later = all_above a bs (rises_lower (suc a) (suc b.id) bs (omega (arith, rise.0)) rise.1) in
-      ap (λ v. cond (v && passes b) (b ∷ filter (above passes a) bs) (filter (above passes a) bs)) over
-      ∙ ap (λ more. cond (passes b) (b ∷ more) more) later
+  all_above a (b ∷ bs) rise = grind (arith, lt-ltb, rises_lower, all_above a bs)
 
   -- a journey above a number has a greater number
   above_is_greater : (a : ℕ) (b : Brief) → above passes a b ≡ true → a < b.id
-  above_is_greater a b is = go (nat_lt a b.id) refl is
-    where
-      go : (v : Bool) → nat_lt a b.id ≡ v → (v && passes b) ≡ true → a < b.id
-      go true at = λ yes. ltb-true a b.id at
-      go false at = λ yes. cc
+  above_is_greater a b is = grind (arith, ltb-true)
 
   -- the first journey above a number comes before those above its own number
   pub first_above : (n a : ℕ) (bs : List Brief) (b : Brief) → RisesFrom n bs → find (above passes a) bs ≡ Some b
       → filter (above passes a) bs ≡ b ∷ filter (above passes b.id) bs
   first_above n a [] b rise is = cc
-  first_above n a (x ∷ bs) b rise is = go (above passes a x) refl is (first_above (suc x.id) a bs b rise.1)
-    where
-      go : (v : Bool) → above passes a x ≡ v → cond v (Some x) (find (above passes a) bs) ≡ Some b
-          → (find (above passes a) bs ≡ Some b → filter (above passes a) bs ≡ b ∷ filter (above passes b.id) bs)
-          → cond v (x ∷ filter (above passes a) bs) (filter (above passes a) bs)
-          ≡ b ∷ cond (above passes b.id x) (x ∷ filter (above passes b.id) bs) (filter (above passes b.id) bs)
-      go true test same later =
-          let e : x ≡ b = cc in
-          let low : nat_lt x.id x.id ≡ false = le-ltb x.id x.id (omega arith) in
-          let over : a < x.id = above_is_greater a x test in
-          let more : filter (above passes a) bs ≡ filter (above passes x.id) bs =
-          all_above a bs (rises_lower (suc a) (suc x.id) bs (omega (arith, over)) rise.1) ∙ sym (all_above x.id bs rise.1) in
-          subst (λ (y : Brief). x ∷ filter (above passes a) bs
-          ≡ y ∷ cond (above passes y.id x) (x ∷ filter (above passes y.id) bs) (filter (above passes y.id) bs)) e
-          (ap (λ later. x ∷ later) more
-          ∙ sym (ap (λ v. x ∷ cond (v && passes x) (x ∷ filter (above passes x.id) bs) (filter (above passes x.id) bs)) low))
-      go false test same later =
-          let under : suc x.id ≤ b.id = found_from (suc x.id) (above passes a) bs b rise.1 same in
-          let low : nat_lt b.id x.id ≡ false = le-ltb b.id x.id (omega (arith, under)) in
-          later same
-          ∙ sym (ap (λ v. b ∷ cond (v && passes x) (x ∷ filter (above passes b.id) bs) (filter (above passes b.id) bs)) low)
+  first_above n a (x ∷ bs) b rise is =
+      grind (arith, le-ltb, above_is_greater, all_above, rises_lower, found_from, first_above (suc x.id) a bs b)
 
 -- where no journey is found, there is none
 pub none_found : (test : Brief → Bool) (bs : List Brief) → find test bs ≡ None → filter test bs ≡ []
@@ -99,5 +66,4 @@ none_found test (x ∷ bs) is = go (test x) is (none_found test bs)
   where
     go : (v : Bool) → cond v (Some x) (find test bs) ≡ None → (find test bs ≡ None → filter test bs ≡ [])
         → cond v (x ∷ filter test bs) (filter test bs) ≡ []
-    go true same later = cc
-    go false same later = later same
+    go v same later = grind arith

@@ -1,5 +1,5 @@
 -- What calls one after another leave of a book that has failed. For the loops over a book.
-use Rattle.std.specs.Prelude.{Bool, Option, Result}
+use Rattle.std.proofs.Common.{arith, Bool, Option, Result}
 use Rattle.commands.specs.Asks.{Asked}
 use Rattle.commands.specs.Request.{Request}
 use Rattle.commands.specs.declared.replies.Fault.{Fault}
@@ -11,20 +11,12 @@ use Rattle.saga_core.specs.Runs.{Asks}
 module _ {B : Type 0} {is_sound : B → Type 0} {leaves : B → State → State → Type 0} {has_failed : B → Bool} where
   -- where there was no call, the book is the same
   pub stays_alone : (b : B) → Stays is_sound leaves has_failed b b
-  stays_alone b = record {
-    stays_failed = λ failed. failed;
-    stays_left = λ failed s t left. left;
-    sound = λ sound. sound;
-  }
+  stays_alone b = grind arith
 
   -- one call after another leaves what both leave
   pub stays_twice : {a b c : B} → Stays is_sound leaves has_failed a b → Stays is_sound leaves has_failed b c
       → Stays is_sound leaves has_failed a c
-  stays_twice one two = record {
-    stays_failed = λ failed. two.stays_failed (one.stays_failed failed);
-    stays_left = λ failed s t left. two.stays_left (one.stays_failed failed) s t (one.stays_left failed s t left);
-    sound = λ sound. one.sound (two.sound sound);
-  }
+  stays_twice one two = grind arith
 
   -- a call that serves leaves the book so
   pub stays_served : {a b : B} {T E : Type 0} {fault : E} {result : Result T E} → Serves is_sound leaves has_failed a b fault result

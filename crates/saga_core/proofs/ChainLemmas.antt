@@ -29,8 +29,7 @@ crashes w asks progress was_kept = record { progress = progress; was_kept = was_
 -- each continuation may be followed by a reopening
 GoesOn-reopened : (s : State) (v : List Moment) → GoesOn s v → GoesOn s (v ++ Reopened ∷ [])
 GoesOn-reopened s [] goes = tt
-GoesOn-reopened s (Done asked ask reply ∷ v) goes =
-    (goes.0, goes.1, GoesOn-reopened (outcome s ask asked).state v goes.2)
+GoesOn-reopened s (Done asked ask reply ∷ v) goes = grind (arith, GoesOn-reopened (outcome s ask asked).state v)
 GoesOn-reopened s (Reopened ∷ v) goes = GoesOn-reopened s v goes
 GoesOn-reopened s (Cut asked ask true ∷ []) goes = (goes.0, refl, tt)
 GoesOn-reopened s (Cut asked ask false ∷ []) goes = (goes.0, refl, tt)
@@ -77,8 +76,7 @@ stays_world w asks v world whole g =
 dones-append : (s : State) (first second : Asks) (last : List Moment)
     → dones s (first ++ second) ++ last ≡ (dones s first ++ []) ++ (dones (state_after s first) second ++ last)
 dones-append s [] second last = refl
-dones-append s (c ∷ first) second last =
-    ap (λ l. Done c.0 c.1 (outcome_of s c).reply ∷ l) (dones-append (outcome_of s c).state first second last)
+dones-append s (c ∷ first) second last = grind (arith, dones-append (outcome_of s c).state first second)
 
 pub adds : Adds
 adds w first second v limits g =

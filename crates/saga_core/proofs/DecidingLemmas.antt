@@ -1,5 +1,5 @@
 -- The next step of a journey, by its cursor: each move names the item that may come next. For decide.
-use Rattle.std.proofs.Common.{◌≡◌, ℕ, ◌+◌, ◌<◌, List, refl, ap, sym, ◌∙◌, arith, eq-eqb, true, false, Bool}
+use Rattle.std.proofs.Common.{◌≡◌, ℕ, ◌+◌, List, refl, ap, sym, ◌∙◌, arith, eq-eqb, true, false, Bool}
 use Rattle.std.proofs.lemmas.Bool.{and_from}
 use Rattle.std.specs.FinSet as set
 use Rattle.std.specs.Ordering.{nat_cmp}
@@ -12,7 +12,7 @@ use Rattle.commands.specs.declared.items.Item.{Item}
 use Rattle.commands.specs.declared.items.Item.TheVariants.{Transaction, Compensation, Turn, Save}
 use Rattle.commands.specs.declared.items.Phase.{Phase}
 use Rattle.commands.specs.declared.items.Phase.TheVariants.{Run, Back}
-use Rattle.ledger.specs.History.{position_of, refusals, next_option, refused_target, phase, is_running, is_going_back, may_come}
+use Rattle.ledger.specs.History.{position_of, next_option, refused_target, phase, is_running, is_going_back, may_come}
 use Rattle.ledger.specs.Recovery.{is_forward}
 use Rattle.ledger.proofs.Coming.{step-comes, step-may_come, compensation-comes, compensation-may_come, refused-comes, refused-may_come}
 use Rattle.ledger.proofs.Modes.{told_apart}
@@ -29,43 +29,23 @@ use Rattle.saga_core.specs.declared.deciding.Move.TheVariants as move
 names-take : (plan : Planned) (h : List Item) (x : Item) → phase plan h ≡ Run → is_forward x ≡ true
     → may_come plan h true x ≡ true
     → names (move.Take (position_of h + 1) (next_option plan h)) x ≡ true
-names-take plan h (Transaction i c) run forward may =
-    let comes = step-comes plan h true i c may in
-    and_from _ _ (eq-eqb _ _ (sym comes.step)) (eq-eqb _ _ (sym comes.option))
-names-take plan h (Compensation i c) run forward may =
-    told_apart is_going_back _ _ (compensation-comes plan h true i c may).back run refl
-names-take plan h (Turn p Stop) run forward may = cc
-names-take plan h (Turn p Refused) run forward may =
-    let bad : false ≡ true = (refused-comes plan h true p may).unfitting in cc
-names-take plan h (Turn p Asked) run forward may = cc
-names-take plan h (Save p) run forward may = cc
+names-take plan h x run forward may = search (arith, step-comes, and_from, eq-eqb, told_apart, compensation-comes, refused-comes)
 
 -- a refused turn is named by its target
 names-turn : (plan : Planned) (h : List Item) (x : Item) → phase plan h ≡ Run → is_forward x ≡ true
     → may_come plan h false x ≡ true
     → names (move.Turn (refused_target plan h)) x ≡ true
-names-turn plan h (Transaction i c) run forward may =
-    let bad : false ≡ true = (step-comes plan h false i c may).fitting in cc
-names-turn plan h (Compensation i c) run forward may =
-    told_apart is_going_back _ _ (compensation-comes plan h false i c may).back run refl
-names-turn plan h (Turn p Stop) run forward may = cc
-names-turn plan h (Turn p Refused) run forward may =
-    eq-eqb _ _ (sym (refused-comes plan h false p may).target)
-names-turn plan h (Turn p Asked) run forward may = cc
-names-turn plan h (Save p) run forward may = cc
+names-turn plan h x run forward may = search (arith, step-comes, told_apart, compensation-comes, eq-eqb, refused-comes)
 
 -- the compensation of the last transaction is named by its step, which is the position
 names-undo : (plan : Planned) (h : List Item) (fits : Bool) (x : Item) (q : ℕ) → Follows plan h
     → phase plan h ≡ Back q → is_forward x ≡ true → may_come plan h fits x ≡ true
     → names (move.Undo (position_of h)) x ≡ true
-names-undo plan h fits (Transaction i c) q f back forward may =
-    told_apart is_running _ _ (step-comes plan h fits i c may).running back refl
+names-undo plan h fits (Transaction i c) q f back forward may = grind (arith, told_apart, step-comes)
 names-undo plan h fits (Compensation i c) q f back forward may =
-    let last = (compensation-comes plan h fits i c may).last in
-    eq-eqb _ _ (sym (compensates h i c f.stands last).is_last)
+    grind (arith, compensation-comes plan h fits i c, compensates h i c f.stands)
 names-undo plan h fits (Turn p Stop) q f back forward may = cc
-names-undo plan h fits (Turn p Refused) q f back forward may =
-    told_apart is_running _ _ (refused-comes plan h fits p may).running back refl
+names-undo plan h fits (Turn p Refused) q f back forward may = grind (arith, told_apart, refused-comes)
 names-undo plan h fits (Turn p Asked) q f back forward may = cc
 names-undo plan h fits (Save p) q f back forward may = cc
 
@@ -81,8 +61,7 @@ here-phase plan marks cursor h q here e = ap (λ (c : Cursor). c.phase) here.cur
 here-option : (plan : Planned) (marks : set.FinSet nat_cmp) (cursor : Cursor) (h : List Item)
     → IsHere plan marks cursor h
     → next_option plan h ≡ rules.next_option plan cursor.pos cursor.used
-here-option plan marks cursor h here =
-    ap (λ (c : Cursor). rules.next_option plan c.pos c.used) here.cursor_is
+here-option plan marks cursor h here = cc
 
 -- the next step is the one after the position
 here-step : (plan : Planned) (marks : set.FinSet nat_cmp) (cursor : Cursor) (h : List Item)
@@ -94,10 +73,7 @@ here-target : (plan : Planned) (marks : set.FinSet nat_cmp) (cursor : Cursor) (h
     → IsHere plan marks cursor h
     → refused_target plan h ≡ rules.refused_target plan (is_taken_in marks) cursor.pos cursor.used
 here-target plan marks cursor h here =
-    refused_target_by-marks plan h (follows-of plan h here.has)
-    ∙ ap (λ m. rules.refused_target plan (is_taken_in m) (position_of h) (refusals h))
-    here.marks_are
-    ∙ ap (λ (c : Cursor). rules.refused_target plan (is_taken_in marks) c.pos c.used) here.cursor_is
+    grind (arith, refused_target_by-marks plan h (follows-of plan h here.has), follows-of plan h)
 
 -- if the next want fits, only the next transaction may come
 pub only-take : (plan : Planned) (marks : set.FinSet nat_cmp) (cursor : Cursor) (fits : Bool)
@@ -164,8 +140,7 @@ pub one-undo : (plan : Planned) (marks : set.FinSet nat_cmp) (cursor : Cursor) (
 one-undo plan marks cursor fits q back h here unfinished =
     let f = follows-of plan h here.has in
     let is_back = here-phase plan marks cursor h (Back q) here back in
-    let above : 0 < position_of h = let k = (back_above plan h q f is_back).0 in omega arith in
-    let last = last_standing plan h f above in (
+    let last = last_standing plan h f (let k = (back_above plan h q f is_back).0 in omega arith) in (
       Compensation (position_of h) last.0,
       refl,
       compensation-may_come plan h fits (position_of h) last.0 (ap is_going_back is_back) last.1,

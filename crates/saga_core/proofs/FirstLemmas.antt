@@ -1,15 +1,14 @@
 -- The first unfinished journey, and what it implies for the others. For recovery, and for books that remember
 -- finished journeys.
-use Rattle.std.proofs.Common.{◌≡◌, ℕ, zero, suc, ◌+◌, ◌<◌, ◌≤◌, List, length, cond, refl, ap, sym, ◌∙◌, arith, eqb-true, subst, Bool, true, false, ◌==◌, ◌&&◌, not, nat_lt, Option, Some, None, find, filter_map, option_map}
+use Rattle.std.proofs.Common.{◌≡◌, ℕ, zero, suc, ◌+◌, ◌<◌, ◌≤◌, List, length, cond, refl, ap, ◌∙◌, arith, eqb-true, Bool, true, false, ◌==◌, not, nat_lt, Option, Some, None, find, filter_map}
 use Rattle.std.proofs.lemmas.Bool.{and_parts, eqb-false, ltb-true, ltb-false}
 use Rattle.std.proofs.lemmas.Option.{slice_get_past}
-use Rattle.std.specs.Prelude.{unwrap_or}
 use Rattle.std.specs.List.{cons_option}
 use Rattle.allotment.specs.Cells.{numbers_from}
-use Rattle.ledger.specs.History.{phase, is_finished, is_open}
-use Rattle.ledger.specs.Ledger.{Event, Journey, journeys, journey_at, history, phase_of, is_in}
+use Rattle.ledger.specs.History.{is_finished, is_open}
+use Rattle.ledger.specs.Ledger.{Event, journeys, phase_of, is_in}
 use Rattle.ledger.proofs.Phases.{passing}
-use Rattle.saga_core.specs.Views.{brief_of, brief_of_journey, first_unfinished, is_unfinished_above}
+use Rattle.saga_core.specs.Views.{brief_of, first_unfinished, is_unfinished_above}
 use Rattle.saga_core.specs.declared.records.Brief.{Brief}
 
 -- the number and the phase in a journey's brief
@@ -18,28 +17,11 @@ pub record Tells (m : List Event) (j : ℕ) (b : Brief) : Type 0 where
   pub phase_is : phase_of m j ≡ Some b.cursor.phase
 
 pub tells : (m : List Event) (j : ℕ) (b : Brief) → brief_of m j ≡ Some b → Tells m j b
-tells m j b is = go (journey_at m j) refl is
-  where
-    go : (o : Option Journey) → journey_at m j ≡ o
-        → option_map (brief_of_journey j (history m j)) o ≡ Some b → Tells m j b
-    go None at e = cc
-    go (Some a) at e =
-        let same : brief_of_journey j (history m j) a ≡ b = cc in
-        record {
-          number = sym (ap (λ (c : Brief). c.id) same);
-          phase_is =
-              ap (option_map (λ (c : Journey). phase c.plan (history m j))) at
-              ∙ ap (λ (c : Brief). Some c.cursor.phase) same;
-        }
+tells m j b is = grind arith
 
 -- a number without a brief has no journey
 pub untold : (m : List Event) (j : ℕ) → brief_of m j ≡ None → is_in is_open m j ≡ false
-untold m j is = go (journey_at m j) refl is
-  where
-    go : (o : Option Journey) → journey_at m j ≡ o
-        → option_map (brief_of_journey j (history m j)) o ≡ None → is_in is_open m j ≡ false
-    go None at e = ap (passing is_open (history m j)) at
-    go (Some a) at e = cc
+untold m j is = grind (arith, passing)
 
 -- the search result among so many numbers, from the first on
 data Found (m : List Event) (after first n : ℕ) : Option Brief → Type 0 where
@@ -55,10 +37,7 @@ at_first : (m : List Event) (after first k : ℕ)
     → (after < first → is_in is_open m first ≡ false) → first ≤ k → after < k
     → (suc first ≤ k → is_in is_open m k ≡ false) → (v : Bool) → (first == k) ≡ v
     → is_in is_open m k ≡ false
-at_first m after first k closed low above rest true e =
-    let same = eqb-true first k e in ap (is_in is_open m) (sym same) ∙ closed (omega arith)
-at_first m after first k closed low above rest false e =
-    let ne = eqb-false first k e in rest (omega arith)
+at_first m after first k closed low above rest v e = grind (arith, eqb-true, eqb-false)
 
 -- if the first number has no open journey, the search result is that of the later numbers
 skip : (m : List Event) (after first n : ℕ) (o : Option Brief)
@@ -77,13 +56,7 @@ skip m after first n _ closed (none before) =
 -- a journey that does not match is not above, or it is finished
 not_open : (after : ℕ) (m : List Event) (first : ℕ) (b : Brief) → Tells m first b
     → is_unfinished_above after b ≡ false → after < first → is_in is_open m first ≡ false
-not_open after m first b t fails above =
-    ap (λ o. unwrap_or (option_map is_open o) false) t.phase_is
-    ∙ go (nat_lt after b.id) (not (is_finished b.cursor.phase)) refl fails
-  where
-    go : (v w : Bool) → nat_lt after b.id ≡ v → (v && w) ≡ false → w ≡ false
-    go true w e f = f
-    go false w e f = let high = ltb-false _ _ e in let same = t.number in absurd (omega arith)
+not_open after m first b t fails above = grind (arith, ltb-false)
 
 -- the journeys are examined in order
 found-from : (m : List Event) (after n first : ℕ)
@@ -100,9 +73,7 @@ found-from m after (suc n) first =
         (find (is_unfinished_above after) (filter_map (brief_of m) (numbers_from (suc first) n))))
     by_test b t true passes rest =
         let both = and_parts (nat_lt after b.id) (not (is_finished b.cursor.phase)) passes in
-        let same = t.number in
-        let above = ltb-true _ _ both.0 in
-        found b (omega arith) above (ap (phase_of m) same ∙ t.phase_is) both.1
+        found b (omega arith) (ltb-true _ _ both.0) (ap (phase_of m) t.number ∙ t.phase_is) both.1
         (λ k low abovek below. absurd (omega arith)) (omega arith)
     by_test b t false fails rest = skip m after first n _ (not_open after m first b t fails) rest
 
@@ -132,15 +103,7 @@ first-found m after b is =
     go : (o : Option Brief) → Found m after 1 (length (journeys m)) o → Some b ≡ o
         → IsFirst m after b
     go _ (none before) e = cc
-    go _ (found c high above phase_is unfinished between low) e =
-        let same : c ≡ b = cc in
-        subst (IsFirst m after) same (record {
-          above = above;
-          within = omega arith;
-          phase_is = phase_is;
-          unfinished = unfinished;
-          between = λ k abovek below. between k (omega arith) abovek below;
-        })
+    go _ (found c high above phase_is unfinished between low) e = grind arith
 
 -- if none is found, there is none above
 pub first-none : (m : List Event) (after : ℕ) → None ≡ first_unfinished m after
@@ -149,9 +112,7 @@ first-none m after is =
     go (first_unfinished m after) (found-from m after (length (journeys m)) 1) is
   where
     beyond : (k : ℕ) → length (journeys m) < k → is_in is_open m k ≡ false
-    beyond zero far = absurd (omega arith)
-    beyond (suc i) far =
-        ap (passing is_open (history m (suc i))) (slice_get_past (journeys m) i (omega arith))
+    beyond k far = grind (arith, passing, slice_get_past)
 
     at : (k : ℕ) → ((k ≤ length (journeys m)) → is_in is_open m k ≡ false) → (v : Bool)
         → nat_lt (length (journeys m)) k ≡ v → is_in is_open m k ≡ false

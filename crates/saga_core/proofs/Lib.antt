@@ -3,7 +3,6 @@ pub mod RunLemmas
 pub mod CallLemmas
 pub mod ReasonLemmas
 pub mod WorldLemmas
-pub mod RunEndLemmas
 pub mod ChainLemmas
 pub mod FirstLemmas
 pub mod BriefLemmas

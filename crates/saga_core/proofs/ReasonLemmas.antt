@@ -54,17 +54,7 @@ acts_after_all can s asks later i past may =
 -- among those that came before others
 pub among_first : (reason : State → State → Type 0) (s : State) (asks later : Asks) → HasReasonAmong reason s asks
     → HasReasonAmong reason s (asks ++ later)
-among_first reason s asks later among =
-    let within = among.within in
-    let here : take among.count (asks ++ later) ≡ take among.count asks = take-append-le among.count asks later (omega (arith, within)) in
-    let next : take (among.count + 1) (asks ++ later) ≡ take (among.count + 1) asks =
-    take-append-le (among.count + 1) asks later (omega (arith, within)) in
-    record {
-      count = among.count;
-      within = let longer : length (asks ++ later) ≡ length asks + length later = length-append asks later in omega (arith, within, longer);
-      reason_is = subst (λ x. reason (state_after s x) (state_after s (take (among.count + 1) (asks ++ later)))) (sym here)
-          (subst (λ x. reason (state_after s (take among.count asks)) (state_after s x)) (sym next) among.reason_is);
-    }
+among_first reason s asks later among = grind (arith, take-append-le, length-append)
 
 -- among those that came after others
 pub among_later : (reason : State → State → Type 0) (s : State) (done asks : Asks) → HasReasonAmong reason (state_after s done) asks

@@ -1,5 +1,5 @@
 -- The answers of the rules to turns and save-points are the rulings on them. For who executes them.
-use Rattle.std.proofs.Common.{◌≡◌, ℕ, Bool, true, false, List, Some, refl, ap, ◌∙◌, ◌&&◌, not, nat_lt, if◌then◌else◌, Ok, Err}
+use Rattle.std.proofs.Common.{◌≡◌, ℕ, Bool, List, Some, refl, ap, ◌∙◌, if◌then◌else◌, Ok, Err, arith}
 use Rattle.plan.specs.PlanModel.{Planned}
 use Rattle.savepoints.specs.Marks.{is_taken_in}
 use Rattle.savepoints.specs.Turns.{may_be_made}
@@ -14,7 +14,7 @@ use Rattle.commands.specs.declared.replies.Refusal.{Refusal}
 use Rattle.commands.specs.declared.replies.Refusal.TheVariants.{NoSavePoint, NoSave}
 use Rattle.ledger.specs.Replies.{Answer, refused, answer_move, abort_choices, stop_choices, save_choices}
 use Rattle.ledger.specs.Ledger.{Event, Journey, journey_at, history, IsLegal}
-use Rattle.ledger.specs.History.{last_save, position_of, phase, is_finished}
+use Rattle.ledger.specs.History.{position_of, phase, is_finished}
 use Rattle.ledger_transitions.specs.Answers.{moves}
 use Rattle.ledger_transitions.specs.JourneyChanges.{target_of}
 use Rattle.ledger_transitions.specs.Cursors.{cursor_of, marks_of}
@@ -28,8 +28,7 @@ use Rattle.saga_core.specs.Rulings.{turn_said, save_said, Fits}
 by_test : (b : Bool) (j : ℕ) (plan : Planned) (c : Cursor) (x : Item) (why : Refusal) (a : Answer)
     → a ≡ (if b then moves j plan c x else refused why)
     → Fits j plan c a (if b then Ok x else Err why)
-by_test true j plan c x why a e = e
-by_test false j plan c x why a e = e
+by_test b j plan c x why a e = grind arith
 
 -- of a journey in a legal ledger
 module _ (l : List Event) (legal : IsLegal l) (j : ℕ) (a : Journey) (at : journey_at l j ≡ Some a) where
@@ -46,11 +45,7 @@ module _ (l : List Event) (legal : IsLegal l) (j : ℕ) (a : Journey) (at : jour
   abort-by_phase : (p : Phase) → phase a.plan h ≡ p → (q : ℕ)
       → Fits j a.plan c (answer_move l j (abort_choices q) NoSavePoint (Some a))
       (turn_said a.plan (record c { phase = p }) (marks_of h) (turn.Asked q) causes.Asked)
-  abort-by_phase Run e q =
-      by_test _ j a.plan c (item.Turn q causes.Asked) NoSavePoint _
-      (abort-answer l j a q legal at (runs e)
-      ∙ ap (λ p. if may_be_made a.plan (is_taken_in (marks_of h)) (position_of h) (target_of p)
-      (turn.Asked q) then moves j a.plan c (item.Turn q causes.Asked) else refused NoSavePoint) e)
+  abort-by_phase Run e q = grind (arith, by_test, abort-answer, runs)
   abort-by_phase (Back r) e q =
       by_test _ j a.plan c (item.Turn q causes.Asked) NoSavePoint _
       (abort-answer l j a q legal at (goes_back r e)
@@ -62,32 +57,15 @@ module _ (l : List Event) (legal : IsLegal l) (j : ℕ) (a : Journey) (at : jour
   stop-by_phase : (p : Phase) → phase a.plan h ≡ p
       → Fits j a.plan c (answer_move l j stop_choices NoSavePoint (Some a))
       (turn_said a.plan (record c { phase = p }) (marks_of h) turn.Stop causes.Stop)
-  stop-by_phase Run e =
-      stop-answer l j a legal at (runs e)
-      ∙ ap (λ p. if may_be_made a.plan (is_taken_in (marks_of h)) (position_of h) (target_of p)
-      turn.Stop then moves j a.plan c (item.Turn (last_save a.plan h) causes.Stop)
-      else refused NoSavePoint) e
-      ∙ ap (λ p. moves j a.plan c (item.Turn p causes.Stop)) (last_save_by-marks a.plan h (follows l legal j a at))
-  stop-by_phase (Back r) e =
-      stop-answer l j a legal at (goes_back r e)
-      ∙ ap (λ p. if may_be_made a.plan (is_taken_in (marks_of h)) (position_of h) (target_of p)
-      turn.Stop then moves j a.plan c (item.Turn (last_save a.plan h) causes.Stop)
-      else refused NoSavePoint) e
+  stop-by_phase Run e = grind (arith, stop-answer, runs, last_save_by-marks, follows)
+  stop-by_phase (Back r) e = grind (arith, stop-answer, goes_back)
   stop-by_phase Ended e = move-finished l j stop_choices NoSavePoint a (ap is_finished e)
   stop-by_phase Undone e = move-finished l j stop_choices NoSavePoint a (ap is_finished e)
 
   save-by_phase : (p : Phase) → phase a.plan h ≡ p
       → Fits j a.plan c (answer_move l j save_choices NoSave (Some a))
       (save_said a.plan (record c { phase = p }) (marks_of h))
-  save-by_phase Run e =
-      by_test _ j a.plan c (item.Save (position_of h)) NoSave _
-      (save-answer l j a legal at e
-      ∙ ap (λ b. if nat_lt 0 (position_of h) && not b
-      then moves j a.plan c (item.Save (position_of h)) else refused NoSave)
-      (is_save_point_by-marks a.plan h (position_of h) (follows l legal j a at)))
-  save-by_phase (Back r) e = save-back l j a r legal at e
-  save-by_phase Ended e = move-finished l j save_choices NoSave a (ap is_finished e)
-  save-by_phase Undone e = move-finished l j save_choices NoSave a (ap is_finished e)
+  save-by_phase p e = grind (arith, by_test, save-answer, is_save_point_by-marks, follows, save-back, move-finished)
 
   -- the answer to an abort is its ruling
   pub abort_ruled : (q : ℕ) → Fits j a.plan c (answer_move l j (abort_choices q) NoSavePoint (Some a))

@@ -1,16 +1,15 @@
 -- The effect of one more command on a run. For run.
-use Rattle.std.proofs.Common.{◌≡◌, ℕ, ◌+◌, ◌<◌, List, [], ◌∷◌, ◌++◌, length, take, get_or, refl, ap, sym, ◌∙◌, subst, arith, Option, Err}
+use Rattle.std.proofs.Common.{◌≡◌, ℕ, ◌+◌, ◌<◌, List, [], ◌∷◌, ◌++◌, length, take, get_or, refl, ap, sym, ◌∙◌, arith, Option, Err}
 use Rattle.std.proofs.lemmas.List.{take_more, get_or-map, length-map}
 use Rattle.commands.specs.Asks.{Asked}
 use Rattle.commands.specs.Orders.{request_of}
 use Rattle.commands.specs.Request.{Request}
 use Rattle.commands.specs.declared.replies.Fault.{Fault}
-use Rattle.commands.specs.declared.replies.Fault.TheVariants.{Memory, Store}
 use Rattle.commands.specs.declared.asks.Command.{Command}
 use Rattle.commands.specs.declared.replies.Reply.{Reply}
 use Rattle.ledger.specs.Answer.{State, Outcome}
 use Rattle.saga_core.specs.Books.{LeavesAtStore, KeepsAtMemory}
-use Rattle.saga_core.specs.Runs.{Asks, asked_by, asks_of, replies_to, state_after, outcome_of, StopsAmong}
+use Rattle.saga_core.specs.Runs.{Asks, asks_of, replies_to, state_after, outcome_of, StopsAmong}
 
 -- the state after some asks and then others is the state after the others, from there
 pub state_after-append : (s : State) (cs ds : Asks) → state_after s (cs ++ ds) ≡ state_after (state_after s cs) ds
@@ -21,8 +20,7 @@ state_after-append s (c ∷ cs) ds = state_after-append (outcome_of s c).state c
 pub replies_to-append : (s : State) (cs ds : Asks)
     → replies_to s (cs ++ ds) ≡ replies_to s cs ++ replies_to (state_after s cs) ds
 replies_to-append s [] ds = refl
-replies_to-append s (c ∷ cs) ds =
-    ap (λ rs. (outcome_of s c).reply ∷ rs) (replies_to-append (outcome_of s c).state cs ds)
+replies_to-append s (c ∷ cs) ds = grind (arith, replies_to-append (outcome_of s c).state cs)
 
 -- this is the ask at place i
 pub record IsAt (cs : Asks) (i : ℕ) (c : Request × Option Asked) : Type 0 where
@@ -33,11 +31,7 @@ pub record IsAt (cs : Asks) (i : ℕ) (c : Request × Option Asked) : Type 0 whe
 pub is_at : (commands : List (Command × Option Asked)) (i : ℕ) (command : Command × Option Asked) (ask : Option Asked)
     → i < length commands → command ≡ get_or commands i command → ask ≡ command.1
     → IsAt (asks_of commands) i (request_of command.0, ask)
-is_at commands i command ask within item asked = record {
-  within = let longer = length-map commands asked_by in omega (arith, within, longer);
-  item = ap (λ a. (request_of command.0, a)) asked ∙ ap asked_by item
-      ∙ sym (get_or-map asked_by commands i command (request_of command.0, ask) within);
-}
+is_at commands i command ask within item asked = grind (arith, length-map, get_or-map)
 
 -- the outcome of the ask at that place, after the asks before it
 abbrev pub outcome_at : State → Asks → ℕ → Request × Option Asked → Outcome
@@ -65,15 +59,4 @@ pub stops : {cs : Asks} {i : ℕ} {c : Request × Option Asked}
     → KeepsAtMemory {T = Reply} stood stands (Err fault)
     → LeavesAtStore stood leaves c.1 c.0 (Err fault)
     → StopsAmong stands leaves s cs replies fault
-stops {cs} {i} {c} stood stands leaves s replies Memory at replied now memory store =
-    record { count = i; within = let h = at.within in omega arith; replied = replied; left = memory _ now }
-stops {cs} {i} {c} stood stands leaves s replies Store at replied now memory store =
-    record {
-      count = i;
-      within = let h = at.within in omega arith;
-      replied = replied;
-      left = (
-        at.within,
-        subst (leaves (state_after s (take i cs))) (sym (state_after-more s at)) (store _ now),
-      );
-    }
+stops {cs} {i} {c} stood stands leaves s replies fault at replied now memory store = grind (arith, state_after-more)

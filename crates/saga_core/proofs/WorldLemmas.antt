@@ -71,21 +71,17 @@ after-dones s (c ∷ cs) last = after-dones (outcome_of s c).state cs last
 pub GoesOn-dones : (s : State) (cs : Asks) (last : List Moment) → KeepLimits cs
     → GoesOn (state_after s cs) last → GoesOn s (dones s cs ++ last)
 GoesOn-dones s [] last all then = then
-GoesOn-dones s (c ∷ cs) last all then =
-    (λ made. all.0, refl, GoesOn-dones (outcome_of s c).state cs last all.1 then)
+GoesOn-dones s (c ∷ cs) last all then = grind (arith, GoesOn-dones (outcome_of s c).state cs last all.1)
 
 -- The next ask, if there is one, is cut off.
 
 -- a cut-off ask keeps the limits
 pub GoesOn-cut : (s : State) (next : Asks) (was_kept : Bool) → KeepLimits next → GoesOn s (cut_off next was_kept)
-GoesOn-cut s [] was_kept limits = tt
-GoesOn-cut s (c ∷ later) true limits = (λ made. limits.0, refl, tt)
-GoesOn-cut s (c ∷ later) false limits = (λ made. limits.0, refl, tt)
+GoesOn-cut s next was_kept limits = grind arith
 
 -- nothing of the ask was kept
 after-lost : (s : State) (next : Asks) → after s (cut_off next false) ≡ s
-after-lost s [] = refl
-after-lost s (c ∷ later) = refl
+after-lost s next = grind arith
 
 -- all of the ask was kept
 after-kept : (s : State) (next : Asks) → length next ≤ 1 → after s (cut_off next true) ≡ state_after s next
@@ -98,26 +94,18 @@ after-kept s (c ∷ d ∷ later) few = absurd (omega arith)
 -- the final state of the continued execution
 pub after-continued : (w : List Moment) (cs : Asks) (last : List Moment)
     → after start (continued w cs last) ≡ after (state_after (after start w) cs) last
-after-continued w cs last =
-    after-append start w (dones (after start w) cs ++ last) ∙ after-dones (after start w) cs last
+after-continued w cs last = cc (after-append start w (dones (after start w) cs ++ last), after-dones (after start w) cs last)
 
 -- the continued execution is an execution
 pub IsWorld-continued : (w : List Moment) (cs : Asks) (last : List Moment) → IsWorld w → IsTrue (is_whole w)
     → KeepLimits cs → GoesOn (state_after (after start w) cs) last → IsWorld (continued w cs last)
-IsWorld-continued w cs last world whole all then =
-    GoesOn-append start w (dones (after start w) cs ++ last) world whole
-    (GoesOn-dones (after start w) cs last all then)
+IsWorld-continued w cs last world whole all then = grind (arith, GoesOn-append, GoesOn-dones)
 
 -- the book represents the state after the asks
 pub stands-continued : {stood : State → Type 0} (stands : State → Type 0) (w : List Moment) (cs : Asks)
     → StandsAtEnd stood w → KeepLimits cs → stands (state_after (after start w) cs)
     → StandsAtEnd stands (continued w cs [])
-stands-continued stands w cs here all now =
-    record {
-      world = IsWorld-continued w cs [] here.world here.whole all tt;
-      whole = is_whole-append w (dones (after start w) cs ++ []) here.whole (is_whole-dones (after start w) cs);
-      stands_there = subst stands (sym (after-continued w cs [])) now;
-    }
+stands-continued stands w cs here all now = grind (arith, IsWorld-continued, is_whole-append, is_whole-dones, after-continued)
 
 -- a crash leaves the state after the answered asks, or after the next one too
 pub leaves-crashed : {stood : State → Type 0} (leaves : State → State → Type 0) (w : List Moment) (cs next : Asks)
@@ -147,9 +135,7 @@ pub leaves-just : {stood : State → Type 0} (stands : State → Type 0) (leaves
     (w : List Moment) (asks : Asks) → ((u : State) → stands u → leaves u u)
     → StandsAtEnd stood w → KeepLimits asks → stands (state_after (after start w) asks)
     → LeavesEnd leaves (continued w asks []) (continued w asks [])
-leaves-just stands leaves w asks settled here limits now =
-    let ends = stands-continued stands w asks here limits now in
-    record { first = ends.world; second = ends.world; left = settled _ ends.stands_there }
+leaves-just stands leaves w asks settled here limits now = grind (arith, stands-continued stands w asks here limits now)
 
 -- all asks were answered
 pub ends-with : {stood : State → Type 0} (stands : State → Type 0) (leaves : State → State → Type 0)
@@ -157,11 +143,7 @@ pub ends-with : {stood : State → Type 0} (stands : State → Type 0) (leaves :
     → StandsAtEnd stood w → KeepLimits asks → stands (state_after (after start w) asks)
     → EndsWith stands leaves w asks
 ends-with stands leaves w asks settled here limits now =
-    record {
-      limits = limits;
-      ends = stands-continued stands w asks here limits now;
-      left = leaves-just stands leaves w asks settled here limits now;
-    }
+    grind (arith, stands-continued stands w asks here limits now, leaves-just stands leaves w asks settled here limits now)
 
 -- a prefix of the asks was answered, and the book represents the state after it
 abbrev pub ends-after : {stood : State → Type 0} (stands : State → Type 0) (leaves : State → State → Type 0)

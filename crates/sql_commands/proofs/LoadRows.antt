@@ -32,7 +32,7 @@ use Rattle.sql_model.proofs.StockRows.{has_shown, shown_has}
 use Rattle.sql_transitions.specs.Loading.{put_rows}
 use Rattle.sql_transitions.proofs.Fitting.{held_told, held_untold}
 use Rattle.sql_writes.specs.Loads.{put_each}
-use Rattle.sql_writes.proofs.LoadLemmas.{take-more}
+use Rattle.sql_writes.proofs.RunLemmas.{take-more}
 use Rattle.sql_commands.specs.Loading.{GetsPlaces, HavePlaces, row_loaded}
 use Rattle.sql_reads.specs.NightsRead.{AreRead, IsAmong, IsLater, held_at, nights_from}
 use Rattle.sql_reads.specs.declared.nights_read.NightsRead.{NightsRead}

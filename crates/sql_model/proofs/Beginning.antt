@@ -1,5 +1,5 @@
 -- The rows that the begin of a journey writes represent its outcome. For the begin of a journey over tables.
-use Rattle.std.proofs.Common.{◌≡◌, ℕ, suc, ◌+◌, ◌-◌, ◌<◌, ◌≤◌, List, [], ◌∷◌, ◌++◌, length, map, false, if◌then◌else◌, Option, None, IsTrue, refl, sym, ap, subst, ◌∙◌, arith, append-nil, length-append, option_map, nat_le, ◌==◌, flat_map}
+use Rattle.std.proofs.Common.{◌≡◌, ℕ, suc, ◌+◌, ◌-◌, ◌<◌, ◌≤◌, List, [], ◌∷◌, ◌++◌, length, map, false, Option, None, IsTrue, refl, sym, ap, subst, ◌∙◌, arith, append-nil, length-append, ◌==◌, flat_map, rules}
 use Rattle.std.specs.Prelude.{unwrap_or}
 use Rattle.std.specs.List.Sorted.{IsPermutation}
 use Rattle.std.proofs.lemmas.Bool.Decides.{nat_tests}
@@ -12,13 +12,11 @@ use Rattle.plan.specs.PlanModel.{Planned, is_plan, step_count}
 use Rattle.commands.specs.Asks.{Asked}
 use Rattle.commands.specs.Names.{house}
 use Rattle.commands.specs.Request.{Begin}
-use Rattle.commands.specs.declared.items.Phase.{Phase}
 use Rattle.commands.specs.declared.items.Phase.TheVariants.{Run}
-use Rattle.commands.specs.declared.replies.Refusal.TheVariants.{Limit}
 use Rattle.commands.specs.declared.replies.Reply.TheVariants.{Begun as Begins}
 use Rattle.ledger.specs.History.{phase_at, is_taken}
-use Rattle.ledger.specs.Ledger.{Event, Loaded, Began, Did, Journey, journeys, journey_at, history, held, allotment, IsLegal}
-use Rattle.ledger.specs.Answer.{State, Outcome, refused, answer_begin, most_events, asker, kept_for, outcome_for, carried_out, outcome}
+use Rattle.ledger.specs.Ledger.{Event, Loaded, Began, Did, Journey, journeys, journey_at, history, IsLegal}
+use Rattle.ledger.specs.Answer.{State, Outcome, answer_begin, most_events, asker, kept_for, carried_out, outcome}
 use Rattle.ledger.proofs.Growing.{journeys-began, history-began}
 use Rattle.ledger.proofs.Ledgers.{all_go}
 use Rattle.ledger.proofs.Allotted.{allotment-same}
@@ -44,9 +42,7 @@ start_phase n some = let off : (0 == n) ≡ false = grind (arith, nat_tests) in 
 -- a journey without items runs, at position 0
 pub cursor-start : (plan : Planned) → 1 ≤ step_count plan
     → cursor_row (cursor_of plan []) ≡ at_start
-cursor-start plan some =
-    ap (λ (p : Phase). cursor_row (record { pos = 0; phase = p; used = 0 }))
-    (start_phase (step_count plan) some)
+cursor-start plan some = search (rules, arith, start_phase)
 
 module _ (l : List Event) (legal : IsLegal l) (agent : List ℕ) (plan : Planned)
     (good : IsTrue (is_plan plan)) where
@@ -76,10 +72,7 @@ module _ (l : List Event) (legal : IsLegal l) (agent : List ℕ) (plan : Planned
 
   -- one event and one journey more
   pub meta-begun : meta_called next ≡ meta_row_at (length l + 1) id
-  meta-begun =
-      ap (λ n. meta_row_at n (length (journeys next))) (length-append l (Began agent plan ∷ []))
-      ∙ ap (meta_row_at (length l + 1))
-      (ap length journeys-next ∙ length-append (journeys l) (record { agent = agent; plan = plan } ∷ []))
+  meta-begun = search (rules, arith, length-append, journeys-next)
 
   -- no batch more
   pub batches-begun : batches_called next ≡ batches_called l
@@ -130,11 +123,7 @@ module _ (l : List Event) (legal : IsLegal l) (agent : List ℕ) (plan : Planned
 
   -- no places change
   pub places-begun : (x : Cell) → places_of next x ≡ places_of l x
-  places-begun x =
-      ap (λ o. option_map (λ (n : ℕ). record { allot = n; free = n - held next x }) o)
-      (allotment-same l (Began agent plan) x refl)
-      ∙ ap (λ m. option_map (λ (n : ℕ). record { allot = n; free = n - m }) (allotment l x))
-      (held-began l agent plan x (all_go l legal))
+  places-begun x = search (rules, arith, allotment-same, held-began, all_go)
 
 -- the rows of the new journey are those expected of the longer ledger
 pub journey_stands : (t : Tables) (s : State) (agent : List ℕ) (plan : Planned) → StandsFor t s
@@ -191,11 +180,7 @@ beginner ask = unwrap_or (asker ask) house
 pub outcome-begin : (s : State) (ask : Option Asked) (plan : Planned)
     → length s.ledger < most_events → kept_for s ask ≡ None
     → outcome s ask (Begin plan) ≡ carried_out s ask (answer_begin s.ledger (asker ask) plan)
-outcome-begin s ask plan room new =
-    ap (outcome_for s ask (Begin plan)) new
-    ∙ ap
-    (λ v. carried_out s ask (if v then refused Limit else answer_begin s.ledger (asker ask) plan))
-    (let off : nat_le most_events (length s.ledger) ≡ false = grind (arith, nat_tests) in off)
+outcome-begin s ask plan room new = search (rules, arith, nat_tests)
 
 -- the rows that a begin writes represent its outcome
 pub begin_stands : (t : Tables) (s : State) (ask : Option Asked) (plan : Planned) → StandsFor t s

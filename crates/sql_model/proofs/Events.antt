@@ -1,5 +1,5 @@
 -- What one more event adds to the rows that are expected of a ledger. For the lemmas of each event.
-use Rattle.std.proofs.Common.{◌≡◌, ℕ, suc, ◌+◌, List, [], ◌∷◌, ◌++◌, length, map, refl, ap, sym, ◌∙◌, arith, filter_map, Option}
+use Rattle.std.proofs.Common.{◌≡◌, ℕ, suc, ◌+◌, List, [], ◌∷◌, ◌++◌, length, map, refl, ap, sym, ◌∙◌, arith, filter_map, Option, rules}
 use Rattle.std.proofs.lemmas.List.{length-map}
 use Rattle.std.proofs.lemmas.List.Elements.{filter_map-append}
 use Rattle.std.specs.List.{cons_option}
@@ -10,12 +10,7 @@ use Rattle.sql_model.proofs.Lists.{counted_from-last}
 -- what one more event gives, by its number, is appended
 gives-more : {Y : Type 0} (f : ℕ → Event → Option Y) (l : List Event) (e : Event)
     → filter_map (λ (p : ℕ × Event). f p.0 p.1) (counted_from 1 (l ++ e ∷ [])) ≡ filter_map (λ (p : ℕ × Event). f p.0 p.1) (counted_from 1 l) ++ cons_option (f (length l + 1) e) []
-gives-more f l e =
-    let given = λ (p : ℕ × Event). f p.0 p.1 in
-    ap (filter_map given) (counted_from-last 1 l e)
-    ∙ filter_map-append given (counted_from 1 l) ((1 + length l, e) ∷ [])
-    ∙ ap (λ n. filter_map given (counted_from 1 l) ++ cons_option (f n e) [])
-    (let next : 1 + length l ≡ length l + 1 = omega arith in next)
+gives-more f l e = search (rules, arith, counted_from-last, filter_map-append)
 
 -- a load adds a batch, and no other event does
 pub batches_called-more : (l : List Event) (e : Event)

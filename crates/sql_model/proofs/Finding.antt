@@ -1,5 +1,5 @@
 -- The first element that passes a test, and lists without two elements that are the same. For Orders and Answering.
-use Rattle.std.proofs.Common.{◌≡◌, List, [], ◌∷◌, ◌++◌, Bool, true, false, cond, Some, None, find, refl, ap}
+use Rattle.std.proofs.Common.{◌≡◌, List, [], ◌∷◌, ◌++◌, Bool, true, false, cond, Some, None, find, refl, ap, arith, rules}
 use Rattle.std.specs.List.{AllByRecursion}
 use Rattle.sqlite_trees.proofs.ListLemmas.{ascending-append, all_weaker}
 use Rattle.sql_model.specs.Standing.{AreApart}
@@ -8,13 +8,7 @@ use Rattle.sql_model.specs.Standing.{AreApart}
 pub find-back : {X : Type 0} (test : X → Bool) (xs ys : List X) → find test xs ≡ None
     → find test (xs ++ ys) ≡ find test ys
 find-back test [] ys e = refl
-find-back test (z ∷ xs) ys e = go (test z) e (find-back test xs ys)
-  where
-    go : (v : Bool) → cond v (Some z) (find test xs) ≡ None
-        → (find test xs ≡ None → find test (xs ++ ys) ≡ find test ys)
-        → cond v (Some z) (find test (xs ++ ys)) ≡ find test ys
-    go true is later = cc
-    go false is later = later is
+find-back test (z ∷ xs) ys e = search (rules, arith, find-back test xs)
 
 -- an appended element that does not pass is not found
 pub find-last_fails : {X : Type 0} (test : X → Bool) (xs : List X) (y : X) → test y ≡ false
@@ -38,6 +32,4 @@ find-none test (z ∷ xs) e = go (test z) refl e (find-none test xs)
 -- an appended element that is the same as none of them
 pub apart-last : {X : Type 0} (same : X → X → Bool) (xs : List X) (y : X) → AreApart same xs
     → AllByRecursion (λ x. same x y ≡ false) xs → AreApart same (xs ++ y ∷ [])
-apart-last same xs y apart others =
-    ascending-append (λ a b. same a b ≡ false) xs (y ∷ []) apart (tt, tt)
-    (all_weaker (λ x. same x y ≡ false) (λ x. AllByRecursion (λ b. same x b ≡ false) (y ∷ [])) (λ x e. (e, tt)) xs others)
+apart-last same xs y apart others = search (rules, arith, ascending-append, all_weaker)

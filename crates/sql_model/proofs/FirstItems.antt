@@ -1,5 +1,5 @@
 -- The items of a journey come after the event that began it. For the reads of its items.
-use Rattle.std.proofs.Common.{◌≡◌, ◌⊎◌, inl, inr, ℕ, zero, suc, ◌+◌, ◌≤◌, List, [], ◌∷◌, ◌++◌, length, take, Some, None, refl, sym, ap, subst, ◌∙◌, arith, append-nil, length-append, slice_get, option_map}
+use Rattle.std.proofs.Common.{◌≡◌, ◌⊎◌, inl, inr, ℕ, ◌+◌, ◌≤◌, List, [], ◌∷◌, ◌++◌, length, take, Some, None, sym, ap, subst, ◌∙◌, arith, append-nil, length-append, rules}
 use Rattle.std.proofs.lemmas.List.{take_all, take-append-le}
 use Rattle.plan.specs.PlanModel.{numbered}
 use Rattle.ledger.specs.Ledger.{Event, Loaded, Began, Did, journey_at, history, IsLegal}
@@ -17,18 +17,11 @@ pub record BeginsAt (l : List Event) (j num : ℕ) : Type 0 where
 
 -- the same holds after one more event
 still : (l : List Event) (e : Event) (j num : ℕ) → BeginsAt l j num → BeginsAt (l ++ e ∷ []) j num
-still l e j num was = record {
-  low = (let more = length-append l (e ∷ []) in let low = was.low in omega arith);
-  none = ap (λ es. history es j) (take-append-le num l (e ∷ []) was.low) ∙ was.none;
-}
+still l e j num was = search (rules, arith, length-append, take-append-le)
 
 -- if no journey was begun with a number, no journey has it
 not_there : (l : List Event) (j : ℕ) → numbered (begun l) j ≡ None → journey_at l j ≡ None
-not_there l zero e = refl
-not_there l (suc i) e =
-    ap (λ js. slice_get js i) (sym (begun-journeys l))
-    ∙ slice_get-map (λ (b : Begun). b.journey) (begun l) i
-    ∙ ap (option_map (λ (b : Begun). b.journey)) e
+not_there l j e = search (rules, arith, begun-journeys, slice_get-map)
 
 abbrev AllBegin : List Event → Type 0
 AllBegin l = (j : ℕ) (b : Begun) → numbered (begun l) j ≡ Some b → BeginsAt l j b.num
@@ -73,5 +66,4 @@ pub no_item_before : (l : List Event) (j : ℕ) (b : Begun) → IsLegal l → nu
 no_item_before l j b legal e = (induct AllBegin none begins-more l legal j b e).none
   where
     none : (k : ℕ) (a : Begun) → numbered (begun []) k ≡ Some a → BeginsAt [] k a.num
-    none zero a f = cc
-    none (suc i) a f = cc
+    none k a f = search (rules, arith)

@@ -1,15 +1,13 @@
 -- The rows of items give the histories of journeys, and the rows of save-points give which of them
 -- stand. For Readings and NextItems.
-use Rattle.std.proofs.Common.{◌≡◌, ℕ, zero, suc, ◌+◌, ◌<◌, ◌==◌, List, [], ◌∷◌, map, filter, take, cond, Bool, true, false, if◌then◌else◌, Some, None, refl, sym, ap, ap₂, ◌∙◌, arith, filter_map, ◌&&◌, ◌||◌, nat_lt}
+use Rattle.std.proofs.Common.{◌≡◌, ℕ, zero, suc, ◌+◌, ◌<◌, ◌==◌, List, [], ◌∷◌, map, filter, take, cond, Bool, true, false, if◌then◌else◌, Some, None, refl, sym, ap, ap₂, ◌∙◌, arith, filter_map, ◌&&◌, ◌||◌, rules}
 use Rattle.std.proofs.lemmas.Bool.{lt-ltb}
 use Rattle.std.specs.List.{AllByRecursion, list_any, cons_option}
 use Rattle.std.specs.List.Sorted.{IsPermutation}
 use Rattle.std.proofs.lemmas.Bool.Decides.{nat_tests}
 use Rattle.std.proofs.lemmas.List.Sorted.{list_any-IsPermutation}
 use Rattle.sqlite_trees.proofs.ListLemmas.{all_weaker, filter_same}
-use Rattle.commands.specs.declared.items.Cause.TheVariants.{Stop, Refused, Asked}
 use Rattle.commands.specs.declared.items.Item.{Item}
-use Rattle.commands.specs.declared.items.Item.TheVariants.{Transaction, Compensation, Turn, Save}
 use Rattle.ledger.specs.History.{is_taken}
 use Rattle.ledger.specs.Ledger.{Event, Loaded, Began, Did, item_of, history}
 use Rattle.desk_sql.specs.Rows.{EntryRow, MarkRow}
@@ -22,24 +20,13 @@ use Rattle.sql_model.proofs.Orders.{Rises, one_order}
 -- the item is read back from its row
 pub item_back : (num journey : ℕ) (item : Item)
     → item_in (entry_row_of num journey item) ≡ Some item
-item_back num journey (Transaction step option) = refl
-item_back num journey (Compensation step option) = refl
-item_back num journey (Turn target Stop) = refl
-item_back num journey (Turn target Refused) = refl
-item_back num journey (Turn target Asked) = refl
-item_back num journey (Save position) = refl
+item_back num journey item = search (rules, arith)
 
 pub entry_num : (num journey : ℕ) (item : Item) → (entry_row_of num journey item).num ≡ num
-entry_num num journey (Transaction step option) = refl
-entry_num num journey (Compensation step option) = refl
-entry_num num journey (Turn target cause) = refl
-entry_num num journey (Save position) = refl
+entry_num num journey item = search (rules, arith)
 
 pub entry_journey : (num journey : ℕ) (item : Item) → (entry_row_of num journey item).journey ≡ journey
-entry_journey num journey (Transaction step option) = refl
-entry_journey num journey (Compensation step option) = refl
-entry_journey num journey (Turn target cause) = refl
-entry_journey num journey (Save position) = refl
+entry_journey num journey item = search (rules, arith)
 
 -- the rows of the items from this event on
 abbrev pub entries_from : ℕ → List Event → List EntryRow
@@ -95,21 +82,13 @@ items_from j n (Did k item ∷ l) =
 module _ (j after : ℕ) where
   -- a row above the number is found exactly if it is of the journey
   found_later : (e : EntryRow) → after < e.num → is_item_after j after e ≡ is_item_of j e
-  found_later e low = ap (λ v. is_item_of j e && v) (lt-ltb after e.num low) ∙ and_yes (is_item_of j e)
-    where
-      and_yes : (v : Bool) → (v && true) ≡ v
-      and_yes true = refl
-      and_yes false = refl
+  found_later e low = search (rules, arith, lt-ltb)
 
   -- a row of another journey is not found
   found_other : (e : EntryRow) (es : List EntryRow) → is_item_of j e ≡ false
       → filter (is_item_after j after) es ≡ filter (is_item_of j) es
       → filter (is_item_after j after) (e ∷ es) ≡ filter (is_item_of j) (e ∷ es)
-  found_other e es off rest =
-      let some = filter (is_item_after j after) es in
-      let all = filter (is_item_of j) es in
-      ap (λ v. cond (v && nat_lt after e.num) (e ∷ some) some) off ∙ rest
-      ∙ sym (ap (λ v. cond v (e ∷ all) all) off)
+  found_other e es off rest = search (rules, arith)
 
   -- if none of the first events is an item of the journey, all of its rows are above their number
   found_above : (n m : ℕ) (l : List Event) → n + m ≡ after + 1 → history (take m l) j ≡ []

@@ -1,5 +1,5 @@
 -- The rows of journeys represent the journeys. For Readings, and for reads of unfinished journeys.
-use Rattle.std.proofs.Common.{◌≡◌, ℕ, zero, suc, ◌+◌, ◌<◌, List, [], ◌∷◌, filter, length, Option, Some, None, refl, sym, ap, subst, ◌∙◌, arith, eqb-true, eq-eqb, slice_get, option_map}
+use Rattle.std.proofs.Common.{◌≡◌, ℕ, zero, suc, ◌+◌, ◌<◌, List, [], ◌∷◌, filter, length, Option, Some, None, refl, sym, ap, subst, ◌∙◌, arith, eqb-true, eq-eqb, slice_get, option_map, rules}
 use Rattle.std.specs.List.{AllByRecursion}
 use Rattle.std.specs.List.Sorted.{IsPermutation}
 use Rattle.sqlite_trees.proofs.ListLemmas.{ascending-map}
@@ -24,10 +24,7 @@ row_in l b = journey_row_of (history l b.0) b.0 b.1
 
 pub begun_there : (l : List Event) (i : ℕ) (b : Begun) → slice_get (begun l) i ≡ Some b
     → slice_get (journeys l) i ≡ Some b.journey
-begun_there l i b e =
-    ap (λ js. slice_get js i) (sym (begun-journeys l))
-    ∙ slice_get-map (λ (x : Begun). x.journey) (begun l) i
-    ∙ ap (option_map (λ (x : Begun). x.journey)) e
+begun_there l i b e = search (rules, arith, begun-journeys, slice_get-map)
 
 pub there_begun : (l : List Event) (i : ℕ) (a : Journey) → slice_get (journeys l) i ≡ Some a
     → (b : Begun) × (slice_get (begun l) i ≡ Some b) × (b.journey ≡ a)
@@ -98,12 +95,11 @@ pub journey_begins : (l : List Event) (rows : List JourneyRow) (id : ℕ) (r : J
     → (b : Begun) × (numbered (begun l) id ≡ Some b) × (r.num ≡ b.num)
 journey_begins l rows id r same one =
     let there = has_filtered (is_numbered id) rows r one in
-    let is : r.id ≡ id = eqb-true _ _ there.1 in
     let called = permutation_from (journeys_called l) rows r same there.0 in
     let b = has_mapped (row_in l) (counted_from 1 (begun l)) r called in
     let s = counted_stands 1 (begun l) b.0 b.1 in
     let number : id ≡ suc s.place =
-    sym is ∙ ap (λ (x : JourneyRow). x.id) b.2 ∙ s.number
+    sym (eqb-true _ _ there.1) ∙ ap (λ (x : JourneyRow). x.id) b.2 ∙ s.number
     ∙ (let e : 1 + s.place ≡ suc s.place = omega arith in e) in
     (b.0.1, ap (numbered (begun l)) number ∙ s.there, ap (λ (x : JourneyRow). x.num) b.2)
 
@@ -111,9 +107,7 @@ journey_begins l rows id r same one =
 
 -- the expected rows rise by number
 pub called_rises : (l : List Event) → Rises (λ (r : JourneyRow). r.id) (journeys_called l)
-called_rises l =
-    ascending-map (λ (r s : JourneyRow). r.id < s.id) (row_in l) (counted_from 1 (begun l))
-    (counted_rises 1 (begun l))
+called_rises l = search (rules, arith, ascending-map, counted_rises)
 
 slice_get-low : {X : Type 0} (xs : List X) (i : ℕ) (x : X) → slice_get xs i ≡ Some x → i < length xs
 slice_get-low [] i x e = cc
@@ -129,8 +123,7 @@ next_above l rows same =
   where
     numbered-low : (n : ℕ) (a : Journey) → numbered (journeys l) n ≡ Some a
         → n < length (journeys l) + 1
-    numbered-low zero a e = cc
-    numbered-low (suc i) a e = let few = slice_get-low (journeys l) i a e in omega arith
+    numbered-low n a e = search (rules, arith, slice_get-low)
 
     low : (r : JourneyRow) → (a : Journey) × (journey_at l r.id ≡ Some a) × IsJourneyOf l r a
         → r.id < length (journeys l) + 1

@@ -1,12 +1,10 @@
 -- What a read keeps. For the functions that read.
-use Rattle.std.proofs.Common.{◌≡◌, inl, inr, Bool, true, false, IsTrue, refl, sym, subst, ◌∙◌}
+use Rattle.std.proofs.Common.{◌≡◌, inl, inr, Bool, true, false, IsTrue, refl, sym, ◌∙◌, arith, rules}
 use Rattle.sqlite.specs.Tree.{Trees}
-use Rattle.sqlite.specs.Effect.{Database, IsDatabase}
 use Rattle.sqlite.specs.State.{State as Connected, HasCleanDisk, Survives}
 use Rattle.desk_sql.specs.declared.versions.Version.{Version}
 use Rattle.desk_sql.specs.Calls.{SeesIn, MaySeeIn}
-use Rattle.desk_sql.specs.Schema.{IsSchemaOf}
-use Rattle.desk_sql.specs.Rows.{Tables, ShowsIn, no_rows}
+use Rattle.desk_sql.specs.Rows.{Tables, no_rows}
 use Rattle.ledger.specs.Answer.{State}
 use Rattle.sql_model.specs.Standing.{StandsIn}
 use Rattle.sql_model.specs.Keeping.{AreTreesOf, IsKeptIn, SeesOf}
@@ -38,11 +36,4 @@ left_before a b less clean db may = elim (less.crash clean db may) [ inl before 
 
 -- a connection still sees a desk if both of its databases are as before
 pub same_desk : {v : Version} (a b : Connected) (s : State) → SeesOf v a s → b.now ≡ a.now → b.committed ≡ a.committed → SeesOf v b s
-same_desk {v} a b s saw now committed = record {
-  schema = subst (λ (d : Database). IsSchemaOf v d.schema) (sym now) saw.schema;
-  sound = subst IsDatabase (sym now) saw.sound;
-  committed = now ∙ saw.committed ∙ sym committed;
-  tables = saw.tables;
-  shown = subst (λ (d : Database). ShowsIn v d.trees saw.tables) (sym now) saw.shown;
-  stands = saw.stands;
-}
+same_desk {v} a b s saw now committed = search (rules, arith)

@@ -25,6 +25,7 @@ pub mod Accepting
 pub mod PlanParts
 pub mod KeepLemmas
 pub mod Worlds
+mod Unique
 pub mod OpenLemmas
 pub mod Staying
 pub mod Quieting

@@ -1,14 +1,12 @@
 -- Lists whose elements have numbers, and maps of functions that agree. For the lemmas on plans and events.
-use Rattle.std.proofs.Common.{◌≡◌, ℕ, suc, ◌+◌, List, [], ◌∷◌, ◌++◌, length, map, refl, ap, ap₂, ◌∙◌, arith, flat_map}
+use Rattle.std.proofs.Common.{◌≡◌, ℕ, suc, ◌+◌, List, [], ◌∷◌, ◌++◌, length, map, ap, arith, flat_map, rules}
 use Rattle.sql_model.specs.ExpectedRows.{counted_from}
 
 -- the suffix has the numbers after those of the prefix
 pub counted_from-append : {X : Type 0} (n : ℕ) (xs ys : List X)
     → counted_from n (xs ++ ys) ≡ counted_from n xs ++ counted_from (n + length xs) ys
 counted_from-append n [] ys = ap (λ k. counted_from k ys) (omega arith)
-counted_from-append n (x ∷ xs) ys =
-    ap (λ ps. (n, x) ∷ ps)
-    (counted_from-append (suc n) xs ys ∙ ap (λ k. counted_from (suc n) xs ++ counted_from k ys) (omega arith))
+counted_from-append n (x ∷ xs) ys = search (rules, arith, counted_from-append (suc n) xs ys)
 
 -- an appended element has the next number
 pub counted_from-last : {X : Type 0} (n : ℕ) (xs : List X) (x : X)
@@ -18,11 +16,9 @@ counted_from-last n xs x = counted_from-append n xs (x ∷ [])
 -- two functions that agree make the same list
 pub map-same : {X Y : Type 0} (f g : X → Y) (xs : List X) → ((x : X) → f x ≡ g x)
     → map f xs ≡ map g xs
-map-same f g [] same = refl
-map-same f g (x ∷ xs) same = ap₂ ◌∷◌ (same x) (map-same f g xs same)
+map-same f g xs same = search (rules, arith)
 
 -- two functions that agree make the same concatenation
 pub flat_map-same : {X Y : Type 0} (f g : X → List Y) (xs : List X) → ((x : X) → f x ≡ g x)
     → flat_map f xs ≡ flat_map g xs
-flat_map-same f g [] same = refl
-flat_map-same f g (x ∷ xs) same = ap₂ ◌++◌ (same x) (flat_map-same f g xs same)
+flat_map-same f g xs same = search (rules, arith)

@@ -1,14 +1,13 @@
 -- The next item of a journey after an event. For the reads of its items, one at a time.
-use Rattle.std.proofs.Common.{◌≡◌, ℕ, zero, suc, ◌+◌, ◌<◌, ◌==◌, List, [], ◌∷◌, drop, find, filter, cond, Bool, true, false, if◌then◌else◌, Option, Some, None, refl, sym, ap, subst, ◌∙◌, arith, ◌&&◌, nat_lt}
-use Rattle.std.specs.List.{cons_option}
+use Rattle.std.proofs.Common.{◌≡◌, ℕ, zero, suc, ◌+◌, ◌<◌, ◌==◌, List, [], ◌∷◌, drop, find, filter, Bool, Option, Some, None, refl, subst, ◌∙◌, arith, rules}
 use Rattle.std.specs.List.Sorted.{IsPermutation}
 use Rattle.std.proofs.lemmas.Bool.{and_from, and_right, lt-ltb, le-ltb}
 use Rattle.commands.specs.declared.items.Item.{Item}
 use Rattle.ledger.specs.Ledger.{Event, Loaded, Began, Did, history}
-use Rattle.desk_sql.specs.FoundRows.{is_item_of, is_item_after}
+use Rattle.desk_sql.specs.FoundRows.{is_item_after}
 use Rattle.desk_sql.specs.Lists.{IsLeastOf}
 use Rattle.desk_sql.specs.Rows.{EntryRow}
-use Rattle.sql_model.specs.ExpectedRows.{entry_row_of, entries_called}
+use Rattle.sql_model.specs.ExpectedRows.{entries_called}
 use Rattle.sql_model.specs.Reading.{item_in}
 use Rattle.sql_model.proofs.ItemRows.{entries_from, entries_from-rise, entry_num, entry_journey, item_back, turned}
 use Rattle.sql_model.proofs.Orders.{least_is_first}
@@ -65,26 +64,7 @@ module _ (j after : ℕ) where
       go : (v : Bool) → (j == k) ≡ v
           → TellsIfNext j (suc n) 0 l (find (is_item_after j after) (entries_from (suc n) l))
           → TellsIfNext j n 0 (Did k item ∷ l) (find (is_item_after j after) (entries_from n (Did k item ∷ l)))
-      go v e rest =
-          by v e (ap (λ i. i == j) (entry_journey n k item) ∙ turned k j ∙ e) rest
-        where
-          by : (w : Bool) → (j == k) ≡ w → is_item_of j (entry_row_of n k item) ≡ w
-              → TellsIfNext j (suc n) 0 l (find (is_item_after j after) (entries_from (suc n) l))
-              → TellsIfNext j n 0 (Did k item ∷ l) (find (is_item_after j after) (entries_from n (Did k item ∷ l)))
-          by true own is rest =
-              let number = entry_num n k item in
-              subst (λ v. TellsIfNext j n 0 (Did k item ∷ l) (cond v (Some (entry_row_of n k item)) (find (is_item_after j after) (entries_from (suc n) l))))
-              (sym (and_from _ _ is (lt-ltb after (entry_row_of n k item).num (omega arith)))) (record {
-                item = item;
-                told = item_back n k item;
-                past = 1;
-                number = omega arith;
-                rest = ap (λ v. cons_option (if v then Some item else None) (history l j)) own;
-              })
-          by false other is rest =
-              subst (λ v. TellsIfNext j n 0 (Did k item ∷ l) (cond v (Some (entry_row_of n k item)) (find (is_item_after j after) (entries_from (suc n) l))))
-              (sym (ap (λ v. v && nat_lt after (entry_row_of n k item).num) is))
-              (passed j n (Did k item) l _ (ap (λ v. cons_option (if v then Some item else None) (history l j)) other) rest)
+      go v e rest = search (rules, arith, entry_journey, turned, entries_from, entry_num, and_from, lt-ltb, item_back, passed)
 
   -- among all rows
   behind_all : (n m : ℕ) (l : List Event) → n + m ≡ after + 1
@@ -96,10 +76,7 @@ module _ (j after : ℕ) where
   behind_all n (suc m) (Began agent plan ∷ l) up =
       skipped j n m (Began agent plan) l _ (behind_all (suc n) m l (omega arith))
   behind_all n (suc m) (Did k item ∷ l) up =
-      let number = entry_num n k item in
-      subst (λ v. TellsIfNext j n (suc m) (Did k item ∷ l) (cond v (Some (entry_row_of n k item)) (find (is_item_after j after) (entries_from (suc n) l))))
-      (sym (and_right (is_item_of j (entry_row_of n k item)) _ (le-ltb after (entry_row_of n k item).num (omega arith))))
-      (skipped j n m (Did k item) l _ (behind_all (suc n) m l (omega arith)))
+      search (rules, arith, entry_num, entries_from, and_right, le-ltb, skipped, behind_all (suc n) m l)
 
 -- the row with the least number found after so many events is that of the journey's next item
 pub next_found : (l : List Event) (rows : List EntryRow) (j after : ℕ) (found : Option EntryRow)

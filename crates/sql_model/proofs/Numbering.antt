@@ -1,5 +1,5 @@
 -- The elements of a list with their numbers, and the place of each. For the lemmas on numbered rows.
-use Rattle.std.proofs.Common.{◌≡◌, inl, inr, ℕ, zero, suc, ◌+◌, ◌<◌, List, [], ◌∷◌, map, Some, refl, sym, ap, subst, ◌∙◌, arith, slice_get, option_map}
+use Rattle.std.proofs.Common.{◌≡◌, inl, inr, ℕ, zero, suc, ◌+◌, ◌<◌, List, [], ◌∷◌, map, Some, refl, sym, ap, ◌∙◌, arith, slice_get, option_map, rules}
 use Rattle.std.specs.List.{AllByRecursion}
 use Rattle.sqlite_rules.specs.Lists.{Has}
 use Rattle.sql_model.specs.ExpectedRows.{counted_from}
@@ -29,13 +29,8 @@ counted_stands n (x ∷ xs) p (inr later) =
 pub counted_has : {X : Type 0} (n : ℕ) (xs : List X) (i : ℕ) (x : X) → slice_get xs i ≡ Some x
     → Has (counted_from n xs) (n + i, x)
 counted_has n [] i x e = cc
-counted_has {X} n (y ∷ xs) zero x e =
-    let same : y ≡ x = cc in
-    let number : n + 0 ≡ n = omega arith in
-    inl (ap (λ k. (k, x)) number ∙ ap (λ z. (n, z)) (sym same))
-counted_has {X} n (y ∷ xs) (suc i) x e =
-    let number : suc n + i ≡ n + suc i = omega arith in
-    inr (subst (λ k. Has (counted_from (suc n) xs) (k, x)) number (counted_has (suc n) xs i x e))
+counted_has {X} n (y ∷ xs) zero x e = search (rules, arith)
+counted_has {X} n (y ∷ xs) (suc i) x e = search (rules, arith, counted_has (suc n) xs i x)
 
 -- the numbers rise
 pub counted_rises : {X : Type 0} (n : ℕ) (xs : List X)
@@ -51,6 +46,5 @@ counted_rises {X} n (x ∷ xs) = (above n (suc n) xs (omega arith), counted_rise
 -- the element of a mapped list at a place
 pub slice_get-map : {X Y : Type 0} (f : X → Y) (xs : List X) (i : ℕ)
     → slice_get (map f xs) i ≡ option_map f (slice_get xs i)
-slice_get-map f [] i = refl
-slice_get-map f (x ∷ xs) zero = refl
 slice_get-map f (x ∷ xs) (suc i) = slice_get-map f xs i
+slice_get-map f xs i = refl

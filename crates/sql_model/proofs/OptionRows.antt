@@ -1,5 +1,5 @@
 -- The rows of one step of a journey's plan. For Readings, and for the choice of an option.
-use Rattle.std.proofs.Common.{◌≡◌, ℕ, zero, suc, ◌+◌, ◌<◌, ◌==◌, List, [], ◌∷◌, ◌++◌, map, filter, length, Bool, true, false, Option, Some, None, IsTrue, refl, sym, ap, ap₂, subst, ◌∙◌, arith, eq-eqb, append-nil, slice_get, flat_map, ◌&&◌}
+use Rattle.std.proofs.Common.{◌≡◌, ℕ, zero, suc, ◌+◌, ◌<◌, ◌==◌, List, [], ◌∷◌, map, filter, length, Bool, true, false, Option, Some, None, IsTrue, refl, sym, ap, subst, ◌∙◌, arith, eq-eqb, append-nil, slice_get, flat_map, ◌&&◌, rules}
 use Rattle.std.specs.List.{AllByRecursion}
 use Rattle.std.specs.List.Sorted.{IsPermutation}
 use Rattle.std.proofs.lemmas.Bool.Decides.{nat_tests}
@@ -33,9 +33,7 @@ module _ (taken : ℕ → ℕ → Bool) (id : ℕ) where
   rows_if place (Some p) = option_rows taken id place p
 
   at_step : (n : ℕ) (p : StepPlan) → AllByRecursion (λ (r : StepRow). r.place ≡ n) (rows_in (n, p))
-  at_step n p =
-      all-map (λ (r : StepRow). r.place ≡ n) (λ (w : ℕ × Wanted). option_row id n p.is_marked w.0 (taken n w.0) w.1)
-      (counted_from 1 p.options) (all_of _ (λ w. refl) (counted_from 1 p.options))
+  at_step n p = search (rules, arith, all-map, all_of)
 
   own : (n place : ℕ) (p : StepPlan) → n ≡ place → filter (is_at place) (rows_in (n, p)) ≡ rows_if place (Some p)
   own n place p e =
@@ -56,22 +54,13 @@ module _ (taken : ℕ → ℕ → Bool) (id : ℕ) where
 
   past : (n place : ℕ) (ps : List StepPlan) → place < n → filter (is_at place) (flat_map rows_in (counted_from n ps)) ≡ []
   past n place [] above = refl
-  past n place (p ∷ ps) above =
-      let off : (n == place) ≡ false = grind (arith, nat_tests) in
-      filter-append (is_at place) (rows_in (n, p)) (flat_map rows_in (counted_from (suc n) ps))
-      ∙ ap₂ ◌++◌ (other n place p off) (past (suc n) place ps (omega arith))
+  past n place (p ∷ ps) above = search (rules, arith, nat_tests, filter-append, other, past (suc n) place ps)
 
   from : (n i place : ℕ) (ps : List StepPlan) → n + i ≡ place
       → filter (is_at place) (flat_map rows_in (counted_from n ps)) ≡ rows_if place (slice_get ps i)
   from n i place [] e = refl
-  from n zero place (p ∷ ps) e =
-      filter-append (is_at place) (rows_in (n, p)) (flat_map rows_in (counted_from (suc n) ps))
-      ∙ ap₂ ◌++◌ (own n place p (omega arith)) (past (suc n) place ps (omega arith))
-      ∙ append-nil (rows_if place (Some p))
-  from n (suc i) place (p ∷ ps) e =
-      let off : (n == place) ≡ false = grind (arith, nat_tests) in
-      filter-append (is_at place) (rows_in (n, p)) (flat_map rows_in (counted_from (suc n) ps))
-      ∙ ap₂ ◌++◌ (other n place p off) (from (suc n) i place ps (omega arith))
+  from n zero place (p ∷ ps) e = search (rules, arith, filter-append, own, past, append-nil)
+  from n (suc i) place (p ∷ ps) e = search (rules, arith, nat_tests, filter-append, other, from (suc n) i place ps)
 
 -- of the rows of a plan those of one step are the rows of its options
 pub step_rows_at : (taken : ℕ → ℕ → Bool) (id : ℕ) (plan : Planned) (place : ℕ) (p : StepPlan)

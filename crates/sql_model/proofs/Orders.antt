@@ -1,5 +1,5 @@
 -- Rows in another order: they still differ from each other, and just one of their orders rises. For Readings.
-use Rattle.std.proofs.Common.{◌≡◌, ◌≢◌, ◌⊎◌, inl, inr, ℕ, ◌<◌, ◌≤◌, List, [], ◌∷◌, Bool, true, false, filter, find, cond, Option, Some, None, refl, sym, ap, ap₂, subst, ◌∙◌, arith}
+use Rattle.std.proofs.Common.{◌≡◌, ◌≢◌, ◌⊎◌, inl, inr, ℕ, ◌<◌, ◌≤◌, List, [], ◌∷◌, Bool, true, false, filter, find, cond, Option, Some, None, refl, sym, ap, ap₂, subst, ◌∙◌, arith, rules}
 use Rattle.std.specs.List.{AllByRecursion}
 use Rattle.std.specs.List.Sorted.{IsPermutation}
 use Rattle.std.proofs.lemmas.List.Sorted.{IsPermutation-refl, IsPermutation-cons, IsPermutation-middle, IsPermutation-trans}
@@ -67,9 +67,7 @@ one_rising {X} key (x ∷ xs) (y ∷ ys) p q a b =
 -- a list that rises is the only rising order of its elements
 pub one_order : {X : Type 0} (key : X → ℕ) (xs ys : List X) → IsPermutation xs ys → Rises key xs
     → Rises key ys → ys ≡ xs
-one_order key xs ys same p q =
-    one_rising key ys xs q p (λ x h. permutation_from xs ys x same h)
-    (λ x h. permutation_to xs ys x same h)
+one_order key xs ys same p q = search (rules, arith, one_rising, permutation_from, permutation_to)
 
 -- a relation that implies another for the elements of a list implies it for its pairs
 pub ascending_where : {X : Type 0} (R S : X → X → Type 0) (xs : List X)

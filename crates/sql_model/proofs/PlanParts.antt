@@ -1,5 +1,5 @@
 -- The rows of a plan, step by step and option by option, and their number. For readers and writers of plans.
-use Rattle.std.proofs.Common.{◌≡◌, ℕ, zero, suc, ◌+◌, ◌<◌, List, [], ◌∷◌, ◌++◌, length, false, refl, sym, ap, ◌∙◌, arith, add-one, Option, Some, None, option_map, option_and_then, slice_get}
+use Rattle.std.proofs.Common.{◌≡◌, ℕ, zero, suc, ◌+◌, ◌<◌, List, [], ◌∷◌, ◌++◌, length, false, refl, sym, ap, ◌∙◌, arith, add-one, Option, Some, None, option_map, option_and_then, slice_get, rules}
 use Rattle.std.specs.Prelude.{unwrap_or}
 use Rattle.allotment.specs.Want.{Wanted}
 use Rattle.plan.specs.PlanModel.{Planned, StepPlan, numbered, option_count, step_count}
@@ -40,8 +40,7 @@ first_rows_of_step-more id plan i n within = more_of id i n (numbered plan.steps
 all_of : (id i : ℕ) (o : Option StepPlan)
     → unwrap_or (option_map (λ (s : StepPlan). option_rows none_taken id i (first_options (unwrap_or (option_map (λ (r : StepPlan). length r.options) o) 0) s)) o) []
     ≡ unwrap_or (option_map (λ (s : StepPlan). option_rows none_taken id i s) o) []
-all_of id i None = refl
-all_of id i (Some s) = option_rows-all none_taken id i s
+all_of id i o = search (rules, arith, option_rows-all)
 
 -- the rows up to the last option are all rows of the step
 pub first_rows_of_step-all : (id : ℕ) (plan : Planned) (i n : ℕ) → n ≡ option_count plan i
@@ -51,12 +50,4 @@ first_rows_of_step-all id plan i n all = ap (first_rows_of_step id plan i) all �
 -- the rows of the next step are appended
 pub step_rows_of-more : (id : ℕ) (plan : Planned) (n : ℕ) → n < step_count plan
     → step_rows_of id (first_steps (n + 1) plan) ≡ step_rows_of id (first_steps n plan) ++ rows_of_step id plan (n + 1)
-step_rows_of-more id plan n within = got (slice_get plan.steps n) refl
-  where
-    got : (found : Option StepPlan) → slice_get plan.steps n ≡ found
-        → step_rows_of id (first_steps (n + 1) plan) ≡ step_rows_of id (first_steps n plan) ++ rows_of_step id plan (n + 1)
-    got None e = absurd (none_within plan.steps n e within)
-    got (Some s) e =
-        step_rows-more none_taken id plan n s e
-        ∙ ap (λ f. step_rows_of id (first_steps n plan) ++ unwrap_or (option_map (λ (r : StepPlan). option_rows none_taken id (n + 1) r) f) [])
-        (sym (ap (numbered plan.steps) (add-one n) ∙ e))
+step_rows_of-more id plan n within = search (rules, arith, none_within, step_rows-more, add-one)

@@ -1,12 +1,11 @@
 -- A plan is read back from its rows, and written row by row. For RecordRows, and for reads of plans.
-use Rattle.std.proofs.Common.{◌≡◌, ℕ, zero, suc, ◌<◌, ◌≤◌, ◌==◌, List, [], ◌∷◌, ◌++◌, map, filter, length, Bool, true, false, IsTrue, refl, sym, ap, ap₂, ◌∙◌, arith, append-nil, eq-eqb, flat_map, not}
+use Rattle.std.proofs.Common.{◌≡◌, ℕ, zero, suc, ◌<◌, ◌≤◌, ◌==◌, List, [], ◌∷◌, ◌++◌, map, filter, length, Bool, true, false, IsTrue, refl, sym, ap, ap₂, ◌∙◌, arith, append-nil, eq-eqb, flat_map, not, rules}
 use Rattle.std.specs.List.{AllByRecursion}
 use Rattle.std.proofs.lemmas.Bool.Decides.{nat_tests}
 use Rattle.std.proofs.lemmas.List.{map-append}
 use Rattle.std.proofs.lemmas.List.Elements.{filter-append}
 use Rattle.sqlite_trees.proofs.ListLemmas.{filter_all, filter_none, all-map, all_of, all_weaker, all-append}
 use Rattle.allotment.specs.Want.{Wanted}
-use Rattle.allotment.specs.Cells.{kind_number}
 use Rattle.allotment.specs.declared.codes.Kind.{Kind}
 use Rattle.allotment.specs.declared.codes.Kind.TheVariants.{Flight, Room, Transfer, Cover}
 use Rattle.plan.specs.PlanModel.{Planned, StepPlan, is_plan}
@@ -32,33 +31,18 @@ map-map g f h (x ∷ xs) same = ap₂ ◌∷◌ (same x) (map-map g f h xs same)
 -- the rows of a plan without those marks are the rows with which it began
 pub step_rows-not_taken : (taken : ℕ → ℕ → Bool) (id : ℕ) (plan : Planned)
     → map not_taken (step_rows taken id plan) ≡ step_rows_of id plan
-step_rows-not_taken taken id plan =
-    map-flat_map not_taken (λ (s : ℕ × StepPlan). option_rows taken id s.0 s.1)
-    (counted_from 1 plan.steps)
-    ∙ flat_map-same (λ (s : ℕ × StepPlan). map not_taken (option_rows taken id s.0 s.1))
-    (λ (s : ℕ × StepPlan). option_rows none_taken id s.0 s.1) (counted_from 1 plan.steps)
-    (λ s. map-map not_taken (λ (w : ℕ × Wanted). option_row id s.0 s.1.is_marked w.0 (taken s.0 w.0) w.1) (λ (w : ℕ × Wanted). option_row id s.0 s.1.is_marked w.0 (none_taken s.0 w.0) w.1) (counted_from 1 s.1.options) (λ w. refl))
+step_rows-not_taken taken id plan = search (rules, arith, map-flat_map, flat_map-same, map-map)
 
 -- One plan.
 
 flag_one : (a b : Bool) → flag a ≡ flag b → a ≡ b
-flag_one true true e = refl
-flag_one true false e = absurd (omega arith)
-flag_one false true e = absurd (omega arith)
-flag_one false false e = refl
+flag_one a b e = search (rules, arith)
 
 kind_of : ℕ → Kind
 kind_of zero = Flight
 kind_of (suc zero) = Room
 kind_of (suc (suc zero)) = Transfer
 kind_of (suc (suc (suc n))) = Cover
-
-kind_of-number : (k : Kind) → kind_of (kind_number k) ≡ k
-unfolding kind_of
-kind_of-number Flight = refl
-kind_of-number Room = refl
-kind_of-number Transfer = refl
-kind_of-number Cover = refl
 
 made : Kind → List ℕ → List ℕ → ℕ → ℕ → ℕ → Wanted
 made kind supplier product first nights count =
@@ -68,16 +52,7 @@ made kind supplier product first nights count =
 pub option_row-want : (id k o : ℕ) (m n t u : Bool) (w v : Wanted)
     → option_row id k m o t w ≡ option_row id k n o u v → w ≡ v
 unfolding made
-option_row-want id k o m n t u w v e =
-    let kind : w.kind ≡ v.kind =
-    sym (kind_of-number w.kind) ∙ ap kind_of (ap (λ (r : StepRow). r.kind) e)
-    ∙ kind_of-number v.kind in
-    ap (λ (x : Kind). made x w.supplier w.product w.first w.nights w.count) kind
-    ∙ ap (λ (r : StepRow). made v.kind r.supplier w.product w.first w.nights w.count) e
-    ∙ ap (λ (r : StepRow). made v.kind v.supplier r.product w.first w.nights w.count) e
-    ∙ ap (λ (r : StepRow). made v.kind v.supplier v.product r.night w.nights w.count) e
-    ∙ ap (λ (r : StepRow). made v.kind v.supplier v.product v.first r.nights w.count) e
-    ∙ ap (λ (r : StepRow). made v.kind v.supplier v.product v.first v.nights r.places) e
+option_row-want id k o m n t u w v e = search (rules, arith)
 
 module _ (id : ℕ) where
   -- the row of an option with its number, not taken
@@ -126,9 +101,7 @@ module _ (id : ℕ) where
 
   own : (k : ℕ) (s : StepPlan)
       → AllByRecursion (λ (r : StepRow). r.place ≡ k) (option_rows none_taken id k s)
-  own k s =
-      all-map (λ (r : StepRow). r.place ≡ k) (row_at k s.is_marked) (counted_from 1 s.options)
-      (all_of _ (λ w. refl) (counted_from 1 s.options))
+  own k s = search (rules, arith, all-map, all_of)
 
   later : (k : ℕ) (steps : List StepPlan) (j : ℕ) → j < k
       → AllByRecursion (λ (r : StepRow). j < r.place) (rows_from k steps)

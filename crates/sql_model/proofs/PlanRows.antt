@@ -1,5 +1,5 @@
 -- The rows of a plan in their order: they rise, and have each step and each option once. For Readings.
-use Rattle.std.proofs.Common.{◌≡◌, inl, inr, ℕ, suc, ◌+◌, ◌*◌, ◌<◌, ◌≤◌, List, [], ◌∷◌, filter, length, Bool, true, Some, IsTrue, arith, flat_map}
+use Rattle.std.proofs.Common.{◌≡◌, ℕ, suc, ◌+◌, ◌*◌, ◌<◌, ◌≤◌, List, [], ◌∷◌, filter, length, Bool, true, Some, IsTrue, arith, flat_map, rules}
 use Rattle.std.specs.List.{AllByRecursion, list_all}
 use Rattle.std.specs.List.Sorted.{IsPermutation}
 use Rattle.std.proofs.lemmas.Bool.{and_parts}
@@ -46,11 +46,7 @@ module _ (taken : ℕ → ℕ → Bool) (id : ℕ) where
   row_at k is_marked w = option_row id k is_marked w.0 (taken k w.0) w.1
 
   option_rows-rise : (k : ℕ) (s : StepPlan) → Rises rank (option_rows taken id k s)
-  option_rows-rise k s =
-      ascending-map (λ (a b : StepRow). rank a < rank b) (row_at k s.is_marked)
-      (counted_from 1 s.options)
-      (ascending_weaker (λ (p q : ℕ × Wanted). p.0 < q.0) (λ (p q : ℕ × Wanted). rank (row_at k s.is_marked p) < rank (row_at k s.is_marked q)) (λ p q low. omega arith)
-      (counted_from 1 s.options) (counted_rises 1 s.options))
+  option_rows-rise k s = search (rules, arith, ascending-map, ascending_weaker, counted_rises)
 
   counted-low : {X : Type 0} (n : ℕ) (xs : List X) (m : ℕ) → n + length xs ≤ m
       → AllByRecursion (λ (p : ℕ × X). p.0 < m) (counted_from n xs)
@@ -59,11 +55,7 @@ module _ (taken : ℕ → ℕ → Bool) (id : ℕ) where
 
   option_rows-within : (k : ℕ) (s : StepPlan) → length s.options ≤ most_options
       → AllByRecursion (λ (r : StepRow). (k * 16 ≤ rank r) × (rank r < suc k * 16)) (option_rows taken id k s)
-  option_rows-within k s few =
-      all-map (λ (r : StepRow). (k * 16 ≤ rank r) × (rank r < suc k * 16)) (row_at k s.is_marked)
-      (counted_from 1 s.options)
-      (all_weaker (λ (p : ℕ × Wanted). p.0 < 16) (λ (p : ℕ × Wanted). (k * 16 ≤ rank (row_at k s.is_marked p)) × (rank (row_at k s.is_marked p) < suc k * 16)) (λ p low. (omega arith, omega arith))
-      (counted_from 1 s.options) (counted-low 1 s.options 16 (omega arith)))
+  option_rows-within k s few = search (rules, arith, all-map, all_weaker, counted-low)
 
   -- the rows of the steps from this number on
   abbrev rows_from : ℕ → List StepPlan → List StepRow
@@ -74,10 +66,7 @@ module _ (taken : ℕ → ℕ → Bool) (id : ℕ) where
       → AllByRecursion (λ (r : StepRow). k * 16 ≤ rank r) (rows_from k steps)
   rows_from-above k [] some = tt
   rows_from-above k (s ∷ steps) some =
-      all-append (λ (r : StepRow). k * 16 ≤ rank r) (option_rows taken id k s)
-      (rows_from (suc k) steps)
-      (all_weaker (λ (r : StepRow). (k * 16 ≤ rank r) × (rank r < suc k * 16)) (λ (r : StepRow). k * 16 ≤ rank r) (λ r h. h.0) (option_rows taken id k s) (option_rows-within k s some.0.1))
-      (all_weaker (λ (r : StepRow). suc k * 16 ≤ rank r) (λ (r : StepRow). k * 16 ≤ rank r) (λ r h. omega arith) (rows_from (suc k) steps) (rows_from-above (suc k) steps some.1))
+      search (rules, arith, all-append, all_weaker, option_rows-within, rows_from-above (suc k) steps)
 
   rows_from-rise : (k : ℕ) (steps : List StepPlan) → HaveOptions steps
       → Rises rank (rows_from k steps)
@@ -106,11 +95,7 @@ module _ (taken : ℕ → ℕ → Bool) (id : ℕ) where
 pub by_rank : (l : List Event) (id : ℕ) (a : Journey) → IsTrue (is_plan a.plan) → (r s : StepRow)
     → Has (step_rows (is_standing (history l id)) id a.plan) r
     → Has (step_rows (is_standing (history l id)) id a.plan) s → IsByPlace r s → rank r ≤ rank s
-by_rank l id a good r s h k (inl low) =
-    let few =
-    all_has _ (step_rows (is_standing (history l id)) id a.plan) r
-    (rows_from-few (is_standing (history l id)) id 1 a.plan.steps (have_options a.plan good)) h in omega arith
-by_rank l id a good r s h k (inr tied) = let place = tied.0 in let opt = tied.1 in omega arith
+by_rank l id a good r s h k x = search (rules, arith, all_has, rows_from-few, have_options)
 
 -- the rows found with a journey's number, in order, are those of its plan
 pub steps_found_in_order : (l : List Event) (rows found : List StepRow) (id : ℕ) (a : Journey)

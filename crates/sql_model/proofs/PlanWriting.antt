@@ -1,5 +1,5 @@
 -- The rows of a plan, written one at a time. For PlanParts.
-use Rattle.std.proofs.Common.{◌≡◌, ℕ, zero, suc, ◌+◌, List, [], ◌∷◌, ◌++◌, map, take, length, Bool, Some, refl, ap, ◌∙◌, arith, append-nil, add-one, flat_map, slice_get}
+use Rattle.std.proofs.Common.{◌≡◌, ℕ, zero, suc, ◌+◌, List, [], ◌∷◌, ◌++◌, map, take, length, Bool, Some, refl, ap, ◌∙◌, arith, append-nil, add-one, flat_map, slice_get, rules}
 use Rattle.std.proofs.lemmas.List.{map-append}
 use Rattle.std.proofs.lemmas.Grind.{flat_map-append}
 use Rattle.allotment.specs.Want.{Wanted}
@@ -57,15 +57,9 @@ take-whole (x ∷ xs) = ap (λ ys. x ∷ ys) (take-whole xs)
 -- the rows up to the last step are all rows
 pub step_rows-all : (taken : ℕ → ℕ → Bool) (id : ℕ) (plan : Planned)
     → step_rows taken id (first_steps (length plan.steps) plan) ≡ step_rows taken id plan
-step_rows-all taken id plan =
-    ap
-    (λ steps. flat_map (λ (p : ℕ × StepPlan). option_rows taken id p.0 p.1) (counted_from 1 steps))
-    (take-whole plan.steps)
+step_rows-all taken id plan = search (rules, arith, take-whole)
 
 -- the rows up to the last option are all rows of the step
 pub option_rows-all : (taken : ℕ → ℕ → Bool) (id k : ℕ) (s : StepPlan)
     → option_rows taken id k (first_options (length s.options) s) ≡ option_rows taken id k s
-option_rows-all taken id k s =
-    ap
-    (λ options. map (λ (p : ℕ × Wanted). option_row id k s.is_marked p.0 (taken k p.0) p.1) (counted_from 1 options))
-    (take-whole s.options)
+option_rows-all taken id k s = search (rules, arith, take-whole)

@@ -1,27 +1,12 @@
 -- What a quiet call leaves of the desk that a connection kept. For the functions that read, in the crates above.
-use Rattle.std.proofs.Common.{◌≡◌, inl, inr, IsTrue, sym, ◌∙◌, arith}
+use Rattle.std.proofs.Common.{arith, rules}
 use Rattle.sqlite.specs.Store.{Ghosts}
 use Rattle.sqlite.specs.Held.{Held, state}
-use Rattle.sqlite.specs.State.{State as Connected, KeepsCommit}
-use Rattle.desk_sql.specs.Calls.{ChangesNothing, Quiet}
-use Rattle.desk_sql.proofs.Quieting.{shut}
+use Rattle.desk_sql.specs.Calls.{Quiet}
 use Rattle.sql_model.specs.Keeping.{WasClean, KeepsEach, LeavesAsBefore}
 use Rattle.sql_model.specs.Staying.{SeesAsBefore, StaysUp}
 use Rattle.sql_model.proofs.KeepLemmas.{left_before, same_desk}
 use Rattle.sql_model.proofs.Staying.{stays_up}
-
--- a call that changes nothing commits nothing
-nothing_commits : (a b : Connected) → ChangesNothing a b → KeepsCommit a b
-nothing_commits a b (inl same) = record { was_open = λ _. same.0.was_open; committed = λ _. same.0.committed_is }
-nothing_commits a b (inr (inl back)) = record { was_open = back.was_open; committed = λ live. (back.undone live).1 }
-nothing_commits a b (inr (inr still)) =
-    record { was_open = λ live. absurd (shut b still.is_shut live); committed = λ live. absurd (shut b still.is_shut live) }
-
--- and sees what it saw, where all of that was committed
-nothing_seen : (a b : Connected) → ChangesNothing a b → IsTrue b.is_open → a.now ≡ a.committed → b.now ≡ a.now
-nothing_seen a b (inl same) live settled = same.0.now_is
-nothing_seen a b (inr (inl back)) live settled = (back.undone live).0 ∙ sym settled
-nothing_seen a b (inr (inr still)) live settled = absurd (shut b still.is_shut live)
 
 module _ {S : Type 0} (g : Ghosts S) (old new : Held S) (it : Quiet g old new) where
   -- a store that returns what was written did so before
@@ -38,10 +23,7 @@ module _ {S : Type 0} (g : Ghosts S) (old new : Held S) (it : Quiet g old new) w
 
   -- the connection sees what it saw
   pub quiet_sees : SeesAsBefore g old new
-  quiet_sees = record {
-    kept = λ clean. nothing_commits (state g old) (state g new) (it.same clean);
-    sees = λ clean live settled. nothing_seen (state g old) (state g new) (it.same clean) live settled;
-  }
+  quiet_sees = search (rules, arith)
 
   -- and keeps each state that it kept
   pub quiet_keeps : KeepsEach g old new

@@ -1,5 +1,5 @@
 -- What each read of the tables says of the state that they represent. For the functions that read.
-use Rattle.std.proofs.Common.{◌≡◌, ℕ, ◌+◌, ◌≤◌, ◌==◌, List, [], ◌∷◌, map, filter, length, take, Option, Some, IsTrue, refl, sym, ap, subst, ◌∙◌, option_map, bytes_eq, nat_le, ◌&&◌}
+use Rattle.std.proofs.Common.{◌≡◌, ℕ, ◌+◌, ◌≤◌, ◌==◌, List, [], ◌∷◌, map, filter, length, take, Option, Some, IsTrue, refl, sym, ap, subst, ◌∙◌, option_map, bytes_eq, nat_le, ◌&&◌, arith, rules}
 use Rattle.std.specs.List.{list_any}
 use Rattle.std.specs.List.Sorted.{IsPermutation}
 use Rattle.sqlite_trees.proofs.ListLemmas.{filter_same, all_of}
@@ -12,9 +12,9 @@ use Rattle.ledger.specs.Answer.{State}
 use Rattle.saga_core.specs.Views.{first_owned, first_unfinished, places_shown}
 use Rattle.desk_sql.specs.declared.versions.Version.{Version}
 use Rattle.desk_sql.specs.Versions.{number_of}
-use Rattle.desk_sql.specs.Rows.{Tables, MetaRow, StockRow, JourneyRow, EntryRow}
+use Rattle.desk_sql.specs.Rows.{Tables, StockRow, JourneyRow, EntryRow}
 use Rattle.desk_sql.specs.Changes.{AreJourneysBelow}
-use Rattle.desk_sql.specs.FoundRows.{meta_of, IsMeta, answer_of, FindsAnswer, journey_of, FindsJourney, FindsOwned, FindsUnfinished, step_of, FindsSteps, FindsOptions, item_of, FindsItems, FindsNextItem, FindsMarks}
+use Rattle.desk_sql.specs.FoundRows.{IsMeta, answer_of, FindsAnswer, journey_of, FindsJourney, FindsOwned, FindsUnfinished, step_of, FindsSteps, FindsOptions, item_of, FindsItems, FindsNextItem, FindsMarks}
 use Rattle.desk_sql.specs.Stock.{is_within, night_of, FindsNights}
 use Rattle.desk_sql.specs.declared.meta.Meta.{Meta}
 use Rattle.desk_sql.specs.declared.answers.KeptAnswer.{KeptAnswer}
@@ -42,14 +42,7 @@ module _ {v : Version} (t : Tables) (s : State) (st : StandsIn v t s) (desk : Is
   -- the row of meta counts the events and the journeys
   pub meta_read : (m : Meta) → IsMeta t m
       → (m.version ≡ number_of v) × (m.events ≡ length s.ledger) × (m.journeys ≡ length (journeys s.ledger))
-  meta_read m is =
-      let same : meta_of m ≡ record { version = number_of v; events = length s.ledger; journeys = length (journeys s.ledger) } =
-      (let rows = sym is ∙ st.meta in ap head_row rows) in
-      (ap (λ (r : MetaRow). r.version) same, ap (λ (r : MetaRow). r.events) same, ap (λ (r : MetaRow). r.journeys) same)
-    where
-      head_row : List MetaRow → MetaRow
-      head_row [] = record { version = 0; events = 0; journeys = 0 }
-      head_row (r ∷ rs) = r
+  meta_read m is = search (rules, arith)
 
   -- the next journey's number is above the number of each journey
   pub next_is_above : AreJourneysBelow (length (journeys s.ledger) + 1) t
@@ -58,9 +51,7 @@ module _ {v : Version} (t : Tables) (s : State) (st : StandsIn v t s) (desk : Is
   -- the row found under an agent's key matches the reply that is kept there
   pub answer_read : (agent key : List ℕ) (found : Option KeptAnswer) → FindsAnswer agent key t found
       → Tells IsAnswerOf (option_map (answer_of agent key) found) (s.kept agent key)
-  answer_read agent key found finds =
-      answer_found s.kept t.answer agent key
-      (option_map (answer_of agent key) found) st.answer desk.keepable finds
+  answer_read agent key found finds = search (rules, arith, answer_found)
 
   -- the row found with a number matches the journey with that number
   pub journey_read : (id : ℕ) (found : Option JourneyFound) → FindsJourney id t found
@@ -111,17 +102,13 @@ module _ {v : Version} (t : Tables) (s : State) (st : StandsIn v t s) (desk : Is
   pub steps_read : (id : ℕ) (a : Journey) (found : List StepFound) → journey_at s.ledger id ≡ Some a
       → FindsSteps id t found
       → map (step_of id) found ≡ step_rows (is_standing (history s.ledger id)) id a.plan
-  steps_read id a found at finds =
-      steps_found_in_order s.ledger t.step (map (step_of id) found) id a st.step at
-      (plan_good s.ledger id a desk.legal at) finds.same finds.rising
+  steps_read id a found at finds = search (rules, arith, steps_found_in_order, plan_good)
 
   -- the option rows found of a step are the rows of that step of the plan, in order
   pub options_read : (id place : ℕ) (a : Journey) (found : List StepFound) → journey_at s.ledger id ≡ Some a
       → FindsOptions id place t found
       → map (step_of id) found ≡ filter (is_at place) (step_rows (is_standing (history s.ledger id)) id a.plan)
-  options_read id place a found at finds =
-      options_found_in_order s.ledger t.step (map (step_of id) found) id place a st.step at
-      (plan_good s.ledger id a desk.legal at) finds.same finds.rising
+  options_read id place a found at finds = search (rules, arith, options_found_in_order, plan_good)
 
   -- the option rows found of a step are those of its options
   pub options_there : (id place : ℕ) (a : Journey) (found : List StepFound) (p : StepPlan) → journey_at s.ledger id ≡ Some a
@@ -136,9 +123,7 @@ module _ {v : Version} (t : Tables) (s : State) (st : StandsIn v t s) (desk : Is
       → journey_at s.ledger id ≡ Some a → FindsSteps id t found → IsTrue (is_plan plan)
       → step_rows_of id plan ≡ map not_taken (map (step_of id) found) → plan.tries ≡ a.plan.tries
       → plan ≡ a.plan
-  plan_read id a found plan at finds good rows tries =
-      plan_told s.ledger t.step
-      (map (step_of id) found) id a plan desk.legal st.step at finds.same finds.rising good rows tries
+  plan_read id a found plan at finds good rows tries = search (rules, arith, plan_told)
 
   -- the positions found of a journey are those at which a save-point stands that was taken at run
   -- time

@@ -1,5 +1,5 @@
 -- The row of a journey and the rows of its steps give its record. For Readings, and for reads of journeys.
-use Rattle.std.proofs.Common.{◌≡◌, ℕ, zero, suc, ◌+◌, ◌<◌, ◌≤◌, ◌==◌, List, [], ◌∷◌, ◌++◌, map, filter, Bool, true, false, Some, IsTrue, refl, sym, ap, ap₂, subst, ◌∙◌, arith, eqb-true, option_map, nat_eq, nat_le, ◌&&◌, ◌||◌}
+use Rattle.std.proofs.Common.{◌≡◌, ℕ, ◌+◌, List, [], ◌∷◌, ◌++◌, map, filter, Bool, true, false, Some, IsTrue, refl, sym, ap, ap₂, ◌∙◌, arith, eqb-true, nat_eq, ◌&&◌, ◌||◌, rules}
 use Rattle.std.specs.FinSet as set
 use Rattle.std.specs.Ordering.{nat_cmp}
 use Rattle.std.proofs.lemmas.Bool.{and_parts, or_left, or_right, leb-true, eqb-false}
@@ -13,10 +13,10 @@ use Rattle.sqlite_trees.specs.Tree.{IsAscending}
 use Rattle.sqlite_trees.proofs.ListLemmas.{all-append, all-slice_get}
 use Rattle.plan.specs.PlanModel.{Planned, StepPlan, is_plan, numbered}
 use Rattle.commands.specs.declared.items.Cursor.{Cursor}
-use Rattle.ledger.specs.Ledger.{Event, Loaded, Began, Did, Journey, journeys, journey_at, history, is_allowed, IsLegal}
+use Rattle.ledger.specs.Ledger.{Event, Journey, journeys, journey_at, history, is_allowed, IsLegal}
 use Rattle.ledger.proofs.Growing.{induct, journeys-began, journeys-loaded, journeys-did}
 use Rattle.savepoints.specs.Marks.{last_mark, is_taken_in, AreInRange, same_marks}
-use Rattle.saga_core.specs.Views.{cursor_of, marks_of, record_of_journey, record_of}
+use Rattle.saga_core.specs.Views.{marks_of, record_of}
 use Rattle.saga_core.specs.declared.records.Record.{Record}
 use Rattle.desk_sql.specs.Rows.{JourneyRow, StepRow}
 use Rattle.sql_model.specs.ExpectedRows.{cursor_row, is_standing, step_rows_of, steps_called}
@@ -33,18 +33,11 @@ HasPlan a = IsTrue (is_plan a.plan)
 
 plans-more : (l : List Event) (e : Event) → IsLegal l → IsTrue (is_allowed l e)
     → AllByRecursion HasPlan (journeys l) → AllByRecursion HasPlan (journeys (l ++ e ∷ []))
-plans-more l (Loaded name rows) legal may all =
-    subst (AllByRecursion HasPlan) (sym (journeys-loaded l name rows)) all
-plans-more l (Began agent plan) legal may all =
-    subst (AllByRecursion HasPlan) (sym (journeys-began l agent plan))
-    (all-append HasPlan (journeys l) (record { agent = agent; plan = plan } ∷ []) all (may, tt))
-plans-more l (Did j item) legal may all =
-    subst (AllByRecursion HasPlan) (sym (journeys-did l j item)) all
+plans-more l e legal may all = search (rules, arith, journeys-loaded, journeys-began, all-append, journeys-did)
 
 numbered-all : (js : List Journey) (j : ℕ) (a : Journey) → numbered js j ≡ Some a
     → AllByRecursion HasPlan js → HasPlan a
-numbered-all js zero a e all = cc
-numbered-all js (suc i) a e all = all-slice_get HasPlan js i a e all
+numbered-all js j a e all = search (rules, arith, all-slice_get)
 
 -- each journey of a legal ledger has a plan that keeps the limits
 pub plan_good : (l : List Event) (j : ℕ) (a : Journey) → IsLegal l → journey_at l j ≡ Some a
@@ -74,20 +67,7 @@ plan_told l rows found id a plan legal same at sorted up good read tries =
 -- a number from 1 to the last mark is in the list
 low_numbers : (p : ℕ) → is_between 1 last_mark p ≡ true
     → list_any (λ y. nat_eq y p) (numbers_from 1 last_mark) ≡ true
-low_numbers p e =
-    let bounds = and_parts (nat_le 1 p) (nat_le p last_mark) e in
-    among 1 last_mark p (leb-true 1 p bounds.0) (let high = leb-true p last_mark bounds.1 in omega arith)
-  where
-    among : (n k q : ℕ) → n ≤ q → q < n + k → list_any (λ y. nat_eq y q) (numbers_from n k) ≡ true
-    among n zero q low high = absurd (omega arith)
-    among n (suc k) q low high = go (n == q) refl (among (suc n) k q)
-      where
-        go : (v : Bool) → (n == q) ≡ v
-            → (suc n ≤ q → q < suc n + k → list_any (λ y. nat_eq y q) (numbers_from (suc n) k) ≡ true)
-            → list_any (λ y. nat_eq y q) (numbers_from n (suc k)) ≡ true
-        go true e rest = or_left _ _ e
-        go false e rest =
-            let off = eqb-false _ _ e in or_right _ _ (rest (omega arith) (omega arith))
+low_numbers p e = search (rules, arith, and_parts, leb-true, or_left, eqb-false, or_right)
 
 -- marks that are set where a save-point stands are the marks of the history
 pub marks_told : (h : List Item) (marks : set.FinSet nat_cmp)
@@ -136,10 +116,4 @@ pub record_told : (l : List Event) (r : JourneyRow) (a : Journey) (shown : Recor
     → shown.agent ≡ r.agent → shown.plan ≡ a.plan → cursor_row shown.cursor ≡ r.cursor
     → shown.marks ≡ marks_of (history l r.id) → record_of l r.id ≡ Some shown
 unfolding made_record
-record_told l r a shown at row agent plan cursor marks =
-    ap (λ o. option_map (record_of_journey (history l r.id)) o) at
-    ∙ ap Some
-    (sym (ap (λ x. made_record x shown.plan shown.cursor shown.marks) (agent ∙ row.agent) ∙ ap (λ p. made_record a.agent p shown.cursor shown.marks) plan
-    ∙ ap (λ c. made_record a.agent a.plan c shown.marks)
-    (cursor_row-one shown.cursor (cursor_of a.plan (history l r.id)) (cursor ∙ row.cursor))
-    ∙ ap (made_record a.agent a.plan (cursor_of a.plan (history l r.id))) marks))
+record_told l r a shown at row agent plan cursor marks = search (rules, arith, cursor_row-one)

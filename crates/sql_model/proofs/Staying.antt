@@ -1,11 +1,9 @@
 -- A store that stays up and sees what it saw, and the fault that a failed call is. For the functions of `sql_reads`,
 -- `sql_writes` and above.
-use Rattle.std.proofs.Common.{◌≡◌, ◌⊎◌, ℕ, inl, inr, true, false, sym, subst, IsTrue, ◌∙◌, arith, ◌↔◌}
+use Rattle.std.proofs.Common.{◌≡◌, ◌⊎◌, ℕ, true, IsTrue, arith, ◌↔◌, rules}
 use Rattle.sqlite.specs.Store.{Ghosts}
 use Rattle.sqlite.specs.State.{State as Connected, HasCleanDisk, Survives}
-use Rattle.sqlite.specs.Effect.{Database}
 use Rattle.sqlite.specs.Steps.{FailsToCommit}
-use Rattle.sqlite_trees.specs.declared.error.StoreError.TheVariants.{OutOfMemory, Io, Corrupt, Full, Broken, Unstorable}
 use Rattle.sqlite.specs.Held.{Held, state}
 use Rattle.sqlite.specs.declared.error.Error.{Error}
 use Rattle.sqlite.specs.declared.error.Error.TheVariants.{SqliteFailure}
@@ -25,30 +23,17 @@ use Rattle.sql_model.specs.Staying.{SeesAsBefore, StaysUp}
 -- a fault that an error of the store was turned into
 pub of_error : (old new : Connected) (e : Error) (f : Fault)
     → (f ≡ Memory ↔ e ≡ SqliteFailure RanShort) → HasReason old new e → f ≡ Store → HasFaulted old new
-of_error old new e f memory (inl is) store = absurd (let ran : Memory ≡ Store = sym (memory.1 is) ∙ store in cc)
-of_error old new e f memory (inr faulted) store = faulted
+of_error old new e f memory x store = search (rules, arith)
 
 -- why a commit failed in an open transaction: the disk failed or refused, or it ran out of memory
 pub commit_why : (late end : Connected) (e : Error) → IsTrue late.is_open → IsTrue late.in_transaction → FailsToCommit late end e
     → HasFaulted late end ⊎ (e ≡ SqliteFailure RanShort)
-commit_why late end e live inside (inl (OutOfMemory, is, why, back, told)) = inr is
-commit_why late end e live inside (inl (Io, is, why, back, told)) = inl why
-commit_why late end e live inside (inl (Corrupt, is, why, back, told)) = inl why
-commit_why late end e live inside (inl (Full, is, why, back, told)) = inl why
-commit_why late end e live inside (inl (Broken, is, why, back, told)) = absurd (let no : true ≡ false = sym live ∙ why in cc)
-commit_why late end e live inside (inl (Unstorable, is, why, back, told)) = absurd why
-commit_why late end e live inside (inr (is, out, same)) = absurd (let no : true ≡ false = sym inside ∙ out in cc)
+commit_why late end e live inside x = search (rules, arith)
 
 module _ {S : Type 0} (g : Ghosts S) (old new : Held S) where
   -- a call counts on, and stays up, whatever it commits
   pub stays_committing : (Commits : Trees → Type 0) → Survives (state g old) (state g new) Commits → StaysUp g old new
-  stays_committing Commits survives = record {
-    counts = survives.counts;
-    up = λ clean up. (elim (survives.closes clean up.is_open) [
-      | inl live ↦ inl (record { is_open = live; unlimited = survives.limit ∙ up.unlimited })
-      | inr faulted ↦ inr faulted
-    ]);
-  }
+  stays_committing x survives = search (rules, arith)
 
   -- the same of a call that commits nothing
   pub stays_up : LeavesNoMore g old new → StaysUp g old new
@@ -58,34 +43,20 @@ module _ {S : Type 0} (g : Ghosts S) (old new : Held S) where
 
 -- a connection is as much up once a transaction has begun
 pub stays_begun : {S : Type 0} (g : Ghosts S) (old new : Held S) → StaysUp g (record old { in_transaction = true }) new → StaysUp g old new
-stays_begun g old new it = record {
-  counts = it.counts;
-  up = λ clean up. it.up clean (record { is_open = up.is_open; unlimited = up.unlimited });
-}
+stays_begun g old new it = search (rules, arith)
 
 module _ {S : Type 0} (g : Ghosts S) (a b c : Held S) where
   pub stays_twice : StaysUp g a b → StaysUp g b c → WasClean g b c → StaysUp g a c
-  stays_twice one two less = record {
-    counts = (let low = one.counts in let high = two.counts in omega (arith, low, high));
-    up = λ clean up. (elim (one.up (less clean) up) [
-      | inr faulted ↦ inr (faulted_earlier (state g a) (state g b) (state g c) faulted two.counts)
-      | inl mid ↦ (elim (two.up clean mid) [ inl still ↦ inl still | inr faulted ↦ inr (faulted_later (state g a) (state g b) (state g c) one.counts faulted) ])
-    ]);
-  }
+  stays_twice one two less = search (rules, arith, faulted_earlier, faulted_later)
 
   -- a call fails that only tells of a store which the one before shut
   pub fails_twice : StaysUp g a b → StaysUp g b c → WasClean g b c → HasCleanDisk (state g c) → IsUp (state g a)
       → (IsUp (state g b) → HasFaulted (state g b) (state g c)) → HasFaulted (state g a) (state g c)
-  fails_twice one two less clean up fails = elim (one.up (less clean) up) [
-    | inr faulted ↦ faulted_earlier (state g a) (state g b) (state g c) faulted two.counts
-    | inl mid ↦ faulted_later (state g a) (state g b) (state g c) one.counts (fails mid)
-  ]
+  fails_twice one two less clean up fails = search (rules, arith, faulted_earlier, faulted_later)
 
 module _ {S : Type 0} (g : Ghosts S) (old new : Held S) where
   -- as many rowids are left as before, on a state that is kept
   pub rowids_stay : {v : Version} → SeesAsBefore g old new → WasClean g old new → (s : State) → KeepsIn v (state g old) s
       → HasCleanDisk (state g new) → IsTrue (state g new).is_open
       → (n : ℕ) → HasRowids n (state g old).now.trees → HasRowids n (state g new).now.trees
-  rowids_stay again less s keeps clean live n has =
-      let saw = (keeps (less clean)).sees ((again.kept clean).was_open live) in
-      subst (λ (d : Database). HasRowids n d.trees) (sym (again.sees clean live saw.committed)) has
+  rowids_stay again less s keeps clean live n has = search (rules, arith)

@@ -1,24 +1,20 @@
 -- The rows of a journey's steps give its plan. For PlanRows and OptionRows.
-use Rattle.std.proofs.Common.{◌≡◌, ℕ, zero, suc, ◌+◌, ◌<◌, ◌==◌, List, [], ◌∷◌, ◌++◌, filter, Bool, true, false, Option, Some, None, refl, ap, ap₂, subst, ◌∙◌, arith, eq-eqb, append-nil, slice_get, flat_map}
+use Rattle.std.proofs.Common.{◌≡◌, ℕ, zero, suc, ◌+◌, ◌<◌, ◌==◌, List, [], ◌∷◌, ◌++◌, filter, Bool, true, false, Option, Some, None, refl, ap, ap₂, subst, ◌∙◌, arith, eq-eqb, append-nil, slice_get, flat_map, rules}
 use Rattle.std.specs.List.{AllByRecursion}
 use Rattle.std.specs.List.Sorted.{IsPermutation}
 use Rattle.std.proofs.lemmas.Bool.Decides.{nat_tests}
 use Rattle.std.proofs.lemmas.List.Elements.{filter-append}
 use Rattle.sqlite_trees.proofs.ListLemmas.{IsPermutation-filter, filter_all, filter_none, all-flat_map, all-map, all_of}
-use Rattle.allotment.specs.Want.{Wanted}
-use Rattle.plan.specs.PlanModel.{Planned, StepPlan}
+use Rattle.plan.specs.PlanModel.{Planned}
 use Rattle.ledger.specs.Ledger.{Event, Journey, journeys, journey_at, history}
 use Rattle.desk_sql.specs.Rows.{StepRow}
-use Rattle.sql_model.specs.ExpectedRows.{counted_from, option_row, option_rows, step_rows, is_standing, steps_called}
+use Rattle.sql_model.specs.ExpectedRows.{counted_from, step_rows, is_standing, steps_called}
 use Rattle.desk_sql.specs.FoundRows.{is_step_of}
 
 -- each row of a plan has the journey's number
 step_rows-journey : (taken : ℕ → ℕ → Bool) (id : ℕ) (plan : Planned)
     → AllByRecursion (λ (r : StepRow). r.journey ≡ id) (step_rows taken id plan)
-step_rows-journey taken id plan =
-    all-flat_map (λ (r : StepRow). r.journey ≡ id)
-    (λ (s : ℕ × StepPlan). option_rows taken id s.0 s.1) (counted_from 1 plan.steps)
-    (all_of _ (λ s. all-map (λ (r : StepRow). r.journey ≡ id) (λ (w : ℕ × Wanted). option_row id s.0 s.1.is_marked w.0 (taken s.0 w.0) w.1) (counted_from 1 s.1.options) (all_of _ (λ w. refl) (counted_from 1 s.1.options))) (counted_from 1 plan.steps))
+step_rows-journey taken id plan = search (rules, arith, all-flat_map, all_of, all-map)
 
 module _ (taken : ℕ → ℕ → ℕ → Bool) (id : ℕ) where
   -- the rows of the plan of a journey with its number

@@ -1,5 +1,5 @@
 -- The rows of stock give the places of cells. For Readings, and for the lemmas on stock.
-use Rattle.std.proofs.Common.{◌≡◌, ◌≢◌, inl, inr, ℕ, zero, suc, ◌+◌, ◌-◌, ◌<◌, ◌≤◌, ◌==◌, List, [], ◌∷◌, map, filter, find, cond, Bool, true, false, Option, Some, None, refl, sym, ap, subst, ◌∙◌, arith, eqb-true, eq-eqb, filter_map, option_map, bytes_eq}
+use Rattle.std.proofs.Common.{◌≡◌, ◌≢◌, inl, inr, ℕ, zero, suc, ◌+◌, ◌-◌, ◌<◌, ◌≤◌, ◌==◌, List, [], ◌∷◌, map, filter, find, cond, Bool, true, false, Option, Some, None, refl, sym, ap, subst, ◌∙◌, arith, eqb-true, eq-eqb, filter_map, option_map, bytes_eq, rules}
 use Rattle.std.specs.List.{cons_option}
 use Rattle.std.specs.List.Sorted.{IsPermutation}
 use Rattle.std.proofs.lemmas.Bool.{and_parts, and_from, leb-true, le-leb, eqb-false, false_from_ne_true}
@@ -18,7 +18,7 @@ use Rattle.sqlite_rules.specs.Lists.{Has}
 use Rattle.sqlite_rules.proofs.ListLemmas.{all_has, all_from, test_from, has_filtered, has_kept, has_found}
 use Rattle.sqlite_rules.proofs.ProbeLemmas.{has_mapped, mapped_has}
 use Rattle.allotment.specs.Want.{Wanted}
-use Rattle.allotment.specs.Cells.{is_cell, cell_at, numbers_from}
+use Rattle.allotment.specs.Cells.{cell_at, numbers_from}
 use Rattle.allotment.specs.declared.cells.Cell.{Cell}
 use Rattle.allotment.specs.declared.places.Held.{Held}
 use Rattle.ledger.specs.Ledger.{Event}
@@ -33,24 +33,7 @@ use Rattle.sql_model.proofs.Orders.{Rises, pairs-permutation, ascending_where, c
 -- two rows that match one cell are of the same cell
 one_cell : (x : Cell) (r s : StockRow) → is_stock_of x r ≡ true → is_stock_of x s ≡ true
     → is_same_stock r s ≡ true
-one_cell x r s p q =
-    let p3 = and_parts _ _ p in
-    let p2 = and_parts _ _ p3.0 in
-    let p1 = and_parts _ _ p2.0 in
-    let q3 = and_parts _ _ q in
-    let q2 = and_parts _ _ q3.0 in
-    let q1 = and_parts _ _ q2.0 in
-    let kind : r.kind ≡ s.kind = sym (eqb-true _ _ p1.0) ∙ eqb-true _ _ q1.0 in
-    let supplier : r.supplier ≡ s.supplier =
-    sym ((bytes_eq-Decides x.supplier r.supplier).0 p1.1)
-    ∙ (bytes_eq-Decides x.supplier s.supplier).0 q1.1 in
-    let product : r.product ≡ s.product =
-    sym ((bytes_eq-Decides x.product r.product).0 p2.1)
-    ∙ (bytes_eq-Decides x.product s.product).0 q2.1 in
-    let night : r.night ≡ s.night = sym (eqb-true _ _ p3.1) ∙ eqb-true _ _ q3.1 in
-    and_from _ _
-    (and_from _ _ (and_from _ _ (eq-eqb r.kind s.kind kind) ((bytes_eq-Decides r.supplier s.supplier).1 supplier)) ((bytes_eq-Decides r.product s.product).1 product))
-    (eq-eqb r.night s.night night)
+one_cell x r s p q = search (rules, arith, and_parts, eqb-true, bytes_eq-Decides, and_from, eq-eqb)
 
 -- the row of a cell gives its places
 pub stock_at-row : (rows : List StockRow) (x : Cell) (r : StockRow) → AreApart is_same_stock rows
@@ -76,38 +59,13 @@ row-stock_at rows x p e = go (find (is_stock_of x) rows) refl
 -- a row that is wanted is that of the want's cell at its night
 pub wanted_cell : (w : Wanted) (r : StockRow) → 1 ≤ w.nights → is_wanted_row w r ≡ true
     → (is_stock_of (cell_at w r.night) r ≡ true) × (w.first ≤ r.night) × (r.night < w.first + w.nights)
-wanted_cell w r some e =
-    let one = and_parts _ _ e in
-    let two = and_parts _ _ one.1 in
-    let three = and_parts _ _ two.1 in
-    let four = and_parts _ _ three.1 in (
-      and_from _ _
-          (and_from _ _ (and_from _ _ (eq-eqb _ _ (sym (eqb-true _ _ one.0))) ((bytes_eq-Decides w.supplier r.supplier).1 (sym ((bytes_eq-Decides r.supplier w.supplier).0 two.0))))
-          ((bytes_eq-Decides w.product r.product).1 (sym ((bytes_eq-Decides r.product w.product).0 three.0)))) (eq-eqb r.night r.night refl),
-      leb-true w.first r.night four.0,
-      (let high = leb-true r.night (w.first + w.nights - 1) four.1 in omega arith),
-    )
-
--- the number of a night is between those of the first and the last
-night_within : (w : Wanted) (n m : ℕ) → n ≡ m → w.first ≤ n → n < w.first + w.nights
-    → (w.first ≤ m) × (m ≤ w.first + w.nights - 1)
-night_within w n m same low high = (omega arith, omega arith)
+wanted_cell w r some e = search (rules, arith, and_parts, and_from, eq-eqb, eqb-true, bytes_eq-Decides, leb-true)
 
 -- the row of a want's cell is wanted
 pub cell_wanted : (w : Wanted) (n : ℕ) (r : StockRow) → is_stock_of (cell_at w n) r ≡ true → w.first ≤ n
     → n < w.first + w.nights → (is_wanted_row w r ≡ true) × (r.night ≡ n)
 cell_wanted w n r e low high =
-    let three = and_parts _ _ e in
-    let two = and_parts _ _ three.0 in
-    let one = and_parts _ _ two.0 in
-    let night : n ≡ r.night = eqb-true n r.night three.1 in
-    let bounds = night_within w n r.night night low high in (
-      and_from _ _ (eq-eqb _ _ (sym (eqb-true _ _ one.0)))
-          (and_from _ _ ((bytes_eq-Decides r.supplier w.supplier).1 (sym ((bytes_eq-Decides w.supplier r.supplier).0 one.1)))
-          (and_from _ _ ((bytes_eq-Decides r.product w.product).1 (sym ((bytes_eq-Decides w.product r.product).0 two.1)))
-          (and_from _ _ (le-leb w.first r.night bounds.0) (le-leb r.night (w.first + w.nights - 1) bounds.1)))),
-      sym night,
-    )
+    search (rules, arith, and_parts, eqb-true, and_from, eq-eqb, bytes_eq-Decides, le-leb)
 
 -- the places shown of a want's nights, from a night on
 abbrev shown_from : List Event → Wanted → ℕ → ℕ → List (ℕ × Places)
@@ -177,13 +135,7 @@ apart_nights w rows some once =
   where
     differ : (r s : StockRow) → Has (filter (is_wanted_row w) rows) r
         → Has (filter (is_wanted_row w) rows) s → is_same_stock r s ≡ false → r.night ≡ s.night → ⊥
-    differ r s h k off night =
-        let of_r = (wanted_cell w r some (has_filtered (is_wanted_row w) rows r h).1).0 in
-        let of_s = (wanted_cell w s some (has_filtered (is_wanted_row w) rows s k).1).0 in
-        let on =
-        one_cell (cell_at w s.night) r s
-        (subst (λ n. is_stock_of (cell_at w n) r ≡ true) night of_r) of_s in
-        let bad : true ≡ false = sym on ∙ off in cc
+    differ r s h k off night = search (rules, arith, wanted_cell, has_filtered, one_cell)
 
 -- the rows found of a want's nights, in order, give the nights that are shown
 pub nights_found : (l : List Event) (rows found : List StockRow) (w : Wanted) → 1 ≤ w.nights
@@ -226,14 +178,7 @@ nights_found l rows found w some stand same sorted =
 -- All cells.
 
 pub same_back : (r s : StockRow) → is_same_stock r s ≡ false → is_same_stock s r ≡ false
-same_back r s off = false_from_ne_true (is_same_stock s r) (λ on.
-    let three = and_parts _ _ on in
-    let two = and_parts _ _ three.0 in
-    let one = and_parts _ _ two.0 in
-    let back : is_same_stock r s ≡ true = and_from _ _
-    (and_from _ _ (and_from _ _ (eq-eqb r.kind s.kind (sym (eqb-true _ _ one.0))) ((bytes_eq-Decides r.supplier s.supplier).1 (sym ((bytes_eq-Decides s.supplier r.supplier).0 one.1))))
-    ((bytes_eq-Decides r.product s.product).1 (sym ((bytes_eq-Decides s.product r.product).0 two.1)))) (eq-eqb r.night s.night (sym (eqb-true _ _ three.1))) in
-    let bad : true ≡ false = sym back ∙ off in cc)
+same_back r s off = search (rules, arith, false_from_ne_true, and_parts, and_from, eq-eqb, eqb-true, bytes_eq-Decides)
 
 -- rows that are apart are so in each order
 stock_apart : (rows found : List StockRow) → IsPermutation rows found → AreApart is_same_stock rows
@@ -268,9 +213,7 @@ stock_total =
     (then_total (on_total (λ (r : StockRow). r.product) nat_list_cmp_total) (on_total (λ (r : StockRow). r.night) nat_cmp_total)))
 
 both_tie : (o p : Ordering) → ordering_then o p ≡ Equal → (o ≡ Equal) × (p ≡ Equal)
-both_tie Less p e = cc
-both_tie Equal p e = (refl, e)
-both_tie Greater p e = cc
+both_tie o p e = search (rules, arith)
 
 number_tie : (a b : ℕ) → nat_cmp a b ≡ Equal → (a == b) ≡ true
 number_tie a b e = grind (arith, nat_tests)
@@ -280,13 +223,7 @@ text_tie a b e = sym (is_eq-slice_cmp a b) ∙ ap is_eq e
 
 -- rows that compare equal are of one cell
 tied_same : (r s : StockRow) → stock_cmp r s ≡ Equal → is_same_stock r s ≡ true
-tied_same r s e =
-    let one = both_tie (nat_cmp r.kind s.kind) _ e in
-    let two = both_tie (slice_cmp nat_cmp r.supplier s.supplier) _ one.1 in
-    let three = both_tie (slice_cmp nat_cmp r.product s.product) _ two.1 in
-    and_from _ _
-    (and_from _ _ (and_from _ _ (number_tie r.kind s.kind one.0) (text_tie r.supplier s.supplier two.0)) (text_tie r.product s.product three.0))
-    (number_tie r.night s.night three.1)
+tied_same r s e = search (rules, arith, both_tie, and_from, number_tie, text_tie)
 
 -- if the second of two cells is not before the first, the first is before the second
 before : (r s : StockRow) → is_lt (stock_cmp s r) ≡ false → is_same_stock r s ≡ false
@@ -312,15 +249,12 @@ find-map {X} {Y} f p (x ∷ xs) = go (p (f x)) (find-map f p xs)
 
 told_said : (o : Option (Cell × Held))
     → option_map places_told (option_map stock_row_of o) ≡ option_map (λ (c : Cell × Held). places_said c.1) o
-told_said None = refl
-told_said (Some c) = refl
+told_said o = search (rules, arith)
 
 -- the rows of a list of cells give the places of the list
 listed_at : (cells : List (Cell × Held)) (x : Cell)
     → stock_at (map stock_row_of cells) x ≡ places_at cells x
-listed_at cells x =
-    ap (λ o. option_map places_told o) (find-map stock_row_of (is_stock_of x) cells)
-    ∙ told_said (find (λ (c : Cell × Held). is_cell x c.0) cells)
+listed_at cells x = search (rules, arith, find-map, told_said)
 
 listed_in_order : (cells : List (Cell × Held)) → IsAscending IsByCell (map stock_row_of cells)
     → AreApart is_same_stock (map stock_row_of cells) → are_in_order cells ≡ true

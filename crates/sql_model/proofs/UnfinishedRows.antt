@@ -1,14 +1,13 @@
 -- The first row of an unfinished journey is that of the first unfinished journey, and the first row of an agent that of the
 -- first journey of the agent. For Readings.
-use Rattle.std.proofs.Common.{◌≡◌, ℕ, suc, ◌+◌, List, [], ◌∷◌, map, find, cond, length, Bool, true, false, Option, Some, refl, sym, ap, subst, ◌∙◌, arith, slice_get, filter_map, option_map, nat_lt, not, ◌&&◌, nat_le, filter}
+use Rattle.std.proofs.Common.{◌≡◌, ℕ, suc, ◌+◌, List, [], ◌∷◌, map, find, cond, length, Bool, true, false, Option, Some, refl, sym, ap, subst, ◌∙◌, arith, slice_get, filter_map, option_map, not, nat_le, filter, rules}
 use Rattle.std.specs.List.{cons_option}
 use Rattle.std.specs.List.Sorted.{IsPermutation}
 use Rattle.allotment.specs.Cells.{numbers_from}
 use Rattle.commands.specs.declared.items.Phase.{Phase}
-use Rattle.commands.specs.declared.items.Phase.TheVariants.{Run, Back, Ended, Undone}
-use Rattle.ledger.specs.History.{phase, is_finished}
+use Rattle.ledger.specs.History.{is_finished}
 use Rattle.ledger.specs.Ledger.{Event, journey_at, numbers, history}
-use Rattle.saga_core.specs.Views.{brief_of_journey, brief_of, is_owned_above, first_owned, is_unfinished_above, first_unfinished}
+use Rattle.saga_core.specs.Views.{brief_of_journey, brief_of, is_owned_above, first_owned, first_unfinished}
 use Rattle.saga_core.specs.declared.records.Brief.{Brief}
 use Rattle.desk_sql.specs.Rows.{JourneyRow}
 use Rattle.sql_model.specs.ExpectedRows.{counted_from, Begun, begun, phase_number, journeys_called}
@@ -38,10 +37,7 @@ briefs_from l n (b ∷ bs) at =
 -- the briefs are those of the journeys that were begun
 briefs : (l : List Event)
     → filter_map (brief_of l) (numbers l) ≡ map (brief_in l) (counted_from 1 (begun l))
-briefs l =
-    ap (λ n. filter_map (brief_of l) (numbers_from 1 n)) (sym (length-begun l))
-    ∙ briefs_from l 1 (begun l)
-    (λ i b e. ap (journey_at l) (let k : 1 + i ≡ suc i = omega arith in k) ∙ begun_there l i b e)
+briefs l = search (rules, arith, length-begun, briefs_from, begun_there)
 
 found_alike : {X R B : Type 0} (IsOf : R → B → Type 0) (f : X → R) (g : X → B) (p : R → Bool) (q : B → Bool)
     → ((x : X) → p (f x) ≡ q (g x)) → ((x : X) → IsOf (f x) (g x))
@@ -57,10 +53,7 @@ found_alike {X} IsOf f g p q same each (x ∷ xs) =
     go false rest = rest
 
 unfinished_phase : (p : Phase) → nat_le (phase_number p) 1 ≡ not (is_finished p)
-unfinished_phase Run = refl
-unfinished_phase (Back target) = refl
-unfinished_phase Ended = refl
-unfinished_phase Undone = refl
+unfinished_phase p = search (rules, arith)
 
 -- the row with the least number, of those that pass a test, is that of the first journey that passes it
 first_row_found : (l : List Event) (rows : List JourneyRow) (test : JourneyRow → Bool) (passes : Brief → Bool) (found : Option JourneyRow)
@@ -79,9 +72,7 @@ pub unfinished_found : (l : List Event) (rows : List JourneyRow) (after : ℕ) (
     → IsPermutation (journeys_called l) rows
     → IsLeastOf (λ (r : JourneyRow). r.id) (filter (is_unfinished_after after) rows) found
     → Tells IsBriefOf found (first_unfinished l after)
-unfinished_found l rows after found same least =
-    first_row_found l rows (is_unfinished_after after) (is_unfinished_above after) found
-    (λ b. ap (λ v. nat_lt after b.0 && v) (unfinished_phase (phase b.1.journey.plan (history l b.0)))) same least
+unfinished_found l rows after found same least = search (rules, arith, first_row_found, unfinished_phase)
 
 -- of those that are an agent's and above a number
 pub owned_found : (l : List Event) (rows : List JourneyRow) (agent : List ℕ) (after : ℕ) (found : Option JourneyRow)

@@ -1,9 +1,8 @@
 -- Each moment of an execution takes a desk's state to a desk's state. For `desks`.
-use Rattle.std.proofs.Common.{◌≡◌, List, [], ◌∷◌, refl, sym, ap, subst, true, false, Option, Some, None, is_some}
+use Rattle.std.proofs.Common.{◌≡◌, List, [], ◌∷◌, refl, sym, ap, subst, true, false, Option, Some, None, is_some, arith, rules}
 use Rattle.commands.specs.Asks.{Asked}
 use Rattle.commands.specs.Request.{Request}
-use Rattle.commands.specs.declared.replies.Reply.{Reply}
-use Rattle.ledger.specs.Answer.{State, KeptReply, start, answer, asker, kept_for, state_with, outcome_for, outcome}
+use Rattle.ledger.specs.Answer.{State, start, outcome}
 use Rattle.ledger.specs.Ledger.{Event}
 use Rattle.ledger.specs.World.{Moment, Done, Cut, Reopened, after, KeepsLimits, GoesOn}
 use Rattle.sql_model.specs.Standing.{IsDesk}
@@ -11,19 +10,9 @@ use Rattle.sql_model.specs.Worlds.{EachWorldIsADesk}
 use Rattle.sql_model.proofs.Accepting.{outcome_keeps}
 use Rattle.sql_model.proofs.Founding.{start_is_desk}
 
--- a request that makes no event changes nothing
-same_with : (s : State) (ask : Option Asked) (r : Reply) (e : Option Event) → e ≡ None → state_with s ask r e ≡ s
-same_with s ask r None none = refl
-same_with s ask r (Some e) none = cc
-
 same_without : (s : State) (ask : Option Asked) (asked : Request) → (outcome s ask asked).event ≡ None
     → (outcome s ask asked).state ≡ s
-same_without s ask asked = go (kept_for s ask)
-  where
-    go : (k : Option KeptReply) → (outcome_for s ask asked k).event ≡ None → (outcome_for s ask asked k).state ≡ s
-    go (Some k) none = refl
-    go None none =
-        same_with s ask (answer s.ledger (asker ask) asked).reply (answer s.ledger (asker ask) asked).event none
+same_without s ask asked = search (rules, arith)
 
 -- a request of an execution leaves a desk's state
 stays_desk : (s : State) (ask : Option Asked) (asked : Request) → IsDesk s → KeepsLimits s ask asked

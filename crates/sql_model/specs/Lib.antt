@@ -7,5 +7,7 @@ pub mod Keeping
 pub mod Staying
 pub mod Worlds
 pub mod Openings
+pub mod Schemas
+pub mod SchemaExamples
 pub mod Spelling
 pub mod Examples

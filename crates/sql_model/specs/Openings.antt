@@ -8,6 +8,10 @@ use Rattle.desk_sql.specs.declared.versions.Version.{Version}
 use Rattle.ledger.specs.Answer.{State}
 use Rattle.sql_model.specs.Keeping.{MeansOf, StoodFor}
 
+-- a crash leaves just what the connection shows
+abbrev pub LeavesOnly : Connected → Type 0
+LeavesOnly c = HasCleanDisk c → (db : Trees) → c.may_leave db → db ≡ c.now.trees
+
 -- it was opened over trees that mean this state, in tables of this version, and a crash leaves just those
 pub record IsOpenedOver (v : Version) (c : Connected) (s : State) : Type 0 where
   pub opens : Opens c

@@ -9,13 +9,12 @@ ghost use Rattle.ledger.specs.Answer.{start};
 ghost use Rattle.ledger.specs.KeyExamples.{step_cut_off};
 ghost use Rattle.ledger.specs.World.{after};
 ghost use Rattle.desk_sql.specs.declared.versions.Version.TheVariants.{Two};
-ghost use Rattle.sql_restart.specs.Restarts.{LeavesOnly};
 ghost use Rattle.sql_model.specs.Keeping.{StoodFor};
-ghost use Rattle.sql_model.specs.Openings.{StandsAsOpened};
+ghost use Rattle.sql_model.specs.Openings.{LeavesOnly, StandsAsOpened};
 ghost use Rattle.sql_model.specs.Standing.{IsDesk};
 ghost use Rattle.sql_model.specs.Worlds.{EachWorldIsADesk};
 
-use sql_restart::schemas;
+use crate::one_schema::schemas;
 use sqlite::{Alter, Connection};
 
 /// After each execution the ledger is legal, and its kept replies can be read from their lines.

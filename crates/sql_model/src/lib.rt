@@ -11,6 +11,8 @@
 
 mod faults;
 mod laws;
+mod one_schema;
 
 pub use faults::fault_of;
 pub use laws::{desk_after_a_crash, desks, new_desk_is_found, openings};
+pub use one_schema::{schema_of_notes, schemas};

@@ -1,5 +1,5 @@
 -- The steps that are built of the rows of a plan are those of the plan. For `plan_rows::steps_told`.
-use Rattle.std.proofs.Common.{◌≡◌, ℕ, suc, ◌+◌, ◌<◌, ◌≤◌, ◌⊎◌, inl, inr, List, [], ◌∷◌, ◌++◌, map, drop, length, get_or, Bool, true, false, IsTrue, Ok, Err, refl, sym, ap, subst, ◌∙◌, arith, append-nil, append_assoc, ◌==◌, flat_map}
+use Rattle.std.proofs.Common.{◌≡◌, ℕ, suc, ◌+◌, ◌<◌, ◌≤◌, ◌⊎◌, inr, List, [], ◌∷◌, ◌++◌, map, drop, length, get_or, Bool, true, false, IsTrue, Ok, Err, refl, sym, ap, subst, ◌∙◌, arith, append-nil, append_assoc, ◌==◌, flat_map, rules, inl}
 use Rattle.std.specs.List.{list_all}
 use Rattle.std.proofs.Math.ListN.{drop_of_length-le}
 use Rattle.std.proofs.lemmas.Bool.{and_parts}
@@ -41,10 +41,7 @@ starts id k [] left good e = (refl, e)
 starts id k (s ∷ later) left good e = go s.options refl
   where
     go : (ws : List Wanted) → s.options ≡ ws → IsLeft id k [] (s ∷ later) left
-    go [] none =
-        let limits = step_limited s (and_parts (is_step s) (list_all is_step later) good).0 in
-        let few = limits.some_options in
-        absurd (let count = ap length none in omega (arith, few, count))
+    go [] none = search (rules, arith, step_limited, and_parts)
     go (w ∷ ws) some = (w, ws, some, e ∙ ap (λ os. options_from id k s.is_marked 1 os ++ rows_from id (suc k) later) some)
 
 pub at_start : (id : ℕ) (plan : Planned) (rows : List StepFound) → AreRowsOf id plan rows → Goes id plan rows 0 [] []
@@ -60,13 +57,7 @@ at_start id plan rows are =
 -- after the last row, all steps were built
 pub at_end : (id : ℕ) (plan : Planned) (rows : List StepFound) (at : ℕ) (steps : List PlanStep) (options : List Wanted)
     → Goes id plan rows at steps options → length rows ≤ at → map step_said steps ≡ plan.steps
-at_end id plan rows at steps options goes past = go goes.later goes.steps_are goes.left
-  where
-    go : (later : List StepPlan) → plan.steps ≡ map step_said steps ++ later
-        → IsLeft id (length steps + 1) options later (first_rows id (drop at rows)) → map step_said steps ≡ plan.steps
-    go [] are left = sym (are ∙ append-nil (map step_said steps))
-    go (s ∷ later) are left =
-        absurd (let none : [] ≡ first_rows id (drop at rows) = sym (ap (first_rows id) (drop_of_length-le rows past)) in let more = none ∙ left.3 in cc)
+at_end id plan rows at steps options goes past = search (rules, arith, append-nil, drop_of_length-le)
 
 -- What the next row gives: a want that keeps its limits. Then either the next one is of the same step, or the step ends.
 pub record NextOption (id : ℕ) (plan : Planned) (rows : List StepFound) (at : ℕ) (steps : List PlanStep) (options : List Wanted) (row : StepFound) : Type 0 where
@@ -82,8 +73,7 @@ good_in [] vs w e = (and_parts (is_want w) (list_all is_want vs) e).0
 good_in (x ∷ ws) vs w e = good_in ws vs w (and_parts (is_want x) (list_all is_want (ws ++ (w ∷ vs))) e).1
 
 flag_is : (m : Bool) → (flag m == 1) ≡ m
-flag_is true = refl
-flag_is false = refl
+flag_is m = search (rules, arith)
 
 pub next_option : (id : ℕ) (plan : Planned) (rows : List StepFound) (at : ℕ) (steps : List PlanStep) (options : List Wanted) (row : StepFound)
     → Goes id plan rows at steps options → at < length rows → row ≡ get_or rows at row → NextOption id plan rows at steps options row

@@ -1,6 +1,5 @@
 -- What the rows of a step imply for its options. For `options`.
-use Rattle.std.proofs.Common.{◌≡◌, ℕ, ◌+◌, ◌-◌, ◌<◌, ◌≤◌, ◌==◌, zero, suc, List, [], ◌∷◌, length, get_or, min, Some, refl, sym, ap, subst, ◌∙◌, arith, eqb-true, slice_get, option_map, option_and_then}
-use Rattle.std.specs.Prelude.{unwrap_or}
+use Rattle.std.proofs.Common.{◌≡◌, ℕ, ◌+◌, ◌-◌, ◌<◌, ◌≤◌, ◌==◌, zero, suc, List, [], ◌∷◌, length, get_or, min, Some, refl, sym, ap, subst, ◌∙◌, arith, eqb-true, slice_get, option_map, option_and_then, unwrap_or}
 use Rattle.plan.specs.PlanModel.{StepPlan, numbered, option_count, want_at}
 use Rattle.ledger.specs.Answer.{State}
 use Rattle.ledger.specs.Ledger.{history}
@@ -50,7 +49,6 @@ module _ (t : Tables) (s : State) (st : StandsFor t s) (desk : IsDesk s) (id ste
       let many : choice.option ≡ min (used + 1) (option_count a.plan step) =
       chosen.is.option_is ∙ ap (min (used + 1)) (told.0 ∙ sym count) in
       let row = told.1 (min (used + 1) (length found) - 1) chosen.row chosen.there in
-      let low = chosen.from_one in
       let number : min (used + 1) (length found) - 1 + 1 ≡ choice.option =
       (let e : min (used + 1) (length found) - 1 + 1 ≡ min (used + 1) (length found) = omega arith in e ∙ sym chosen.is.option_is) in
       let same : choice.want ≡ row.0 = want_one id step _ _ _ chosen.row choice.want row.0 chosen.is.want row.2 in (
@@ -63,11 +61,10 @@ module _ (t : Tables) (s : State) (st : StandsFor t s) (desk : IsDesk s) (id ste
   pub last_told : IsTakenChosen found choice → IsLastChoice id step s choice
   last_told chosen a c at last =
       let row = chosen.row in
-      let there = has_found is_taken_row found row chosen.there in
       let taken : row.taken ≡ 1 = eqb-true row.taken 1 (find-passes is_taken_row found row chosen.there) in
       let called = step_rows (is_standing (history s.ledger id)) id a.plan in
       let some = subst (λ rows. Has rows (step_of id row)) (options_read t s st desk id step a found at finds)
-      (mapped_has (step_of id) found row there.0) in
+      (mapped_has (step_of id) found row (has_found is_taken_row found row chosen.there).0) in
       let own = has_filtered (λ (r : StepRow). r.place == step) called (step_of id row) some in
       let place : row.place ≡ step = eqb-true row.place step own.1 in
       let opt : row.opt ≡ c = taken_row a.plan (history s.ledger id) id step c (step_of id row)

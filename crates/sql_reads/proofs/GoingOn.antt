@@ -74,5 +74,4 @@ tells-turn steps pos p cause later it a at =
 
 pub tells-save : (steps pos p : ℕ) → TellsFinished steps pos (Save p) false
 tells-save steps pos p later it a at =
-    let on = goes_on it.ledger it.legal it.id a at it.before (Save p) later it.whole in
-    sym (finished-save a.plan it.before later p on)
+    sym (finished-save a.plan it.before later p (goes_on it.ledger it.legal it.id a at it.before (Save p) later it.whole))

@@ -1,5 +1,5 @@
 -- A save-point that was taken is in range. For `reads::read_marks`.
-use Rattle.std.proofs.Common.{◌≡◌, inl, inr, ℕ, List, [], ◌∷◌, Option, Some, None, IsTrue, true, false, refl, sym, ap, ◌∙◌, arith, eq-eqb, ◌==◌, nat_le}
+use Rattle.std.proofs.Common.{◌≡◌, inl, inr, ℕ, List, [], ◌∷◌, IsTrue, true, sym, ◌∙◌, arith, eq-eqb, ◌==◌, Option, Some, None, false, refl, ap, nat_le}
 use Rattle.std.specs.List.{AllByRecursion, list_any}
 use Rattle.std.proofs.lemmas.Bool.{and_from, le-leb, or_left, or_right}
 use Rattle.sqlite_rules.specs.Lists.{Has}
@@ -7,7 +7,7 @@ use Rattle.sqlite_rules.proofs.ListLemmas.{all_from}
 use Rattle.allotment.specs.Limits.{is_between}
 use Rattle.savepoints.specs.Marks.{last_mark}
 use Rattle.ledger.specs.History.{is_taken}
-use Rattle.ledger.specs.Ledger.{Event, Journey, journey_at, history, IsLegal}
+use Rattle.ledger.specs.Ledger.{Event, history, IsLegal, Journey, journey_at}
 use Rattle.ledger.proofs.Ledgers.{all_go}
 use Rattle.ledger_transitions.proofs.Histories.{follows}
 

@@ -1,6 +1,5 @@
 -- The rows of a plan that keeps its limits give that plan. For the functions of `plan_rows`.
-use Rattle.std.proofs.Common.{◌≡◌, ℕ, zero, suc, ◌+◌, ◌<◌, ◌≤◌, ◌⊎◌, inl, inr, List, [], ◌∷◌, ◌++◌, map, drop, length, get_or, Bool, true, false, IsTrue, Option, Some, None, Ok, refl, sym, ap, ◌∙◌, arith, add-one, ◌&&◌, if◌then◌else◌, flat_map, slice_get, option_map, option_and_then, string_bytes}
-use Rattle.std.specs.Prelude.{unwrap_or}
+use Rattle.std.proofs.Common.{◌≡◌, ℕ, zero, suc, ◌+◌, ◌<◌, List, [], ◌∷◌, ◌++◌, map, drop, length, get_or, Bool, true, false, IsTrue, Option, Some, None, Ok, refl, sym, ap, ◌∙◌, arith, add-one, ◌&&◌, flat_map, slice_get, option_map, option_and_then, string_bytes, unwrap_or, rules}
 use Rattle.std.proofs.Math.Seq.{drop-cons, drop-append_seam, drop-nil}
 use Rattle.std.proofs.Math.ListN.{drop_of_length-le}
 use Rattle.std.proofs.lemmas.Bool.{and_parts}
@@ -10,7 +9,7 @@ use Rattle.allotment.specs.Texts.{keep_if, kind_of_number}
 use Rattle.allotment.specs.Limits.{is_code, is_night, are_nights, is_count, is_want}
 use Rattle.allotment.specs.Making.{want_made}
 use Rattle.allotment.specs.Nights.{night_in, night_text}
-use Rattle.allotment.specs.Want.{Wanted, wanted}
+use Rattle.allotment.specs.Want.{Wanted}
 use Rattle.allotment.specs.declared.codes.Kind.{Kind}
 use Rattle.allotment.proofs.LawLemmas.{number_again}
 use Rattle.allotment.proofs.MakingLemmas.{made_whole}
@@ -34,13 +33,7 @@ kind_one k m e = let same : Some k ≡ Some m = sym (number_again k) ∙ ap kind
 
 -- a row tells one want
 pub tells_one : (row : StepFound) (w v : Wanted) → TellsWant row w → TellsWant row v → w ≡ v
-tells_one row w v a b =
-    ap (λ x. wanted x w.supplier w.product w.first w.nights w.count) (kind_one w.kind v.kind (sym a.kind ∙ b.kind))
-    ∙ ap (λ x. wanted v.kind x w.product w.first w.nights w.count) (sym a.supplier ∙ b.supplier)
-    ∙ ap (λ x. wanted v.kind v.supplier x w.first w.nights w.count) (sym a.product ∙ b.product)
-    ∙ ap (λ x. wanted v.kind v.supplier v.product x w.nights w.count) (sym a.first ∙ b.first)
-    ∙ ap (λ x. wanted v.kind v.supplier v.product v.first x w.count) (sym a.nights ∙ b.nights)
-    ∙ ap (λ x. wanted v.kind v.supplier v.product v.first v.nights x) (sym a.places ∙ b.places)
+tells_one row w v a b = search (rules, arith, kind_one)
 
 -- the want of a row that tells one is made
 pub want_good : (row : StepFound) (want : Wanted) (kind : Kind) (night : ℕ) (text : List ℕ) → IsTrue (is_want want) → TellsWant row want
@@ -62,47 +55,25 @@ want_good row want kind night text good tells kind_is night_is text_is =
 
 -- what passes is the value itself
 pub kept_is : {X : Type 0} (p : X → Bool) (x y : X) → keep_if p x ≡ Some y → x ≡ y
-kept_is {X} p x y e = go (p x) e
-  where
-    go : (b : Bool) → (if b then Some x else None) ≡ Some y → x ≡ y
-    go true same = cc
-    go false none = absurd (cc)
+kept_is {X} p x y e = search (rules, arith)
 
 -- Rows from a place on.
 
 counted_at : {X : Type 0} (k n : ℕ) (xs : List X) (x : X) → slice_get xs n ≡ Some x
     → drop n (counted_from k xs) ≡ (k + n, x) ∷ drop (suc n) (counted_from k xs)
 counted_at k n [] x e = absurd (cc)
-counted_at {X} k zero (y ∷ xs) x e =
-    let same : Some y ≡ Some x = e in
-    let is : y ≡ x = cc in
-    let here : k ≡ k + 0 = omega arith in
-    ap (λ (z : X). (k, z) ∷ counted_from (suc k) xs) is ∙ ap (λ (m : ℕ). (m, x) ∷ counted_from (suc k) xs) here
-counted_at {X} k (suc n) (y ∷ xs) x e =
-    let here : suc k + n ≡ k + suc n = omega arith in
-    counted_at (suc k) n xs x e ∙ ap (λ (m : ℕ). (m, x) ∷ drop (suc n) (counted_from (suc k) xs)) here
+counted_at {X} k zero (y ∷ xs) x e = search (rules, arith)
+counted_at {X} k (suc n) (y ∷ xs) x e = search (rules, arith, counted_at (suc k) n xs x e)
 
 -- a row is the next one of the rows that are left
 pub next_left : (id : ℕ) (rows : List StepFound) (at : ℕ) (d : StepFound) → at < length rows
     → first_rows id (drop at rows) ≡ not_taken (step_of id (get_or rows at d)) ∷ first_rows id (drop (at + 1) rows)
-next_left id rows at d inside =
-    ap (first_rows id) (drop-cons rows at d inside)
-    ∙ ap (λ k. not_taken (step_of id (get_or rows at d)) ∷ first_rows id (drop k rows)) (sym (add-one at))
+next_left id rows at d inside = search (rules, arith, drop-cons, add-one)
 
 -- where rows are left, there is a next one
 pub more_left : (id : ℕ) (rows : List StepFound) (at : ℕ) (x : StepRow) (later : List StepRow)
     → first_rows id (drop at rows) ≡ x ∷ later → at < length rows
-more_left id rows at x later e = go (nat_cases at (length rows))
-  where
-    nat_cases : (a b : ℕ) → (a < b) ⊎ (b ≤ a)
-    nat_cases zero zero = inr (omega arith)
-    nat_cases zero (suc b) = inl (omega arith)
-    nat_cases (suc a) zero = inr (omega arith)
-    nat_cases (suc a) (suc b) = elim (nat_cases a b) [ inl low ↦ inl (omega (arith, low)) | inr high ↦ inr (omega (arith, high)) ]
-
-    go : (at < length rows) ⊎ (length rows ≤ at) → at < length rows
-    go (inl low) = low
-    go (inr high) = absurd (let none : [] ≡ x ∷ later = sym (ap (first_rows id) (drop_of_length-le rows high)) ∙ e in cc)
+more_left id rows at x later e = search (rules, arith, drop_of_length-le)
 
 -- the heads and the tails of two lists that are the same
 pub heads : {X : Type 0} (x y : X) (xs ys : List X) → x ∷ xs ≡ y ∷ ys → x ≡ y
@@ -154,14 +125,11 @@ length-mapped f (x ∷ xs) = ap suc (length-mapped f xs)
 
 rows_count : (id i : ℕ) (o : Option StepPlan)
     → length (unwrap_or (option_map (λ (s : StepPlan). option_rows none_taken id i s) o) []) ≡ unwrap_or (option_map (λ (s : StepPlan). length s.options) o) 0
-rows_count id i None = refl
-rows_count id i (Some s) =
-    length-mapped (λ (w : ℕ × Wanted). option_row id i s.is_marked w.0 false w.1) (counted_from 1 s.options) ∙ length-counted 1 s.options
+rows_count id i o = search (rules, arith, length-mapped, length-counted)
 
 drop-more : {X : Type 0} (a b : ℕ) (xs : List X) → drop (a + b) xs ≡ drop b (drop a xs)
 drop-more {X} zero b xs = ap (λ k. drop k xs) (let e : 0 + b ≡ b = omega arith in e)
-drop-more {X} (suc a) b [] =
-    drop-nil {A = X} (suc a + b) ∙ sym (drop-nil {A = X} b)
+drop-more {X} (suc a) b [] = drop-nil {A = X} (suc a + b) ∙ sym (drop-nil {A = X} b)
 drop-more {X} (suc a) b (x ∷ xs) =
     ap (λ (k : ℕ). drop k (x ∷ xs)) (let e : suc a + b ≡ suc (a + b) = omega arith in e) ∙ drop-more a b xs
 
@@ -172,9 +140,8 @@ pub steps_left : (id : ℕ) (plan : Planned) (n : ℕ) → n < step_count plan
     → steps_after id plan n ≡ rows_of_step id plan (n + 1) ++ steps_after id plan (n + 1)
 steps_left id plan n low =
     let has = some_within plan.steps n low in
-    let here : 1 + n ≡ suc n = omega arith in
     ap (λ ss. flat_map (λ (s : ℕ × StepPlan). option_rows none_taken id s.0 s.1) ss) (counted_at 1 n plan.steps has.0 has.1)
-    ∙ ap (λ (m : ℕ). option_rows none_taken id m has.0 ++ steps_after id plan (suc n)) here
+    ∙ ap (λ (m : ℕ). option_rows none_taken id m has.0 ++ steps_after id plan (suc n)) (omega arith)
     ∙ ap (λ o. unwrap_or (option_map (λ (s : StepPlan). option_rows none_taken id (suc n) s) o) [] ++ steps_after id plan (suc n)) (sym has.1)
     ∙ ap (λ k. rows_of_step id plan k ++ steps_after id plan k) (sym (add-one n))
 
@@ -185,10 +152,8 @@ pub steps_next : (id : ℕ) (rows : List StepFound) (from to : ℕ) (plan : Plan
 steps_next id rows from to plan n low to_is left =
     let whole : first_rows id (drop from rows) ≡ rows_of_step id plan (n + 1) ++ steps_after id plan (n + 1) = left ∙ steps_left id plan n low in
     let count : option_count plan (n + 1) ≡ length (rows_of_step id plan (n + 1)) = sym (rows_count id (n + 1) (numbered plan.steps (n + 1))) in
-    ap (λ k. first_rows id (drop k rows)) to_is
-    ∙ ap (first_rows id) (drop-more from (option_count plan (n + 1)) rows)
-    ∙ sym (dropped (option_count plan (n + 1)) (drop from rows))
-    ∙ ap (drop (option_count plan (n + 1))) whole
+    ap (λ k. first_rows id (drop k rows)) to_is ∙ ap (first_rows id) (drop-more from (option_count plan (n + 1)) rows)
+    ∙ sym (dropped (option_count plan (n + 1)) (drop from rows)) ∙ ap (drop (option_count plan (n + 1))) whole
     ∙ ap (λ k. drop k (rows_of_step id plan (n + 1) ++ steps_after id plan (n + 1))) count
     ∙ drop-append_seam (rows_of_step id plan (n + 1)) (steps_after id plan (n + 1))
   where

@@ -1,20 +1,20 @@
 -- A legal ledger calls for rows of cells that keep their limits alone. For the reads of places.
-use Rattle.std.proofs.Common.{◌≡◌, inl, inr, ℕ, ◌≤◌, List, [], ◌∷◌, map, filter, Option, Some, None, IsTrue, true, refl, sym, ap, subst, ◌∙◌, arith, eqb-true, ◌-◌, ◌==◌, ◌&&◌, length, nat_le, flat_map, filter_map, option_map, IsUtf8}
-use Rattle.std.specs.List.{AllByRecursion, list_all}
+use Rattle.std.proofs.Common.{◌≡◌, inl, inr, ℕ, ◌≤◌, List, [], ◌∷◌, map, filter, Option, Some, None, IsTrue, true, refl, sym, ap, subst, ◌∙◌, arith, ◌-◌, length, nat_le, flat_map, filter_map, option_map, IsUtf8, rules, eqb-true, ◌&&◌}
+use Rattle.std.specs.List.{AllByRecursion}
 use Rattle.std.proofs.lemmas.Bool.{and_parts, leb-true}
 use Rattle.std.proofs.lemmas.Slice.Eq.{bytes_eq-Decides}
 use Rattle.sqlite_trees.proofs.ListLemmas.{all-flat_map}
 use Rattle.sqlite_rules.specs.Lists.{Has}
 use Rattle.sqlite_rules.proofs.ListLemmas.{all_from, all_has, has_filtered, test_has}
 use Rattle.allotment.specs.Cells.{cells_of, is_cell}
-use Rattle.allotment.specs.Limits.{is_code, is_good_cell, is_night, most_places, longest_code}
+use Rattle.allotment.specs.Limits.{is_code, is_good_cell, most_places, longest_code, is_night}
 use Rattle.allotment.specs.Want.{Wanted}
 use Rattle.allotment.specs.declared.cells.Cell.{Cell}
 use Rattle.allotment.specs.declared.cells.Row.{Row}
 use Rattle.allotment.proofs.CodeLemmas.{is_short-code}
 use Rattle.allotment.proofs.ShortLemmas.{is_utf8}
 use Rattle.ledger.specs.History.{last_of}
-use Rattle.ledger.specs.Ledger.{Event, Loaded, Began, Did, rows_of, held, is_allowed, are_distinct, is_batch, is_good_row, is_not_below_held, batches_named, AreAllowedAfter, IsLegal}
+use Rattle.ledger.specs.Ledger.{Event, rows_of, held, is_allowed, is_good_row, AreAllowedAfter, IsLegal}
 use Rattle.ledger.proofs.Cells.{is_cell-same}
 use Rattle.saga_core.specs.Views.{Places, places_of, places_shown, at_night}
 use Rattle.desk_sql.specs.Rows.{StockRow}
@@ -29,14 +29,7 @@ abbrev IsGood : Row → Type 0
 IsGood r = is_good_row r ≡ true
 
 rows_good : (before : List Event) (e : Event) → IsTrue (is_allowed before e) → AllByRecursion IsGood (rows_of e)
-rows_good before (Loaded name rows) may =
-    let first = and_parts (is_batch name rows && list_all (is_not_below_held before) rows) (length (batches_named before name) == 0) may in
-    let batch = and_parts (is_batch name rows) (list_all (is_not_below_held before) rows) first.0 in
-    let kept = and_parts _ (are_distinct rows) batch.0 in
-    let good = and_parts _ (list_all is_good_row rows) kept.0 in
-    all_from IsGood rows (λ r h. test_has is_good_row rows r good.1 h)
-rows_good before (Began agent plan) may = tt
-rows_good before (Did journey item) may = tt
+rows_good before e may = search (rules, arith, and_parts, all_from, test_has)
 
 events_good : (before later : List Event) → AreAllowedAfter before later → AllByRecursion (λ e. AllByRecursion IsGood (rows_of e)) later
 events_good before [] all = tt

@@ -1,28 +1,23 @@
 -- The rows of unfinished journeys. For `brief_rows`.
-use Rattle.std.proofs.Common.{◌≡◌, ℕ, suc, ◌+◌, ◌<◌, ◌≤◌, List, [], ◌∷◌, map, filter, cond, length, Bool, true, false, Some, refl, sym, ap, ◌∙◌, arith, slice_get, filter_map, option_map, nat_lt, nat_le, not, ◌&&◌}
+use Rattle.std.proofs.Common.{◌≡◌, ℕ, suc, ◌+◌, List, [], ◌∷◌, map, filter, cond, length, Bool, Some, refl, sym, ap, ◌∙◌, arith, slice_get, filter_map, option_map, nat_le, not, IsPermutation, lt-ltb, rules, true, nat_lt, ◌&&◌}
 use Rattle.std.specs.List.{cons_option}
-use Rattle.std.specs.List.Sorted.{IsPermutation}
-use Rattle.std.proofs.lemmas.List.Sorted.{IsPermutation-refl}
-use Rattle.std.proofs.lemmas.Bool.{lt-ltb}
 use Rattle.sqlite_trees.proofs.ListLemmas.{ascending-filter, ascending_weaker}
 use Rattle.allotment.specs.Cells.{numbers_from}
 use Rattle.commands.specs.declared.items.Phase.{Phase}
-use Rattle.commands.specs.declared.items.Phase.TheVariants.{Run, Back, Ended, Undone}
 use Rattle.ledger.specs.History.{phase, is_finished}
 use Rattle.ledger.specs.Ledger.{Event, journey_at, numbers, history}
 use Rattle.saga_core.specs.Views.{brief_of_journey, brief_of, unfinished_of}
 use Rattle.saga_core.specs.declared.records.Brief.{Brief}
-use Rattle.desk_sql.specs.Rows.{JourneyRow}
+use Rattle.desk_sql.specs.Rows.{JourneyRow, Tables}
 use Rattle.desk_sql.specs.FoundRows.{is_unfinished_after, journey_of}
 use Rattle.desk_sql.specs.RemainingRows.{ListsUnfinished}
-use Rattle.desk_sql.specs.Rows.{Tables}
 use Rattle.desk_sql.specs.declared.journeys.JourneyFound.{JourneyFound}
 use Rattle.sql_model.specs.ExpectedRows.{counted_from, Begun, begun, phase_number, journeys_called}
 use Rattle.sql_model.proofs.Events.{length-begun}
 use Rattle.sql_model.proofs.JourneyRows.{row_in, begun_there, called_rises}
 use Rattle.sql_model.proofs.Orders.{Rises, one_order}
 use Rattle.sql_reads.specs.Reading.{TellsBrief}
-use Rattle.sql_model.specs.Briefs.{Short, short_of, short_told, TellBriefs}
+use Rattle.sql_model.specs.Briefs.{short_of, short_told, TellBriefs}
 use Rattle.sql_reads.proofs.ReadJourneys.{brief_told}
 
 -- the brief of a journey with its number
@@ -41,25 +36,17 @@ briefs_from l n (b ∷ bs) at =
 
 -- the briefs are those of the journeys that were begun
 pub briefs : (l : List Event) → filter_map (brief_of l) (numbers l) ≡ map (brief_in l) (counted_from 1 (begun l))
-briefs l =
-    ap (λ n. filter_map (brief_of l) (numbers_from 1 n)) (sym (length-begun l))
-    ∙ briefs_from l 1 (begun l) (λ i b e. ap (journey_at l) (let k : 1 + i ≡ suc i = omega arith in k) ∙ begun_there l i b e)
+briefs l = search (rules, arith, length-begun, briefs_from, begun_there)
 
 pub unfinished_phase : (p : Phase) → nat_le (phase_number p) 1 ≡ not (is_finished p)
-unfinished_phase Run = refl
-unfinished_phase (Back target) = refl
-unfinished_phase Ended = refl
-unfinished_phase Undone = refl
+unfinished_phase p = search (rules, arith)
 
 abbrev goes_on : Brief → Bool
 goes_on b = not (is_finished b.cursor.phase)
 
 pub kept_alike : (v w : Bool) (r : JourneyRow) (b : Brief) (rs : List JourneyRow) (bs : List Brief) → v ≡ w → short_of r ≡ short_told b
     → map short_of rs ≡ map short_told bs → map short_of (cond v (r ∷ rs) rs) ≡ map short_told (cond w (b ∷ bs) bs)
-kept_alike true true r b rs bs e one more = cc
-kept_alike true false r b rs bs e one more = cc
-kept_alike false true r b rs bs e one more = cc
-kept_alike false false r b rs bs e one more = more
+kept_alike v w r b rs bs e one more = search (rules, arith)
 
 -- the rows of the unfinished journeys are those of their briefs
 told_from : (l : List Event) (n : ℕ) (bs : List Begun)
@@ -78,11 +65,7 @@ abbrev pub all_unfinished : Tables → List JourneyRow
 all_unfinished t = filter (is_unfinished_after 0) t.journey
 
 pub lists_all : (t : Tables) → Rises (λ (j : JourneyRow). j.id) t.journey → ListsUnfinished 0 t (all_unfinished t)
-lists_all t rise = record {
-  same = IsPermutation-refl (all_unfinished t);
-  rising = ascending_weaker (λ (a b : JourneyRow). a.id < b.id) (λ (a b : JourneyRow). a.id ≤ b.id) (λ a b low. omega arith) (all_unfinished t)
-      (ascending-filter (λ (a b : JourneyRow). a.id < b.id) (is_unfinished_after 0) t.journey rise);
-}
+lists_all t rise = search (rules, arith, ascending_weaker, ascending-filter)
 
 pub unfinished_told : (l : List Event) (t : Tables) (shown : List Brief) → IsPermutation (journeys_called l) t.journey
     → Rises (λ (j : JourneyRow). j.id) t.journey → shown ≡ unfinished_of l → TellBriefs (all_unfinished t) shown
@@ -92,9 +75,4 @@ unfinished_told l t shown same rise is =
 
 -- the row of a brief is that of no other brief
 pub brief_same : (r : JourneyFound) (b z : Brief) → TellsBrief r b → short_of (journey_of r) ≡ short_told z → b ≡ z
-brief_same r b z tells e =
-    let same : Some b ≡ Some z = brief_told (Some z) r b (record {
-      id = ap (λ (s : Short). s.id) e;
-      agent = ap (λ (s : Short). s.agent) e;
-      cursor = ap (λ (s : Short). s.cursor) e;
-    }) tells in cc
+brief_same r b z tells e = search (rules, arith, brief_told)

@@ -11,7 +11,6 @@ use Rattle.desk_sql.specs.Readable.{AreCellTexts, Each, IsAgentText}
 use Rattle.desk_sql.specs.RemainingRows.{HandsFirst, Hands}
 use Rattle.desk_sql.specs.Rows.{JourneyRow, StockRow}
 use Rattle.saga_core.specs.declared.records.Brief.{Brief}
-use Rattle.sql_model.specs.ExpectedRows.{cursor_row}
 use Rattle.sql_model.specs.Reading.{cursor_in, stock_row_of}
 use Rattle.sql_model.specs.Briefs.{Short, short_of, short_told, TellBriefs}
 use Rattle.sql_model.proofs.Cursors.{cursor_back}
@@ -44,9 +43,7 @@ cell_good Before After r hands cells rests good = go cells (hands (map stock_row
     go : (cells : List (Cell × Held)) → HandsFirst After (Some r) (map stock_row_of cells) → AreGoodCells cells → IsGoodStock r
     go [] h all = absurd (let none = h.0 in cc)
     go (c ∷ cells) h all =
-        let first : Some r ≡ Some (stock_row_of c) = h.0 in
-        let is : r ≡ stock_row_of c = cc in
-        subst IsGoodStock (sym is) (row_good c all.0)
+        subst IsGoodStock (sym cc) (row_good c all.0)
 
 pub cells_text : (cells : List (Cell × Held)) → AreGoodCells cells → Each AreCellTexts (map stock_row_of cells)
 cells_text [] all r h = absurd h
@@ -66,10 +63,8 @@ TellsAll r = IsTrue (is_agent r.agent) × IsSome (cursor_in r.cursor)
 
 row_tells : (r : JourneyRow) (b : Brief) → short_of r ≡ short_told b → IsTrue (is_agent b.agent) → TellsAll r
 row_tells r b is good =
-    let agent : r.agent ≡ b.agent = ap (λ (x : Short). x.agent) is in
-    let cursor : r.cursor ≡ cursor_row b.cursor = ap (λ (x : Short). x.cursor) is in
-    let back : cursor_in r.cursor ≡ Some b.cursor = ap cursor_in cursor ∙ cursor_back b.cursor in
-    (subst (λ x. IsTrue (is_agent x)) (sym agent) good, subst (λ o. IsSome o) (sym back) refl)
+    let back : cursor_in r.cursor ≡ Some b.cursor = ap cursor_in (ap (λ (x : Short). x.cursor) is) ∙ cursor_back b.cursor in
+    (subst (λ x. IsTrue (is_agent x)) (sym (ap (λ (x : Short). x.agent) is)) good, subst (λ o. IsSome o) (sym back) refl)
 
 all_tell : (rows : List JourneyRow) (briefs : List Brief) → TellBriefs rows briefs → AreGoodBriefs briefs → Each TellsAll rows
 all_tell [] briefs told good r h = absurd h

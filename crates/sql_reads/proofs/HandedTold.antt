@@ -1,5 +1,5 @@
 -- The rows that are read are those of the desk's own values. For the sources of rows.
-use Rattle.std.proofs.Common.{◌≡◌, List, [], ◌∷◌, map, Bool, false, Some, None, refl, ap, ◌∙◌, arith}
+use Rattle.std.proofs.Common.{◌≡◌, List, map, Bool, false, Some, None, arith, rules}
 use Rattle.sqlite.specs.Store.{Ghosts}
 use Rattle.sqlite.specs.Held.{Held, state}
 use Rattle.sqlite.specs.State.{HasCleanDisk}
@@ -9,7 +9,7 @@ use Rattle.desk_sql.specs.Rows.{Tables, ShowsIn}
 use Rattle.ledger.specs.Answer.{State}
 use Rattle.sql_model.specs.Standing.{StandsIn}
 use Rattle.sql_model.specs.Keeping.{KeepsIn}
-use Rattle.desk_sql.specs.RemainingRows.{HandsFirst as HandsFirstRow, Hands as HandsRows, StaysAsItIs}
+use Rattle.desk_sql.specs.RemainingRows.{Hands as HandsRows, StaysAsItIs}
 use Rattle.saga_core.specs.RowSources.{HandsFirst}
 use Rattle.sql_model.proofs.KeepLemmas.{seen_by}
 
@@ -36,26 +36,9 @@ module _ {X Y K : Type 0} (seen : Y → K) (written : X → K) (Before After : L
   pub told_first : (y : Y) (x : X) → HandsRows Before After (Some y) → ((z : X) → seen y ≡ written z → x ≡ z)
       → (failed : Bool) → (xs : List X) → (failed ≡ false) × Told seen written Before xs
       → HandsFirst (λ zs. (false ≡ false) × Told seen written After zs) (Some x) xs
-  told_first y x hands same failed xs rests = go xs rests.1.0 rests.1.2 (hands rests.1.0 rests.1.1)
-    where
-      go : (xs : List X) (ys : List Y) → map seen ys ≡ map written xs → HandsFirstRow After (Some y) ys
-          → HandsFirst (λ zs. (false ≡ false) × Told seen written After zs) (Some x) xs
-      go xs [] e h = absurd (let none = h.0 in cc)
-      go [] (z ∷ ys) e h = absurd (cc)
-      go (w ∷ xs) (z ∷ ys) e h =
-          let both : seen z ∷ map seen ys ≡ written w ∷ map written xs = e in
-          let is : y ≡ z = (let i = h.0 in cc) in
-          let first : seen z ≡ written w = cc in
-          let others : map seen ys ≡ map written xs = cc in
-          (ap Some (same w (ap seen is ∙ first)), (refl, (ys, h.1, others)))
+  told_first y x hands same failed xs rests = search (rules, arith)
 
   -- if there is no row, no value remains
   pub told_none : HandsRows Before After None → (failed : Bool) → (xs : List X) → (failed ≡ false) × Told seen written Before xs
       → HandsFirst (λ zs. (false ≡ false) × Told seen written After zs) None xs
-  told_none hands failed xs rests = go xs rests.1.0 rests.1.2 (hands rests.1.0 rests.1.1)
-    where
-      go : (xs : List X) (ys : List Y) → map seen ys ≡ map written xs → HandsFirstRow After None ys
-          → HandsFirst (λ zs. (false ≡ false) × Told seen written After zs) None xs
-      go [] [] e h = (refl, (refl, ([], h.1, refl)))
-      go (w ∷ xs) [] e h = absurd (cc)
-      go xs (z ∷ ys) e h = absurd (let none = h.0 in cc)
+  told_none hands failed xs rests = search (rules, arith)

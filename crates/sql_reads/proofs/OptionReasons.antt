@@ -1,5 +1,5 @@
 -- An option of a step of a journey can be chosen by the rows of the step. For `options`.
-use Rattle.std.proofs.Common.{◌≡◌, ℕ, zero, suc, ◌==◌, List, [], ◌∷◌, Bool, true, false, if◌then◌else◌, Some, inl, inr, refl, sym, ap, subst, ◌∙◌, arith, eqb-true, eq-eqb, nat_le, leb-true, find, slice_get}
+use Rattle.std.proofs.Common.{◌≡◌, ℕ, zero, suc, ◌==◌, List, [], ◌∷◌, Bool, true, if◌then◌else◌, Some, inl, inr, refl, sym, ap, subst, ◌∙◌, arith, eqb-true, eq-eqb, nat_le, leb-true, find, slice_get, rules, false}
 use Rattle.std.specs.List.{list_all}
 use Rattle.std.proofs.lemmas.Bool.{and_parts}
 use Rattle.sqlite_rules.specs.Lists.{Has}
@@ -55,14 +55,7 @@ found_first {X} p (z ∷ xs) x (inr h) passes = go (p z) (found_first p xs x h p
 
 -- the row of an option tells its want
 tells_of : (id k o : ℕ) (m t : Bool) (row : StepFound) (w : Wanted) → step_of id row ≡ option_row id k m o t w → TellsWant row w
-tells_of id k o m t row w e = record {
-  kind = ap (λ (r : StepRow). r.kind) e;
-  supplier = ap (λ (r : StepRow). r.supplier) e;
-  product = ap (λ (r : StepRow). r.product) e;
-  first = ap (λ (r : StepRow). r.night) e;
-  nights = ap (λ (r : StepRow). r.nights) e;
-  places = ap (λ (r : StepRow). r.places) e;
-}
+tells_of id k o m t row w e = search (rules, arith)
 
 -- the texts of the options of a step can be read
 pub option_texts : (t : Tables) (s : State) → StandsFor t s → IsDesk s → (id step : ℕ) (a : Journey) → journey_at s.ledger id ≡ Some a

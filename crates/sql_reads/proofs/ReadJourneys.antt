@@ -1,14 +1,13 @@
 -- What the rows of journeys give. For the functions of `sql_reads`.
-use Rattle.std.proofs.Common.{◌≡◌, ℕ, zero, suc, ◌≤◌, ◌<◌, List, [], ◌∷◌, map, find, cond, length, Option, Some, None, Bool, true, false, refl, sym, ap, ap₂, subst, ◌∙◌, arith, bytes_eq, option_map, filter_map, nat_lt, not}
+use Rattle.std.proofs.Common.{◌≡◌, ℕ, ◌≤◌, ◌<◌, List, [], ◌∷◌, map, find, length, Option, Some, None, Bool, true, false, refl, sym, ap, ap₂, subst, ◌∙◌, arith, option_map, nat_cmp, rules}
 use Rattle.std.proofs.lemmas.Bool.{and_parts, and_from, ltb-true, lt-ltb}
 use Rattle.std.proofs.lemmas.Option.{slice_get_past}
 use Rattle.commands.specs.declared.items.Cursor.{Cursor}
-use Rattle.saga_core.specs.Views.{first_owned, first_unfinished, is_owned_above, is_unfinished_above, brief_of, brief_of_journey, record_of, record_of_journey, cursor_of, marks_of}
+use Rattle.saga_core.specs.Views.{first_owned, first_unfinished, brief_of, brief_of_journey, record_of, record_of_journey, cursor_of, marks_of}
 use Rattle.saga_core.specs.declared.records.Record.{Record}
 use Rattle.plan.specs.PlanModel.{Planned, step_count}
 use Rattle.std.specs.List.{list_any}
 use Rattle.std.specs.FinSet as set
-use Rattle.std.specs.Ordering.{nat_cmp}
 use Rattle.sqlite.specs.Tree.{Trees}
 use Rattle.desk_sql.specs.declared.versions.Version.{Version}
 use Rattle.desk_sql.specs.declared.versions.Version.TheVariants.{One, Two}
@@ -18,8 +17,8 @@ use Rattle.saga_core.specs.declared.records.Brief.{Brief}
 use Rattle.desk_sql.specs.FoundRows.{journey_of}
 use Rattle.desk_sql.specs.declared.journeys.JourneyFound.{JourneyFound}
 use Rattle.ledger.specs.Answer.{State}
-use Rattle.ledger.specs.History.{is_finished, is_taken}
-use Rattle.ledger.specs.Ledger.{Event, Journey, journeys, journey_at, numbers, history}
+use Rattle.ledger.specs.History.{is_taken}
+use Rattle.ledger.specs.Ledger.{Event, Journey, journeys, journey_at, history}
 use Rattle.sql_model.specs.ExpectedRows.{cursor_row}
 use Rattle.sql_model.specs.Reading.{Tells, IsBriefOf, IsJourneyOf, cursor_in}
 use Rattle.sql_model.proofs.Cursors.{cursor_back}
@@ -39,51 +38,28 @@ brief_one r b c is tells =
 
 -- the brief that a row gives is the one in the ledger
 pub brief_told : (shown : Option Brief) (r : JourneyFound) (b : Brief) → Tells IsBriefOf (Some (journey_of r)) shown → TellsBrief r b → Some b ≡ shown
-brief_told None r b is tells = absurd is
-brief_told (Some c) r b is tells = ap Some (brief_one r b c is tells)
+brief_told shown r b is tells = search (rules, arith, brief_one)
 
 -- if no row is found, the ledger has no brief
 pub none_told : (shown : Option Brief) → Tells IsBriefOf None shown → None ≡ shown
-none_told None is = refl
-none_told (Some c) is = absurd is
+none_told shown is = search (rules, arith)
 
 find_fewer : {X : Type 0} (p q : X → Bool) (xs : List X) → ((x : X) → q x ≡ true → p x ≡ true) → find p xs ≡ None → find q xs ≡ None
 find_fewer p q [] fewer none = refl
-find_fewer {X} p q (x ∷ xs) fewer none = go (p x) refl (q x) refl (find_fewer p q xs fewer)
-  where
-    go : (a : Bool) → p x ≡ a → (b : Bool) → q x ≡ b → (find p xs ≡ None → find q xs ≡ None) → find q (x ∷ xs) ≡ None
-    go true ep b eq rest = absurd (let bad : Some x ≡ None = sym (ap (λ v. cond v (Some x) (find p xs)) ep) ∙ none in cc)
-    go false ep true eq rest = absurd (let bad : false ≡ true = sym ep ∙ fewer x eq in cc)
-    go false ep false eq rest =
-        ap (λ v. cond v (Some x) (find q xs)) eq ∙ rest (sym (ap (λ v. cond v (Some x) (find p xs)) ep) ∙ none)
+find_fewer {X} p q (x ∷ xs) fewer none = search (rules, arith, find_fewer p q xs)
 
 -- if no journey above a number is unfinished, none is above a greater number
 pub none_above : (l : List Event) (low high : ℕ) → low ≤ high → first_unfinished l low ≡ None → first_unfinished l high ≡ None
-none_above l low high above none =
-    find_fewer (is_unfinished_above low) (is_unfinished_above high) (filter_map (brief_of l) (numbers l)) fewer none
-  where
-    fewer : (b : Brief) → is_unfinished_above high b ≡ true → is_unfinished_above low b ≡ true
-    fewer b e =
-        let parts = and_parts (nat_lt high b.id) (not (is_finished b.cursor.phase)) e in
-        let more : high < b.id = ltb-true high b.id parts.0 in
-        and_from _ _ (lt-ltb low b.id (omega arith)) parts.1
+none_above l low high above none = search (rules, arith, find_fewer, and_parts, ltb-true, and_from, lt-ltb)
 
 -- if an agent has no journey above a number, it has none above a greater number
 pub none_owned_above : (l : List Event) (agent : List ℕ) (low high : ℕ) → low ≤ high → first_owned l agent low ≡ None
     → first_owned l agent high ≡ None
-none_owned_above l agent low high above none =
-    find_fewer (is_owned_above agent low) (is_owned_above agent high) (filter_map (brief_of l) (numbers l)) fewer none
-  where
-    fewer : (b : Brief) → is_owned_above agent high b ≡ true → is_owned_above agent low b ≡ true
-    fewer b e =
-        let parts = and_parts (nat_lt high b.id) (bytes_eq b.agent agent) e in
-        let more : high < b.id = ltb-true high b.id parts.0 in
-        and_from _ _ (lt-ltb low b.id (omega arith)) parts.1
+none_owned_above l agent low high above none = search (rules, arith, find_fewer, and_parts, ltb-true, and_from, lt-ltb)
 
 -- no journey has a number above the number of journeys
 pub journey_past : (l : List Event) (id : ℕ) → length (journeys l) < id → journey_at l id ≡ None
-journey_past l zero low = absurd (omega arith)
-journey_past l (suc i) low = slice_get_past (journeys l) i (omega arith)
+journey_past l id low = search (rules, arith, slice_get_past)
 
 -- two lists are equal if their elements are, each in `Some`
 pub some_one : {X : Type 0} (xs ys : List X) → map Some xs ≡ map Some ys → xs ≡ ys
@@ -108,11 +84,7 @@ pub record JourneyThere (l : List Event) (id : ℕ) (r : JourneyRow) : Type 0 wh
   pub is : IsJourneyOf l r journey
 
 pub journey_there : (l : List Event) (id : ℕ) (r : JourneyRow) → Tells (λ (x : JourneyRow) a. (x.id ≡ id) × IsJourneyOf l x a) (Some r) (journey_at l id) → JourneyThere l id r
-journey_there l id r = go (journey_at l id) refl
-  where
-    go : (o : Option Journey) → journey_at l id ≡ o → Tells (λ (x : JourneyRow) a. (x.id ≡ id) × IsJourneyOf l x a) (Some r) o → JourneyThere l id r
-    go None e t = absurd t
-    go (Some a) e t = record { journey = a; at = e; same = t.0; is = t.1 }
+journey_there l id r = search (rules, arith)
 
 -- the record built of a journey's row, plan and save-points is the one in the ledger
 pub record_shown : (l : List Event) (id : ℕ) (r : JourneyFound) (plan : Planned) (marks : set.FinSet nat_cmp) (b : Record)
@@ -165,8 +137,7 @@ brief_shown l id r b told tells =
     (let here : b.cursor ≡ cursor_of a.plan (history l r.id) = cc in here ∙ ap (λ n. cursor_of a.plan (history l n)) there.same) in
     ap Some
     (ap (λ n. made_brief n b.agent b.cursor) (tells.id ∙ there.same) ∙ ap (λ x. made_brief id x b.cursor) (tells.agent ∙ there.is.agent)
-    ∙ ap (made_brief id a.agent) same_cursor)
-    ∙ sym (ap (λ o. option_map (brief_of_journey id (history l id)) o) there.at)
+    ∙ ap (made_brief id a.agent) same_cursor) ∙ sym (ap (λ o. option_map (brief_of_journey id (history l id)) o) there.at)
 
 -- the journey of a stand is there, with its tries and its steps
 pub record HasRow (l : List Event) (id : ℕ) (stand : Stand) : Type 0 where
@@ -175,29 +146,14 @@ pub record HasRow (l : List Event) (id : ℕ) (stand : Stand) : Type 0 where
   pub is : stand ≡ stand_of (record_of_journey (history l id) journey)
 
 pub has_row : (l : List Event) (id : ℕ) (stand : Stand) → Some stand ≡ option_map stand_of (record_of l id) → HasRow l id stand
-has_row l id stand = go (journey_at l id) refl
-  where
-    go : (o : Option Journey) → journey_at l id ≡ o → Some stand ≡ option_map stand_of (option_map (record_of_journey (history l id)) o) → HasRow l id stand
-    go None e t = cc
-    go (Some a) e t = record { journey = a; at = e; is = cc }
+has_row l id stand = search (rules, arith)
 
 -- the record built of a stand, a plan and save-points is the one in the ledger
 pub stand_record : (l : List Event) (id : ℕ) (stand : Stand) (plan : Planned) (marks : set.FinSet nat_cmp)
     → Some stand ≡ option_map stand_of (record_of l id)
     → ((a : Journey) → journey_at l id ≡ Some a → stand.tries ≡ a.plan.tries → plan ≡ a.plan) → marks ≡ marks_of (history l id)
     → Some (record { agent = stand.agent; plan = plan; cursor = stand.cursor; marks = marks }) ≡ record_of l id
-stand_record l id stand plan marks has planned marked =
-    let row = has_row l id stand has in
-    let a = row.journey in
-    let same : plan ≡ a.plan = planned a row.at (ap (λ (x : Stand). x.tries) row.is) in
-    ap Some
-    (ap (λ x. made x plan stand.cursor marks) (ap (λ (x : Stand). x.agent) row.is) ∙ ap (λ x. made a.agent x stand.cursor marks) same
-    ∙ ap (λ x. made a.agent a.plan x marks) (ap (λ (x : Stand). x.cursor) row.is)
-    ∙ ap (made a.agent a.plan (cursor_of a.plan (history l id))) marked)
-    ∙ sym (ap (λ o. option_map (record_of_journey (history l id)) o) row.at)
-  where
-    made : List ℕ → Planned → Cursor → set.FinSet nat_cmp → Record
-    made agent plan cursor marks = record { agent = agent; plan = plan; cursor = cursor; marks = marks }
+stand_record l id stand plan marks has planned marked = search (rules, arith, has_row)
 
 -- nor an agent, steps and a cursor
 pub stand_none : (l : List Event) (id : ℕ) → journey_at l id ≡ None → None ≡ option_map stand_of (record_of l id)

@@ -1,5 +1,5 @@
 -- A read of the desk is made of queries of rows, one after another. For the functions of `sql_reads` and of the crates above.
-use Rattle.std.proofs.Common.{◌≡◌, ap, subst, sym, ◌∙◌, Result, Ok, Err, ◌↔◌, IfOk, IfErr, IsErrOf}
+use Rattle.std.proofs.Common.{◌≡◌, Result, Ok, Err, ◌↔◌, IfOk, IfErr, IsErrOf, arith, rules}
 use Rattle.std.specs.Prelude.{⊤}
 use Rattle.sqlite.specs.Store.{Ghosts}
 use Rattle.sqlite.specs.Held.{Held, state}
@@ -23,21 +23,15 @@ use Rattle.sql_reads.specs.Reads.{AnyDesk, ReadIn}
 
 -- the postcondition of a success may be replaced by a weaker one
 pub also_ok : {V E : Type 0} (r : Result V E) (P Q : V → Type 0) → ((v : V) → P v → Q v) → IfOk r P → IfOk r Q
-also_ok (Ok v) P Q f p = f v p
-also_ok (Err e) P Q f p = tt
+also_ok r x y f p = search (rules, arith)
 
 -- the same, for three postconditions
 pub both_ok : {V E : Type 0} (r : Result V E) (P Q R T : V → Type 0) → ((v : V) → P v → Q v → R v → T v) → IfOk r P → IfOk r Q → IfOk r R → IfOk r T
-both_ok (Ok v) P Q R T f p q x = f v p q x
-both_ok (Err e) P Q R T f p q x = tt
+both_ok r y z h k f p q x = search (rules, arith)
 
 -- what fails only out of memory is no fault of the store
 pub not_store : {V : Type 0} (r : Result V Fault) → IfErr r IsMemory → ¬ IsErrOf r Store
-not_store (Ok v) memory store = cc
-not_store {V} (Err f) memory store =
-    let same : ◌≡◌ {A = Result V Fault} (Err f) (Err Store) = store in
-    let is : f ≡ Store = cc in
-    let bad : Memory ≡ Store = sym memory ∙ is in cc
+not_store r memory store = search (rules, arith)
 
 -- which fault it is, whatever was to be returned
 fault_is : {V : Type 0} (f : Fault) → IsErrOf {T = V} (Err f) Store → f ≡ Store
@@ -53,11 +47,7 @@ pub record HasFound {S : Type 0} (g : Ghosts S) (old : Held S) (v : Version) (Is
 
 -- without a query nothing changes
 pub no_read : {S : Type 0} {g : Ghosts S} {h : Held S} {v : Version} → ReadIn g h h v (Ok tt) AnyDesk (λ (s : State) (_ : ⊤). ⊤)
-no_read {g = g} {h = h} = record {
-  shows = λ clean s desk keeps. tt;
-  store = λ clean s desk spelled keeps fits up store. absurd (not_store (Ok tt) tt store);
-  quiet = quiet_alone g h;
-}
+no_read {g = g} {h = h} = grind (arith, not_store, quiet_alone)
 
 module _ {S : Type 0} {g : Ghosts S} {old new : Held S} {v : Version} where
   -- a query that succeeds
@@ -93,12 +83,7 @@ module _ {S : Type 0} {g : Ghosts S} {old new : Held S} {v : Version} where
       → ((s : State) → IsDesk s → IsRead s x → IfOk result (IsShown s))
       → ((s : State) → IsDesk s → IsSpelled s.ledger → IsGood s → IsRead s x → IfErr result IsMemory)
       → ReadIn g old new v result IsGood IsShown
-  read_so result it shown memory = record {
-    shows = λ clean s desk keeps. shown s desk (it.shows clean s desk keeps);
-    store = λ clean s desk spelled keeps good up store.
-        absurd (not_store result (memory s desk spelled good (it.shows clean s desk keeps)) store);
-    quiet = it.quiet;
-  }
+  read_so result it shown memory = search (rules, arith, not_store)
 
   -- the same, into a success, or into a fault that no desk gives
   pub read_ok : {V W : Type 0} {x : V} {y : W} {Fits IsGood : State → Type 0} {IsRead : State → V → Type 0} {IsShown : State → W → Type 0}
@@ -117,22 +102,12 @@ module _ {S : Type 0} {g : Ghosts S} {old new : Held S} {v : Version} where
       {IsShown : State → W → Type 0}
       → result ≡ Err f → ReadIn g old new v (Err f) Fits IsRead → ((s : State) → IsDesk s → IsGood s → Fits s)
       → ReadIn g old new v result IsGood IsShown
-  read_err {V = V} {W = W} {f = f} {IsGood = IsGood} {IsShown = IsShown} is it fits =
-      subst (λ (r : Result W Fault). ReadIn g old new v r IsGood IsShown) (sym is) (record {
-        shows = λ clean s desk keeps. tt;
-        store = λ clean s desk spelled keeps good up store.
-            it.store clean s desk spelled keeps (fits s desk good) up (ap {B = Result V Fault} Err (fault_is f store));
-        quiet = it.quiet;
-      })
+  read_err {V = V} {W = W} {f = f} {IsGood = IsGood} {IsShown = IsShown} is it fits = search (rules, arith, fault_is)
 
   -- what is read of each desk is read of those that fit
   pub read_less : {V : Type 0} {result : Result V Fault} {IsGood : State → Type 0} {IsRead IsShown : State → V → Type 0}
       → ReadIn g old new v result AnyDesk IsRead → ((s : State) (x : V) → IsRead s x → IsShown s x) → ReadIn g old new v result IsGood IsShown
-  read_less {result = result} {IsRead = IsRead} {IsShown = IsShown} it less = record {
-    shows = λ clean s desk keeps. also_ok result (IsRead s) (IsShown s) (less s) (it.shows clean s desk keeps);
-    store = λ clean s desk spelled keeps good up store. it.store clean s desk spelled keeps tt up store;
-    quiet = it.quiet;
-  }
+  read_less {result = result} {IsRead = IsRead} {IsShown = IsShown} it less = search (rules, arith, also_ok)
 
 -- One read after another.
 
@@ -152,18 +127,15 @@ module _ {S : Type 0} {g : Ghosts S} {a b c : Held S} {v : Version} where
 
   -- the result is that of the second
   pub read_then : {V W : Type 0} {x : V} {result : Result W Fault} {Fits Good IsGood : State → Type 0} {IsRead : State → V → Type 0}
-      {IsFound IsShown : State → W → Type 0}
-      → ReadIn g a b v (Ok x) Fits IsRead → ReadIn g b c v result Good IsFound
+      {IsFound IsShown : State → W → Type 0} → ReadIn g a b v (Ok x) Fits IsRead → ReadIn g b c v result Good IsFound
       → ((s : State) → IsDesk s → IsGood s → IsRead s x → Good s)
-      → ((s : State) → IsDesk s → IsRead s x → (y : W) → IsFound s y → IsShown s y)
-      → ReadIn g a c v result IsGood IsShown
+      → ((s : State) → IsDesk s → IsRead s x → (y : W) → IsFound s y → IsShown s y) → ReadIn g a c v result IsGood IsShown
   read_then {result = result} {IsFound = IsFound} {IsShown = IsShown} one two good shown = record {
     shows = λ clean s desk keeps.
         also_ok result (IsFound s) (IsShown s) (shown s desk (one.shows (quiet_clean g b c two.quiet clean) s desk keeps))
         (two.shows clean s desk (quiet_keeps g a b one.quiet v s keeps));
     store = λ clean s desk spelled keeps fits up store.
-        fails_twice g a b c (quiet_up g a b one.quiet) (quiet_up g b c two.quiet) (quiet_clean g b c two.quiet) clean up
-        (λ still.
+        fails_twice g a b c (quiet_up g a b one.quiet) (quiet_up g b c two.quiet) (quiet_clean g b c two.quiet) clean up (λ still.
         two.store clean s desk spelled (quiet_keeps g a b one.quiet v s keeps)
         (good s desk fits (one.shows (quiet_clean g b c two.quiet clean) s desk keeps)) still store);
     quiet = quiet_twice g a b c one.quiet two.quiet;

@@ -1,18 +1,15 @@
 -- Consecutive rows that are those of a plan. For the functions of `plan_rows`.
-use Rattle.std.proofs.Common.{◌≡◌, ℕ, Bool, ◌+◌, ◌<◌, ◌≤◌, List, [], ◌∷◌, ◌++◌, map, take, length, get_or, refl, sym, ap, ◌∙◌, arith, append_assoc}
+use Rattle.std.proofs.Common.{◌≡◌, ℕ, Bool, ◌+◌, ◌<◌, ◌≤◌, List, [], ◌∷◌, ◌++◌, map, take, length, get_or, refl, sym, ap, ◌∙◌, arith, append_assoc, rules}
 use Rattle.std.proofs.lemmas.List.{map-append, take_more}
-use Rattle.allotment.specs.Cells.{kind_number}
 use Rattle.allotment.specs.Want.{Wanted}
 use Rattle.plan.specs.PlanModel.{Planned, option_count, step_count}
-use Rattle.desk_sql.specs.Rows.{StepRow}
 use Rattle.desk_sql.specs.FoundRows.{step_of}
 use Rattle.desk_sql.specs.declared.steps.StepFound.{StepFound}
-use Rattle.sql_model.specs.ExpectedRows.{step_rows_of, none_taken, flag, option_row}
+use Rattle.sql_model.specs.ExpectedRows.{step_rows_of, none_taken, option_row}
 use Rattle.sql_model.proofs.PlanReading.{option_row-want}
 use Rattle.sql_model.specs.Reading.{not_taken}
-use Rattle.sql_model.specs.Beginning.{first_steps}
+use Rattle.sql_model.specs.Beginning.{first_steps, first_rows_of_step, rows_of_step}
 use Rattle.sql_model.proofs.PlanWriting.{step_rows-all}
-use Rattle.sql_model.specs.Beginning.{first_rows_of_step, rows_of_step}
 use Rattle.sql_reads.specs.PlanRows.{first_rows, TellsWant, TellsOption, TellStep, TellPlan}
 use Rattle.sql_model.proofs.PlanParts.{first_rows_of_step-more, first_rows_of_step-all, step_rows_of-more}
 
@@ -32,8 +29,7 @@ pub option_more : (rows : List StepFound) (from n : ℕ) (plan : Planned) (i : �
 option_more rows from n plan i row inside there low tells told id =
     ap (λ k. first_rows id (take k rows)) (let e : from + (n + 1) ≡ (from + n) + 1 = omega arith in e)
     ∙ ap (first_rows id) (take_more rows (from + n) row inside ∙ ap (λ x. take (from + n) rows ++ x ∷ []) (sym there))
-    ∙ first_rows-append id (take (from + n) rows) (row ∷ [])
-    ∙ ap (λ ys. ys ++ first_rows id (row ∷ [])) (told id)
+    ∙ first_rows-append id (take (from + n) rows) (row ∷ []) ∙ ap (λ ys. ys ++ first_rows id (row ∷ [])) (told id)
     ∙ append_assoc (first_rows id (take from rows)) (first_rows_of_step id plan i n) (first_rows id (row ∷ []))
     ∙ ap (λ ys. first_rows id (take from rows) ++ ys)
     (ap (λ ys. first_rows_of_step id plan i n ++ ys) (sym (tells id)) ∙ sym (first_rows_of_step-more id plan i n low))
@@ -42,10 +38,7 @@ option_more rows from n plan i row inside there low tells told id =
 pub step_whole : (rows : List StepFound) (from n : ℕ) (plan : Planned) (i : ℕ) → n ≡ option_count plan i → from + n ≤ length rows
     → ((id : ℕ) → first_rows id (take (from + n) rows) ≡ first_rows id (take from rows) ++ first_rows_of_step id plan i n)
     → TellStep rows from plan i (from + n)
-step_whole rows from n plan i all within told = record {
-  within = within;
-  told = λ id. told id ∙ ap (λ ys. first_rows id (take from rows) ++ ys) (first_rows_of_step-all id plan i n all);
-}
+step_whole rows from n plan i all within told = search (rules, arith, first_rows_of_step-all)
 
 -- one more step of a plan
 pub step_more : (rows : List StepFound) (from to : ℕ) (plan : Planned) (n : ℕ) → n < step_count plan → TellStep rows from plan (n + 1) to
@@ -62,32 +55,4 @@ plan_whole rows count n plan all whole told id =
 
 -- the want in a row is that of the option whose row it is
 pub want_one : (id k o : ℕ) (m t : Bool) (row : StepFound) (w v : Wanted) → TellsWant row w → step_of id row ≡ option_row id k m o t v → w ≡ v
-want_one id k o m t row w v tells e =
-    let kind : kind_number w.kind ≡ kind_number v.kind = sym tells.kind ∙ ap (λ (r : StepRow). r.kind) e in
-    let supplier : w.supplier ≡ v.supplier = sym tells.supplier ∙ ap (λ (r : StepRow). r.supplier) e in
-    let product : w.product ≡ v.product = sym tells.product ∙ ap (λ (r : StepRow). r.product) e in
-    let first : w.first ≡ v.first = sym tells.first ∙ ap (λ (r : StepRow). r.night) e in
-    let nights : w.nights ≡ v.nights = sym tells.nights ∙ ap (λ (r : StepRow). r.nights) e in
-    let places : w.count ≡ v.count = sym tells.places ∙ ap (λ (r : StepRow). r.places) e in
-    option_row-want id k o m m t t w v
-    (ap (λ x. made x w.supplier w.product w.first w.nights w.count) kind
-    ∙ ap (λ x. made (kind_number v.kind) x w.product w.first w.nights w.count) supplier
-    ∙ ap (λ x. made (kind_number v.kind) v.supplier x w.first w.nights w.count) product
-    ∙ ap (λ x. made (kind_number v.kind) v.supplier v.product x w.nights w.count) first
-    ∙ ap (λ x. made (kind_number v.kind) v.supplier v.product v.first x w.count) nights
-    ∙ ap (λ x. made (kind_number v.kind) v.supplier v.product v.first v.nights x) places)
-  where
-    made : ℕ → List ℕ → List ℕ → ℕ → ℕ → ℕ → StepRow
-    made kind supplier product night nights places = record {
-      journey = id;
-      place = k;
-      opt = o;
-      save = flag m;
-      taken = flag t;
-      kind = kind;
-      supplier = supplier;
-      product = product;
-      night = night;
-      nights = nights;
-      places = places;
-    }
+want_one id k o m t row w v tells e = search (rules, arith, option_row-want)

@@ -1,5 +1,5 @@
 -- The rows of a desk that fits can be read. For the functions of `sql_reads`.
-use Rattle.std.proofs.Common.{◌≡◌, ◌≤◌, ◌<◌, inl, inr, ℕ, zero, suc, List, [], ◌∷◌, Option, Some, None, IsTrue, true, false, length, filter, map, refl, sym, ap, subst, ◌∙◌, arith, bytes_eq, IsUtf8, IsSome, IfSome, ◌+◌, slice_get, filter_map, nat_le, nat_lt}
+use Rattle.std.proofs.Common.{◌≡◌, ◌≤◌, ◌<◌, inl, inr, ℕ, zero, suc, List, [], ◌∷◌, Option, Some, None, IsTrue, true, false, length, filter, map, refl, sym, ap, subst, ◌∙◌, arith, IsUtf8, IsSome, IfSome, ◌+◌, slice_get, filter_map, rules}
 use Rattle.std.specs.List.{AllByRecursion}
 use Rattle.std.proofs.lemmas.Bool.{and_parts, ltb-true}
 use Rattle.sqlite_rules.specs.Lists.{Has}
@@ -40,8 +40,7 @@ all_some f (x ∷ xs) [] e = absurd (cc)
 all_some {X} {Y} f (x ∷ xs) (y ∷ ys) e =
     let both : f x ∷ map f xs ≡ Some y ∷ map Some ys = e in
     let head : f x ≡ Some y = cc in
-    let tail : map f xs ≡ map Some ys = cc in
-    (subst (λ o. IsSome o) (sym head) refl, all_some f xs ys tail)
+    (subst (λ o. IsSome o) (sym head) refl, all_some f xs ys cc)
 
 -- Rows of journeys.
 
@@ -119,9 +118,7 @@ module _ {v : Version} (t : Tables) (s : State) (st : StandsIn v t s) (spelled :
   pub row_cursor : (r : JourneyFound) → Has t.journey (journey_of r) → IsSome (cursor_in (row_of r.cursor))
   row_cursor r has =
       let told = journey_told s.ledger (journey_of r) (permutation_from _ t.journey (journey_of r) st.journey has) in
-      let at = cursor_of told.0.plan (history s.ledger r.id) in
-      let is : cursor_in (row_of r.cursor) ≡ Some at = ap cursor_in told.2.cursor ∙ cursor_back at in
-      rw is refl
+      rw (ap cursor_in told.2.cursor ∙ cursor_back (cursor_of told.0.plan (history s.ledger r.id))) refl
 
   -- so the row is that of a journey
   pub row_told : (r : JourneyFound) → Has t.journey (journey_of r)
@@ -142,8 +139,7 @@ module _ {v : Version} (t : Tables) (s : State) (st : StandsIn v t s) (spelled :
   pub row_number : (id : ℕ) (r : JourneyFound) → FindsJourney id t (Some r) → r.num ≤ most_events
   row_number id r finds =
       let began = journey_begins s.ledger t.journey id (journey_of r) st.journey finds in
-      let low = number_low s.ledger id began.0 began.1 in
-      let is : r.num ≡ began.0.num = began.2 in omega (arith, low, is, spelled.few)
+      let is : r.num ≡ began.0.num = began.2 in omega (arith, number_low s.ledger id began.0 began.1, is, spelled.few)
 
   -- what is found of a number, or above one, is a row
   pub found_there : (id : ℕ) (r : JourneyFound) → FindsJourney id t (Some r) → Has t.journey (journey_of r)
@@ -153,18 +149,13 @@ module _ {v : Version} (t : Tables) (s : State) (st : StandsIn v t s) (spelled :
   unfinished_there after r finds = (has_filtered (is_unfinished_after after) t.journey (journey_of r) finds.0).0
 
   pub unfinished_above : (after : ℕ) (r : JourneyFound) → FindsUnfinished after t (Some r) → after < r.id
-  unfinished_above after r finds =
-      ltb-true after r.id
-      (and_parts (nat_lt after r.id) (nat_le r.cursor.phase 1) (has_filtered (is_unfinished_after after) t.journey (journey_of r) finds.0).1).0
+  unfinished_above after r finds = search (rules, arith, ltb-true, and_parts, has_filtered)
 
   pub owned_there : (agent : List ℕ) (after : ℕ) (r : JourneyFound) → FindsOwned agent after t (Some r) → Has t.journey (journey_of r)
   owned_there agent after r finds = (has_filtered (is_owned_after agent after) t.journey (journey_of r) finds.0).0
 
   pub owned_above : (agent : List ℕ) (after : ℕ) (r : JourneyFound) → FindsOwned agent after t (Some r) → after < r.id
-  owned_above agent after r finds =
-      ltb-true after r.id
-      (and_parts (nat_lt after r.id) (bytes_eq (journey_of r).agent agent)
-      (has_filtered (is_owned_after agent after) t.journey (journey_of r) finds.0).1).0
+  owned_above agent after r finds = search (rules, arith, ltb-true, and_parts, has_filtered)
 
   -- the event of an item that is found is one of the ledger
   pub item_early : (journey after : ℕ) (found : Option ItemFound) → FindsNextItem journey after t found

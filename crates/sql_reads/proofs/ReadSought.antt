@@ -1,6 +1,5 @@
 -- Where the search for the items of a journey starts. For the reads of its items.
-use Rattle.std.proofs.Common.{◌≡◌, ℕ, List, [], ◌∷◌, ◌++◌, take, drop, Option, None, Some, refl, sym, ap, ◌∙◌, arith, option_map}
-use Rattle.std.proofs.lemmas.List.{take-append-drop}
+use Rattle.std.proofs.Common.{◌≡◌, ℕ, List, [], ◌∷◌, ◌++◌, take, drop, Option, None, Some, refl, sym, ap, ◌∙◌, arith, option_map, take-append-drop, rules}
 use Rattle.std.proofs.lemmas.List.Elements.{filter_map-append}
 use Rattle.plan.specs.PlanModel.{step_count}
 use Rattle.commands.specs.declared.items.Item.{Item}
@@ -55,8 +54,7 @@ absent_read t s st desk id finds = go (journey_at s.ledger id) refl (journey_rea
   where
     go : (o : Option Journey) → journey_at s.ledger id ≡ o
         → Tells (λ (r : JourneyRow) a. (r.id ≡ id) × IsJourneyOf s.ledger r a) None o → journey_at s.ledger id ≡ None
-    go None e tells = e
-    go (Some a) e tells = absurd tells
+    go o e tells = search (rules, arith)
 
 -- a found row gives the number of the journey's steps, and the event that began it
 pub sought_there : {v : Version} (t : Tables) (s : State) (st : StandsIn v t s) (desk : IsDesk s) (id : ℕ) (found : JourneyFound)
@@ -66,11 +64,9 @@ sought_there t s st desk id found finds w journey after steps =
     let there = journey_there s.ledger id (journey_of found) (journey_read t s st desk id (Some found) finds) in
     record {
       items = ap (history s.ledger) journey;
-      first =
-          ap (λ n. history (take n s.ledger) w.journey) after
+      first = ap (λ n. history (take n s.ledger) w.journey) after
           ∙ ap (history (take found.num s.ledger)) journey ∙ begins_read t s st desk id found finds;
       steps = λ a at.
-          let same : Some a ≡ Some there.journey = sym at ∙ ap (journey_at s.ledger) journey ∙ there.at in
           let is : a ≡ there.journey = cc in
           ap (λ (b : Journey). step_count b.plan) is ∙ sym there.is.steps ∙ sym steps;
     }
@@ -81,11 +77,4 @@ pub next_sought : {v : Version} (t : Tables) (s : State) (st : StandsIn v t s) (
 next_sought t s st desk w found finds = go found (next_read t s st desk w.journey w.after found finds)
   where
     go : (o : Option ItemFound) → TellsIfNext w.journey 1 w.after s.ledger (option_map (item_row w.journey) o) → IsNextOf w s o
-    go None none = none
-    go (Some i) tells =
-        let past : tells.past ≡ i.num = (let number = tells.number in omega arith) in
-        record {
-          item = tells.item;
-          told = tells.told;
-          rest = tells.rest ∙ ap (λ n. tells.item ∷ history (drop n s.ledger) w.journey) past;
-        }
+    go o none = search (rules, arith)

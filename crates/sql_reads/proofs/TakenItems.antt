@@ -1,5 +1,5 @@
 -- The items of a journey, taken one after another from a cursor. For `traces`.
-use Rattle.std.proofs.Common.{◌≡◌, ◌+◌, ℕ, List, [], ◌∷◌, ◌++◌, Some, None, refl, sym, ap, ◌∙◌, append_assoc, append-nil}
+use Rattle.std.proofs.Common.{◌≡◌, ℕ, List, [], ◌∷◌, ◌++◌, Some, None, ◌∙◌, append_assoc, append-nil, arith, rules}
 use Rattle.sqlite.specs.Store.{Ghosts}
 use Rattle.sqlite.specs.Held.{Held, state}
 use Rattle.sqlite.specs.State.{HasCleanDisk}
@@ -28,13 +28,7 @@ module _ {S : Type 0} (g : Ghosts S) where
 
   pub none_taken : (h : Held S) (start : ItemCursor) (taken : List Item) → taken ≡ [] → IsLow start.sought → start.given ≡ 0
       → AreTaken h h start start taken 0
-  none_taken h start taken bare low none = record {
-    quiet = quiet_alone g h;
-    remain = λ clean all rests. (all, rests, ap (λ t. t ++ all) (sym bare));
-    low = low;
-    version = refl;
-    given = none;
-  }
+  none_taken h start taken bare low none = search (rules, arith, quiet_alone)
 
   module _ (first old new : Held S) (start was at : ItemCursor) (taken : List Item) (rounds : ℕ)
       (so : AreTaken first old start was taken rounds) (quiet : Quiet g old new) where
@@ -58,17 +52,9 @@ module _ {S : Type 0} (g : Ghosts S) where
     }
       where
         go : {all : List Item} (last : List Item) → HandsFirst (ItemsRest g new at) (Some x) last → all ≡ taken ++ last → Remain new at now all
-        go [] h e = absurd (let none = h.0 in cc)
-        go (y ∷ later) h e =
-            let first : Some x ≡ Some y = h.0 in
-            let is : x ≡ y = cc in
-            (later, h.1, e ∙ ap (λ z. taken ++ z ∷ later) (sym is) ∙ sym (append_assoc taken (x ∷ []) later) ∙ ap (λ ys. ys ++ later) (sym more))
+        go last h e = search (rules, arith, append_assoc)
 
     -- none remained, so all were taken
     pub all_taken : HasCleanDisk (state g new) → Hands (ItemsRest g old was) (ItemsRest g new at) None → (all : List Item)
         → ItemsRest g first start all → taken ≡ all
-    all_taken clean hands all rests = let left = so.remain (less clean) all rests in go left.0 (hands left.0 left.1) left.2
-      where
-        go : {all : List Item} (last : List Item) → HandsFirst (ItemsRest g new at) None last → all ≡ taken ++ last → taken ≡ all
-        go [] h e = sym (append-nil taken) ∙ sym e
-        go (y ∷ later) h e = absurd (let none = h.0 in cc)
+    all_taken clean hands all rests = search (rules, arith, less, append-nil)

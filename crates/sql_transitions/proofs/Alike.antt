@@ -1,5 +1,5 @@
 -- Rows of stock of the same cell. For the lemmas on stock.
-use Rattle.std.proofs.Common.{◌≡◌, true, refl, sym, ◌∙◌, eqb-true, eq-eqb}
+use Rattle.std.proofs.Common.{◌≡◌, true, refl, eqb-true, eq-eqb, arith, rules}
 use Rattle.std.proofs.lemmas.Bool.{and_parts, and_from}
 use Rattle.std.proofs.lemmas.Slice.Eq.{bytes_eq-Decides}
 use Rattle.allotment.specs.Cells.{kind_number}
@@ -16,46 +16,20 @@ record AreOfOneCell (r s : StockRow) : Type 0 where
 
 -- two rows that pass the test have the parts of one cell
 parts_of : (r s : StockRow) → is_same_stock r s ≡ true → AreOfOneCell r s
-parts_of r s e =
-    let night = and_parts _ _ e in
-    let product = and_parts _ _ night.0 in
-    let supplier = and_parts _ _ product.0 in
-    record {
-      kind = eqb-true r.kind s.kind supplier.0;
-      supplier = (bytes_eq-Decides r.supplier s.supplier).0 supplier.1;
-      product = (bytes_eq-Decides r.product s.product).0 product.1;
-      night = eqb-true r.night s.night night.1;
-    }
+parts_of r s e = search (rules, arith, and_parts, eqb-true, bytes_eq-Decides)
 
 -- two rows that have the parts of one cell pass the test
 from_parts : (r s : StockRow) → AreOfOneCell r s → is_same_stock r s ≡ true
-from_parts r s p =
-    and_from _ _
-    (and_from _ _
-    (and_from _ _ (eq-eqb r.kind s.kind p.kind) ((bytes_eq-Decides r.supplier s.supplier).1 p.supplier))
-    ((bytes_eq-Decides r.product s.product).1 p.product))
-    (eq-eqb r.night s.night p.night)
+from_parts r s p = search (rules, arith, and_from, eq-eqb, bytes_eq-Decides)
 
 -- the test is symmetric
 pub same-turned : (r s : StockRow) → is_same_stock r s ≡ true → is_same_stock s r ≡ true
-same-turned r s e =
-    let p = parts_of r s e in
-    from_parts s r
-    (record { kind = sym p.kind; supplier = sym p.supplier; product = sym p.product; night = sym p.night })
+same-turned r s e = search (rules, arith, parts_of, from_parts)
 
 -- the test is transitive
 pub same-same : (r s q : StockRow) → is_same_stock r s ≡ true → is_same_stock s q ≡ true
     → is_same_stock r q ≡ true
-same-same r s q e f =
-    let a = parts_of r s e in
-    let b = parts_of s q f in
-    from_parts r q
-    (record {
-      kind = a.kind ∙ b.kind;
-      supplier = a.supplier ∙ b.supplier;
-      product = a.product ∙ b.product;
-      night = a.night ∙ b.night;
-    })
+same-same r s q e f = search (rules, arith, parts_of, from_parts)
 
 -- the test is reflexive
 pub same-self : (r : StockRow) → is_same_stock r r ≡ true

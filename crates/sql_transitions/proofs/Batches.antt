@@ -1,7 +1,6 @@
 -- The row found with a batch's name is that of the only batch that was loaded under it. For loads.
-use Rattle.std.proofs.Common.{◌≡◌, ℕ, suc, ◌≤◌, ◌==◌, List, [], ◌∷◌, ◌++◌, length, map, filter, cond, Bool, true, false, if◌then◌else◌, Option, Some, None, IsTrue, inl, inr, refl, sym, ap, subst, ◌∙◌, arith, eqb-true, append-nil, length-append, filter_map, option_map, bytes_eq, ◌&&◌}
+use Rattle.std.proofs.Common.{◌≡◌, ℕ, suc, ◌≤◌, ◌==◌, List, [], ◌∷◌, ◌++◌, length, map, filter, cond, Bool, true, false, if◌then◌else◌, Option, Some, None, IsTrue, inl, inr, refl, sym, ap, subst, ◌∙◌, arith, eqb-true, append-nil, length-append, filter_map, option_map, bytes_eq, ◌&&◌, IsPermutation, rules}
 use Rattle.std.specs.List.{list_all, cons_option}
-use Rattle.std.specs.List.Sorted.{IsPermutation}
 use Rattle.std.proofs.lemmas.Bool.{and_parts}
 use Rattle.std.proofs.lemmas.List.{length-map}
 use Rattle.std.proofs.lemmas.List.Sorted.{length_permutation}
@@ -29,10 +28,7 @@ use Rattle.sql_transitions.proofs.Wants.{same_test}
 
 -- equality of bytes is symmetric
 bytes_back : (a b : List ℕ) → bytes_eq a b ≡ bytes_eq b a
-bytes_back a b =
-    same_test (bytes_eq a b) (bytes_eq b a)
-    (λ e. (bytes_eq-Decides b a).1 (sym ((bytes_eq-Decides a b).0 e)))
-    (λ e. (bytes_eq-Decides a b).1 (sym ((bytes_eq-Decides b a).0 e)))
+bytes_back a b = search (rules, arith, same_test, bytes_eq-Decides)
 
 -- the rows with a name have the texts of the batches with it
 named_from : (name : List ℕ) (n : ℕ) (l : List Event)
@@ -57,8 +53,7 @@ named_from name n (Loaded other rows ∷ l) =
         → map (λ (b : BatchRow). b.content)
         (cond v (record { name = other; num = n; content = batch_text rows } ∷ later) later)
         ≡ map batch_text (cons_option (if v then Some rows else None) (batches_named l name))
-    go true rest = ap (λ texts. batch_text rows ∷ texts) rest
-    go false rest = rest
+    go v rest = search (rules, arith)
 
 -- each name has at most one batch
 abbrev NamedOnce : List Event → Type 0

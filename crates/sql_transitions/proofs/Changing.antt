@@ -1,5 +1,5 @@
 -- Rows of stock after a change of some of them that leaves each row to its cell. For Puts and Wants.
-use Rattle.std.proofs.Common.{◌≡◌, List, [], ◌∷◌, find, cond, Bool, true, false, if◌then◌else◌, Some, refl, ap₂, ◌∙◌, option_map}
+use Rattle.std.proofs.Common.{◌≡◌, List, [], ◌∷◌, find, cond, Bool, true, false, if◌then◌else◌, Some, refl, ap₂, ◌∙◌, option_map, arith, rules}
 use Rattle.std.specs.List.{AllByRecursion}
 use Rattle.sqlite_trees.proofs.ListLemmas.{ascending-map, all-map, all_weaker}
 use Rattle.allotment.specs.declared.cells.Cell.{Cell}
@@ -26,14 +26,7 @@ module _ (passes : StockRow → Bool) (change : StockRow → StockRow)
 
   -- two changed rows are of one cell exactly if they were before
   row_now-same : (r s : StockRow) → is_same_stock (row_now r) (row_now s) ≡ is_same_stock r s
-  row_now-same r s = go (passes r) (passes s)
-    where
-      go : (u v : Bool)
-          → is_same_stock (if u then change r else r) (if v then change s else s) ≡ is_same_stock r s
-      go true true = first r (change s) ∙ second r s
-      go true false = first r s
-      go false true = second r s
-      go false false = refl
+  row_now-same r s = search (rules, arith)
 
   -- the row of a cell is found at its place, changed if it passes
   pub find-changed : (x : Cell) (rows : List StockRow)
@@ -46,20 +39,14 @@ module _ (passes : StockRow → Bool) (change : StockRow → StockRow)
       go : (v : Bool)
           → cond v (Some (row_now r)) (option_map row_now (find (is_stock_of x) rows))
           ≡ option_map row_now (cond v (Some r) (find (is_stock_of x) rows))
-      go true = refl
-      go false = refl
+      go v = search (rules, arith)
 
   -- no two changed rows are of one cell
   pub once-changed : (rows : List StockRow) → AreApart is_same_stock rows
       → AreApart is_same_stock (changed passes change rows)
-  once-changed rows once =
-      ascending-map (λ r s. is_same_stock r s ≡ false) row_now rows
-      (ascending_where (λ r s. is_same_stock r s ≡ false) (λ r s. is_same_stock (row_now r) (row_now s)
-      ≡ false) rows (λ r s h k off. row_now-same r s ∙ off) once)
+  once-changed rows once = search (rules, arith, ascending-map, ascending_where, row_now-same)
 
   -- each changed row is of some cell
   pub known-changed : (rows : List StockRow) → AllByRecursion IsOfCell rows
       → AllByRecursion IsOfCell (changed passes change rows)
-  known-changed rows known =
-      all-map IsOfCell row_now rows
-      (all_weaker IsOfCell (λ r. IsOfCell (row_now r)) (λ r of. (of.0, row_now-cell of.0 r ∙ of.1)) rows known)
+  known-changed rows known = search (rules, arith, all-map, all_weaker, row_now-cell)

@@ -1,9 +1,7 @@
 -- The preconditions of the statements on the rows that they change: no number falls below 0 or passes the store's
 -- integers, and a new number is above all others. For the functions that write an item.
-use Rattle.std.proofs.Common.{◌≡◌, ℕ, suc, ◌+◌, ◌-◌, ◌<◌, ◌≤◌, ◌^◌, ◌==◌, List, [], ◌∷◌, ◌++◌, length, find, true, false, Option, Some, None, IsTrue, refl, sym, ap, subst, ◌∙◌, arith, filter_map, option_map, nat_le, ◌&&◌}
-use Rattle.std.specs.Prelude.{unwrap_or}
+use Rattle.std.proofs.Common.{◌≡◌, ℕ, suc, ◌+◌, ◌-◌, ◌<◌, ◌≤◌, ◌^◌, ◌==◌, List, [], ◌∷◌, ◌++◌, length, find, true, false, Option, Some, None, IsTrue, refl, sym, ap, subst, ◌∙◌, arith, filter_map, option_map, nat_le, ◌&&◌, unwrap_or, IsPermutation, rules}
 use Rattle.std.specs.List.{AllByRecursion, list_all}
-use Rattle.std.specs.List.Sorted.{IsPermutation}
 use Rattle.std.proofs.lemmas.Bool.{and_parts, leb-true}
 use Rattle.commands.specs.Limits.{most_rows}
 use Rattle.sqlite_trees.proofs.ListLemmas.{all-permutation}
@@ -16,21 +14,19 @@ use Rattle.allotment.specs.declared.cells.Cell.{Cell}
 use Rattle.allotment.specs.declared.cells.Row.{Row}
 use Rattle.commands.specs.Names.{is_batch_name}
 use Rattle.commands.specs.declared.items.Item.{Item}
-use Rattle.commands.specs.declared.items.Item.TheVariants.{Transaction, Compensation, Turn, Save}
 use Rattle.ledger.specs.Ledger.{Event, Loaded, Began, Did, held, allotment, has_free, fits, is_allowed, is_batch, is_good_row, are_distinct, is_not_below_held, batches_named, IsLegal}
 use Rattle.ledger.proofs.Cells.{is_cell-same}
 use Rattle.ledger.proofs.Growing.{induct}
 use Rattle.ledger.proofs.Lists.{list_any-and_all}
 use Rattle.ledger_transitions.specs.JourneyChanges.{newer}
-use Rattle.ledger_transitions.proofs.Allotments.{loaded_distinct}
-use Rattle.ledger_transitions.proofs.Places.{allotment-began, allotment-did, allotment-loaded}
-use Rattle.saga_core.specs.Views.{Places, places_of}
+use Rattle.ledger_transitions.proofs.Allotments.{loaded_distinct, allotment-began, allotment-did, allotment-loaded}
+use Rattle.saga_core.specs.Views.{places_of}
 use Rattle.desk_sql.specs.Changes.{AreItemsBelow}
 use Rattle.desk_sql.specs.Rows.{Tables, StockRow, EntryRow}
 use Rattle.desk_sql.specs.Stock.{is_within, HaveFree, HaveRoom}
 use Rattle.desk_sql.specs.declared.stock.NightRange.{NightRange}
 use Rattle.sql_model.specs.ExpectedRows.{counted_from, entry_row_of, entry_row_if, entries_called}
-use Rattle.sql_model.specs.Standing.{IsOfCell, is_stock_of, places_told, StockStands}
+use Rattle.sql_model.specs.Standing.{is_stock_of, places_told, StockStands}
 use Rattle.sql_model.specs.Reading.{IsRangeOf}
 use Rattle.sql_model.proofs.StockRows.{stock_at-row}
 use Rattle.sql_transitions.proofs.Ranges.{range_row}
@@ -40,10 +36,7 @@ use Rattle.sql_transitions.proofs.Wants.{wanted_row}
 
 -- the row of an item has the number of its event
 entry_num : (num journey : ℕ) (item : Item) → (entry_row_of num journey item).num ≡ num
-entry_num num journey (Transaction step option) = refl
-entry_num num journey (Compensation step option) = refl
-entry_num num journey (Turn target cause) = refl
-entry_num num journey (Save position) = refl
+entry_num num journey item = search (rules, arith)
 
 -- numbers below the end of the suffix are below the end of the list
 later : (n m : ℕ) (rows : List EntryRow) → AllByRecursion (λ (e : EntryRow). e.num < suc n + m) rows
@@ -110,10 +103,7 @@ few_loaded l name rows may few x n at =
 few_more : (l : List Event) (e : Event) → IsLegal l → IsTrue (is_allowed l e) → FewPlaces l
     → FewPlaces (l ++ e ∷ [])
 unfolding FewPlaces
-few_more l (Loaded name rows) legal may few = few_loaded l name rows may few
-few_more l (Began agent plan) legal may few =
-    λ x n at. few x n (sym (allotment-began l agent plan x) ∙ at)
-few_more l (Did j item) legal may few = λ x n at. few x n (sym (allotment-did l j item x) ∙ at)
+few_more l e legal may few = search (rules, arith, few_loaded, allotment-began, allotment-did)
 
 -- the allotment of each cell keeps the limit of places
 pub allotment_few : (l : List Event) → IsLegal l → (x : Cell) (n : ℕ) → allotment l x ≡ Some n
@@ -130,26 +120,12 @@ record Says (l : List Event) (x : Cell) (r : StockRow) : Type 0 where
 
 -- the places in a cell's row are those that are allotted and free
 row_says : (l : List Event) (x : Cell) (r : StockRow) → places_of l x ≡ Some (places_told r) → Says l x r
-row_says l x r e = go (allotment l x) refl e
-  where
-    go : (o : Option ℕ) → allotment l x ≡ o
-        → option_map (λ (n : ℕ). record { allot = n; free = n - held l x }) o ≡ Some (places_told r)
-        → Says l x r
-    go None f s = cc
-    go (Some n) f s =
-        let same : record { allot = n; free = n - held l x } ≡ places_told r = cc in
-        let allot : n ≡ r.allot = ap (λ (p : Places). p.allot) same in
-        record {
-          allotted = f ∙ ap Some allot;
-          free = sym (ap (λ (p : Places). p.free) same) ∙ ap (λ m. m - held l x) allot;
-        }
+row_says l x r e = search (rules, arith)
 
 module _ (l : List Event) (t : Tables) (legal : IsLegal l) (stand : StockStands l t.stock) where
   -- each row says what is allotted and free of its cell
   each_says : (r : StockRow) → Has t.stock r → (x : Cell) × (is_stock_of x r ≡ true) × Says l x r
-  each_says r h =
-      let of = all_has IsOfCell t.stock r stand.known h in
-      (of.0, of.1, row_says l of.0 r (sym (stand.each of.0) ∙ stock_at-row t.stock of.0 r stand.once h of.1))
+  each_says r h = search (rules, arith, all_has, row_says, stock_at-row)
 
   -- if a want fits, each of its nights has its count of free places
   pub nights_have_free : (r : NightRange) (w : Wanted) → IsRangeOf r w → 1 ≤ w.nights

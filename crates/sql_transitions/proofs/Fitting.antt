@@ -1,6 +1,5 @@
 -- The nights found of a want determine whether it fits, and the places of a cell those that are held. For steps and loads.
-use Rattle.std.proofs.Common.{◌≡◌, ℕ, ◌+◌, ◌-◌, ◌<◌, ◌≤◌, ◌==◌, List, [], ◌∷◌, map, Bool, true, false, Option, Some, None, refl, sym, ap, ap₂, ◌∙◌, arith, eqb-true, eq-eqb, inl, inr, option_map, nat_le, ◌&&◌}
-use Rattle.std.specs.Prelude.{unwrap_or}
+use Rattle.std.proofs.Common.{◌≡◌, ℕ, ◌+◌, ◌-◌, ◌<◌, ◌≤◌, ◌==◌, List, [], ◌∷◌, map, Bool, true, false, Option, Some, None, refl, sym, ap, ap₂, ◌∙◌, arith, eqb-true, eq-eqb, inl, inr, option_map, nat_le, ◌&&◌, unwrap_or, rules}
 use Rattle.std.specs.List.{list_any, list_all}
 use Rattle.std.proofs.lemmas.Bool.{and_parts, and_from, leb-true, le-leb}
 use Rattle.sqlite_rules.specs.Lists.{Has}
@@ -21,33 +20,15 @@ module _ (l : List Event) (legal : IsLegal l) where
   -- the places shown of a cell with an allotment
   shown : (x : Cell) (p : Places) → places_of l x ≡ Some p
       → (allotment l x ≡ Some p.allot) × (p.free ≡ p.allot - held l x)
-  shown x p e = go (allotment l x) refl e
-    where
-      go : (o : Option ℕ) → allotment l x ≡ o
-          → option_map (λ (n : ℕ). record { allot = n; free = n - held l x }) o ≡ Some p
-          → (allotment l x ≡ Some p.allot) × (p.free ≡ p.allot - held l x)
-      go None f s = cc
-      go (Some n) f s =
-          let same : record { allot = n; free = n - held l x } ≡ p = cc in
-          let allot : n ≡ p.allot = ap (λ (q : Places). q.allot) same in
-          (f ∙ ap Some allot, sym (ap (λ (q : Places). q.free) same) ∙ ap (λ m. m - held l x) allot)
+  shown x p e = search (rules, arith)
 
   -- of a cell, all places that are not free are held
   pub held_told : (x : Cell) (p : Places) → places_of l x ≡ Some p → p.allot - p.free ≡ held l x
-  held_told x p e =
-      let is = shown x p e in
-      let within = held_within l x p.allot legal is.0 in
-      let free = is.1 in
-      omega arith
+  held_told x p e = search (rules, arith, shown, held_within)
 
   -- of a cell that is not shown, no place is held
   pub held_untold : (x : Cell) → places_of l x ≡ None → held l x ≡ 0
-  held_untold x e = held_none l x legal (absent (allotment l x) e)
-    where
-      absent : (o : Option ℕ)
-          → option_map {U = Places} (λ (n : ℕ). record { allot = n; free = n - held l x }) o ≡ None → o ≡ None
-      absent None s = refl
-      absent (Some n) s = cc
+  held_untold x e = search (rules, arith, held_none)
 
   module _ (w : Wanted) where
     -- a night has so many free places

@@ -10,8 +10,7 @@ use Rattle.ledger.specs.History.{next_want}
 use Rattle.ledger.specs.Ledger.{Did, Journey, journeys, journey_at, history, held, places_in, fits, is_allowed}
 use Rattle.ledger_transitions.specs.JourneyChanges.{cursor_after}
 use Rattle.ledger_transitions.proofs.Histories.{follows, may_come-allowed}
-use Rattle.ledger_transitions.proofs.Allotments.{allotment-did}
-use Rattle.ledger_transitions.proofs.Places.{held-compensation, held_within}
+use Rattle.ledger_transitions.proofs.Places.{held-compensation, held_within, allotment-did}
 use Rattle.ledger_transitions.proofs.Taking.{is_taken-more}
 use Rattle.saga_core.specs.Views.{cursor_of}
 use Rattle.desk_sql.specs.Rows.{Tables}
@@ -38,7 +37,6 @@ pub compensation_stands : (t : Tables) (s : State) (ask : Option Asked) (reply :
 compensation_stands t s ask reply j i c w a st desk at want may new =
     let l = s.ledger in
     let cursor = cursor_after a.plan (cursor_of a.plan (history l j)) (Compensation i c) in
-    let comes = may_come-allowed l j a (Compensation i c) at may in
     item_stands_answered t
     (moves_journey j (cursor_written cursor) (drops_mark j i (marks_step j i c 0 (gives_want w t)))) s j
     (Compensation i c) st
@@ -57,7 +55,7 @@ compensation_stands t s ask reply j i c w a st desk at want may new =
       step =
           steps-mark l j (Compensation i c) i c false
           (standing-compensation a.plan (history l j) (fits l (next_want a.plan (history l j))) i c
-          (follows l desk.legal j a at) comes)
+          (follows l desk.legal j a at) (may_come-allowed l j a (Compensation i c) at may))
           t.step st.step;
       answer = refl;
       entries = refl;

@@ -1,13 +1,11 @@
 -- What an item of a journey changes in the rows that are expected of a ledger. For the lemmas of each item.
-use Rattle.std.proofs.Common.{◌≡◌, ℕ, suc, ◌+◌, ◌==◌, List, [], ◌∷◌, ◌++◌, length, map, Bool, true, false, if◌then◌else◌, Some, refl, sym, ap, ap₂, ◌∙◌, arith, append-nil, length-append, eqb-true, inl, inr, flat_map, ◌&&◌}
-use Rattle.std.specs.List.Sorted.{IsPermutation}
+use Rattle.std.proofs.Common.{◌≡◌, ℕ, ◌+◌, ◌==◌, List, [], ◌∷◌, ◌++◌, length, map, Bool, true, false, if◌then◌else◌, Some, refl, sym, ap, ap₂, ◌∙◌, arith, append-nil, length-append, eqb-true, inl, inr, flat_map, ◌&&◌, IsPermutation, rules}
 use Rattle.std.proofs.lemmas.List.Sorted.{IsPermutation-map}
 use Rattle.sqlite_trees.proofs.ListLemmas.{map-map, map-flat_map}
 use Rattle.sqlite_rules.specs.Lists.{Has}
 use Rattle.allotment.specs.Want.{Wanted}
-use Rattle.plan.specs.PlanModel.{Planned, StepPlan}
+use Rattle.plan.specs.PlanModel.{Planned}
 use Rattle.commands.specs.declared.items.Item.{Item}
-use Rattle.commands.specs.declared.items.Item.TheVariants.{Transaction, Compensation, Turn, Save}
 use Rattle.ledger.specs.Ledger.{Event, Did, Journey, journeys, journey_at, history}
 use Rattle.ledger.proofs.Growing.{journeys-did, history-did_same, history-did_other}
 use Rattle.saga_core.specs.Views.{cursor_of}
@@ -15,7 +13,7 @@ use Rattle.desk_sql.specs.Lists.{changed}
 use Rattle.desk_sql.specs.FoundRows.{is_numbered, item_of}
 use Rattle.desk_sql.specs.Rows.{JourneyRow, StepRow}
 use Rattle.desk_sql.specs.Changes.{with_cursor, is_option, with_taken}
-use Rattle.sql_model.specs.ExpectedRows.{counted_from, meta_called, batches_called, Begun, begun, journey_row_of, journeys_called, is_standing, flag, option_row, option_rows, step_rows, steps_called, entry_row_of, entries_called}
+use Rattle.sql_model.specs.ExpectedRows.{counted_from, meta_called, batches_called, Begun, begun, journey_row_of, journeys_called, is_standing, flag, option_row, step_rows, steps_called, entry_row_of, entries_called}
 use Rattle.sql_model.specs.Beginning.{meta_row_at}
 use Rattle.sql_model.proofs.Lists.{map-same, flat_map-same}
 use Rattle.sql_model.proofs.Events.{batches_called-more, entries_called-more, begun-more}
@@ -38,21 +36,13 @@ changed-permutation passes change xs ys same =
 
 -- the stored item is the expected row
 pub written_row : (num j : ℕ) (item : Item) → item_of j (item_written num item) ≡ entry_row_of num j item
-written_row num j (Transaction step option) = refl
-written_row num j (Compensation step option) = refl
-written_row num j (Turn target cause) = refl
-written_row num j (Save position) = refl
+written_row num j item = search (rules, arith)
 
 -- two rules that agree on which options are taken give the same rows of a plan
 step_rows-same : (taken after : ℕ → ℕ → Bool) (id : ℕ) (plan : Planned)
     → ((step option : ℕ) → after step option ≡ taken step option)
     → step_rows after id plan ≡ step_rows taken id plan
-step_rows-same taken after id plan same =
-    flat_map-same (λ (s : ℕ × StepPlan). option_rows after id s.0 s.1)
-    (λ (s : ℕ × StepPlan). option_rows taken id s.0 s.1) (counted_from 1 plan.steps)
-    (λ s. map-same (λ (w : ℕ × Wanted). option_row id s.0 s.1.is_marked w.0 (after s.0 w.0) w.1)
-    (λ (w : ℕ × Wanted). option_row id s.0 s.1.is_marked w.0 (taken s.0 w.0) w.1) (counted_from 1 s.1.options)
-    (λ w. ap (λ v. option_row id s.0 s.1.is_marked w.0 v w.1) (same s.0 w.0)))
+step_rows-same taken after id plan same = search (rules, arith, flat_map-same, map-same)
 
 -- rows of a plan of which one option of one journey was marked
 module _ (j i c : ℕ) (v : Bool) where
@@ -65,31 +55,14 @@ module _ (j i c : ℕ) (v : Bool) where
       → option_row id step is_marked option
       (if (id == j) && ((step == i) && (option == c)) then v else taken) want
       ≡ marked (option_row id step is_marked option taken want)
-  one_option taken id step is_marked option want = go ((id == j) && ((step == i) && (option == c)))
-    where
-      go : (t : Bool)
-          → option_row id step is_marked option (if t then v else taken) want
-          ≡ (if t then with_taken (flag v) (option_row id step is_marked option taken want)
-          else option_row id step is_marked option taken want)
-      go true = refl
-      go false = refl
+  one_option taken id step is_marked option want = search (rules, arith)
 
   -- the rows of a plan by the changed rule are its old rows, the one of that option marked
   step_rows-marked : (taken after : ℕ → ℕ → Bool) (id : ℕ) (plan : Planned)
       → ((step option : ℕ) → after step option
       ≡ (if (id == j) && ((step == i) && (option == c)) then v else taken step option))
       → step_rows after id plan ≡ map marked (step_rows taken id plan)
-  step_rows-marked taken after id plan same =
-      flat_map-same (λ (s : ℕ × StepPlan). option_rows after id s.0 s.1)
-      (λ (s : ℕ × StepPlan). map marked (option_rows taken id s.0 s.1)) (counted_from 1 plan.steps)
-      (λ s. map-same (λ (w : ℕ × Wanted). option_row id s.0 s.1.is_marked w.0 (after s.0 w.0) w.1)
-      (λ (w : ℕ × Wanted). marked (option_row id s.0 s.1.is_marked w.0 (taken s.0 w.0) w.1))
-      (counted_from 1 s.1.options)
-      (λ w. ap (λ b. option_row id s.0 s.1.is_marked w.0 b w.1) (same s.0 w.0)
-      ∙ one_option (taken s.0 w.0) id s.0 s.1.is_marked w.0 w.1)
-      ∙ sym (map-map marked (λ (w : ℕ × Wanted). option_row id s.0 s.1.is_marked w.0 (taken s.0 w.0) w.1)
-      (counted_from 1 s.1.options)))
-      ∙ sym (map-flat_map marked (λ (s : ℕ × StepPlan). option_rows taken id s.0 s.1) (counted_from 1 plan.steps))
+  step_rows-marked taken after id plan same = search (rules, arith, flat_map-same, map-same, one_option, map-map, map-flat_map)
 
 module _ (l : List Event) (j : ℕ) (item : Item) where
   -- the ledger with the item
@@ -98,9 +71,7 @@ module _ (l : List Event) (j : ℕ) (item : Item) where
 
   -- one more event, and the same journeys
   pub meta-did : meta_called next ≡ meta_row_at (length l + 1) (length (journeys l))
-  meta-did =
-      ap (λ n. meta_row_at n (length (journeys next))) (length-append l (Did j item ∷ []))
-      ∙ ap (λ js. meta_row_at (length l + 1) (length js)) (journeys-did l j item)
+  meta-did = search (rules, arith, length-append, journeys-did)
 
   -- the same batches
   pub batches-did : batches_called next ≡ batches_called l
@@ -108,9 +79,7 @@ module _ (l : List Event) (j : ℕ) (item : Item) where
 
   -- the row of the item is appended
   pub entries-did : entries_called next ≡ entries_called l ++ item_of j (item_written (length l + 1) item) ∷ []
-  entries-did =
-      entries_called-more l (Did j item)
-      ∙ ap (λ row. entries_called l ++ row ∷ []) (sym (written_row (length l + 1) j item))
+  entries-did = search (rules, arith, entries_called-more, written_row)
 
   -- Journeys.
 
@@ -127,14 +96,7 @@ module _ (l : List Event) (j : ℕ) (item : Item) where
   -- the journey with the item's number is this journey
   the_journey : (a : Journey) → journey_at l j ≡ Some a → (b : ℕ × Begun)
       → Has (counted_from 1 (begun l)) b → (b.0 == j) ≡ true → (b.0 ≡ j) × (b.1.journey ≡ a)
-  the_journey a at b h e =
-      let is : b.0 ≡ j = eqb-true b.0 j e in
-      let s = counted_stands 1 (begun l) b h in
-      let number : j ≡ suc s.place =
-      sym is ∙ s.number ∙ (let k : 1 + s.place ≡ suc s.place = omega arith in k) in
-      let one : Some b.1.journey ≡ Some a =
-      sym (begun_there l s.place b.1 s.there) ∙ ap (journey_at l) (sym number) ∙ at in
-      (is, cc)
+  the_journey a at b h e = search (rules, arith, eqb-true, counted_stands, begun_there)
 
   -- the row of each journey follows its history
   moved_row : (a : Journey) → journey_at l j ≡ Some a → (b : ℕ × Begun)
@@ -196,10 +158,7 @@ module _ (l : List Event) (j : ℕ) (item : Item) where
   pub steps_called-stays :
       ((k step option : ℕ) → is_standing (history next k) step option ≡ is_standing (history l k) step option)
       → steps_called next ≡ steps_called l
-  steps_called-stays same =
-      ap (λ js. flat_map (rows_in next) (counted_from 1 js)) (journeys-did l j item)
-      ∙ flat_map-same (rows_in next) (rows_in l) (counted_from 1 (journeys l))
-      (λ a. step_rows-same (is_standing (history l a.0)) (is_standing (history next a.0)) a.0 a.1.plan (same a.0))
+  steps_called-stays same = search (rules, arith, journeys-did, flat_map-same, step_rows-same)
 
   -- an item that takes one option, or gives it up, changes the row of that option alone
   pub steps_called-marked : (i c : ℕ) (v : Bool)

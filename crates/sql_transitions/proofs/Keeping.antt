@@ -1,13 +1,13 @@
 -- An allowed event whose reply accepts leaves a desk's state; the outcome of a request, by its answer. For commands.
-use Rattle.std.proofs.Common.{◌≡◌, ◌<◌, ◌≤◌, length, Bool, true, false, if◌then◌else◌, Option, Some, None, IsTrue, refl, ap, subst, ◌∙◌, arith, ◌&&◌, nat_le, is_some}
+use Rattle.std.proofs.Common.{◌≡◌, ◌<◌, ◌≤◌, length, Bool, false, if◌then◌else◌, Option, Some, None, IsTrue, ap, ◌∙◌, arith, ◌&&◌, nat_le, is_some, rules}
 use Rattle.std.proofs.lemmas.Bool.{and_from, le-leb}
 use Rattle.std.proofs.lemmas.Bool.Decides.{nat_tests}
 use Rattle.commands.specs.Asks.{Asked}
 use Rattle.commands.specs.Request.{Request}
 use Rattle.commands.specs.declared.replies.Refusal.TheVariants.{Limit}
-use Rattle.ledger.specs.Answer.{State, Answer, Outcome, answer, is_request, refused, asker, answer_within, most_events, kept_for, carried_out, outcome_for, outcome, state_with}
+use Rattle.ledger.specs.Answer.{State, Answer, is_request, refused, asker, answer_within, most_events, kept_for, carried_out, outcome_for, outcome, state_with}
 use Rattle.ledger.specs.Ledger.{Event, is_allowed}
-use Rattle.ledger.proofs.Answers.{IsAllowedEvent, answer-allowed}
+use Rattle.ledger.proofs.Answers.{answer-allowed}
 
 -- The outcome of a request.
 
@@ -25,14 +25,7 @@ module _ (s : State) (ask : Option Asked) (asked : Request) (new : kept_for s as
 
   -- if the ledger has room, the outcome is that of the rules' answer
   pub outcome-room : length s.ledger < most_events → outcome s ask asked ≡ carried_out s ask within
-  outcome-room room = by_limit false (none (is_some within.event))
-    where
-      off : nat_le most_events (length s.ledger) ≡ false
-      off = grind (arith, nat_tests)
-
-      none : (b : Bool) → (b && nat_le most_events (length s.ledger)) ≡ false
-      none true = off
-      none false = refl
+  outcome-room room = search (rules, arith, by_limit, nat_tests)
 
   -- if the rules make no event, the outcome is that of the rules' answer
   pub outcome-no_event : within.event ≡ None → outcome s ask asked ≡ carried_out s ask within
@@ -42,30 +35,10 @@ module _ (s : State) (ask : Option Asked) (asked : Request) (new : kept_for s as
   -- if the rules make an event and the ledger is full, the outcome is a refusal
   pub outcome-full : (e : Event) → within.event ≡ Some e → most_events ≤ length s.ledger
       → outcome s ask asked ≡ carried_out s ask (refused Limit)
-  outcome-full e some full =
-      by_limit true
-      (and_from (is_some within.event) (nat_le most_events (length s.ledger)) (ap is_some some)
-      (le-leb most_events (length s.ledger) full))
+  outcome-full e some full = search (rules, arith, by_limit, and_from, le-leb)
 
   -- an event that the rules make is allowed, and the state of the outcome is the state with it
   pub outcome-event : (e : Event) → IsTrue (is_request asked) → length s.ledger < most_events
       → within.event ≡ Some e
       → IsTrue (is_allowed s.ledger e) × ((outcome s ask asked).state ≡ state_with s ask within.reply (Some e))
-  outcome-event e good room due = (
-    subst (IsAllowedEvent s.ledger) (ap (λ (a : Answer). a.event) unlimited ∙ due)
-        (answer-allowed s.ledger (asker ask) asked good),
-    ap (λ (o : Outcome). o.state) (outcome-room room)
-        ∙ ap (state_with s ask within.reply) due,
-  )
-    where
-      off : nat_le most_events (length s.ledger) ≡ false
-      off = grind (arith, nat_tests)
-
-      none : (b : Bool) → (b && nat_le most_events (length s.ledger)) ≡ false
-      none true = off
-      none false = refl
-
-      unlimited : answer s.ledger (asker ask) asked ≡ answer_within s.ledger (asker ask) asked
-      unlimited =
-          ap (λ v. if v then refused Limit else answer_within s.ledger (asker ask) asked)
-          (none (is_some (answer_within s.ledger (asker ask) asked).event))
+  outcome-event e good room due = search (rules, arith, answer-allowed, outcome-room, nat_tests)

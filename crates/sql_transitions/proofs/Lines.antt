@@ -1,13 +1,12 @@
 -- Good rows have different texts, without line feeds, since their parts lack the separators. For loads.
-use Rattle.std.proofs.Common.{◌≡◌, ℕ, ◌+◌, ◌-◌, ◌/◌, ◌%◌, ◌<◌, ◌≤◌, ◌^◌, ◌==◌, List, [], ◌∷◌, ◌++◌, Bool, true, Some, refl, sym, ap, ◌∙◌, arith, inl, inr, append_assoc, decimal, nat_le, length, bytes_eq, ◌&&◌, ◌||◌, not}
+use Rattle.std.proofs.Common.{◌≡◌, ℕ, ◌+◌, ◌-◌, ◌%◌, ◌<◌, ◌≤◌, ◌^◌, ◌==◌, List, [], ◌∷◌, ◌++◌, Bool, true, Some, refl, sym, ap, ◌∙◌, arith, append_assoc, decimal, bytes_eq, ◌&&◌, not, rules}
 use Rattle.std.specs.List.{list_all}
 use Rattle.std.proofs.lemmas.Bool.{and_parts, and_from, or_cases, leb-true, ne_eqb, not_from_false}
 use Rattle.std.proofs.lemmas.Fmt.{decimal_by_steps, decimal_injective}
-use Rattle.allotment.specs.Limits.{is_between, is_capital, is_digit, is_code, is_night, is_good_cell, first_night, most_places}
-use Rattle.allotment.specs.Nights.{civil, two_digits, four_digits, night_text, named_night}
+use Rattle.allotment.specs.Limits.{is_code, is_night}
+use Rattle.allotment.specs.Nights.{two_digits, night_text, named_night}
 use Rattle.allotment.specs.Texts.{row_text, kind_letter, kind_of_letter, slash, line_feed}
 use Rattle.allotment.specs.declared.codes.Kind.{Kind}
-use Rattle.allotment.specs.declared.codes.Kind.TheVariants.{Flight, Room, Transfer, Cover}
 use Rattle.allotment.specs.declared.cells.Row.{Row}
 use Rattle.allotment.proofs.NightLemmas.{night_named}
 use Rattle.allotment.proofs.TestLemmas.{list_all_weaker}
@@ -23,9 +22,7 @@ is_plain byte = not (byte == line_feed) && not (byte == slash)
 -- each byte from 48 on is plain
 plain_above : (byte : ℕ) → 48 ≤ byte → is_plain byte ≡ true
 unfolding is_plain
-plain_above byte high =
-    and_from (not (byte == 10)) (not (byte == 47)) (not_from_false (byte == 10) (ne_eqb byte 10 (λ e. omega arith)))
-    (not_from_false (byte == 47) (ne_eqb byte 47 (λ e. omega arith)))
+plain_above byte high = search (rules, arith, and_from, not_from_false, ne_eqb)
 
 -- two plain texts are plain when appended
 both : (p : ℕ → Bool) (xs ys : List ℕ) → list_all p xs ≡ true → list_all p ys ≡ true
@@ -40,25 +37,11 @@ both p (x ∷ xs) ys e f =
 -- letters are plain
 letter_plain : (k : Kind) → list_all is_plain (kind_letter k) ≡ true
 unfolding is_plain
-letter_plain Flight = refl
-letter_plain Room = refl
-letter_plain Transfer = refl
-letter_plain Cover = refl
+letter_plain k = search (rules, arith)
 
 -- capitals and digits are plain
 code_plain : (code : List ℕ) → is_code code ≡ true → list_all is_plain code ≡ true
-code_plain code good =
-    list_all_weaker (λ byte. is_capital byte || is_digit byte) is_plain one code
-    (and_parts (is_between 1 8 (length code)) (list_all (λ byte. is_capital byte || is_digit byte) code) good).1
-  where
-    one : (byte : ℕ) → (is_capital byte || is_digit byte) ≡ true → is_plain byte ≡ true
-    one byte e =
-        elim (or_cases (is_capital byte) (is_digit byte) e) [
-          | inl capital ↦ plain_above byte
-              (let low = leb-true 65 byte (and_parts (nat_le 65 byte) (nat_le byte 90) capital).0 in omega arith)
-          | inr digit ↦ plain_above byte
-              (let low = leb-true 48 byte (and_parts (nat_le 48 byte) (nat_le byte 57) digit).0 in omega arith)
-        ]
+code_plain code good = search (rules, arith, list_all_weaker, and_parts, or_cases, plain_above, leb-true)
 
 -- a digit is plain
 digit_plain : (n : ℕ) → is_plain (48 + n) ≡ true
@@ -66,9 +49,7 @@ digit_plain n = plain_above (48 + n) (omega arith)
 
 -- two digits are plain
 two_plain : (n : ℕ) → list_all is_plain (two_digits n) ≡ true
-two_plain n =
-    and_from (is_plain (48 + n / 10)) (list_all is_plain ((48 + n % 10) ∷ [])) (digit_plain (n / 10))
-    (and_from (is_plain (48 + n % 10)) true (digit_plain (n % 10)) refl)
+two_plain n = search (rules, arith, and_from, digit_plain)
 
 -- a dash is plain
 dash_plain : (xs : List ℕ) → list_all is_plain xs ≡ true → list_all is_plain (45 ∷ xs) ≡ true
@@ -77,14 +58,7 @@ dash_plain xs e = e
 
 -- a date is plain: it is made of digits and dashes
 night_plain : (n : ℕ) → list_all is_plain (night_text n) ≡ true
-night_plain n =
-    let date = civil (n - first_night) in
-    both is_plain (four_digits (2000 + date.0)) (45 ∷ (two_digits date.1.0 ++ 45 ∷ two_digits date.1.1))
-    (both is_plain (two_digits ((2000 + date.0) / 100)) (two_digits ((2000 + date.0) % 100))
-    (two_plain ((2000 + date.0) / 100)) (two_plain ((2000 + date.0) % 100)))
-    (dash_plain (two_digits date.1.0 ++ 45 ∷ two_digits date.1.1)
-    (both is_plain (two_digits date.1.0) (45 ∷ two_digits date.1.1) (two_plain date.1.0)
-    (dash_plain (two_digits date.1.1) (two_plain date.1.1))))
+night_plain n = search (rules, arith, both, two_plain, dash_plain)
 
 -- a number is plain
 decimal_plain : (n : ℕ) → n < 2 ^ 64 → list_all is_plain (decimal n) ≡ true
@@ -97,16 +71,12 @@ decimal_plain =
 -- a plain text has no line feed
 no_feed : (xs : List ℕ) → list_all is_plain xs ≡ true → list_all ends_no_line xs ≡ true
 unfolding is_plain
-no_feed xs e =
-    list_all_weaker (λ b. not (b == line_feed) && not (b == slash)) ends_no_line
-    (λ b p. (and_parts (not (b == line_feed)) (not (b == slash)) p).0) xs e
+no_feed xs e = search (rules, arith, list_all_weaker, ends_no_line, and_parts)
 
 -- a plain text has no slash
 no_slash : (xs : List ℕ) → list_all is_plain xs ≡ true → list_all (is_not slash) xs ≡ true
 unfolding is_plain
-no_slash xs e =
-    list_all_weaker (λ b. not (b == line_feed) && not (b == slash)) (is_not slash)
-    (λ b p. (and_parts (not (b == line_feed)) (not (b == slash)) p).1) xs e
+no_slash xs e = search (rules, arith, list_all_weaker, is_not, and_parts)
 
 -- the limits of a row, part by part
 record HasGoodParts (r : Row) : Type 0 where
@@ -117,17 +87,7 @@ record HasGoodParts (r : Row) : Type 0 where
 
 -- a good row keeps each limit
 good_parts : (r : Row) → is_good_row r ≡ true → HasGoodParts r
-good_parts r good =
-    let row = and_parts (is_good_cell r.cell) (nat_le r.places most_places) good in
-    let cell =
-    and_parts (is_code r.cell.supplier && is_code r.cell.product) (is_night r.cell.night) row.0 in
-    let codes = and_parts (is_code r.cell.supplier) (is_code r.cell.product) cell.0 in
-    record {
-      supplier = codes.0;
-      product = codes.1;
-      night = cell.1;
-      few = (let low = leb-true r.places most_places row.1 in omega arith);
-    }
+good_parts r good = search (rules, arith, and_parts, leb-true)
 
 -- the text of a good row is one line
 pub own_line : (r : Row) → is_good_row r ≡ true → list_all ends_no_line (row_text r) ≡ true
@@ -156,10 +116,7 @@ five_parts r = simp append_assoc
 
 -- the letter of a kind is read back
 letter_again : (k : Kind) → kind_of_letter (kind_letter k) ≡ Some k
-letter_again Flight = refl
-letter_again Room = refl
-letter_again Transfer = refl
-letter_again Cover = refl
+letter_again k = search (rules, arith)
 
 -- the row of these parts
 made : Kind → List ℕ → List ℕ → ℕ → ℕ → Row

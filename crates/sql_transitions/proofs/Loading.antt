@@ -1,6 +1,5 @@
 -- The rows that a load writes represent the ledger with it. For loads.
-use Rattle.std.proofs.Common.{◌≡◌, ℕ, ◌+◌, ◌-◌, List, [], ◌∷◌, ◌++◌, length, map, find, Option, Some, None, IsTrue, refl, sym, ap, subst, ◌∙◌, append-nil, option_map, flat_map}
-use Rattle.std.specs.List.Sorted.{IsPermutation}
+use Rattle.std.proofs.Common.{◌≡◌, ℕ, ◌+◌, ◌-◌, List, [], ◌∷◌, ◌++◌, length, map, find, Option, Some, None, IsTrue, refl, sym, ap, subst, ◌∙◌, append-nil, option_map, IsPermutation, arith, rules}
 use Rattle.std.proofs.lemmas.List.Sorted.{IsPermutation-append_left}
 use Rattle.sqlite_rules.proofs.ListLemmas.{has_found}
 use Rattle.allotment.specs.Cells.{is_cell}
@@ -35,9 +34,7 @@ module _ (l : List Event) (name : List ℕ) (rows : List Row) where
 
   -- one more event, and the same journeys
   meta-loaded : meta_called next ≡ meta_row_at (length l + 1) (length (journeys l))
-  meta-loaded =
-      ap (λ n. meta_row_at n (length (journeys next))) (length-more l (Loaded name rows))
-      ∙ ap (λ js. meta_row_at (length l + 1) (length js)) (journeys-loaded l name rows)
+  meta-loaded = search (rules, arith, length-more, journeys-loaded)
 
   -- the row of the batch is appended
   batches-loaded : batches_called next
@@ -62,10 +59,7 @@ module _ (l : List Event) (name : List ℕ) (rows : List Row) where
 
   -- no option is taken or given up
   steps_called-loaded : steps_called next ≡ steps_called l
-  steps_called-loaded =
-      ap (λ js. flat_map (rows_in next) (counted_from 1 js)) (journeys-loaded l name rows)
-      ∙ flat_map-same (rows_in next) (rows_in l) (counted_from 1 (journeys l))
-      (λ a. ap (λ h. step_rows (is_standing h) a.0 a.1.plan) (history-loaded l name rows a.0))
+  steps_called-loaded = search (rules, arith, journeys-loaded, flat_map-same, history-loaded)
 
   -- each cell of the batch has its places; those that are not held are free
   places-loaded : IsTrue (is_allowed l (Loaded name rows)) → (x : Cell)
@@ -90,14 +84,8 @@ module _ (l : List Event) (name : List ℕ) (rows : List Row) where
   -- the rows of stock are those of the longer ledger
   stock-loaded : IsTrue (is_allowed l (Loaded name rows)) → (cells : List StockRow)
       → StockStands l cells → StockStands next (put_rows (held l) rows cells)
-  stock-loaded may cells stand = record {
-    each =
-        λ x. stock_at-rows (held l) rows cells x (loaded_distinct l name rows may)
-        ∙ ap (places_given (held l) (find (λ (r : Row). is_cell x r.cell) rows)) (stand.each x)
-        ∙ places-loaded may x;
-    once = once-rows (held l) rows cells stand.once;
-    known = known-rows (held l) rows cells stand.known;
-  }
+  stock-loaded may cells stand =
+      search (rules, arith, stock_at-rows, loaded_distinct, places_given, places-loaded, once-rows, known-rows)
 
 -- the rows of the cells and of the batch are those expected of the longer ledger
 batch_stands : (t : Tables) (s : State) (name : List ℕ) (rows : List Row) → StandsFor t s

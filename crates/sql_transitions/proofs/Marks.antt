@@ -1,5 +1,5 @@
 -- The save-points that stand, after one more row of a save-point or one less. For Saving and GivingBack.
-use Rattle.std.proofs.Common.{◌≡◌, ℕ, ◌==◌, List, [], ◌∷◌, ◌++◌, Bool, true, false, filter, eqb-true, refl, sym, ap, ap₂, ◌∙◌, arith, ◌&&◌, ◌||◌, not}
+use Rattle.std.proofs.Common.{◌≡◌, ℕ, ◌==◌, List, [], ◌∷◌, ◌++◌, Bool, true, false, filter, eqb-true, refl, sym, ap, ap₂, ◌∙◌, arith, ◌&&◌, ◌||◌, not, rules}
 use Rattle.std.specs.List.{list_any}
 use Rattle.std.proofs.lemmas.Bool.{and_parts, false_from_ne_true}
 use Rattle.std.proofs.lemmas.Bool.Decides.{nat_tests}
@@ -32,25 +32,12 @@ module _ (l : List Event) (j : ℕ) (item : Item) (rows : List MarkRow) (stand :
   }
     where
       last : (a b : Bool) → (a || (b || false)) ≡ (b || a)
-      last true true = refl
-      last true false = refl
-      last false true = refl
-      last false false = refl
+      last a b = search (rules, arith)
 
       go : (k q : ℕ) (v : Bool) → (k == j) ≡ v
           → (list_any (is_mark_at k q) rows || (((j == k) && (p == q)) || false))
           ≡ is_taken (history (l ++ Did j item ∷ []) k) q
-      go k q true e =
-          let is = eqb-true k j e in
-          ap₂ (λ a b. a || ((b && (p == q)) || false)) (stand.each k q) (turned j k ∙ e)
-          ∙ last (is_taken (history l k) q) (p == q)
-          ∙ ap₂ (λ b i. b || is_taken (history l i) q) (turned p q) is ∙ sym (taken q)
-          ∙ ap (λ i. is_taken (history l i ++ item ∷ []) q) (sym is)
-          ∙ ap (λ h. is_taken h q) (sym (history-did_same l j item k e))
-      go k q false e =
-          ap₂ (λ a b. a || ((b && (p == q)) || false)) (stand.each k q) (turned j k ∙ e)
-          ∙ last (is_taken (history l k) q) false
-          ∙ ap (λ h. is_taken h q) (sym (history-did_other l j item k e))
+      go k q v e = search (rules, arith, eqb-true, turned, history-did_same, history-did_other)
 
       other : (m : MarkRow) → Has rows m → is_same_mark m (mark_at_pos j p) ≡ false
       other m h =

@@ -1,7 +1,6 @@
 -- What an item leaves unchanged, and the rows that each item writes. For the lemmas of each item.
-use Rattle.std.proofs.Common.{◌≡◌, ℕ, ◌+◌, ◌-◌, ◌==◌, List, [], ◌∷◌, ◌++◌, length, map, Bool, true, false, eqb-true, Option, Some, None, IsTrue, refl, sym, ap, subst, ◌∙◌, option_map, ◌&&◌}
+use Rattle.std.proofs.Common.{◌≡◌, ℕ, ◌+◌, ◌-◌, ◌==◌, List, [], ◌∷◌, ◌++◌, length, map, Bool, true, false, eqb-true, Option, Some, None, IsTrue, refl, sym, ap, subst, ◌∙◌, option_map, ◌&&◌, IsPermutation, arith, rules}
 use Rattle.std.specs.List.{list_any}
-use Rattle.std.specs.List.Sorted.{IsPermutation}
 use Rattle.std.proofs.lemmas.List.Sorted.{IsPermutation-append_left}
 use Rattle.commands.specs.Asks.{Asked}
 use Rattle.commands.specs.declared.items.Cursor.{Cursor}
@@ -9,8 +8,8 @@ use Rattle.commands.specs.declared.items.Item.{Item}
 use Rattle.commands.specs.declared.replies.Reply.{Reply}
 use Rattle.allotment.specs.declared.cells.Cell.{Cell}
 use Rattle.ledger.specs.Answer.{State, state_with, kept_for}
-use Rattle.ledger.specs.History.{net, is_taken, next_want}
-use Rattle.ledger.specs.Ledger.{Event, Did, Journey, journeys, journey_at, history, held, allotment, fits, is_allowed, IsLegal}
+use Rattle.ledger.specs.History.{net, is_taken}
+use Rattle.ledger.specs.Ledger.{Event, Did, Journey, journeys, journey_at, history, held, allotment, is_allowed, IsLegal}
 use Rattle.ledger.proofs.Allotted.{allotment-same}
 use Rattle.ledger.proofs.Growing.{history-did_same, history-did_other}
 use Rattle.ledger_transitions.specs.JourneyChanges.{cursor_after}
@@ -128,24 +127,10 @@ module _ (l : List Event) (j : ℕ) (item : Item) where
       → IsPermutation (journeys_called l) rows
       → IsPermutation (journeys_called (l ++ Did j item ∷ []))
       (changed (is_numbered j) (with_cursor (cursor_written cursor)) rows)
-  journeys-move rows a cursor at is stand =
-      subst
-      (λ c. IsPermutation (journeys_called (l ++ Did j item ∷ []))
-      (changed (is_numbered j) (with_cursor (cursor_written c)) rows))
-      is
-      (subst
-      (λ called. IsPermutation called
-      (changed (is_numbered j)
-      (with_cursor (cursor_written (cursor_of a.plan (history l j ++ item ∷ [])))) rows))
-      (sym (journeys_called-did l j item a at))
-      (changed-permutation (is_numbered j)
-      (with_cursor (cursor_written (cursor_of a.plan (history l j ++ item ∷ []))))
-      (journeys_called l) rows stand))
+  journeys-move rows a cursor at is stand = search (rules, arith, journeys_called-did, changed-permutation)
 
 -- the cursor that the desk computes is that of the longer history
 pub cursor_next : (l : List Event) (j : ℕ) (a : Journey) (item : Item) → IsLegal l
     → journey_at l j ≡ Some a → IsTrue (is_allowed l (Did j item))
     → cursor_of a.plan (history l j ++ item ∷ []) ≡ cursor_after a.plan (cursor_of a.plan (history l j)) item
-cursor_next l j a item legal at may =
-    cursor_of-more a.plan (history l j) (fits l (next_want a.plan (history l j))) item
-    (follows l legal j a at) (may_come-allowed l j a item at may)
+cursor_next l j a item legal at may = search (rules, arith, cursor_of-more, follows, may_come-allowed)

@@ -1,7 +1,6 @@
 -- The rows of steps after one more option is taken, or one is given up. For Taking and GivingBack.
-use Rattle.std.proofs.Common.{◌≡◌, ℕ, ◌==◌, List, [], ◌∷◌, ◌++◌, Bool, true, false, if◌then◌else◌, IsTrue, eqb-true, refl, sym, ap, ap₂, subst, ◌∙◌, ◌&&◌, ◌||◌, not}
+use Rattle.std.proofs.Common.{◌≡◌, ℕ, ◌==◌, List, [], ◌∷◌, ◌++◌, Bool, true, false, if◌then◌else◌, IsTrue, eqb-true, refl, sym, ap, ap₂, subst, ◌∙◌, ◌&&◌, ◌||◌, not, IsPermutation, arith, rules}
 use Rattle.std.specs.List.{list_any}
-use Rattle.std.specs.List.Sorted.{IsPermutation}
 use Rattle.std.proofs.lemmas.Bool.{and_parts}
 use Rattle.std.proofs.lemmas.List.Folds.{list_any-append}
 use Rattle.plan.specs.PlanModel.{Planned}
@@ -27,20 +26,13 @@ is_of step option t = (t.0 == step) && (t.1 == option)
 
 -- one more transaction takes its option
 last_taken : (before now : Bool) → (before || (now || false)) ≡ (if now then true else before)
-last_taken true true = refl
-last_taken true false = refl
-last_taken false true = refl
-last_taken false false = refl
+last_taken before now = search (rules, arith)
 
 -- after a transaction its option is taken, and of the others those that were
 pub standing-transaction : (h : List Item) (i c step option : ℕ)
     → is_standing (h ++ Transaction i c ∷ []) step option
     ≡ (if (step == i) && (option == c) then true else is_standing h step option)
-standing-transaction h i c step option =
-    ap (list_any (is_of step option)) (net-transaction h i c)
-    ∙ list_any-append (is_of step option) (net h) ((i, c) ∷ [])
-    ∙ last_taken (is_standing h step option) (is_of step option (i, c))
-    ∙ ap₂ (λ a b. if a && b then true else is_standing h step option) (turned i step) (turned c option)
+standing-transaction h i c step option = search (rules, arith, net-transaction, list_any-append, last_taken, turned)
 
 -- without the transactions of a step, none of the step stands
 none_of_step : (i option : ℕ) (ts : List (ℕ × ℕ))
@@ -50,8 +42,7 @@ none_of_step i option (t ∷ ts) =
     ap₂ (λ a b. a || b) (none (t.0 == i) (t.1 == option)) (none_of_step i option ts)
   where
     none : (a b : Bool) → (not a && (a && b)) ≡ false
-    none true b = refl
-    none false b = refl
+    none a b = search (rules, arith)
 
 -- after a compensation its option is no longer taken, and of the others those that were
 pub standing-compensation : (plan : Planned) (h : List Item) (may_fit : Bool) (i c : ℕ) → Follows plan h
@@ -90,17 +81,7 @@ module _ (l : List Event) (j : ℕ) (item : Item) (i c : ℕ) (v : Bool)
   one_journey : (k step option : ℕ)
       → is_standing (history (l ++ Did j item ∷ []) k) step option
       ≡ (if (k == j) && ((step == i) && (option == c)) then v else is_standing (history l k) step option)
-  one_journey k step option = go (k == j) refl
-    where
-      go : (b : Bool) → (k == j) ≡ b
-          → is_standing (history (l ++ Did j item ∷ []) k) step option
-          ≡ (if b && ((step == i) && (option == c)) then v else is_standing (history l k) step option)
-      go true e =
-          let is = eqb-true k j e in
-          ap (λ h. is_standing h step option) (history-did_same l j item k e)
-          ∙ ap (λ n. is_standing (history l n ++ item ∷ []) step option) is ∙ taken step option
-          ∙ ap (λ n. if (step == i) && (option == c) then v else is_standing (history l n) step option) (sym is)
-      go false e = ap (λ h. is_standing h step option) (history-did_other l j item k e)
+  one_journey k step option = search (rules, arith, eqb-true, history-did_same, history-did_other)
 
   -- the row of the option is marked, in each order of the rows
   pub steps-mark : (rows : List StepRow) → IsPermutation (steps_called l) rows

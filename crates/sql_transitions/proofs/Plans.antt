@@ -1,11 +1,10 @@
 -- The wants of a plan that keeps the limits keep the limits of wants. For Taking and GivingBack.
-use Rattle.std.proofs.Common.{◌≡◌, ℕ, zero, suc, ◌≤◌, List, [], ◌∷◌, length, Bool, true, Option, Some, None, ◌+◌, ◌-◌, IsTrue, refl, sym, ap, ◌∙◌, ◌<◌, arith, slice_get, nat_le, ◌&&◌, option_and_then, option_map}
-use Rattle.std.specs.Prelude.{unwrap_or}
+use Rattle.std.proofs.Common.{◌≡◌, ℕ, zero, suc, ◌≤◌, List, [], ◌∷◌, length, Bool, true, Option, Some, None, ◌-◌, IsTrue, refl, sym, ap, ◌∙◌, ◌<◌, arith, slice_get, nat_le, option_and_then, option_map, unwrap_or, rules}
 use Rattle.std.specs.List.{list_all}
 use Rattle.std.proofs.lemmas.Bool.{and_parts, leb-true}
 use Rattle.plan.proofs.LimitLemmas.{limited, step_limited}
 use Rattle.allotment.specs.Want.{Wanted}
-use Rattle.allotment.specs.Limits.{is_between, is_code, is_night, are_nights, is_count, is_want, most_nights, most_count}
+use Rattle.allotment.specs.Limits.{is_between, is_want, most_count}
 use Rattle.plan.specs.PlanModel.{Planned, StepPlan, numbered, want_at, is_step, is_plan, option_count}
 use Rattle.ledger.specs.Ledger.{Event, Journey, journey_at, IsLegal}
 use Rattle.sql_model.proofs.RecordRows.{plan_good}
@@ -36,18 +35,7 @@ want_good plan i c w good want =
 
 -- a good want has at least one night
 pub want-nights : (w : Wanted) → is_want w ≡ true → 1 ≤ w.nights
-want-nights w good =
-    let four =
-    (and_parts
-    (is_code w.supplier && is_code w.product && is_night w.first && are_nights w.kind w.first w.nights)
-    (is_count w.count) good).0 in
-    let nights =
-    (and_parts (is_code w.supplier && is_code w.product && is_night w.first)
-    (are_nights w.kind w.first w.nights) four).1 in
-    let between =
-    (and_parts (is_between 1 (most_nights w.kind) w.nights) (is_night (w.first + w.nights - 1)) nights).0 in
-    leb-true 1 w.nights
-    (and_parts (nat_le 1 w.nights) (nat_le w.nights (most_nights w.kind)) between).0
+want-nights w good = search (rules, arith, and_parts, leb-true)
 
 -- each want of a journey of a legal ledger has at least one night
 pub wanted_nights : (l : List Event) (j i c : ℕ) (a : Journey) (w : Wanted) → IsLegal l
@@ -57,12 +45,7 @@ wanted_nights l j i c a w legal at want =
 
 -- a good want keeps the limit of places a night
 pub want-count : (w : Wanted) → is_want w ≡ true → w.count ≤ most_count
-want-count w good =
-    let count =
-    (and_parts
-    (is_code w.supplier && is_code w.product && is_night w.first && are_nights w.kind w.first w.nights)
-    (is_count w.count) good).1 in
-    leb-true w.count most_count (and_parts (nat_le 1 w.count) (nat_le w.count most_count) count).1
+want-count w good = search (rules, arith, and_parts, leb-true)
 
 -- each want of a journey of a legal ledger keeps the limit of places a night
 pub wanted_count : (l : List Event) (j i c : ℕ) (a : Journey) (w : Wanted) → IsLegal l

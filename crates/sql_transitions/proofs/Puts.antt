@@ -1,9 +1,8 @@
 -- The rows of stock after cells got other places, each in its own row or in a new one. For Loading.
-use Rattle.std.proofs.Common.{◌≡◌, ℕ, ◌-◌, ◌==◌, List, [], ◌∷◌, ◌++◌, find, cond, Bool, true, false, if◌then◌else◌, Option, Some, None, refl, sym, ap, ◌∙◌, option_map, bytes_eq, ◌&&◌, not}
+use Rattle.std.proofs.Common.{◌≡◌, ℕ, ◌-◌, List, [], ◌∷◌, ◌++◌, find, cond, Bool, true, false, if◌then◌else◌, Option, Some, None, refl, sym, ap, ◌∙◌, option_map, not, arith, rules}
 use Rattle.std.specs.List.{AllByRecursion, list_any}
 use Rattle.std.proofs.lemmas.Bool.{and_parts, false_from_ne_true}
 use Rattle.sqlite_trees.proofs.ListLemmas.{all-append}
-use Rattle.sqlite_rules.specs.Lists.{Has}
 use Rattle.sqlite_rules.proofs.ListLemmas.{all_has, all_from, some_has, some_from, has_found}
 use Rattle.allotment.specs.Cells.{is_cell}
 use Rattle.allotment.specs.declared.cells.Cell.{Cell}
@@ -24,20 +23,11 @@ use Rattle.sql_transitions.proofs.Alike.{same-turned, same-same, same-self, row_
 
 -- the statement's test of one cell is the same test
 same_cell : (s r : StockRow) → is_row_of s r ≡ is_same_stock r s
-same_cell s r =
-    regroup (r.kind == s.kind) (bytes_eq r.supplier s.supplier) (bytes_eq r.product s.product) (r.night == s.night)
-  where
-    regroup : (a b c d : Bool) → (a && (b && (c && d))) ≡ (((a && b) && c) && d)
-    regroup true true true d = refl
-    regroup true true false d = refl
-    regroup true false c d = refl
-    regroup false b c d = refl
+same_cell s r = search (rules, arith)
 
 -- rows of which no two are of one cell pass the statement's test
 pub cells_apart : (t : Tables) → AreApart is_same_stock t.stock → AreCellsApart t
-cells_apart t once =
-    ascending_where (λ r s. is_same_stock r s ≡ false) (λ r s. is_row_of r s ≡ false) t.stock
-    (λ r s h k off. same_cell r s ∙ same_back r s off) once
+cells_apart t once = search (rules, arith, ascending_where, same_cell, same_back)
 
 -- One cell.
 module _ (s : StockRow) (cells : List StockRow) where
@@ -110,39 +100,15 @@ module _ (s : StockRow) (cells : List StockRow) where
 
   -- the cell of the new row has its places, and each other cell has those that it had
   stock_at-put : (x : Cell) → stock_at (put s cells) x ≡ places_now (is_stock_of x s) (stock_at cells x)
-  stock_at-put x = go (list_any (is_row_of s) cells) refl
-    where
-      go : (v : Bool) → list_any (is_row_of s) cells ≡ v
-          → stock_at (if v then changed (is_row_of s) (with_places s) cells else cells ++ s ∷ []) x
-          ≡ places_now (is_stock_of x s) (stock_at cells x)
-      go true e = stock_at-changed x e
-      go false e = stock_at-added x e
+  stock_at-put x = search (rules, arith, stock_at-changed, stock_at-added)
 
   -- no two rows are of one cell after a put
   once-put : AreApart is_same_stock cells → AreApart is_same_stock (put s cells)
-  once-put once = go (list_any (is_row_of s) cells) refl
-    where
-      other : (r : StockRow) → Has cells r → list_any (is_row_of s) cells ≡ false
-          → is_same_stock r s ≡ false
-      other r h none =
-          false_from_ne_true (is_same_stock r s) (λ on.
-          let bad : true ≡ false =
-          sym (some_from (is_row_of s) cells r h (same_cell s r ∙ on)) ∙ none in
-          cc)
-
-      go : (v : Bool) → list_any (is_row_of s) cells ≡ v
-          → AreApart is_same_stock (if v then changed (is_row_of s) (with_places s) cells else cells ++ s ∷ [])
-      go true e = once-changed (is_row_of s) (with_places s) (λ q r. refl) (λ q r. refl) cells once
-      go false e = apart-last is_same_stock cells s once (all_from _ cells (λ r h. other r h e))
+  once-put once = search (rules, arith, false_from_ne_true, some_from, same_cell, once-changed, apart-last, all_from)
 
   -- each row is of some cell after a put
   known-put : IsOfCell s → AllByRecursion IsOfCell cells → AllByRecursion IsOfCell (put s cells)
-  known-put new known = go (list_any (is_row_of s) cells)
-    where
-      go : (v : Bool)
-          → AllByRecursion IsOfCell (if v then changed (is_row_of s) (with_places s) cells else cells ++ s ∷ [])
-      go true = known-changed (is_row_of s) (with_places s) (λ q r. refl) (λ q r. refl) cells known
-      go false = all-append IsOfCell cells (s ∷ []) known (new, tt)
+  known-put new known = search (rules, arith, known-changed, all-append)
 
 -- All cells of a batch.
 

@@ -1,5 +1,5 @@
 -- The range of nights that a statement takes is that of a want. For the functions that write a want.
-use Rattle.std.proofs.Common.{◌≡◌, ◌==◌, map, if◌then◌else◌, bytes_eq, nat_le, ◌&&◌}
+use Rattle.std.proofs.Common.{◌≡◌, map, if◌then◌else◌, arith, rules}
 use Rattle.allotment.specs.Want.{Wanted}
 use Rattle.desk_sql.specs.Rows.{Tables, StockRow}
 use Rattle.desk_sql.specs.Stock.{is_within, with_fewer, with_more, takes_nights, gives_nights}
@@ -10,9 +10,7 @@ use Rattle.sql_transitions.specs.Moving.{takes_want, gives_want}
 -- a row is in the range exactly if it is wanted
 pub range_row : (r : NightRange) (w : Wanted) → IsRangeOf r w → (s : StockRow)
     → is_within r s ≡ is_wanted_row w s
-range_row r w is s =
-    λ i. (s.kind == is.kind i) && (bytes_eq s.supplier (is.supplier i) && (bytes_eq s.product (is.product i)
-    && (nat_le (is.first i) s.night && nat_le s.night (is.last i))))
+range_row r w is s = search (rules, arith)
 
 -- the statement takes just the want
 pub takes_range : (r : NightRange) (w : Wanted) (t : Tables) → IsRangeOf r w

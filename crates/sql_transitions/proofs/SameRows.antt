@@ -1,6 +1,6 @@
 -- Two batches with one text have the same rows, if the text of each row is one line, and different rows have
 -- different texts. For Lines.
-use Rattle.std.proofs.Common.{◌≡◌, ℕ, ◌==◌, List, [], ◌∷◌, ◌++◌, length, Bool, true, false, refl, sym, ap, ap₂, ◌∙◌, arith, append_assoc, length-append, eqb-true, eq-eqb, bytes_eq, decimal, ◌&&◌, not}
+use Rattle.std.proofs.Common.{◌≡◌, ℕ, ◌==◌, List, [], ◌∷◌, ◌++◌, Bool, true, false, refl, sym, ap, ap₂, ◌∙◌, arith, append_assoc, length-append, eqb-true, eq-eqb, bytes_eq, decimal, ◌&&◌, not, rules}
 use Rattle.std.specs.List.{list_all}
 use Rattle.std.proofs.lemmas.Bool.{and_parts, and_from}
 use Rattle.std.proofs.lemmas.Slice.Eq.{bytes_eq-Decides}
@@ -50,11 +50,7 @@ first_line r rows = append_assoc (row_text r) (line_feed ∷ []) (batch_text row
 
 -- the text of a batch with a row is not empty
 not_empty : (r : Row) (rows : List Row) → batch_text (r ∷ rows) ≡ [] → ⊥
-not_empty r rows e =
-    let longer = length-append (row_text r) (line_feed ∷ batch_text rows) in
-    let none : length (row_text r ++ line_feed ∷ batch_text rows) ≡ 0 =
-    ap length (sym (first_line r rows) ∙ e) in
-    omega arith
+not_empty r rows e = search (rules, arith, length-append, first_line)
 
 module _ (good : Row → Bool)
     (own_text : (r s : Row) → good r ≡ true → good s ≡ true → row_text r ≡ row_text s → r ≡ s)
@@ -95,7 +91,4 @@ module _ (good : Row → Bool)
   -- rows are the same exactly if their texts are
   pub same_rows_told : (rows known : List Row) → list_all good rows ≡ true → list_all good known ≡ true
       → are_same_rows rows known ≡ bytes_eq (batch_text rows) (batch_text known)
-  same_rows_told rows known p q =
-      same_test (are_same_rows rows known) (bytes_eq (batch_text rows) (batch_text known))
-      (λ e. (bytes_eq-Decides (batch_text rows) (batch_text known)).1 (same_text rows known e))
-      (λ e. same_rows rows known p q ((bytes_eq-Decides (batch_text rows) (batch_text known)).0 e))
+  same_rows_told rows known p q = search (rules, arith, same_test, bytes_eq-Decides, same_text, same_rows)

@@ -1,14 +1,13 @@
 -- The rows that a save-point writes represent the ledger with it. For the functions that write an item.
-use Rattle.std.proofs.Common.{◌≡◌, ℕ, ◌+◌, List, length, Bool, true, false, Option, Some, None, IsTrue, refl, sym, subst, IsTrue, ◌&&◌, ◌||◌, ◌==◌, not, nat_lt, nat_le}
-use Rattle.std.specs.List.Sorted.{IsPermutation}
+use Rattle.std.proofs.Common.{◌≡◌, ℕ, ◌+◌, List, length, Bool, true, false, Option, Some, None, IsTrue, refl, sym, subst, IsTrue, IsPermutation, arith, rules}
 use Rattle.std.proofs.lemmas.Bool.{and_parts}
 use Rattle.commands.specs.Asks.{Asked}
 use Rattle.commands.specs.declared.items.Item.TheVariants.{Save}
 use Rattle.commands.specs.declared.replies.Reply.{Reply}
-use Rattle.plan.specs.PlanModel.{Planned, is_marked_at}
+use Rattle.plan.specs.PlanModel.{Planned}
 use Rattle.commands.specs.declared.items.Item.{Item}
 use Rattle.ledger.specs.Answer.{State, state_with, kept_for}
-use Rattle.ledger.specs.History.{position_of, phase, is_running, is_taken, is_save_point, may_come, next_want}
+use Rattle.ledger.specs.History.{is_taken, may_come, next_want}
 use Rattle.ledger.specs.Ledger.{Did, Journey, journeys, journey_at, history, fits, is_allowed}
 use Rattle.ledger.proofs.Standing.{net-save}
 use Rattle.ledger_transitions.proofs.Histories.{may_come-allowed}
@@ -26,14 +25,7 @@ use Rattle.sql_transitions.proofs.Moves.{item_stands_answered, stock-stays, step
 -- a save-point may be taken only where none stands that was taken
 pub save-new : (plan : Planned) (h : List Item) (may_fit : Bool) (p : ℕ)
     → may_come plan h may_fit (Save p) ≡ true → is_taken h p ≡ false
-save-new plan h may_fit p may =
-    none (is_marked_at plan p && nat_le p (position_of h)) (is_taken h p)
-    (and_parts (is_running (phase plan h) && (p == position_of h) && nat_lt 0 p) (not (is_save_point plan h p)) may).1
-  where
-    none : (marked taken : Bool) → not (marked || taken) ≡ true → taken ≡ false
-    none true taken e = cc
-    none false true e = cc
-    none false false e = refl
+save-new plan h may_fit p may = search (rules, arith, and_parts)
 
 -- a save-point adds its row, and leaves all other rows
 pub save_stands : (t : Tables) (s : State) (ask : Option Asked) (reply : Reply) (j p : ℕ) (a : Journey)
@@ -43,7 +35,6 @@ pub save_stands : (t : Tables) (s : State) (ask : Option Asked) (reply : Reply) 
     (state_with s ask reply (Some (Did j (Save p))))
 save_stands t s ask reply j p a st desk at may new =
     let l = s.ledger in
-    let comes = may_come-allowed l j a (Save p) at may in
     item_stands_answered t (adds_mark j p t) s j (Save p) st
     (record {
       meta = refl;
@@ -58,6 +49,6 @@ save_stands t s ask reply j p a st desk at may new =
       entries = refl;
       mark =
           marks-add l j (Save p) t.mark st.mark p
-          (save-new a.plan (history l j) (fits l (next_want a.plan (history l j))) p comes)
+          (save-new a.plan (history l j) (fits l (next_want a.plan (history l j))) p (may_come-allowed l j a (Save p) at may))
           (is_taken-more (history l j) (Save p));
     }) ask reply new

@@ -1,6 +1,5 @@
 -- The rows found of a journey's steps give the wants of its plan, and the taken options. For the choice of an option.
-use Rattle.std.proofs.Common.{◌≡◌, inl, inr, ℕ, zero, suc, ◌+◌, ◌≤◌, ◌==◌, List, [], ◌∷◌, length, map, Bool, true, false, Option, Some, None, refl, sym, ap, subst, ◌∙◌, arith, eqb-true, eq-eqb, flat_map, slice_get, option_map, option_and_then, ◌&&◌}
-use Rattle.std.specs.Prelude.{unwrap_or}
+use Rattle.std.proofs.Common.{◌≡◌, inl, inr, ℕ, zero, suc, ◌+◌, ◌≤◌, ◌==◌, List, [], ◌∷◌, length, map, Bool, true, false, Option, Some, None, refl, sym, ap, subst, ◌∙◌, arith, eqb-true, eq-eqb, flat_map, slice_get, option_map, option_and_then, ◌&&◌, unwrap_or, rules}
 use Rattle.std.proofs.lemmas.Bool.{and_parts, and_from}
 use Rattle.sqlite_rules.specs.Lists.{Has}
 use Rattle.sqlite_rules.proofs.ListLemmas.{has_left, has_right, has_either, some_has, some_from, test_has}
@@ -13,7 +12,7 @@ use Rattle.ledger.specs.History.{last_of, net}
 use Rattle.ledger.proofs.Lists.{last_of-is}
 use Rattle.ledger_transitions.proofs.Histories.{Follows, is_option_of}
 use Rattle.desk_sql.specs.Rows.{StepRow}
-use Rattle.sql_model.specs.ExpectedRows.{counted_from, flag, is_standing, option_row, option_rows, step_rows}
+use Rattle.sql_model.specs.ExpectedRows.{counted_from, is_standing, option_row, option_rows, step_rows}
 use Rattle.sql_model.proofs.Numbering.{counted_stands, counted_has}
 use Rattle.sql_transitions.proofs.Plans.{option_wanted}
 
@@ -136,11 +135,7 @@ last_of_step (x ∷ y ∷ ts) first last t stands is (inl e) same =
 -- of the last step that stands, no option but its own is taken
 pub taken_option : (plan : Planned) (h : List Item) (i c option : ℕ) → Follows plan h
     → last_of (net h) ≡ Some (i, c) → is_standing h i option ≡ true → option ≡ c
-taken_option plan h i c option f last on =
-    let found = some_has (λ (t : ℕ × ℕ). (t.0 == i) && (t.1 == option)) (net h) on in
-    let both = and_parts (found.0.0 == i) (found.0.1 == option) found.2 in
-    sym (eqb-true found.0.1 option both.1)
-    ∙ last_of_step (net h) 1 (i, c) found.0 f.stands last found.1 (eqb-true found.0.0 i both.0)
+taken_option plan h i c option f last on = search (rules, arith, some_has, and_parts, eqb-true, last_of_step)
 
 -- of the last step that stands, its own option is taken
 pub option_taken : (h : List Item) (i c : ℕ) → last_of (net h) ≡ Some (i, c)
@@ -155,15 +150,7 @@ option_taken h i c last =
 pub taken_row : (plan : Planned) (h : List Item) (id i c : ℕ) (r : StepRow) → Follows plan h
     → last_of (net h) ≡ Some (i, c) → Has (step_rows (is_standing h) id plan) r → r.place ≡ i
     → r.taken ≡ 1 → r.opt ≡ c
-taken_row plan h id i c r f last there place taken =
-    let told = row_told (is_standing h) id plan r there in
-    taken_option plan h i c r.opt f last
-    (ap (λ n. is_standing h n r.opt) (sym place)
-    ∙ marked (is_standing h r.place r.opt) (sym (ap (λ (x : StepRow). x.taken) told.is) ∙ taken))
-  where
-    marked : (b : Bool) → flag b ≡ 1 → b ≡ true
-    marked true e = refl
-    marked false e = cc
+taken_row plan h id i c r f last there place taken = search (rules, arith, row_told, taken_option)
 
 -- the last step has a row that is marked as taken
 pub taken_row_there : (plan : Planned) (h : List Item) (id i c : ℕ) (w : Wanted)

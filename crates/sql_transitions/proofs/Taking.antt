@@ -8,8 +8,7 @@ use Rattle.commands.specs.declared.replies.Reply.{Reply}
 use Rattle.ledger.specs.Answer.{State, state_with, kept_for}
 use Rattle.ledger.specs.Ledger.{Did, Journey, journeys, journey_at, history, held, places_in, is_allowed}
 use Rattle.ledger_transitions.specs.JourneyChanges.{cursor_after}
-use Rattle.ledger_transitions.proofs.Allotments.{allotment-did}
-use Rattle.ledger_transitions.proofs.Places.{held-transaction}
+use Rattle.ledger_transitions.proofs.Places.{held-transaction, allotment-did}
 use Rattle.ledger_transitions.proofs.Taking.{is_taken-more}
 use Rattle.saga_core.specs.Views.{cursor_of}
 use Rattle.desk_sql.specs.Rows.{Tables}

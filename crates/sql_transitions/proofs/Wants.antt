@@ -1,5 +1,5 @@
 -- The rows of stock after the nights of a want got fewer free places, or more. For Taking and GivingBack.
-use Rattle.std.proofs.Common.{◌≡◌, ℕ, zero, suc, ◌+◌, ◌-◌, ◌<◌, ◌≤◌, ◌==◌, List, find, Bool, true, false, if◌then◌else◌, Option, Some, None, inl, inr, refl, sym, ap, ◌∙◌, arith, eqb-true, option_map}
+use Rattle.std.proofs.Common.{◌≡◌, ℕ, zero, suc, ◌+◌, ◌-◌, ◌<◌, ◌≤◌, ◌==◌, List, find, Bool, true, false, if◌then◌else◌, Option, Some, None, inl, inr, refl, sym, ap, ◌∙◌, arith, eqb-true, option_map, rules}
 use Rattle.std.proofs.lemmas.Bool.{eqb-false}
 use Rattle.sqlite_rules.specs.Lists.{Has}
 use Rattle.sqlite_rules.proofs.ListLemmas.{some_has, some_from, has_found}
@@ -21,19 +21,13 @@ use Rattle.sql_transitions.proofs.Alike.{same-turned, same-same, row_of_cell}
 
 -- two tests that imply each other are equal
 pub same_test : (a b : Bool) → (a ≡ true → b ≡ true) → (b ≡ true → a ≡ true) → a ≡ b
-same_test true b forth back = sym (forth refl)
-same_test false true forth back = back refl
-same_test false false forth back = refl
+same_test a b forth back = search (rules, arith)
 
 -- consecutive numbers are between the first and the last
 pub numbers_within : (first count n : ℕ) → Has (numbers_from first count) n → (first ≤ n) × (n < first + count)
 numbers_within first zero n h = absurd h
 numbers_within first (suc k) n (inl e) = (omega arith, omega arith)
-numbers_within first (suc k) n (inr h) =
-    let rest = numbers_within (suc first) k n h in
-    let low = rest.0 in
-    let high = rest.1 in
-    (omega arith, omega arith)
+numbers_within first (suc k) n (inr h) = search (rules, arith, numbers_within (suc first) k n h)
 
 -- each number between the first and the last is one of the consecutive numbers
 pub within_numbers : (first count n : ℕ) → first ≤ n → n < first + count → Has (numbers_from first count) n
@@ -43,8 +37,7 @@ within_numbers first (suc k) n low high =
   where
     go : (v : Bool) → (n == first) ≡ v → (suc first ≤ n → Has (numbers_from (suc first) k) n)
         → Has (numbers_from first (suc k)) n
-    go true e rest = inl (eqb-true n first e)
-    go false e rest = inr (rest (let off = eqb-false n first e in omega arith))
+    go v e rest = search (rules, arith, eqb-true, eqb-false)
 
 -- two cells with one row are equal
 one_row : (x y : Cell) (r : StockRow) → is_stock_of x r ≡ true → is_stock_of y r ≡ true
@@ -152,8 +145,7 @@ stock-taken l m w rows some stand allots holds =
   where
     go : (x : Cell) (n : ℕ) (v : Bool) → held m x ≡ held l x + (if v then w.count else 0)
         → (if v then n - held l x - w.count else n - held l x) ≡ n - held m x
-    go x n true e = omega arith
-    go x n false e = omega arith
+    go x n v e = search (rules, arith)
 
 -- after a want is given back, its nights have that many more, if no more places were held than allotted
 pub stock-given : (l m : List Event) (w : Wanted) (rows : List StockRow) → 1 ≤ w.nights
@@ -167,5 +159,4 @@ stock-given l m w rows some stand allots holds within =
   where
     go : (x : Cell) (n : ℕ) (v : Bool) → held l x ≡ held m x + (if v then w.count else 0)
         → held l x ≤ n → (if v then n - held l x + w.count else n - held l x) ≡ n - held m x
-    go x n true e low = omega arith
-    go x n false e low = omega arith
+    go x n v e low = search (rules, arith)

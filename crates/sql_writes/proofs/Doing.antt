@@ -1,88 +1,92 @@
--- Writes of a transaction, one after the other, and one that fails. For the functions that write.
-use Rattle.std.proofs.Common.{◌≡◌, ◌∙◌, ◌+◌, ◌≤◌, ℕ, refl, Result, Ok, Err, sym, subst, arith, OnOk}
-use Rattle.std.specs.Prelude.{⊤}
-use Rattle.std.specs.Borrow.{MutBor}
-use Rattle.sqlite.specs.Store.{Ghosts}
-use Rattle.sqlite.specs.Held.{Held, state}
-use Rattle.sqlite.specs.State.{HasCleanDisk}
+-- Writes of a transaction, one after the other, state by state, and one that fails. For the functions that write.
+use Rattle.std.proofs.Common.{◌∙◌, Result, Ok, Err, OnOk, IfErr, ◌≡◌, ◌+◌, ◌≤◌, ℕ, refl, sym, subst, arith, MutBor, rules}
+use Rattle.sqlite.specs.State.{State, KeepsCommit, Survives, HasCleanDisk}
 use Rattle.sqlite.specs.declared.error.Error.{Error}
 use Rattle.desk_sql.specs.Calls.{MayRun, Makes, WasOpen}
+use Rattle.desk_sql.specs.Causes.{IsUp, HasReason}
 use Rattle.desk_sql.specs.Rows.{Tables}
+use Rattle.std.specs.Prelude.{⊤}
+use Rattle.sqlite.specs.Store.{Ghosts}
+use Rattle.sqlite.specs.Held.{Held, state}
 use Rattle.desk_sql.specs.Statements.{WritesKeyed, WritesNumbered}
-use Rattle.desk_sql.proofs.Quieting.{survives_alone, survives_twice}
+use Rattle.desk_sql.proofs.Quieting.{survives_alone, survives_twice, faulted_later}
 use Rattle.desk_sql.proofs.Rowids.{rowids_fewer}
 use Rattle.sql_writes.specs.Did.{Did, DidIfOpen}
-use Rattle.sql_writes.proofs.Chaining.{keeps_then, makes_last, reason_last, runs_after, up_after}
+
+-- Two consecutive writes, state by state.
+
+-- two writes that keep what is committed keep it together
+pub keeps_then : (a b c : State) → KeepsCommit a b → KeepsCommit b c → KeepsCommit a c
+keeps_then a b c one two = search (rules, arith)
+
+-- the second write starts from the rows that the first one left
+pub makes_then : (a b c : State) (t : Tables) (first second : Tables → Tables) → Makes a b (first t)
+    → (MayRun b (first t) → Makes b c (second (first t))) → Makes a c (second (first t))
+makes_then a b c t first second one two =
+    let m = two (record { inside = one.inside; sees = λ _. one.sees }) in
+    record {
+      was_open = one.was_open;
+      is_open = m.is_open;
+      inside = m.inside;
+      sees = m.sees;
+      committed = m.committed ∙ one.committed;
+    }
+
+-- the postcondition of a success may be replaced by a weaker one
+ok_more : {V P Q : Type 0} (r : Result V Error) → OnOk r P → (P → Q) → OnOk r Q
+ok_more r p f = search (rules, arith)
+
+-- the same, if the success of the second write is the result
+pub makes_last : {V : Type 0} (a b c : State) (t : Tables) (first second : Tables → Tables) (r : Result V Error)
+    → Makes a b (first t) → (MayRun b (first t) → OnOk r (Makes b c (second (first t))))
+    → OnOk r (Makes a c (second (first t)))
+makes_last a b c t first second r one two = search (rules, arith, ok_more, makes_then)
+
+-- after a success the next write runs on the rows that it left, and a store that was up is so
+pub runs_after : (a b : State) (t : Tables) → Makes a b t → MayRun b t
+runs_after a b t made = record { inside = made.inside; sees = λ _. made.sees }
+
+pub up_after : (a b : State) (t : Tables) → Survives a b (λ _. ⊥) → Makes a b t → IsUp a → IsUp b
+up_after a b t survives made up = record { is_open = made.is_open; unlimited = survives.limit ∙ up.unlimited }
+
+-- the reason of a later write is one of all
+pub reason_later : (a b c : State) (e : Error) → Survives a b (λ _. ⊥) → HasReason b c e → HasReason a c e
+reason_later a b c e survives x = search (rules, arith, faulted_later)
+
+pub reason_last : {V : Type 0} (a b c : State) (r : Result V Error) → Survives a b (λ _. ⊥)
+    → IfErr r (HasReason b c) → IfErr r (HasReason a c)
+reason_last a b c r survives reason = search (rules, arith, reason_later)
+
+-- Writes of a transaction, one after the other, and one that fails.
 
 -- One statement.
 
 -- of rows whose rowids the store chooses
 module _ {S : Type 0} {g : Ghosts S} {a b : MutBor (Held S)} {F P R : Tables → Type 0} {n : ℕ} {f : Tables → Tables} where
   pub numbered : {r : Result ℕ Error} → WritesNumbered g a b r F P R n f → ((t : Tables) → F t → R t) → Did g a b r F P n f
-  numbered it fits = record {
-    goes = it.goes;
-    made = it.made;
-    reason = λ clean t may permits has up. it.reason has clean t may permits up;
-    rowids = λ clean t may live fit x has. it.rowids clean t may (fits t fit) x has;
-  }
-
-  pub numbered_fails : {e : Error} → WritesNumbered g a b (Err e) F P R n f → Did g a b {V = ℕ} (Err e) (λ _. ⊤) P n (λ t. t)
-  numbered_fails it = record {
-    goes = it.goes;
-    made = λ _ _ _ _. tt;
-    reason = λ clean t may permits has up. it.reason has clean t may permits up;
-    rowids = λ _ _ _ _ _ _ _. tt;
-  }
+  numbered it fits = search (rules, arith)
 
 -- of other rows
 module _ {S : Type 0} {g : Ghosts S} {a b : MutBor (Held S)} {F P : Tables → Type 0} {f : Tables → Tables} where
   pub keyed : {r : Result ℕ Error} → WritesKeyed g a b r F P f → Did g a b r F P 0 f
-  keyed it = record {
-    goes = it.goes;
-    made = it.made;
-    reason = λ clean t may permits has up. it.reason clean t may permits up;
-    rowids = λ clean t may live fit x has. it.rowids clean t may x (rowids_fewer x (0 + x) (state g a.now).now.trees (omega arith) has);
-  }
-
-  pub keyed_fails : {e : Error} → WritesKeyed g a b (Err e) F P f → Did g a b {V = ℕ} (Err e) (λ _. ⊤) P 0 (λ t. t)
-  keyed_fails it = record {
-    goes = it.goes;
-    made = λ _ _ _ _. tt;
-    reason = λ clean t may permits has up. it.reason clean t may permits up;
-    rowids = λ _ _ _ _ _ _ _. tt;
-  }
+  keyed it = search (rules, arith, rowids_fewer)
 
 -- What is known of an open transaction. A success implies that the transaction was open.
 
 if_open : {V : Type 0} (A B : Type 0) (r : Result V Error) → OnOk r A → (A → OnOk r B) → OnOk r B
-if_open A B (Ok v) it then = then it
-if_open A B (Err e) it then = tt
+if_open x y r it then = search (rules, arith)
 
 always : {V A : Type 0} (r : Result V Error) → A → OnOk r A
-always (Ok v) it = it
-always (Err e) it = tt
+always r it = search (rules, arith)
 
 module _ {S : Type 0} {g : Ghosts S} {a b : MutBor (Held S)} {V : Type 0} {r : Result V Error} {F P : Tables → Type 0} {n : ℕ} {f : Tables → Tables} where
   -- what holds anyway holds of an open transaction
   pub open_of : Did g a b r F P n f → DidIfOpen g a b r F P n f
-  open_of it = record {
-    same_reference = it.goes.same_reference;
-    inside = it.goes.inside;
-    commit = it.goes.commit;
-    survives = it.goes.survives;
-    made = λ clean t may live fit. it.made clean t may fit;
-    reason = it.reason;
-    rowids = it.rowids;
-  }
+  open_of it = search (rules, arith)
 
   -- and the other way, if a success implies that it was open
   did_of : DidIfOpen g a b r F P n f → WasOpen g a.now b.now r → Did g a b r F P n f
-  did_of it live = record {
-    goes = record { same_reference = it.same_reference; inside = it.inside; live = live; commit = it.commit; survives = it.survives };
-    made = λ clean t may fit. if_open _ _ r (live clean may.inside) (λ is_open. it.made clean t may is_open fit);
-    reason = it.reason;
-    rowids = it.rowids;
-  }
+  did_of it live = search (rules, arith, if_open)
 
 -- No write, and writes that succeeded.
 

@@ -1,7 +1,7 @@
 -- The writes of a load: one more cell, and the places of the nights of a range. For `insert_cell` and `set_nights`.
-use Rattle.std.proofs.Common.{◌≡◌, ◌+◌, ℕ, ℤ, suc, List, [], ◌∷◌, filter, length, map, drop, cond, slice_get, unwrap_or, inl, Some, None, Ok, Err, Result, IfOk, Bool, true, false, refl, sym, ap, ◌∙◌, arith, not}
+use Rattle.std.proofs.Common.{◌≡◌, ◌+◌, ℕ, ℤ, suc, List, [], ◌∷◌, filter, length, map, drop, slice_get, unwrap_or, inl, Some, None, Ok, Err, Result, IfOk, true, false, refl, sym, ap, ◌∙◌, arith, not, ◌&&◌, rules}
 use Rattle.std.specs.List.{AllByRecursion, list_any}
-use Rattle.std.proofs.lemmas.Bool.{false_from_ne_true}
+use Rattle.std.proofs.lemmas.Bool.{false_from_ne_true, and_from}
 use Rattle.std.proofs.lemmas.List.{length-map}
 use Rattle.std.proofs.lemmas.List.Sorted.{length_permutation}
 use Rattle.sqlite.specs.declared.types.Value.TheVariants.{Null, Text}
@@ -17,16 +17,14 @@ use Rattle.sqlite.specs.Command.TheVariants.{Update}
 use Rattle.sqlite.specs.Does.{Tally, OnRows}
 use Rattle.sqlite.specs.Effect.{Database}
 use Rattle.sqlite.specs.Rows.{Written}
-use Rattle.sqlite.specs.Edit.{edit_of, next_rowid}
+use Rattle.sqlite.specs.Edit.{edit_of, next_rowid, without_all}
 use Rattle.sqlite.specs.Rowids.TheVariants.{Given}
 use Rattle.sqlite.specs.Listing.{understood}
 use Rattle.sqlite.specs.State.{State, mode_of, Executes, ExecutesInside}
 use Rattle.sqlite.proofs.Callers.{statement_of}
 use Rattle.sqlite_rules.specs.Calls.{ids_of}
-use Rattle.sqlite_rules.specs.Edit.{without_all}
 use Rattle.sqlite_rules.proofs.PlaceLemmas.{given}
 use Rattle.sqlite_rules.proofs.ListLemmas.{all_has, all_from, some_from}
-use Rattle.sqlite_schema.specs.Rules.{agree}
 use Rattle.sqlite_tied.specs.Compute.{everything}
 use Rattle.sqlite_schema.specs.declared.schema.Index.{Index}
 use Rattle.desk_sql.specs.Schema.{stock_at, desk_schema, desk_with}
@@ -34,44 +32,30 @@ use Rattle.desk_sql.specs.Lists.{numbered_row, IsTableOf}
 use Rattle.desk_sql.specs.Rows.{whole, Tables, StockRow, stock_columns}
 use Rattle.desk_sql.specs.Calls.{IsReady, MayRun}
 use Rattle.desk_sql.specs.Stock.{is_cell, is_within}
-use Rattle.sql_writes.specs.CellLoads.{insert_cell_text, set_nights_text, insert_cell_terms, set_nights_query}
-use Rattle.sql_writes.specs.CellLoads.{with_both, adds_cell, sets_nights, nights_in, MayAddCell, MaySetNights}
+use Rattle.sql_writes.specs.CellLoads.{insert_cell_text, set_nights_text, insert_cell_terms, set_nights_query, with_both, adds_cell, sets_nights, nights_in, MayAddCell, MaySetNights}
 use Rattle.desk_sql.specs.Writable.{HasRowids, IsShort}
-use Rattle.desk_sql.specs.Meanings.{update}
 use Rattle.desk_sql.specs.declared.stock.NightRange.{NightRange}
 use Rattle.desk_sql.proofs.Meaning.{Means}
-use Rattle.desk_sql.proofs.Writing.{went, same_value, target, task_for, cast_null, does_so, runs_ready}
+use Rattle.desk_sql.proofs.Writing.{went, same_value, task_for, cast_null, does_so, runs_ready}
 use Rattle.desk_sql.proofs.Inserting.{cast_int}
-use Rattle.desk_sql.proofs.Reading.{passes, shown_of, lists, lists_any}
+use Rattle.desk_sql.proofs.Reading.{passes, shown_of, shows_any}
 use Rattle.desk_sql.proofs.Testing.{eq_whole, eq_text, ge_whole, le_whole, and_true}
 use Rattle.desk_sql.proofs.Framing.{ready_of}
 use Rattle.desk_sql.proofs.Keyed.{value_of}
 use Rattle.desk_sql.proofs.Putting.{put_params}
-use Rattle.desk_sql.proofs.UpdateReasons.{stock_fit, kept_kind, twin_four, low_fits}
-use Rattle.desk_sql.proofs.Storing.{range_holds, rows_all}
-use Rattle.sqlite_value.proofs.KeyLemmas.{first_key-plain}
-use Rattle.std.specs.Prelude.{⊤, ◌&&◌}
-use Rattle.std.proofs.lemmas.Bool.{and_from}
+use Rattle.desk_sql.proofs.UpdateReasons.{stock_fit, kept_kind, twin_four, low_fits, SaysUpdate, changes_rows}
+use Rattle.desk_sql.proofs.Storing.{range_holds, rows_all, storable, held_from, is_between}
+use Rattle.std.specs.Prelude.{⊤}
 use Rattle.desk_sql.proofs.Effects.{Effect}
 use Rattle.desk_sql.proofs.InsertReasons.{SaysInsert, adds_next}
-use Rattle.desk_sql.proofs.UpdateReasons.{SaysUpdate, changes_rows}
 use Rattle.desk_sql.proofs.Places.{chosen}
 use Rattle.desk_sql.proofs.Places
-use Rattle.desk_sql.proofs.Storing.{storable, held_from, is_between}
-
-set_nights_means : Means set_nights_text (update 1 set_nights_query)
-unfolding understood everything
-set_nights_means extra = record { is = refl; plain = (refl, refl) }
+use Rattle.sqlite_trees.proofs.ListLemmas.{filter-map}
+use Rattle.desk_sql.proofs.PutReasons.{agree_cell}
 
 -- no row is of the cell
 pub each_other : (s : StockRow) (cells : List StockRow) → list_any (is_cell s) cells ≡ false → AllByRecursion (λ x. is_cell s x ≡ false) cells
-each_other s cells none = all_from (λ x. is_cell s x ≡ false) cells (λ x there.
-    false_from_ne_true (is_cell s x) (λ same. let some = some_from (is_cell s) cells x there same in cc))
-
--- rows agree on the columns of the key where they are of one cell
-pub agree_new : (id : ℤ) (s : StockRow) (p : ℤ × StockRow)
-    → agree (record { digits = 0 }) target (numbered_row stock_columns p) target (numbered_row stock_columns (id, s)) ≡ is_cell s p.1
-agree_new id s p = rw first_key-plain (simp (eq_whole, eq_text) (simp and_true))
+each_other s cells none = search (rules, arith, all_from, false_from_ne_true, some_from)
 
 cell_says : (s : StockRow) → SaysInsert insert_cell_text 1 insert_cell_terms 7 (put_params s)
 unfolding understood everything
@@ -88,7 +72,7 @@ loads_cell s =
       storable = held_from (stock_at 1) _ (storable _ _ refl refl (omega (arith, fits.short)), omega arith) (storable _ _ refl refl (omega (arith, fits.short)), tt) tt;
       single = (
         rows_all stock_columns (db 1) t.stock _ (λ x. is_cell s x ≡ false) shown.stock
-            (λ p apart. agree_new (next_rowid (db 1)) s p ∙ apart) (each_other s t.stock fits.lacks),
+            (λ p apart. agree_cell (next_rowid (db 1)) s p ∙ apart) (each_other s t.stock fits.lacks),
         tt,
       );
       parents = tt;
@@ -158,25 +142,18 @@ module _ (old new : State) (t : Tables) (w : NightRange) (allot free : ℕ) wher
   -- as many rows pass as nights of the range have one
   passing : (ps : List (ℤ × StockRow))
       → length (filter (passes set_nights_query.filter params) (map (numbered_row stock_columns) ps)) ≡ length (filter (is_within w) (map value_of ps))
-  passing [] = refl
-  passing (p ∷ ps) =
-      rw (set_test w allot free p) (one (numbered_row stock_columns p) (filter (passes set_nights_query.filter params) (map (numbered_row stock_columns) ps))
-      p.1 (filter (is_within w) (map value_of ps)) (passing ps) (is_within w p.1))
-    where
-      one : (r : Row) (rows : List Row) (cell : StockRow) (cells : List StockRow) → length rows ≡ length cells → (pass : Bool)
-          → length (cond pass (r ∷ rows) rows) ≡ length (cond pass (cell ∷ cells) cells)
-      one r rows cell cells same true = ap suc same
-      one r rows cell cells same false = same
+  passing ps =
+      let f = numbered_row stock_columns in
+      let kept = filter (λ (p : ℤ × StockRow). is_within w p.1) ps in
+      ap length (filter-map (passes set_nights_query.filter params) f ps ∙ (λ i. map f (filter (λ p. set_test w allot free p i) ps)))
+      ∙ length-map kept f ∙ sym (length-map kept value_of) ∙ ap length (sym (filter-map (is_within w) value_of ps))
 
   rows_shown : (db : Trees) → IsTableOf stock_columns (db 1) t.stock → (rows : List Row)
       → IsAnswer set_nights_query (overlay db []) params rows → length rows ≡ nights_in w t
   rows_shown db shown rows answer =
-      let some = lists 1 set_nights_query.filter set_nights_query.project [] (overlay db []) params rows answer in
-      let found = filter (passes set_nights_query.filter params) (db 1) in
-      let all = lists_any set_nights_query params found rows some in
-      length_permutation (map (shown_of set_nights_query.project params) found) rows all
-      ∙ length-map found (shown_of set_nights_query.project params)
-      ∙ ap (λ rs. length (filter (passes set_nights_query.filter params) rs)) shown.rows_are
+      let all = map (numbered_row stock_columns) shown.numbered in
+      length_permutation _ rows (shows_any 1 set_nights_query.filter set_nights_query.project db params all rows answer shown.rows_are)
+      ∙ length-map (filter (passes set_nights_query.filter params) all) (shown_of set_nights_query.project params)
       ∙ passing shown.numbered ∙ ap (λ cells. length (filter (is_within w) cells)) (sym shown.values_are)
 
   -- each night that has a row is counted
@@ -187,6 +164,6 @@ module _ (old new : State) (t : Tables) (w : NightRange) (allot free : ℕ) wher
       let here = ran.1.was_open in
       let db = old.now.trees in
       let shown = (may.sees here).rows.stock in
-      let it = updates_many old params 1 (stock_at 1) set_nights_query set_nights_text new n set_nights_means refl
+      let it = updates_many old params 1 (stock_at 1) set_nights_query set_nights_text new n (set_says w allot free).means refl
       (ready_of old t may here) ran.0 in
       it.2 ∙ rows_shown db shown it.0 it.1

@@ -1,52 +1,63 @@
 -- A week of cells is added. For `insert_week`.
-use Rattle.std.proofs.Common.{◌≡◌, ◌<◌, ◌≤◌, ◌^◌, ◌+◌, ◌/◌, ◌⊎◌, ℕ, ℤ, zero, suc, List, [], ◌∷◌, ◌++◌, map, drop, length, inl, inr, Ok, Err, true, false, not, ◌==◌, ◌&&◌, bytes_eq, refl, sym, ap, subst, ◌∙◌, arith, append-nil, append_assoc, eqb-true}
+use Rattle.std.proofs.Common.{◌≡◌, ◌⊎◌, inl, inr, List, Bool, true, false, refl, ◌<◌, ◌≤◌, ◌^◌, ◌+◌, ◌/◌, ℕ, ℤ, zero, suc, [], ◌∷◌, ◌++◌, map, drop, length, Ok, Err, not, sym, ap, subst, ◌∙◌, arith, append-nil, append_assoc, eqb-true, rules}
+use Rattle.sqlite_trees.specs.Tree.{Trees, IsTable, put_row}
+use Rattle.sqlite_schema.specs.declared.schema.Keys.TheVariants.{Enforced}
+use Rattle.sqlite_schema.specs.Rules.{agree, Obeys}
+use Rattle.sqlite_rules.specs.Lists.{Has}
+use Rattle.sqlite_rules.specs.Edit.{are_fresh, is_referred, numbered, put_all, is_taken, Edit, next_rowid}
+use Rattle.sqlite_rules.proofs.ListLemmas.{all_from, all_has}
+use Rattle.sqlite.specs.Order.{Row}
+use Rattle.desk_sql.specs.Schema.{desk_schema, stock_at}
+use Rattle.desk_sql.proofs.Refusing.{IsSafe, write_reason, insert_goes}
+use Rattle.desk_sql.proofs.NewRow.{IsFit, adds_edit, rows_safe}
+use Rattle.desk_sql.proofs.Writing.{target, inserts, source_edit, cast_null, Edits}
 use Rattle.std.specs.Prelude.{⊤}
 use Rattle.std.proofs.lemmas.Bool.{and_parts, and_from, false_from_ne_true}
 use Rattle.sqlite.specs.declared.types.Value.TheVariants.{Null, Text}
 use Rattle.sqlite.specs.declared.error.Error.{Error}
-use Rattle.sqlite.specs.Order.{Row}
-use Rattle.sqlite.specs.Tree.{Trees, put_row}
 use Rattle.sqlite.specs.Cast.{cast_row}
 use Rattle.sqlite.specs.Ops.{fits_i64}
-use Rattle.sqlite.specs.Edit.{Edit, next_rowid}
 use Rattle.sqlite.specs.Rowids.TheVariants.{Chosen}
 use Rattle.sqlite.specs.Effect.{value_rows}
 use Rattle.sqlite.specs.Listing.{understood}
 use Rattle.sqlite.specs.State.{State, ExecutesInside}
-use Rattle.sqlite_rules.specs.Lists.{Has}
-use Rattle.sqlite_rules.specs.Edit.{numbered, put_all, is_taken, are_fresh}
-use Rattle.sqlite_rules.proofs.ListLemmas.{all_has}
-use Rattle.sqlite_typing.specs.Types.{accepts_terms}
 use Rattle.sqlite_tied.specs.Compute.{everything}
-use Rattle.sqlite_schema.specs.declared.schema.Index.{Index}
-use Rattle.desk_sql.specs.Schema.{stock_at, desk_with}
 use Rattle.desk_sql.specs.Lists.{numbered_row, IsTableOf}
 use Rattle.desk_sql.specs.Rows.{whole, Tables, StockRow, stock_columns}
 use Rattle.desk_sql.specs.Calls.{MayRun}
 use Rattle.desk_sql.specs.Causes.{IsUp, HasReason}
 use Rattle.desk_sql.specs.Stock.{is_cell}
 use Rattle.desk_sql.specs.Writable.{AreLow, HasRowids}
-use Rattle.desk_sql.proofs.Meaning.{Means, insert}
-use Rattle.desk_sql.proofs.Causing.{takes}
+use Rattle.desk_sql.proofs.Meaning.{insert}
 use Rattle.desk_sql.proofs.Effects.{Effect}
-use Rattle.desk_sql.proofs.Writing.{inserts, source_edit, cast_null, Edits}
 use Rattle.desk_sql.proofs.Inserting.{cast_int}
 use Rattle.desk_sql.proofs.Framing.{ready_of, makes_at, with_stock}
 use Rattle.desk_sql.proofs.Keyed.{appended}
-use Rattle.desk_sql.proofs.Refusing.{write_reason, insert_goes, IsSafe}
-use Rattle.desk_sql.proofs.InsertReasons.{obeys_desk}
-use Rattle.desk_sql.proofs.NewRow.{IsFit}
+use Rattle.desk_sql.proofs.InsertReasons.{obeys_desk, SaysInsert}
 use Rattle.desk_sql.proofs.UpdateReasons.{stock_fit}
 use Rattle.desk_sql.proofs.Storing.{range_holds, next_fits, chosen_free, table_of, rows_all}
 use Rattle.desk_sql.proofs.Rowids.{low_fewer, low_put, rowids_fewer, rowids_kept}
 use Rattle.sql_writes.specs.CellLoads.{LacksCell}
 use Rattle.sql_writes.specs.Weeks.{next_night, nights_from, week_from, adds_cells, insert_week_text, insert_week_terms, MayAddWeek}
-use Rattle.sql_writes.proofs.LoadedCells.{agree_new, each_other}
-use Rattle.sql_writes.proofs.NewRows.{stock_edit, agrees, rows_safe}
+use Rattle.sql_writes.proofs.LoadedCells.{each_other}
+use Rattle.desk_sql.proofs.PutReasons.{agree_cell}
 
-insert_week_means : Means insert_week_text (insert 1 insert_week_terms 7)
-unfolding understood everything
-insert_week_means extra = record { is = refl; plain = (refl, refl) }
+-- The insertion of several rows.
+
+-- the insertion of rows of stock
+abbrev pub stock_edit : List Row → Edit
+stock_edit news = adds_edit (stock_at 1) news
+
+-- the rows are of one cell
+abbrev pub agrees : Row → Row → Bool
+agrees a b = agree (record { digits = 0 }) target a target b
+
+-- no new row is of the cell of a row that was there, nor of that of another new one
+pub stock_safe : (db : Trees) (news : List Row) → IsTable (db 1) → Obeys desk_schema db → ((row : Row) → Has news row → IsFit (stock_at 1) db row)
+    → are_fresh (db 1) news ≡ true → ((row new : Row) → Has (db 1) row → Has news new → agrees row new ≡ false)
+    → ((a b : Row) → Has news a → Has news b → (a ≡ b) ⊎ (agrees a b ≡ false))
+    → is_referred desk_schema Enforced (stock_edit news) ≡ true → IsSafe db (stock_edit news)
+stock_safe db news ordered obeys fit fresh single apart referred = grind (arith, rows_safe, all_from)
 
 abbrev pub week_params : StockRow → Row
 week_params s =
@@ -74,11 +85,7 @@ on_night (suc n) s c (inr later) =
 
 -- the rows of one cell are of one night
 same_night : (a b : StockRow) → is_cell a b ≡ true → b.night ≡ a.night
-same_night a b e =
-    let one = and_parts (b.kind == a.kind) (bytes_eq b.supplier a.supplier && (bytes_eq b.product a.product && (b.night == a.night))) e in
-    let two = and_parts (bytes_eq b.supplier a.supplier) (bytes_eq b.product a.product && (b.night == a.night)) one.1 in
-    let three = and_parts (bytes_eq b.product a.product) (b.night == a.night) two.1 in
-    eqb-true b.night a.night three.1
+same_night a b e = search (rules, arith, and_parts, eqb-true)
 
 other_nights : (a b : StockRow) → (b.night ≡ a.night → ⊥) → is_cell a b ≡ false
 other_nights a b off = false_from_ne_true (is_cell a b) (λ same. off (same_night a b same))
@@ -163,7 +170,7 @@ fresh_next (s ∷ cells) rows values it =
 -- rows of two cells are apart
 rows_apart : (a b : Row) (s c : StockRow) (i j : ℤ) → a ≡ numbered_row stock_columns (i, s) → b ≡ numbered_row stock_columns (j, c)
     → is_cell c s ≡ false → agrees a b ≡ false
-rows_apart a b s c i j one two off = rw (one, two) (agree_new j c (i, s) ∙ off)
+rows_apart a b s c i j one two off = rw (one, two) (agree_cell j c (i, s) ∙ off)
 
 next_apart : (n : ℕ) (s : StockRow) (rows : List Row) (a b : Row) → Has (next_rows rows (nights_from s n)) a → Has (next_rows rows (nights_from s n)) b
     → (a ≡ b) ⊎ (agrees a b ≡ false)
@@ -206,13 +213,9 @@ week_values s = simp (cast_int, cast_null, one_more, two_more, three_more, four_
 week_news : (db : Trees) (s : StockRow) → (week_edit db s).news ≡ next_rows (db 1) (week_from s)
 week_news db s = ap (numbered Chosen (db 1)) (week_values s) ∙ numbered_next (db 1) (week_from s)
 
-week_takes : (s : StockRow) (extra : List Index) → takes (length insert_week_text) (length (week_params s)) (understood (desk_with extra) insert_week_text) ≡ true
+week_says : (s : StockRow) → SaysInsert insert_week_text 1 insert_week_terms 7 (week_params s)
 unfolding understood everything
-week_takes s extra = refl
-
-week_typed : (s : StockRow) → accepts_terms insert_week_terms (week_params s) ≡ true
-unfolding everything
-week_typed s = refl
+week_says s = record { means = λ _. record { is = refl; plain = (refl, refl) }; whole = λ _. refl; types = λ _. refl }
 
 -- its rows are appended, since each has the next rowid, and no rule of the tables refuses them
 pub loads_week : (s : StockRow) → Effect insert_week_text (week_params s) (λ _. ⊤) (adds_cells (week_from s)) (HasRowids 7) (MayAddWeek s) (λ _. ⊤) (λ n. 7 + n)
@@ -233,7 +236,7 @@ loads_week s = record {
     edits : (old new : State) (t : Tables) (count : ℕ) → MayRun old t → ExecutesInside 0 insert_week_text (week_params s) old new (Ok count)
         → Edits old new (week_edit old.now.trees s)
     edits old new t count may ran =
-        inserts insert_week_text (week_params s) old new 1 (stock_at 1) insert_week_terms 7 count insert_week_means
+        inserts insert_week_text (week_params s) old new 1 (stock_at 1) insert_week_terms 7 count (week_says s).means
         refl refl refl (ready_of old t may ran.1.was_open) ran.0
 
     reason : (old new : State) (t : Tables) (e : Error) → HasRowids 7 old.now.trees → MayRun old t → MayAddWeek s t → IsUp old
@@ -252,11 +255,11 @@ loads_week s = record {
         let it = next_is (week_from s) (db 1) new added in
         let none = all_has (λ x. LacksCell x t) (week_from s) it.cell fits.lacks it.among in
         let off = rows_all stock_columns (db 1) t.stock (λ r. agrees r (numbered_row stock_columns (it.id, it.cell)) ≡ false) (λ x. is_cell it.cell x ≡ false) shown
-        (λ p other. agree_new it.id it.cell p ∙ other) (each_other it.cell t.stock none) in
+        (λ p other. agree_cell it.id it.cell p ∙ other) (each_other it.cell t.stock none) in
         subst (λ r. agrees row r ≡ false) (sym it.is) (all_has (λ r. agrees r (numbered_row stock_columns (it.id, it.cell)) ≡ false) (db 1) row off was) in
         let safe : IsSafe db (stock_edit news) =
-        rows_safe db news (table_of stock_columns (db 1) t.stock shown) (obeys_desk old t sees) fit (fresh_next (week_from s) (db 1) t.stock shown)
+        stock_safe db news (table_of stock_columns (db 1) t.stock shown) (obeys_desk old t sees) fit (fresh_next (week_from s) (db 1) t.stock shown)
         single (next_apart 7 s (db 1)) refl in
-        write_reason insert_week_text (insert 1 insert_week_terms 7) (week_params s) insert_week_means (week_takes s) refl refl old new up sees.schema
-        (insert_goes sees.schema.extra sees.schema.are old (week_params s) 1 (stock_at 1) insert_week_terms 7 refl refl refl (week_typed s) up.unlimited
+        write_reason insert_week_text (insert 1 insert_week_terms 7) (week_params s) (week_says s).means (week_says s).whole refl refl old new up sees.schema
+        (insert_goes sees.schema.extra sees.schema.are old (week_params s) 1 (stock_at 1) insert_week_terms 7 refl refl refl ((week_says s).types sees.schema.extra) up.unlimited
         (subst (λ rows. IsSafe db (stock_edit rows)) (sym (week_news db s)) safe)) e

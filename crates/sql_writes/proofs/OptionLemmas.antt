@@ -1,19 +1,24 @@
 -- The options of a new plan: each row is one more, of a step or an option that has none yet. For the functions of `begins`.
-use Rattle.std.proofs.Common.{◌≡◌, ◌≤◌, ◌<◌, ◌+◌, ◌==◌, ◌&&◌, ℕ, zero, suc, List, [], ◌∷◌, ◌++◌, map, length, take, Bool, true, false, inl, inr, refl, ap, ◌∙◌, arith, length-append, Option, Some, None, option_map, flat_map}
-use Rattle.std.specs.Prelude.{unwrap_or}
-use Rattle.std.proofs.lemmas.Bool.{ne_eqb}
-use Rattle.std.proofs.lemmas.List.{length-take}
+use Rattle.std.proofs.Common.{◌≡◌, List, ◌++◌, ap, append_assoc, ◌≤◌, ◌<◌, ◌+◌, ◌&&◌, ℕ, suc, [], ◌∷◌, map, length, take, Bool, false, inl, inr, refl, ◌∙◌, arith, length-append, Some, flat_map, length-take, rules}
+use Rattle.desk_sql.specs.Rows.{Tables, StepRow}
+use Rattle.sql_model.specs.Beginning.{adds_steps, first_steps, first_rows_of_step, rows_of_step, rows_of_option}
 use Rattle.sqlite_rules.specs.Lists.{Has}
 use Rattle.sqlite_rules.proofs.ListLemmas.{all_has, all_from, has_either}
 use Rattle.sqlite_rules.proofs.ProbeLemmas.{has_mapped}
 use Rattle.allotment.specs.Want.{Wanted}
-use Rattle.plan.specs.PlanModel.{Planned, StepPlan, numbered, option_count, step_count, want_at}
-use Rattle.desk_sql.specs.Rows.{Tables, StepRow}
-use Rattle.desk_sql.specs.Changes.{is_option}
+use Rattle.plan.specs.PlanModel.{Planned, StepPlan, option_count, step_count, want_at}
 use Rattle.sql_model.specs.ExpectedRows.{counted_from, option_row, option_rows, step_rows_of, none_taken}
-use Rattle.sql_model.specs.Beginning.{adds_steps, first_options, first_steps, first_rows_of_step, rows_of_step, rows_of_option}
 use Rattle.sql_model.proofs.PlanParts.{first_rows_of_step-more, step_rows_of-more}
 use Rattle.sql_writes.specs.Permits.{MayAddOption, MayAddOptions, MayAddSteps}
+use Rattle.std.proofs.lemmas.Bool.{and_left, and_right}
+
+-- The rows of a plan are written in order.
+
+-- appending two lists of rows is appending their concatenation
+pub adds_steps-append : (rows more : List StepRow) (t : Tables) → adds_steps more (adds_steps rows t) ≡ adds_steps (rows ++ more) t
+adds_steps-append rows more t = ap (λ all. record t { step = all }) (append_assoc t.step rows more)
+
+-- The options of a new plan: each row is one more, of a step or an option that has none yet.
 
 -- Their number.
 
@@ -26,28 +31,15 @@ take_few n xs = let is = length-take n xs in omega (arith, is)
 
 -- the first options of a step are no more than all
 pub first_rows_few : (id : ℕ) (plan : Planned) (i n : ℕ) → length (first_rows_of_step id plan i n) ≤ length (rows_of_step id plan i)
-first_rows_few id plan i n = found (numbered plan.steps i)
-  where
-    found : (o : Option StepPlan)
-        → length (unwrap_or (option_map (λ (s : StepPlan). option_rows none_taken id i (first_options n s)) o) [])
-        ≤ length (unwrap_or (option_map (λ (s : StepPlan). option_rows none_taken id i s) o) [])
-    found None = omega arith
-    found (Some s) =
-        let row = λ (w : ℕ × Wanted). option_row id i s.is_marked w.0 false w.1 in
-        let few = length_counted row 1 (take n s.options) in
-        let all = length_counted row 1 s.options in
-        let less = take_few n s.options in
-        omega (arith, few, all, less)
+first_rows_few id plan i n = search (rules, arith, length_counted, take_few)
 
 flat_few : {X Y : Type 0} (f : ℕ × X → List Y) (first n : ℕ) (xs : List X)
     → length (flat_map f (counted_from first (take n xs))) ≤ length (flat_map f (counted_from first xs))
-flat_few f first zero xs = omega arith
-flat_few f first (suc n) [] = omega arith
 flat_few f first (suc n) (x ∷ xs) =
     let few = flat_few f (suc first) n xs in
     let left = length-append (f (first, x)) (flat_map f (counted_from (suc first) (take n xs))) in
-    let right = length-append (f (first, x)) (flat_map f (counted_from (suc first) xs)) in
-    omega (arith, few, left, right)
+    omega (arith, few, left, length-append (f (first, x)) (flat_map f (counted_from (suc first) xs)))
+flat_few f first n xs = omega arith
 
 -- the rows of the first steps are no more than all
 pub first_steps_few : (id : ℕ) (plan : Planned) (n : ℕ) → length (step_rows_of id (first_steps n plan)) ≤ length (step_rows_of id plan)
@@ -58,15 +50,13 @@ pub next_option_fits : (id : ℕ) (plan : Planned) (i n : ℕ) → n < option_co
     → length (first_rows_of_step id plan i n) + length (rows_of_option id plan i (n + 1)) ≤ length (rows_of_step id plan i)
 next_option_fits id plan i n within =
     let both = ap length (first_rows_of_step-more id plan i n within) ∙ length-append (first_rows_of_step id plan i n) (rows_of_option id plan i (n + 1)) in
-    let few = first_rows_few id plan i (n + 1) in
-    omega (arith, both, few)
+    omega (arith, both, first_rows_few id plan i (n + 1))
 
 pub next_step_fits : (id : ℕ) (plan : Planned) (n : ℕ) → n < step_count plan
     → length (step_rows_of id (first_steps n plan)) + length (rows_of_step id plan (n + 1)) ≤ length (step_rows_of id plan)
 next_step_fits id plan n within =
     let both = ap length (step_rows_of-more id plan n within) ∙ length-append (step_rows_of id (first_steps n plan)) (rows_of_step id plan (n + 1)) in
-    let few = first_steps_few id plan (n + 1) in
-    omega (arith, both, few)
+    omega (arith, both, first_steps_few id plan (n + 1))
 
 -- an option of a plan has one row
 pub one_row : (id : ℕ) (plan : Planned) (i c : ℕ) (w : Wanted) → want_at plan i c ≡ Some w → length (rows_of_option id plan i c) ≡ 1
@@ -88,72 +78,26 @@ has_flat f (x ∷ xs) y has = elim (has_either (f x) (flat_map f xs) y has) [
 
 -- each of the first options has a number up to theirs
 opt_low : (id : ℕ) (plan : Planned) (i n : ℕ) (x : StepRow) → Has (first_rows_of_step id plan i n) x → x.opt ≤ n
-opt_low id plan i n x has = found (numbered plan.steps i) has
-  where
-    found : (o : Option StepPlan)
-        → Has (unwrap_or (option_map (λ (s : StepPlan). option_rows none_taken id i (first_options n s)) o) []) x → x.opt ≤ n
-    found None there = absurd there
-    found (Some s) there =
-        let row = λ (w : ℕ × Wanted). option_row id i s.is_marked w.0 false w.1 in
-        let it = has_mapped row (counted_from 1 (take n s.options)) x there in
-        let low = counted_low 1 (take n s.options) it.0 it.1 in
-        let at : x.opt ≡ it.0.0 = ap (λ (r : StepRow). r.opt) it.2 in
-        let few = length-take n s.options in
-        omega (arith, low, at, few)
+opt_low id plan i n x has = search (rules, arith, has_mapped, counted_low, length-take)
 
 -- each row of the first steps has a place up to theirs
 place_low : (id : ℕ) (plan : Planned) (n : ℕ) (x : StepRow) → Has (step_rows_of id (first_steps n plan)) x → x.place ≤ n
 place_low id plan n x has =
-    let rows = λ (s : ℕ × StepPlan). option_rows none_taken id s.0 s.1 in
-    let it = has_flat rows (counted_from 1 (take n plan.steps)) x has in
-    let low = counted_low 1 (take n plan.steps) it.0 it.1 in
+    let it = has_flat (λ (s : ℕ × StepPlan). option_rows none_taken id s.0 s.1) (counted_from 1 (take n plan.steps)) x has in
     let row = λ (w : ℕ × Wanted). option_row id it.0.0 it.0.1.is_marked w.0 false w.1 in
     let one = has_mapped row (counted_from 1 it.0.1.options) x it.2 in
     let at : x.place ≡ it.0.0 = ap (λ (r : StepRow). r.place) one.2 in
-    let few = length-take n plan.steps in
-    omega (arith, low, at, few)
+    omega (arith, counted_low 1 (take n plan.steps) it.0 it.1, at, length-take n plan.steps)
 
 first_two : (a b c : Bool) → (a && b) ≡ false → (a && (b && c)) ≡ false
-first_two true true c e = absurd (cc)
-first_two true false c e = refl
-first_two false b c e = refl
-
-last_two : (a b c : Bool) → c ≡ false → (a && (b && c)) ≡ false
-last_two true true c e = e
-last_two true false c e = refl
-last_two false b c e = refl
-
-left_one : (a b : Bool) → a ≡ false → (a && b) ≡ false
-left_one true b e = absurd (cc)
-left_one false b e = refl
-
-right_one : (a b : Bool) → b ≡ false → (a && b) ≡ false
-right_one true b e = e
-right_one false b e = refl
+first_two a b c e = search (rules, arith)
 
 -- the next option has no row yet
 pub next_option : (id : ℕ) (plan : Planned) (i n : ℕ) (t : Tables) → MayAddOptions id i t
     → MayAddOption id i (n + 1) (adds_steps (first_rows_of_step id plan i n) t)
-next_option id plan i n t may = record {
-  journey = may.journey;
-  unplaced = all_from (λ (x : StepRow). is_option id i (n + 1) x ≡ false) (t.step ++ first_rows_of_step id plan i n) (λ x has.
-      elim (has_either t.step (first_rows_of_step id plan i n) x has) [
-        | inl old ↦ first_two (x.journey == id) (x.place == i) (x.opt == n + 1)
-            (all_has (λ (s : StepRow). ((s.journey == id) && (s.place == i)) ≡ false) t.step x may.unplaced old)
-        | inr new ↦ (let low = opt_low id plan i n x new in
-            last_two (x.journey == id) (x.place == i) (x.opt == n + 1) (ne_eqb x.opt (n + 1) (λ same. omega (arith, low, same))))
-      ]);
-}
+next_option id plan i n t may = search (rules, arith, all_from, has_either, first_two, all_has, opt_low, and_right)
 
 -- nor has the next step
 pub next_step : (id : ℕ) (plan : Planned) (n : ℕ) (t : Tables) → MayAddSteps id t
     → MayAddOptions id (n + 1) (adds_steps (step_rows_of id (first_steps n plan)) t)
-next_step id plan n t may = record {
-  journey = may.journey;
-  unplaced = all_from (λ (x : StepRow). ((x.journey == id) && (x.place == n + 1)) ≡ false) (t.step ++ step_rows_of id (first_steps n plan)) (λ x has.
-      elim (has_either t.step (step_rows_of id (first_steps n plan)) x has) [
-        | inl old ↦ left_one (x.journey == id) (x.place == n + 1) (all_has (λ (s : StepRow). (s.journey == id) ≡ false) t.step x may.options old)
-        | inr new ↦ (let low = place_low id plan n x new in
-            right_one (x.journey == id) (x.place == n + 1) (ne_eqb x.place (n + 1) (λ same. omega (arith, low, same))))
-      ]);
-}
+next_step id plan n t may = search (rules, arith, all_from, has_either, and_left, all_has, place_low, and_right)

@@ -1,27 +1,23 @@
 -- What an event asks of the rows is what each of its writes asks of the rows before that write. For the functions that write.
-use Rattle.std.proofs.Common.{◌≡◌, ◌<◌, ◌≤◌, ◌+◌, ◌^◌, ℕ, List, [], ◌∷◌, ◌++◌, length, Bool, true, false, if◌then◌else◌, inl, nat_le, leb-true, IsTrue, refl, ◌∙◌, arith}
-use Rattle.std.specs.List.{AllByRecursion, list_all, list_any}
+use Rattle.std.proofs.Common.{◌≡◌, ◌<◌, ◌≤◌, ◌+◌, ◌^◌, ℕ, List, [], ◌∷◌, length, Bool, true, if◌then◌else◌, inl, nat_le, leb-true, IsTrue, refl, ◌∙◌, arith, rules}
+use Rattle.std.specs.List.{AllByRecursion, list_all}
 use Rattle.sqlite_rules.proofs.ListLemmas.{has_right}
 use Rattle.sqlite_rules.proofs.ProbeLemmas.{mapped_has}
 use Rattle.allotment.specs.Cells.{kind_number}
 use Rattle.allotment.specs.Limits.{is_between, is_code}
 use Rattle.allotment.specs.declared.cells.Cell.{Cell}
 use Rattle.allotment.specs.declared.codes.Kind.{Kind}
-use Rattle.allotment.specs.declared.codes.Kind.TheVariants.{Flight, Room, Transfer, Cover}
 use Rattle.allotment.specs.declared.places.Held.{Held}
 use Rattle.allotment.specs.Want.{Wanted}
 use Rattle.allotment.proofs.CodeLemmas.{is_code_byte}
 use Rattle.allotment.proofs.TestLemmas.{and_both}
 use Rattle.commands.specs.declared.items.Item.{Item}
-use Rattle.commands.specs.declared.items.Item.TheVariants.{Transaction, Compensation, Turn, Save}
 use Rattle.commands.specs.declared.items.Phase.{Phase}
-use Rattle.commands.specs.declared.items.Phase.TheVariants.{Run, Back, Ended, Undone}
 use Rattle.commands.specs.declared.items.Cursor.{Cursor}
-use Rattle.desk_sql.specs.Lists.{changed}
-use Rattle.desk_sql.specs.Rows.{Tables, JourneyRow, StepRow, StockRow}
+use Rattle.desk_sql.specs.Rows.{Tables, JourneyRow, StockRow}
 use Rattle.desk_sql.specs.FoundRows.{is_numbered}
-use Rattle.desk_sql.specs.Stock.{is_within, is_cell, put, with_places}
-use Rattle.desk_sql.specs.Changes.{adds_journey, is_option, moves_journey, with_cursor}
+use Rattle.desk_sql.specs.Stock.{is_within, put, with_places}
+use Rattle.desk_sql.specs.Changes.{adds_journey, moves_journey, with_cursor}
 use Rattle.desk_sql.specs.Writable.{HasJourney, IsShort, MayAddItem, MayMove, MayMarkStep, MayPut, MayTakeNights, MayGiveNights}
 use Rattle.desk_sql.specs.declared.journeys.Cursor.{Cursor as CursorRow}
 use Rattle.desk_sql.specs.declared.stock.NightRange.{NightRange}
@@ -34,40 +30,27 @@ use Rattle.sql_writes.specs.declared.events.Numbers.{Numbers}
 use Rattle.sql_writes.specs.Writing.{HaveRoomFor}
 use Rattle.sql_writes.specs.Runs.{HasShortTexts, LacksWeek}
 use Rattle.sql_writes.specs.Permits.{HaveHeldFor, HaveShortCells, HaveShortOptions, MayAdd, MayMoveOn, MayTakeWant, MayGiveWant}
+use Rattle.sqlite_trees.proofs.ListLemmas.{all-append, all-map, all_weaker}
 
 -- what each element is, each of some elements is
 all_some : {X : Type 0} (P : X → Type 0) (p : X → Bool) (xs : List X) → AllByRecursion P xs → AllByRecursion (λ x. p x ≡ true → P x) xs
-all_some P p [] all = tt
-all_some P p (x ∷ xs) all = (λ _. all.0, all_some P p xs all.1)
+all_some P p = all_weaker P (λ x. p x ≡ true → P x) (λ x it _. it)
 
 -- Items.
 
 kind_low : (num : ℕ) (item : Item) → (item_written num item).item ≤ 3
-kind_low num (Transaction step option) = omega arith
-kind_low num (Compensation step option) = omega arith
-kind_low num (Turn target cause) = omega arith
-kind_low num (Save position) = omega arith
+kind_low num item = search (rules, arith)
 
 kind_num : (num : ℕ) (item : Item) → (item_written num item).num ≡ num
-kind_num num (Transaction step option) = refl
-kind_num num (Compensation step option) = refl
-kind_num num (Turn target cause) = refl
-kind_num num (Save position) = refl
+kind_num num item = search (rules, arith)
 
 pub may_add : (n : Numbers) (journey : ℕ) (item : Item) (t : Tables) → MayAdd n journey t → MayAddItem journey (item_written n.num item) t
-may_add n journey item t it = record {
-  journey_is = it.journey_is;
-  below = rw (kind_num n.num item) (it.below);
-  kind = kind_low n.num item;
-}
+may_add n journey item t it = search (rules, arith, kind_num, kind_low)
 
 -- Cursors.
 
 phase_low : (p : Phase) → phase_number p ≤ 3
-phase_low Run = omega arith
-phase_low (Back target) = omega arith
-phase_low Ended = omega arith
-phase_low Undone = omega arith
+phase_low p = search (rules, arith)
 
 pub may_move : (n : Numbers) (journey : ℕ) (c : Cursor) (t : Tables) → MayMoveOn n journey t → MayMove journey (cursor_written c) t
 may_move n journey c t it = record {
@@ -76,8 +59,7 @@ may_move n journey c t it = record {
 }
 
 kept_id : (b : Bool) (c : CursorRow) (j : JourneyRow) → (if b then with_cursor c j else j).id ≡ j.id
-kept_id true c j = refl
-kept_id false c j = refl
+kept_id b c j = search (rules, arith)
 
 -- the journey is there after it has moved
 pub still_there : (id journey : ℕ) (c : CursorRow) (t : Tables) → HasJourney id t → HasJourney id (moves_journey journey c t)
@@ -86,10 +68,7 @@ still_there id journey c t (j, has, is) =
     (move j, mapped_has move t.journey j has, kept_id (is_numbered journey j) c j ∙ is)
 
 pub moved_on : (n : Numbers) (journey : ℕ) (c : CursorRow) (t : Tables) → MayMoveOn n journey t → MayAdd n journey (moves_journey journey c t)
-moved_on n journey c t it = record {
-  journey_is = still_there journey journey c t it.item.journey_is;
-  below = it.item.below;
-}
+moved_on n journey c t it = search (rules, arith, still_there)
 
 -- and it is there once it was added
 pub added_there : (j : JourneyRow) (t : Tables) → HasJourney j.id (adds_journey j t)
@@ -98,10 +77,7 @@ added_there j t = (j, has_right t.journey (j ∷ []) j (inl refl), refl)
 -- Options.
 
 pub may_mark : (journey place opt taken : ℕ) (t : Tables) → taken ≤ 1 → HaveShortOptions t → MayMarkStep journey place opt taken t
-may_mark journey place opt taken t low short = record {
-  mark_is = low;
-  short = all_some (λ (s : StepRow). IsShort (length s.supplier + length s.product)) (is_option journey place opt) t.step short;
-}
+may_mark journey place opt taken t low short = search (rules, arith, all_some)
 
 -- Nights.
 
@@ -121,8 +97,7 @@ may_give w r t is it = record {
 room : (r : NightRange) (count : ℕ) (rows : List StockRow)
     → AllByRecursion (λ (s : StockRow). is_within r s ≡ true → (s.free + count ≤ s.allot) × (s.allot < 2 ^ 63)) rows
     → AllByRecursion (λ (s : StockRow). is_within r s ≡ true → s.free + count < 2 ^ 63) rows
-room r count [] held = tt
-room r count (s ∷ rows) held = (λ is. (let it = held.0 is in omega (arith, it.0, it.1)), room r count rows held.1)
+room r count = search (rules, arith, all_weaker)
 
 pub have_room : (w : Wanted) (t : Tables) → HaveHeldFor w t → HaveRoomFor w t
 have_room w t held r is = room r w.count t.stock (held r is)
@@ -131,36 +106,17 @@ have_room w t held r is = room r w.count t.stock (held r is)
 
 placed_text : (b : Bool) (s x : StockRow) → IsShort (length x.supplier + length x.product)
     → IsShort (length (if b then with_places s x else x).supplier + length (if b then with_places s x else x).product)
-placed_text true s x short = short
-placed_text false s x short = short
+placed_text b s x short = search (rules, arith)
 
 -- the texts of the cells fit after a cell with such texts got its places
 pub short_put : (s : StockRow) (rows : List StockRow) → IsShort (length s.supplier + length s.product)
     → AllByRecursion (λ (x : StockRow). IsShort (length x.supplier + length x.product)) rows
     → AllByRecursion (λ (x : StockRow). IsShort (length x.supplier + length x.product)) (put s rows)
-short_put s rows own short = by_cases (list_any (is_cell s) rows)
-  where
-    P : StockRow → Type 0
-    P x = IsShort (length x.supplier + length x.product)
-
-    by_cases : (b : Bool) → AllByRecursion P (if b then changed (is_cell s) (with_places s) rows else rows ++ s ∷ [])
-    by_cases true = each rows short
-      where
-        each : (xs : List StockRow) → AllByRecursion P xs → AllByRecursion P (changed (is_cell s) (with_places s) xs)
-        each [] all = tt
-        each (x ∷ xs) all = (placed_text (is_cell s x) s x all.0, each xs all.1)
-    by_cases false = last rows short
-      where
-        last : (xs : List StockRow) → AllByRecursion P xs → AllByRecursion P (xs ++ s ∷ [])
-        last [] all = (own, tt)
-        last (x ∷ xs) all = (all.0, last xs all.1)
+short_put s rows own short = search (rules, arith, all-map, all_weaker, placed_text, all-append)
 
 -- the places of a cell may be written, and its row or those of its week may be added
 cell_kind_low : (kind : Kind) → kind_number kind ≤ 3
-cell_kind_low Flight = omega arith
-cell_kind_low Room = omega arith
-cell_kind_low Transfer = omega arith
-cell_kind_low Cover = omega arith
+cell_kind_low kind = search (rules, arith)
 
 pub may_put : (c : Cell × Held) (t : Tables) → HasShortTexts c → HaveShortCells t → MayPut (stock_row_of c) t
 may_put c t short others = record { kind = cell_kind_low c.0.kind; free = c.1.within; short = short; others = others }
@@ -181,6 +137,4 @@ code_few text good =
 
 pub codes_short : (supplier product : List ℕ) → IsTrue (is_code supplier) → IsTrue (is_code product) → IsShort (length supplier + length product)
 codes_short supplier product one two =
-    let few = code_few supplier one in
-    let less = code_few product two in
-    omega (arith, few, less)
+    omega (arith, code_few supplier one, code_few product two)

@@ -1,23 +1,74 @@
 -- Cells of a run, and their rows once they got their places. For the functions of `runs`.
-use Rattle.std.proofs.Common.{◌≡◌, ℕ, zero, suc, ◌+◌, ◌-◌, ◌<◌, List, [], ◌∷◌, ◌++◌, map, length, take, get_or, slice_get, Option, Some, None, Bool, true, false, if◌then◌else◌, refl, sym, ap, ap₂, subst, ◌∙◌, arith, length-append}
+use Rattle.std.proofs.Common.{◌≡◌, ℕ, zero, suc, ◌+◌, ◌-◌, ◌<◌, List, [], ◌∷◌, ◌++◌, length, take, get_or, refl, sym, ap, subst, ◌∙◌, arith, map, slice_get, Option, Some, None, ap₂, length-append, length-take-le, append_assoc, take_all, rules}
 use Rattle.std.specs.List.{AllByRecursion}
-use Rattle.std.proofs.lemmas.List.{length-take-le}
+use Rattle.allotment.specs.Cells.{kind_number}
 use Rattle.allotment.specs.declared.cells.Cell.{Cell}
 use Rattle.allotment.specs.declared.places.Held.{Held}
 use Rattle.desk_sql.specs.Rows.{Tables, StockRow}
-use Rattle.desk_sql.specs.Stock.{put, with_places}
-use Rattle.desk_sql.specs.Writable.{IsShort}
-use Rattle.desk_sql.specs.Lists.{changed}
+use Rattle.desk_sql.specs.Stock.{AreApart as AreCellsApart, put, puts_cell, with_places}
 use Rattle.sql_model.specs.Reading.{stock_row_of}
-use Rattle.sql_transitions.proofs.Changing.{once-changed}
-use Rattle.sql_transitions.proofs.Puts.{cells_apart}
-use Rattle.sql_writes.specs.Loads.{MayLoad, put_each, puts_each}
+use Rattle.sql_model.specs.Standing.{AreApart, is_same_stock}
+use Rattle.sql_transitions.specs.Loading.{loaded_row}
+use Rattle.sql_transitions.proofs.Puts.{cells_apart, once-rows}
+use Rattle.sql_writes.specs.Loads.{put_each, puts_each, MayLoad}
+use Rattle.sql_writes.specs.Runs.{HasShortTexts, nights_later, IsLater, IsRun, is_until, sets_until, known_until, put_rows, AreNew, adds_each}
+use Rattle.sql_writes.proofs.Permitting.{short_put}
 use Rattle.sql_writes.specs.Permits.{HaveShortCells}
+use Rattle.desk_sql.specs.Writable.{IsShort}
+use Rattle.sql_transitions.proofs.Changing.{once-changed}
 use Rattle.sql_writes.specs.Weeks.{next_night, nights_from}
-use Rattle.sql_writes.specs.Runs.{nights_later, IsLater, IsRun, HasShortTexts, is_until, sets_until, known_until, put_rows, AreNew, adds_each}
-use Rattle.sql_writes.proofs.LoadLemmas.{take-more}
 use Rattle.sql_writes.proofs.RunRows.{nights-more}
 use Rattle.sql_writes.proofs.RunPuts.{put_new, run_some, run_known, run_new}
+use Rattle.std.proofs.lemmas.List.{map-append, take_more}
+use Rattle.sqlite_trees.proofs.ListLemmas.{all-map, all_weaker}
+
+-- Cells get their places in order.
+
+-- cells are put after others
+pub put_each-append : (xs ys : List (Cell × Held)) (rows : List StockRow) → put_each (xs ++ ys) rows ≡ put_each ys (put_each xs rows)
+put_each-append [] ys rows = refl
+put_each-append (x ∷ xs) ys rows = put_each-append xs ys (put (stock_row_of x) rows)
+
+-- the row of a cell is that of its allotment, less the places that are held
+stock_row_of-loaded : (c : Cell × Held) → loaded_row (c.1.allot - c.1.free) (record { cell = c.0; places = c.1.allot }) ≡ stock_row_of c
+stock_row_of-loaded c =
+    let free : c.1.allot - (c.1.allot - c.1.free) ≡ c.1.free = omega arith in
+    ap (λ n. record { kind = kind_number c.0.kind; supplier = c.0.supplier; product = c.0.product; night = c.0.night; allot = c.1.allot; free = n }) free
+
+-- no two rows are of one cell after a cell got its places
+apart-put : (c : Cell × Held) (rows : List StockRow) → AreApart is_same_stock rows
+    → AreApart is_same_stock (put (stock_row_of c) rows)
+apart-put c rows once =
+    subst (λ r. AreApart is_same_stock (put r rows)) (stock_row_of-loaded c)
+    (once-rows (λ _. c.1.allot - c.1.free) (record { cell = c.0; places = c.1.allot } ∷ []) rows once)
+
+-- no two rows are of one cell after all cells got their places
+pub apart-each : (cells : List (Cell × Held)) (rows : List StockRow) → AreApart is_same_stock rows
+    → AreApart is_same_stock (put_each cells rows)
+apart-each [] rows once = once
+apart-each (c ∷ cells) rows once = apart-each cells (put (stock_row_of c) rows) (apart-put c rows once)
+
+-- the texts of the cells fit after all cells got their places
+pub short_each : (cells : List (Cell × Held)) (t : Tables) → AllByRecursion HasShortTexts cells → HaveShortCells t
+    → HaveShortCells (puts_each cells t)
+short_each [] t all short = short
+short_each (c ∷ cells) t all short =
+    short_each cells (puts_cell (stock_row_of c) t) all.1 (short_put (stock_row_of c) t.stock all.0 short)
+
+-- no two rows are of one cell after the cells got their places
+pub apart_put : (cells : List (Cell × Held)) (t : Tables) → AreApart is_same_stock t.stock → AreCellsApart (puts_each cells t)
+apart_put cells t apart = cells_apart (puts_each cells t) (apart-each cells t.stock apart)
+
+-- all elements are taken
+pub take-whole : {X : Type 0} (n : ℕ) (xs : List X) → n ≡ length xs → take n xs ≡ xs
+take-whole n xs all = take_all n xs (omega (arith, all))
+
+-- one more element is taken, with the count of a loop
+pub take-more : {X : Type 0} (xs : List X) (i : ℕ) (x : X) → i < length xs → x ≡ get_or xs i x
+    → take (i + 1) xs ≡ take i xs ++ x ∷ []
+take-more xs i x within e = take_more xs i x within ∙ ap (λ y. take i xs ++ y ∷ []) (sym e)
+
+-- Cells of a run, and their rows once they got their places.
 
 -- Lists of cells.
 
@@ -25,17 +76,9 @@ pub put_each_rows : (cells : List (Cell × Held)) (rows : List StockRow) → put
 put_each_rows [] rows = refl
 put_each_rows (c ∷ cells) rows = put_each_rows cells (put (stock_row_of c) rows)
 
-pub map-append : (xs ys : List (Cell × Held)) → map stock_row_of (xs ++ ys) ≡ map stock_row_of xs ++ map stock_row_of ys
-map-append [] ys = refl
-map-append (x ∷ xs) ys = ap (λ rows. stock_row_of x ∷ rows) (map-append xs ys)
-
 pub adds-more : (xs : List (Cell × Held)) (x : Cell × Held) (t : Tables)
     → record t { stock = (t.stock ++ map stock_row_of xs) ++ stock_row_of x ∷ [] } ≡ adds_each (xs ++ x ∷ []) t
-adds-more xs x t = ap (λ rows. record t { stock = rows }) (regroup t.stock ∙ ap (λ rows. t.stock ++ rows) (sym (map-append xs (x ∷ []))))
-  where
-    regroup : (rows : List StockRow) → (rows ++ map stock_row_of xs) ++ stock_row_of x ∷ [] ≡ rows ++ (map stock_row_of xs ++ stock_row_of x ∷ [])
-    regroup [] = refl
-    regroup (r ∷ rows) = ap (λ more. r ∷ more) (regroup rows)
+adds-more xs x t = search (rules, arith, append_assoc, map-append)
 
 -- Runs.
 
@@ -59,7 +102,7 @@ run-more (c ∷ cells) (suc n) first next is some within is_first is_next run =
 
     longer : map stock_row_of (c ∷ (take n cells ++ next ∷ [])) ≡ nights_from (stock_row_of c) (length (c ∷ (take n cells ++ next ∷ [])))
     longer =
-        map-append (c ∷ take n cells) (next ∷ [])
+        map-append stock_row_of (c ∷ take n cells) (next ∷ [])
         ∙ ap₂ ◌++◌ (run ∙ ap (nights_from (stock_row_of c)) size) (ap (λ r. r ∷ []) (later_row first next (suc n) is ∙ ap (λ x. nights_later (suc n) (stock_row_of x)) is_first))
         ∙ sym (nights-more (stock_row_of c) (suc n))
         ∙ ap (nights_from (stock_row_of c)) (sym long)
@@ -73,15 +116,12 @@ last_night (x ∷ cells) s d run c here is =
     let first : stock_row_of x ≡ next_night s = cc in
     let rest : map stock_row_of cells ≡ nights_from (next_night (next_night s)) (length cells) = cc in
     let at : x.0.night ≡ s.night + 1 = ap (λ (r : StockRow). r.night) first in
-    let far = last_night cells (next_night s) d rest x at is in
-    omega (arith, far)
+    omega (arith, last_night cells (next_night s) d rest x at is)
 
 -- the texts of each cell of a run are those of the first
 short_from : (n : ℕ) (s : StockRow) (cells : List (Cell × Held)) → IsShort (length s.supplier + length s.product)
     → map stock_row_of cells ≡ nights_from s n → AllByRecursion HasShortTexts cells
 short_from zero s [] short run = tt
-short_from zero s (x ∷ cells) short run = absurd (cc)
-short_from (suc n) s [] short run = absurd (cc)
 short_from (suc n) s (x ∷ cells) short run =
     let both : stock_row_of x ∷ map stock_row_of cells ≡ s ∷ nights_from (next_night s) n = run in
     let first : stock_row_of x ≡ s = cc in
@@ -89,6 +129,7 @@ short_from (suc n) s (x ∷ cells) short run =
       subst (λ (r : StockRow). IsShort (length r.supplier + length r.product)) (sym first) short,
       short_from n (next_night s) cells short rest,
     )
+short_from n s cells short run = absurd (cc)
 
 pub short_run : (run : List (Cell × Held)) (first : Cell × Held) → slice_get run 0 ≡ Some first → IsRun run → HasShortTexts first
     → AllByRecursion HasShortTexts run
@@ -169,25 +210,11 @@ module _ (run : List (Cell × Held)) (first last : Cell × Held) (is_first : sli
 
   -- and so have cells that are added
   pub added_given : known_until s night t ≡ 0 → adds_each run given ≡ puts_each run t
-  added_given none =
-      ap (λ rows. record t { stock = rows })
-      (sym (put_new (map stock_row_of run) given.stock (none_known none)) ∙ sym (put_each_rows run given.stock))
-      ∙ put_given
+  added_given none = search (rules, arith, put_new, none_known, put_each_rows, put_given)
 
   -- the rows are apart, and their texts fit, as before
   pub apart_given : MayLoad given
   apart_given = once-changed (is_until s night) (with_places s) (λ q r. refl) (λ q r. refl) t.stock apart
 
   pub short_given : HaveShortCells t → HaveShortCells given
-  short_given short = go t.stock short
-    where
-      Short : StockRow → Type 0
-      Short x = IsShort (length x.supplier + length x.product)
-
-      one : (b : Bool) (x : StockRow) → Short x → Short (if b then with_places s x else x)
-      one true x fits = fits
-      one false x fits = fits
-
-      go : (cells : List StockRow) → AllByRecursion Short cells → AllByRecursion Short (changed (is_until s night) (with_places s) cells)
-      go [] all = tt
-      go (x ∷ cells) all = (one (is_until s night x) x all.0, go cells all.1)
+  short_given short = search (rules, arith, all-map, all_weaker)

@@ -1,5 +1,5 @@
 -- A run of cells gets its places, in rows that are there and in new ones. For RunLemmas.
-use Rattle.std.proofs.Common.{◌≡◌, ◌+◌, inl, inr, ℕ, suc, List, [], ◌∷◌, ◌++◌, filter, length, cond, Bool, true, false, if◌then◌else◌, refl, sym, ap, ap₂, subst, ◌∙◌, ◌||◌}
+use Rattle.std.proofs.Common.{◌≡◌, ◌+◌, inl, inr, ℕ, suc, List, [], ◌∷◌, ◌++◌, filter, length, Bool, true, false, if◌then◌else◌, refl, sym, ap, ap₂, subst, ◌∙◌, ◌||◌, append-nil, append_assoc, map-id, arith, rules}
 use Rattle.std.specs.List.{AllByRecursion, list_any}
 use Rattle.std.proofs.lemmas.Bool.{cases_Bool, false_from_ne_true}
 use Rattle.sqlite_rules.specs.Lists.{Has}
@@ -9,13 +9,11 @@ use Rattle.desk_sql.specs.Rows.{StockRow}
 use Rattle.desk_sql.specs.Stock.{is_cell, with_places, put}
 use Rattle.sql_writes.specs.Weeks.{nights_from}
 use Rattle.sql_writes.specs.Runs.{is_until, put_rows, AreNew}
-use Rattle.sql_writes.proofs.RunRows.{is_of, AreDistinct, own_cell, one_cell, of_run, nights-length, run_apart, run_places, all_pass, none_pass, known_count}
+use Rattle.sql_writes.proofs.RunRows.{is_of, AreDistinct, own_cell, of_run, nights-length, run_apart, run_places, all_pass, none_pass, known_count}
+use Rattle.desk_sql.proofs.Putting.{both_cells}
+use Rattle.sqlite_trees.proofs.ListLemmas.{all_both, all_weaker}
 
 -- Puts.
-
-changed_same : {X : Type 0} (p q : X → Bool) (g : X → X) (xs : List X) → ((x : X) → p x ≡ q x) → changed p g xs ≡ changed q g xs
-changed_same p q g [] same = refl
-changed_same p q g (x ∷ xs) same = ap₂ ◌∷◌ (ap (λ b. if b then g x else x) (same x)) (changed_same p q g xs same)
 
 -- Rows with the places of one row.
 module _ (w : StockRow) where
@@ -96,11 +94,7 @@ module _ (w : StockRow) where
 
   -- cells whose rows have the places already get what they would get without
   pub put_after : (rows cells : List StockRow) → HaveIts rows → put_rows rows (now rows cells) ≡ put_rows rows cells
-  put_after [] cells its = changed_none cells
-    where
-      changed_none : (xs : List StockRow) → now [] xs ≡ xs
-      changed_none [] = refl
-      changed_none (x ∷ xs) = ap (λ ys. x ∷ ys) (changed_none xs)
+  put_after [] cells its = map-id cells
   put_after (s ∷ rows) cells its =
       ap (put_rows rows) (put_now s rows cells its.0.0 its.0.1) ∙ put_after rows (put s cells) its.1
 
@@ -136,7 +130,11 @@ module _ (w : StockRow) where
 -- cells that have no row, and are apart, are new
 all_new : (rows cells : List StockRow) → AreDistinct rows → AllByRecursion (λ s. list_any (is_cell s) cells ≡ false) rows → AreNew rows cells
 all_new [] cells own none = tt
-all_new (s ∷ rows) cells own none = (none.0, all_new rows (cells ++ s ∷ []) own.1 (still rows own.0 none.1))
+all_new (s ∷ rows) cells own none = (
+  none.0,
+  all_new rows (cells ++ s ∷ []) own.1 (all_both (λ q. is_cell s q ≡ false)
+      (λ q. list_any (is_cell q) cells ≡ false) (λ q. list_any (is_cell q) (cells ++ s ∷ []) ≡ false) still rows own.0 none.1),
+)
   where
     off_last : (q : StockRow) (xs : List StockRow) → list_any (is_cell q) xs ≡ false → is_cell q s ≡ false → list_any (is_cell q) (xs ++ s ∷ []) ≡ false
     off_last q [] none off = rw off refl
@@ -145,30 +143,15 @@ all_new (s ∷ rows) cells own none = (none.0, all_new rows (cells ++ s ∷ []) 
       | inr away ↦ (let rest : list_any (is_cell q) xs ≡ false = rw away at none in rw away (off_last q xs rest off))
     ]
 
-    still : (rs : List StockRow) → AllByRecursion (λ q. is_cell s q ≡ false) rs → AllByRecursion (λ q. list_any (is_cell q) cells ≡ false) rs
-        → AllByRecursion (λ q. list_any (is_cell q) (cells ++ s ∷ []) ≡ false) rs
-    still [] off none = tt
-    still (q ∷ rs) off none = (
-      off_last q cells none.0 (false_from_ne_true (is_cell q s) (λ same.
-          let back : is_cell s q ≡ true = one_cell q s q same (own_cell q) in
-          let bad : true ≡ false = sym back ∙ off.0 in cc)),
-      still rs off.1 none.1,
-    )
+    still : (q : StockRow) → is_cell s q ≡ false → list_any (is_cell q) cells ≡ false → list_any (is_cell q) (cells ++ s ∷ []) ≡ false
+    still q off none = off_last q cells none (false_from_ne_true (is_cell q s) (λ same.
+        let back : is_cell s q ≡ true = both_cells q s q same (own_cell q) in
+        let bad : true ≡ false = sym back ∙ off in cc))
 
 -- new cells are put at the end
 pub put_new : (rows cells : List StockRow) → AreNew rows cells → put_rows rows cells ≡ cells ++ rows
-put_new [] cells new = append_none cells
-  where
-    append_none : (xs : List StockRow) → xs ≡ xs ++ []
-    append_none [] = refl
-    append_none (x ∷ xs) = ap (λ ys. x ∷ ys) (append_none xs)
-put_new (s ∷ rows) cells new =
-    ap (λ b. put_rows rows (if b then changed (is_cell s) (with_places s) cells else cells ++ s ∷ [])) new.0
-    ∙ put_new rows (cells ++ s ∷ []) new.1 ∙ regroup cells
-  where
-    regroup : (xs : List StockRow) → (xs ++ s ∷ []) ++ rows ≡ xs ++ s ∷ rows
-    regroup [] = refl
-    regroup (x ∷ xs) = ap (λ ys. x ∷ ys) (regroup xs)
+put_new [] cells new = sym (append-nil cells)
+put_new (s ∷ rows) cells new = search (rules, arith, append_assoc, put_new rows (cells ++ s ∷ []) new.1)
 
 -- A run whose rows were given its places, by how many of its cells have a row.
 module _ (s : StockRow) (n : ℕ) (cells : List StockRow) (apart : AreDistinct cells) where
@@ -179,14 +162,10 @@ module _ (s : StockRow) (n : ℕ) (cells : List StockRow) (apart : AreDistinct c
   given = changed (is_until s (s.night + n)) (with_places s) cells
 
   given_is : given ≡ changed (is_of run) (with_places s) cells
-  given_is = changed_same (is_until s (s.night + n)) (is_of run) (with_places s) cells (of_run n s)
+  given_is = λ i. changed (λ x. of_run n s x i) (with_places s) cells
 
   counted : length (filter (is_until s (s.night + n)) cells) ≡ length (filter (λ q. list_any (is_cell q) cells) run)
-  counted = ap length (filter_same cells) ∙ known_count run cells (run_apart (suc n) s) apart
-    where
-      filter_same : (xs : List StockRow) → filter (is_until s (s.night + n)) xs ≡ filter (is_of run) xs
-      filter_same [] = refl
-      filter_same (x ∷ xs) = ap₂ (λ b rest. cond b (x ∷ rest) rest) (of_run n s x) (filter_same xs)
+  counted = (λ i. length (filter (λ x. of_run n s x i) cells)) ∙ known_count run cells (run_apart (suc n) s) apart
 
   its : AllByRecursion (λ (q : StockRow). (q.allot ≡ s.allot) × (q.free ≡ s.free)) run
   its = run_places (suc n) s s refl refl
@@ -206,9 +185,5 @@ module _ (s : StockRow) (n : ℕ) (cells : List StockRow) (apart : AreDistinct c
   pub run_new : length (filter (is_until s (s.night + n)) cells) ≡ 0 → AreNew run given
   run_new none =
       let off = none_pass (λ q. list_any (is_cell q) cells) run (sym counted ∙ none) in
-      subst (AreNew run) (sym given_is) (all_new run (changed (is_of run) (with_places s) cells) (run_apart (suc n) s) (still run off))
-    where
-      still : (rs : List StockRow) → AllByRecursion (λ q. list_any (is_cell q) cells ≡ false) rs
-          → AllByRecursion (λ q. list_any (is_cell q) (changed (is_of run) (with_places s) cells) ≡ false) rs
-      still [] none = tt
-      still (q ∷ rs) none = (known_still s q (is_of run) cells ∙ none.0, still rs none.1)
+      subst (AreNew run) (sym given_is) (all_new run (changed (is_of run) (with_places s) cells) (run_apart (suc n) s) (all_weaker (λ q. list_any (is_cell q) cells ≡ false)
+      (λ q. list_any (is_cell q) (changed (is_of run) (with_places s) cells) ≡ false) (λ q none. known_still s q (is_of run) cells ∙ none) run off))

@@ -1,22 +1,101 @@
 -- Writes of cells, one after another and run by run. For the functions of `runs`.
-use Rattle.std.proofs.Common.{◌≡◌, ℕ, zero, suc, ◌+◌, ◌<◌, ◌≤◌, List, [], ◌∷◌, ◌++◌, map, length, take, get_or, Ok, true, false, refl, sym, ap, ◌∙◌, arith, length-append, append_assoc, append-nil}
-use Rattle.std.specs.Borrow.{MutBor}
+use Rattle.std.proofs.Common.{◌≡◌, List, [], ◌∷◌, ◌++◌, map, length, get_or, Bool, false, refl, sym, ap, ap₂, subst, ◌∙◌, arith, append_assoc, append-nil, ℕ, zero, suc, ◌+◌, ◌<◌, ◌≤◌, take, Ok, length-append, MutBor, rules}
 use Rattle.std.specs.List.{AllByRecursion, list_any}
-use Rattle.sqlite.specs.Store.{Ghosts}
-use Rattle.sqlite.specs.Held.{Held as Connection}
-use Rattle.allotment.specs.Cells.{kind_number}
 use Rattle.allotment.specs.declared.cells.Cell.{Cell}
 use Rattle.allotment.specs.declared.places.Held.{Held}
 use Rattle.desk_sql.specs.Rows.{Tables, StockRow}
-use Rattle.sql_writes.specs.CellLoads.{LacksCell, nights_in, sets_nights}
-use Rattle.desk_sql.specs.Stock.{is_cell, is_within}
-use Rattle.desk_sql.specs.Writable.{IsShort, AreShortNights}
-use Rattle.desk_sql.specs.declared.stock.NightRange.{NightRange}
+use Rattle.desk_sql.specs.Stock.{is_cell}
+use Rattle.sql_writes.specs.Weeks.{next_night, nights_from, week_from}
 use Rattle.sql_model.specs.Reading.{stock_row_of}
+use Rattle.sql_writes.specs.Runs.{IsRun, AreNew, LacksWeek, adds_each, HasShortTexts, HasWrittenUpTo, sets_until, known_until}
+use Rattle.std.proofs.lemmas.List.{map-append}
+use Rattle.sqlite.specs.Store.{Ghosts}
+use Rattle.sqlite.specs.Held.{Held as Connection}
+use Rattle.allotment.specs.Cells.{kind_number}
+use Rattle.sql_writes.specs.CellLoads.{LacksCell, nights_in, sets_nights}
+use Rattle.desk_sql.specs.Writable.{AreShortNights}
+use Rattle.desk_sql.specs.declared.stock.NightRange.{NightRange}
 use Rattle.sql_writes.specs.Did.{DidIfOpen}
 use Rattle.sql_writes.specs.Permits.{HaveShortCells}
-use Rattle.sql_writes.specs.Runs.{HasShortTexts, HasWrittenUpTo, sets_until, known_until, AreNew, adds_each}
 use Rattle.sql_writes.proofs.Doing.{open_as, open_both, open_none}
+use Rattle.std.proofs.lemmas.Bool.{both_ways, false_from_ne_true}
+use Rattle.sqlite_rules.proofs.ListLemmas.{has_left, some_from, some_has}
+use Rattle.sqlite_trees.proofs.ListLemmas.{all-append, all_weaker}
+
+-- The rows of a run, added week by week.
+
+-- Parts of a run.
+
+-- the cells are nights from the row's on
+abbrev Follows : StockRow → List (Cell × Held) → Type 0
+Follows s cells = map stock_row_of cells ≡ nights_from s (length cells)
+
+parts : (s : StockRow) (c : Cell × Held) (cells : List (Cell × Held)) → Follows s (c ∷ cells) → (stock_row_of c ≡ s) × Follows (next_night s) cells
+parts s c cells run =
+    let rest : map stock_row_of cells ≡ nights_from (next_night s) (length cells) = cc in
+    (cc, rest)
+
+front_follows : (xs ys : List (Cell × Held)) (s : StockRow) → Follows s (xs ++ ys) → Follows s xs
+front_follows [] ys s run = refl
+front_follows (x ∷ xs) ys s run = let p = parts s x (xs ++ ys) run in ap₂ ◌∷◌ p.0 (front_follows xs ys (next_night s) p.1)
+
+run_of : (cells : List (Cell × Held)) (s : StockRow) → Follows s cells → IsRun cells
+run_of cells s run = search (rules, arith, parts)
+
+-- the first cells of a run are one, and so are the others
+pub front_run : (xs ys : List (Cell × Held)) → IsRun (xs ++ ys) → IsRun xs
+front_run xs ys run = search (rules, arith, front_follows)
+
+pub rest_run : (xs ys : List (Cell × Held)) → IsRun (xs ++ ys) → IsRun ys
+rest_run [] ys run = run
+rest_run (x ∷ xs) ys run = rest_run xs ys (run_of (xs ++ ys) (next_night (stock_row_of x)) (parts (stock_row_of x) x (xs ++ ys) run).1)
+
+-- New cells.
+
+any_front : (p : StockRow → Bool) (xs ys : List StockRow) → list_any p (xs ++ ys) ≡ false → list_any p xs ≡ false
+any_front p xs ys none = false_from_ne_true (list_any p xs) (λ some.
+    let x = some_has p xs some in both_ways (list_any p (xs ++ ys)) none (some_from p (xs ++ ys) x.0 (has_left xs ys x.0 x.1) x.2))
+
+-- none of new cells has a row
+lack_from : (rows cells more : List StockRow) → AreNew rows (cells ++ more) → AllByRecursion (λ s. list_any (is_cell s) cells ≡ false) rows
+lack_from [] cells more new = tt
+lack_from (s ∷ rows) cells more new = (
+  any_front (is_cell s) cells more new.0,
+  lack_from rows cells (more ++ s ∷ []) (subst (AreNew rows) (append_assoc cells more (s ∷ [])) new.1),
+)
+
+all_lack : (rows cells : List StockRow) → AreNew rows cells → AllByRecursion (λ s. list_any (is_cell s) cells ≡ false) rows
+all_lack rows cells new = lack_from rows cells [] (subst (AreNew rows) (sym (append-nil cells)) new)
+
+-- the rows of a week are those of its first night
+pub week_rows : (week : List (Cell × Held)) (one two : Cell × Held) → IsRun week → length week ≡ 7
+    → week_from (stock_row_of ((get_or week 0 one).0, (get_or week 0 two).1)) ≡ map stock_row_of week
+week_rows week one two run size = search (rules, arith)
+
+-- no night of a week of new cells has a row
+pub week_lacks : (week : List (Cell × Held)) (one two : Cell × Held) (t : Tables) → IsRun week → length week ≡ 7
+    → AreNew (map stock_row_of week) t.stock → LacksWeek (stock_row_of ((get_or week 0 one).0, (get_or week 0 two).1)) t
+week_lacks week one two t run size new =
+    subst (AllByRecursion (λ s. list_any (is_cell s) t.stock ≡ false)) (sym (week_rows week one two run size)) (all_lack (map stock_row_of week) t.stock new)
+
+new_front : (xs ys cells : List StockRow) → AreNew (xs ++ ys) cells → AreNew xs cells
+new_front [] ys cells new = tt
+new_front (x ∷ xs) ys cells new = (new.0, new_front xs ys (cells ++ x ∷ []) new.1)
+
+new_rest : (xs ys cells : List StockRow) → AreNew (xs ++ ys) cells → AreNew ys (cells ++ xs)
+new_rest [] ys cells new = subst (AreNew ys) (sym (append-nil cells)) new
+new_rest (x ∷ xs) ys cells new = subst (AreNew ys) (append_assoc cells (x ∷ []) xs) (new_rest xs ys (cells ++ x ∷ []) new.1)
+
+-- the next cells of new ones are new once those before them are added
+pub some_new : (run done left some later : List (Cell × Held)) (t : Tables) → run ≡ done ++ left → left ≡ some ++ later
+    → AreNew (map stock_row_of run) t.stock → AreNew (map stock_row_of some) (adds_each done t).stock
+some_new run done left some later t is cut new = search (rules, arith, map-append, new_front, new_rest)
+
+-- rows that are added after others
+pub adds-then : (xs ys : List (Cell × Held)) (t : Tables) → adds_each ys (adds_each xs t) ≡ adds_each (xs ++ ys) t
+adds-then xs ys t = search (rules, arith, append_assoc, map-append)
+
+-- Writes of cells, one after another and run by run.
 
 -- the next of cells that are new has no row yet
 pub next_new : (cells : List (Cell × Held)) (i : ℕ) (c : Cell × Held) (t : Tables) → i < length cells → c ≡ get_or cells i c
@@ -28,31 +107,18 @@ next_new cells i c t within is new = go cells i t.stock within is new
     go [] n rows low at fresh = absurd (omega (arith, low))
     go (x ∷ xs) zero rows low at fresh =
         ap (λ (y : Cell × Held). list_any (is_cell (stock_row_of y)) (rows ++ [])) at
-        ∙ ap (list_any (is_cell (stock_row_of x))) (none rows) ∙ fresh.0
-      where
-        none : (rs : List StockRow) → rs ++ [] ≡ rs
-        none [] = refl
-        none (r ∷ rs) = ap (λ more. r ∷ more) (none rs)
+        ∙ ap (list_any (is_cell (stock_row_of x))) (append-nil rows) ∙ fresh.0
     go (x ∷ xs) (suc n) rows low at fresh =
-        ap (list_any (is_cell (stock_row_of c))) (sym (regroup rows)) ∙ go xs n (rows ++ stock_row_of x ∷ []) (omega (arith, low)) at fresh.1
-      where
-        regroup : (rs : List StockRow) → (rs ++ stock_row_of x ∷ []) ++ map stock_row_of (take n xs) ≡ rs ++ stock_row_of x ∷ map stock_row_of (take n xs)
-        regroup [] = refl
-        regroup (r ∷ rs) = ap (λ more. r ∷ more) (regroup rs)
+        ap (list_any (is_cell (stock_row_of c))) (sym (append_assoc rows (stock_row_of x ∷ []) (map stock_row_of (take n xs))))
+        ∙ go xs n (rows ++ stock_row_of x ∷ []) (omega (arith, low)) at fresh.1
 
 pub short-append : (xs ys : List (Cell × Held)) → AllByRecursion HasShortTexts xs → AllByRecursion HasShortTexts ys
     → AllByRecursion HasShortTexts (xs ++ ys)
-short-append [] ys one two = two
-short-append (x ∷ xs) ys one two = (one.0, short-append xs ys one.1 two)
+short-append = all-append HasShortTexts
 
 -- the texts of the nights of a range fit
 pub short_nights : (r : NightRange) (t : Tables) → HaveShortCells t → AreShortNights r t
-short_nights r t short = go t.stock short
-  where
-    go : (cells : List StockRow) → AllByRecursion (λ (s : StockRow). IsShort (length s.supplier + length s.product)) cells
-        → AllByRecursion (λ (s : StockRow). is_within r s ≡ true → IsShort (length s.supplier + length s.product)) cells
-    go [] all = tt
-    go (s ∷ cells) all = (λ _. all.0, go cells all.1)
+short_nights r t short = search (rules, arith, all_weaker)
 
 -- Cells that are left.
 
@@ -79,16 +145,13 @@ pub HasWrittenUpTo-all : {S : Type 0} {g : Ghosts S} {a b : MutBor (Connection S
     → DidIfOpen g a b (Ok v) Fits All (length cells) (after cells)
 HasWrittenUpTo-all {after} cells left has none =
     let all : has.done ≡ cells = sym (append-nil has.done) ∙ ap (λ rest. has.done ++ rest) (sym none) ∙ sym has.is in
-    let size = ap length all in
-    open_as has.did (λ _ t _ fit. (fit, ap (λ xs. after xs t) all)) (omega (arith, size))
+    open_as has.did (λ _ t _ fit. (fit, ap (λ xs. after xs t) all)) (omega (arith, ap length all))
 
 -- the cells that are put and a run are no more than all
 pub run_fits : (cells left run later done : List (Cell × Held)) → cells ≡ done ++ left → left ≡ run ++ later
     → length done + length run ≤ length cells
 run_fits cells left run later done is cut =
-    let one = ap length is ∙ length-append done left in
-    let two = ap length cut ∙ length-append run later in
-    omega (arith, one, two)
+    omega (arith, ap length is ∙ length-append done left, ap length cut ∙ length-append run later)
 
 -- a range from a cell's night to the last one has the nights of the cell's product up to that one
 pub same_nights : (r : NightRange) (c : Cell × Held) (last allot free : ℕ) (t : Tables) → r.kind ≡ kind_number c.0.kind
@@ -100,8 +163,3 @@ pub same_count : (r : NightRange) (c : Cell × Held) (last : ℕ) (t : Tables) �
     → r.supplier.now ≡ c.0.supplier → r.product.now ≡ c.0.product → r.first ≡ c.0.night → r.last ≡ last
     → nights_in r t ≡ known_until (stock_row_of c) last t
 same_count r c last t kind supplier product first final = rw (kind, supplier, product, first, final) refl
-
--- no cell is left
-pub none_left : (cells : List (Cell × Held)) → length cells ≡ 0 → cells ≡ []
-none_left [] none = refl
-none_left (c ∷ cells) none = absurd (let bad : suc (length cells) ≡ 0 = none in omega (arith, bad))

@@ -1,7 +1,6 @@
-use Rattle.std.proofs.Common.{refl, sym, ap, ◌∙◌}
-use Rattle.allotment.specs.Limits.{is_code}
+use Rattle.std.proofs.Common.{refl, sym, ap, ◌∙◌, arith}
 use Rattle.allotment.specs.Nights.{night_in}
-use Rattle.allotment.specs.Texts.{keep_if, kind_of_letter, kind_of_number, kind_of_word, cell_in}
+use Rattle.allotment.specs.Texts.{kind_of_letter, kind_of_number, kind_of_word, cell_in}
 use Rattle.allotment.proofs.LawLemmas.{number_read, number_again, letter_read, letter_again, word_read, word_again, cell_read, cell_again}
 use Rattle.allotment.proofs.NightLemmas.{night_in-night_text, night_text-night_in}
 use Rattle.allotment.proofs.OwnTextLemmas.{row_same, want_same}
@@ -22,10 +21,7 @@ returns-clause-words c = λ t k. (λ e. (refl, word_read t k e), λ h. ap kind_o
 
 -- a code is its own text
 pub returns-clause-codes : goal.returns-clause-codes
-returns-clause-codes c = λ t x. (
-  λ e. let kept = keep_if_some is_code t x e in (kept.1, kept.0),
-  λ h. ap (keep_if is_code) h.1 ∙ keep_if_yes is_code x h.0,
-)
+returns-clause-codes c = grind (arith, keep_if_some, keep_if_yes)
 
 -- a night is read of what its date is written as
 pub returns-clause-nights : goal.returns-clause-nights

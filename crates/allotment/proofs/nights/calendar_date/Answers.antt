@@ -6,6 +6,4 @@ use Rattle.allotment.proofs.NightLemmas.{night_range}
 use Rattle.allotment.proofs.nights.calendar_date.Goals as goal
 
 pub returns-clause-day : goal.returns-clause-day
-returns-clause-day c =
-    let range = night_range c.args.night c.day.ensures.limits in
-    omega (arith, ints, signed_arith, c.in-Ok.ensures.value, range.0, range.1)
+returns-clause-day c = grind (arith, night_range, ints, signed_arith)

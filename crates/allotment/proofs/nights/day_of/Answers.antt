@@ -1,6 +1,5 @@
-use Rattle.std.proofs.Common.{◌≡◌, ℕ, ◌<◌, ◌≤◌, List, None, sym, subst, ◌∙◌, arith, pos, nat_abs, to_z, of_z, w8, w16, w32}
+use Rattle.std.proofs.Common.{◌≡◌, ℕ, ◌<◌, ◌≤◌, List, None, sym, subst, ◌∙◌, arith, pos, nat_abs, to_z, of_z, w8, w16, w32, le-leb}
 use Rattle.std.proofs.lemmas.Int.{ints}
-use Rattle.std.proofs.lemmas.Bool.{le-leb}
 use Rattle.jiff_core.specs.declared.civil.date.Date.{Date}
 use Rattle.jiff_core.specs.Calendar.{IsDate}
 use Rattle.jiff_core.specs.Date.{IsYmd}
@@ -26,12 +25,7 @@ signed_pair n small = omega (arith, ints)
 -- the date that the calendar has for the numbers is that of the text
 date_here : (t : List ℕ) (y m d : ℕ) (found : Date) → IsDateText t y m d → IsYmd (to_z w16 y) (to_z w8 m) (to_z w8 d) found
     → date_text found ≡ t
-date_here t y m d found shown is =
-    date_text-numbers t y m d found shown (
-      is.0 ∙ signed_year y shown.year_small,
-      is.1 ∙ signed_pair m shown.month_small,
-      is.2 ∙ signed_pair d shown.day_small,
-    )
+date_here t y m d found shown is = grind (arith, date_text-numbers, signed_year, signed_pair)
 
 -- where it has none, the text is that of no night
 no_day_here : (t : List ℕ) (y m d : ℕ) → IsDateText t y m d → (IsDate (to_z w16 y) (to_z w8 m) (to_z w8 d) → ⊥)
@@ -45,8 +39,7 @@ no_day_here t y m d shown none =
 -- no numbers stand there
 pub returns-in_err-year : goal.returns-in_err-year
 returns-in_err-year c =
-    let none : IsNoDate c.args.text.now = subst IsNoDate c.as_bytes.ensures.value c.in_err-year.ensures in
-    c.from_residual.ensures ∙ sym (no_date c.args.text.now none)
+    c.from_residual.ensures ∙ sym (no_date c.args.text.now (subst IsNoDate c.as_bytes.ensures.value c.in_err-year.ensures))
 
 -- the calendar has no such day
 pub returns-in_default : goal.returns-in_default
@@ -64,7 +57,6 @@ returns-then-day-lt-FIRST c =
     let same_text = date_here text p.year p.month p.day c.in-Ok.date shown c.in-Ok.ensures.value in
     sym (out_of_range text c.in-Ok.date (parsed-text text c.in-Ok.date same_text) (λ n day night.
     let range = night_range n night in
-    let same : c.to_unix_epoch_day-day.result ≡ pos n = c.to_unix_epoch_day-day.ensures.value ∙ day in
     elim c.then-day-lt-FIRST.branch [
       | then-day-lt-FIRST-via-then-day-lt-FIRST w ↦ let before = w.if-day-lt-FIRST.true in omega (arith, ints, signed_arith)
       | then-day-lt-FIRST-via-else-day-lt-FIRST+then-day-gt-LAST w ↦ let after = w.if-day-gt-LAST.true in omega (arith, ints, signed_arith)
@@ -76,13 +68,9 @@ returns c =
     let p = c.in_ok-year in
     let text = c.args.text.now in
     let shown : IsDateText text p.year p.month p.day = subst (λ t. IsDateText t p.year p.month p.day) c.as_bytes.ensures.value p.ensures in
-    let low = c.if-day-lt-FIRST.false in
-    let high = c.if-day-gt-LAST.false in
     let day = c.to_unix_epoch_day-day.result in
     let n = nat_abs (to_z w32 (of_z w32 day)) in
-    let fits = c.to_unix_epoch_day-day.type_inv in
     let same : day ≡ pos n = omega (arith, ints, signed_arith) in
-    let from : first_night ≤ n = omega (arith, ints, signed_arith) in
     let to : n ≤ last_night = omega (arith, ints, signed_arith) in
     sym (night_of_date text c.in-Ok.date n (date_here text p.year p.month p.day c.in-Ok.date shown c.in-Ok.ensures.value) (sym c.to_unix_epoch_day-day.ensures.value ∙ same)
-    (and_make _ _ (le-leb first_night n from) (le-leb n last_night to)))
+    (and_make _ _ (le-leb first_night n (omega (arith, ints, signed_arith))) (le-leb n last_night to)))

@@ -6,35 +6,15 @@ use Rattle.commands.proofs.readings.item_in.Goals as goal
 
 -- the text after a T is no step and option
 pub returns-in_err-step : goal.returns-in_err-step
-returns-in_err-step c =
-    let text = c.args.text.now in
-    let front = strip_prefix_char 84 text _ c.strip_prefix.ensures.cases (omega arith) in
-    let first = rw c.in-Some.is at front in
-    rw c.from_residual.ensures (record {
-      found = no_transaction text c.in-Some.rest.now first c.in_err-step.ensures.found;
-    })
+returns-in_err-step c = grind (arith, strip_prefix_char, no_transaction)
 
 -- the text after a C is no step and option
 pub returns-in_err-step-2 : goal.returns-in_err-step-2
-returns-in_err-step-2 c =
-    let text = c.args.text.now in
-    let front = strip_prefix_char 67 text _ c.strip_prefix-2.ensures.cases (omega arith) in
-    let first = rw c.in-Some-strip_prefix.is at front in
-    let rest = c.in-Some-strip_prefix.rest.now in
-    rw c.from_residual-in_err-step-2.ensures (record {
-      found = no_compensation text rest first c.in_err-step-2.ensures.found;
-    })
+returns-in_err-step-2 c = grind (arith, strip_prefix_char, no_compensation)
 
 -- the text after a B is no target and cause
 pub returns-in_err-target : goal.returns-in_err-target
-returns-in_err-target c =
-    let text = c.args.text.now in
-    let front = strip_prefix_char 66 text _ c.strip_prefix-3.ensures.cases (omega arith) in
-    let first = rw c.in-Some-strip_prefix-2.is at front in
-    let rest = c.in-Some-strip_prefix-2.rest.now in
-    rw c.from_residual-in_err-target.ensures (record {
-      found = no_turn text rest first c.in_err-target.ensures.found;
-    })
+returns-in_err-target c = grind (arith, strip_prefix_char, no_turn)
 
 -- the text begins with no letter of an item
 pub returns-in_err-rest : goal.returns-in_err-rest

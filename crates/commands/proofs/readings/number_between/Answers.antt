@@ -1,5 +1,5 @@
 -- The number that is found is the one that the word spells, and it is within the limits.
-use Rattle.std.proofs.Common.{arith, Option, Some, None, ℕ, ◌≤◌, List, decimal, IfSome}
+use Rattle.std.proofs.Common.{arith, Option, ℕ, ◌≤◌, List, decimal, IfSome}
 use Rattle.allotment.specs.Limits.{is_between}
 use Rattle.commands.specs.Readings.{Finds}
 use Rattle.commands.proofs.NumberLemmas.{between_parts}
@@ -9,15 +9,8 @@ use Rattle.commands.proofs.readings.number_between.Goals as goal
 -- a number that is found is at most the upper limit
 found_low : (low high : ℕ) (text : List ℕ) (found : Option ℕ)
     → Finds (is_between low high) decimal text found → IfSome found (λ n. n ≤ high)
-found_low low high text None none = tt
-found_low low high text (Some n) is = (between_parts low high n is.0).1
+found_low low high text found none = grind (arith, between_parts)
 
 -- both clauses follow from what the reader finds
 pub returns : goal.returns
-returns c =
-    let word = c.args.word.now in
-    let found = c.number_in.ensures.found in
-    record {
-      number = found_number c.args.low c.args.high word c.number_in.result (omega arith) found;
-      high = found_low c.args.low c.args.high word c.number_in.result found;
-    }
+returns c = grind (arith, found_number, found_low)

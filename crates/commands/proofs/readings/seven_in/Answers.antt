@@ -1,4 +1,5 @@
 -- A reply of seven words is recognized by the first, the fourth and the sixth.
+use Rattle.std.proofs.Common.{arith}
 use Rattle.commands.proofs.WordLemmas.{are_back, no_seven, unlike}
 use Rattle.commands.proofs.readings.seven_in.Goals as goal
 use Rattle.commands.proofs.readings.seven_in.Goals.{then-ne-via-then-ne, then-ne-via-else-ne+then-ne-2, then-ne-via-else-ne+else-ne-2+then-ne-3}
@@ -16,6 +17,4 @@ returns-then-ne c = record {
 
 -- all three are as they should be
 pub returns : goal.returns
-returns c =
-    let told = are_back c.args.words.now c.requires.seven c.if-ne.ensures in
-    rw (told c.if-ne-2.ensures c.if-ne-3.ensures) c.turned_in.ensures
+returns c = grind (arith, are_back)

@@ -1,13 +1,12 @@
 -- Each law is used as it stands.
-use Rattle.std.proofs.Common.{[], ◌∷◌, refl}
+use Rattle.std.proofs.Common.{[], ◌∷◌, refl, arith}
 use Rattle.http_messages.specs.Examples.{get_bytes, get_page, get_is_a_head}
-use Rattle.http_messages.specs.Messages.{AreMessages, Asks, HasNoMessage, NoHead}
+use Rattle.http_messages.specs.Messages.{AreMessages, Asks, HasNoMessage}
 use Rattle.http_messages.proofs.laws.page_is_asked_twice.Goals as goal
 
 -- no message begins where nothing comes
 nothing_more : HasNoMessage []
-nothing_more NoHead rest begins = let none = begins.first in cc
-nothing_more (Asks head body) rest begins = let none = begins.first in cc
+nothing_more x rest begins = grind arith
 
 page_alone : AreMessages get_bytes (Asks get_page [] ∷ [])
 page_alone = record {

@@ -1,6 +1,5 @@
 -- The laws are used as they stand.
-use Rattle.std.proofs.Common.{◌≡◌, ℕ, List, [], ◌∷◌, ◌++◌, refl, subst, sym, false, codes, length, Ok, None, ◌^◌}
-use Rattle.std.proofs.lemmas.Bool.{leb-true, ltb-true}
+use Rattle.std.proofs.Common.{◌≡◌, ℕ, List, [], ◌∷◌, ◌++◌, refl, subst, sym, false, codes, length, Ok, None, ◌^◌, arith, leb-true, ltb-true}
 use Rattle.std.proofs.lemmas.List.Elements.{All-from_recursion}
 use Rattle.std.proofs.lemmas.List.Sums.{AllPass-from_list_all}
 use Rattle.httparse.specs.Grammar.{IsField, crlf, is_token_byte, is_uri_byte, is_value_byte, print_request, trim_ows}
@@ -73,12 +72,7 @@ abbrev chunks : Chunks
 chunks = record { full = record { line = line; bytes = get_bytes } ∷ []; last = last }
 
 chunks_are : AreChunks most_head_bytes chunks
-chunks_are = record {
-  full = (record { line = line_is; sized = refl; not_empty = ltb-true 0 27 refl }, tt);
-  last = last_is;
-  ends = refl;
-  within_limit = leb-true 0 most_head_bytes refl;
-}
+chunks_are = grind (arith, line_is, ltb-true, last_is, leb-true)
 
 -- the text is a body, and stands for a whole request
 text_is_a_body : IsBody Chunked text_of_get get_bytes []

@@ -1,6 +1,5 @@
 -- Byte after byte, no prefix is decided, until one is.
-use Rattle.std.proofs.Common.{◌∙◌, ◌+◌, ap, arith, length, refl, subst, sym, take}
-use Rattle.std.proofs.lemmas.List.{take_all}
+use Rattle.std.proofs.Common.{◌∙◌, ◌+◌, ap, arith, refl, subst, sym, take, take_all}
 use Rattle.http_messages.specs.Places.{IsToldAt, WentThrough}
 use Rattle.http_messages.proofs.FirstLemmas.{none_told}
 use Rattle.http_messages.proofs.PlaceLemmas.{told_first}

@@ -1,5 +1,5 @@
 -- The first message is the decided prefix, or the request of which it is the head.
-use Rattle.std.proofs.Common.{◌≡◌, ◌+◌, ◌-◌, ◌∙◌, ap, arith, drop, refl, subst, take}
+use Rattle.std.proofs.Common.{◌≡◌, ◌∙◌, ap, arith, drop, subst, take}
 use Rattle.http_messages.specs.Fields.{parts_in}
 use Rattle.http_messages.specs.Requests.{IsRequest}
 use Rattle.http_messages.proofs.FirstLemmas.{no_front_none, no_head_first, none_whole, request_first}
@@ -7,13 +7,11 @@ use Rattle.http_messages.proofs.requests.first_message.Goals as goal
 
 -- no prefix is decided
 pub returns-in_default : goal.returns-in_default
-returns-in_default c =
-    record { first = no_front_none c.args.bytes.now (c.in_default.ensures.none refl) }
+returns-in_default c = grind (arith, no_front_none)
 
 -- the prefix is no head
 pub returns-in_default-read : goal.returns-in_default-read
-returns-in_default-read c =
-    record { first = no_head_first c.args.bytes.now c.in-Some.end c.in-Some.ensures.front (c.in_default-read.ensures.none).is_none }
+returns-in_default-read c = grind (arith, no_head_first)
 
 -- the body is not whole
 pub returns-then-bytes-end : goal.returns-then-bytes-end
@@ -29,9 +27,8 @@ returns c =
     let end = c.in-Some.end in
     let count = c.body_length-count.result in
     let bytes = c.args.bytes.now in
-    let exact : end + count - end ≡ count = omega arith in
     let is_body : c.in_ok-body.body.items ≡ take count (drop end bytes) =
-    c.in_ok-body.ensures.items_if_clones_equal (λ x y same. same) ∙ ap (λ n. take n (drop end bytes)) exact in
+    c.in_ok-body.ensures.items_if_clones_equal (λ x y same. same) ∙ ap (λ n. take n (drop end bytes)) (omega arith) in
     record {
       first = request_first bytes end count c.in-Ok.head c.in-Some.ensures.front
           c.in-Ok.ensures.head c.body_length-count.ensures.length c.in_ok-request.request

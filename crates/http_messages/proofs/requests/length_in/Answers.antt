@@ -1,5 +1,5 @@
 -- Digit after digit, the number is the one that they spell, and it has room.
-use Rattle.std.proofs.Common.{arith, refl, sym, ap, length, ◌∙◌, ◌+◌, ◌*◌}
+use Rattle.std.proofs.Common.{arith, refl, sym, ap, ◌∙◌, ◌+◌, ◌*◌}
 use Rattle.http_messages.proofs.LengthLemmas.{has_room, number_more, number_told, some_bytes}
 use Rattle.http_messages.proofs.requests.length_in.Goals as goal
 
@@ -26,7 +26,4 @@ loop-byte-preserved c =
 
 -- all bytes were examined
 pub returns : goal.returns
-returns c = record {
-  digits = number_told c.args.text.now c.loop-byte.byte-index c.loop-byte.length
-      (some_bytes (length c.args.text.now) c.if-is_empty.ensures) c.if-text-gt9.false c.loop-byte-test.false c.loop-byte.invariant;
-}
+returns c = grind (arith, number_told, some_bytes)

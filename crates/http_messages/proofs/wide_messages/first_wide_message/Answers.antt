@@ -1,5 +1,5 @@
 -- Without a method, or a decided prefix, nothing is read.
-use Rattle.std.proofs.Common.{◌∙◌, sym, refl}
+use Rattle.std.proofs.Common.{◌∙◌, sym, arith}
 use Rattle.http_messages.proofs.WideFirstLemmas.{open_without_front, takes_no_method}
 use Rattle.http_messages.proofs.wide_messages.first_wide_message.Goals as goal
 
@@ -9,6 +9,4 @@ returns-then-has_no_method c = record {
 }
 
 pub returns-in-None : goal.returns-in-None
-returns-in-None c = record {
-  first = open_without_front c.args.bytes.now (sym c.has_no_method.ensures.none ∙ c.if-has_no_method.false) (c.in-None.ensures.none refl);
-}
+returns-in-None c = grind (arith, open_without_front)

@@ -1,16 +1,46 @@
 -- It is due for the head that is all of the bytes, and for no other.
-use Rattle.std.proofs.Common.{◌≡◌, ◌∙◌, ap, sym, subst, length, arith}
+use Rattle.std.proofs.Common.{◌≡◌, ◌∙◌, ap, sym, subst, length, arith, ℕ, ◌<◌, true, false, List, [], take, append-nil, Some, length-take-le, take_all}
 use Rattle.http_messages.specs.Places.{IsToldAt}
 use Rattle.http_messages.specs.Framing.{head_kind}
 use Rattle.http_messages.specs.WideHeads.{asks_to_go_on}
-use Rattle.http_messages.specs.WideReading.{has_body}
-use Rattle.http_messages.proofs.DueLemmas.{due_asks, due_is_all, is_due}
+use Rattle.http_messages.specs.WideReading.{has_body, IsDue}
 use Rattle.http_messages.proofs.wide_messages.go_on_is_due.Goals as goal
+use Rattle.httparse.specs.Grammar.{RequestHead}
+use Rattle.httparse.proofs.GrammarLemmas.{request_unique}
+use Rattle.http_messages.specs.Heads.{IsHead, parts_of}
+use Rattle.http_messages.specs.Messages.{first_told}
+use Rattle.http_messages.proofs.HeadLemmas.{first_of_told}
+use Rattle.http_messages.specs.Wide.{has_no_method}
+use Rattle.http_messages.proofs.LawLemmas.{same_front}
+
+-- the decided prefix of the bytes themselves
+told_here : (bytes : List ℕ) (end : ℕ) → IsToldAt bytes end → first_told bytes ≡ Some (take end bytes)
+told_here bytes end at = ap first_told (sym (append-nil bytes)) ∙ first_of_told bytes [] end at
+
+-- where it is due, the head is all that came
+due_is_all : (bytes : List ℕ) (end : ℕ) → IsToldAt bytes end → IsDue bytes → end < length bytes → ⊥
+due_is_all bytes end at due more = grind (arith, same_front, told_here, append-nil, length-take-le)
+
+module _ (bytes : List ℕ) (at : IsToldAt bytes (length bytes)) where
+  all_front : first_told bytes ≡ Some bytes
+  all_front = told_here bytes (length bytes) at ∙ ap Some (take_all (length bytes) bytes (omega arith))
+
+  -- a head that asks for it, and whose body is not empty
+  is_due : (h : RequestHead) → IsHead bytes h → has_no_method bytes ≡ false → asks_to_go_on (parts_of h) ≡ true
+      → has_body (head_kind (parts_of h)) ≡ true → IsDue bytes
+  is_due h is some asks body = grind (arith, all_front, append-nil)
+
+  due_head : (due : IsDue bytes) → IsHead bytes due.head
+  due_head due = grind (arith, same_front, all_front)
+
+  -- it is due for that head alone
+  due_asks : IsDue bytes → (h : RequestHead) → IsHead bytes h
+      → (asks_to_go_on (parts_of h) ≡ true) × (has_body (head_kind (parts_of h)) ≡ true)
+  due_asks due h is = grind (arith, request_unique bytes due.head h [] [] (due_head due).reads)
 
 -- more than a head came
 pub returns-then-end-bytes-clause-all : goal.returns-then-end-bytes-clause-all
-returns-then-end-bytes-clause-all c due unsent =
-    absurd (due_is_all c.args.bytes.now c.in-Some.end c.in-Some.ensures.front due c.if-end-bytes.true)
+returns-then-end-bytes-clause-all c due unsent = grind (arith, due_is_all)
 
 -- it asks for it, and its body is not empty
 pub returns-then-expects-clause-due : goal.returns-then-expects-clause-due
@@ -25,17 +55,20 @@ returns-then-expects-clause-due c has =
 
 pub returns-then-expects-clause-all : goal.returns-then-expects-clause-all
 returns-then-expects-clause-all c due unsent =
-    let front : IsToldAt c.args.bytes.now c.in-Some.end = c.in-Some.ensures.front in
-    let all : c.in-Some.end ≡ length c.args.bytes.now = omega (arith, front.within, c.if-end-bytes.false) in
-    let head = c.in-Ok.ensures.head in
-    c.has_body.ensures.body ∙ ap has_body c.kind.ensures.kind ∙ ap (λ parts. has_body (head_kind parts)) head.1.parts
-    ∙ (due_asks c.args.bytes.now (subst (IsToldAt c.args.bytes.now) all front) due head.0 head.1.is_head).1
+    c.has_body.ensures.body ∙ ap has_body c.kind.ensures.kind
+    ∙ ap (λ parts. has_body (head_kind parts)) c.in-Ok.ensures.head.1.parts
+    ∙ (due_asks c.args.bytes.now (subst (IsToldAt c.args.bytes.now) (omega (
+      arith,
+      c.in-Some.ensures.front.within,
+      c.if-end-bytes.false,
+    )) c.in-Some.ensures.front) due c.in-Ok.ensures.head.0 c.in-Ok.ensures.head.1.is_head).1
 
 -- it does not ask for it
 pub returns-else-expects-clause-all : goal.returns-else-expects-clause-all
 returns-else-expects-clause-all c due unsent =
-    let front : IsToldAt c.args.bytes.now c.in-Some.end = c.in-Some.ensures.front in
-    let all : c.in-Some.end ≡ length c.args.bytes.now = omega (arith, front.within, c.if-end-bytes.false) in
-    let head = c.in-Ok.ensures.head in
-    c.expects.ensures.expects ∙ ap asks_to_go_on head.1.parts
-    ∙ (due_asks c.args.bytes.now (subst (IsToldAt c.args.bytes.now) all front) due head.0 head.1.is_head).0
+    c.expects.ensures.expects ∙ ap asks_to_go_on c.in-Ok.ensures.head.1.parts
+    ∙ (due_asks c.args.bytes.now (subst (IsToldAt c.args.bytes.now) (omega (
+      arith,
+      c.in-Some.ensures.front.within,
+      c.if-end-bytes.false,
+    )) c.in-Some.ensures.front) due c.in-Ok.ensures.head.0 c.in-Ok.ensures.head.1.is_head).0

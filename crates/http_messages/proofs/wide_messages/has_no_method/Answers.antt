@@ -1,7 +1,6 @@
 -- What a head may have is all that counts.
-use Rattle.std.proofs.Common.{◌≡◌, ◌∙◌, ap, sym, length, take, arith, inl, inr}
+use Rattle.std.proofs.Common.{◌≡◌, ◌∙◌, ap, sym, length, take, arith, inl, inr, take_all}
 use Rattle.std.proofs.lemmas.Bool.{cases_lt}
-use Rattle.std.proofs.lemmas.List.{take_all}
 use Rattle.http_messages.specs.Heads.{most_head_bytes}
 use Rattle.http_messages.specs.Wide.{begins_no_method}
 use Rattle.http_messages.proofs.wide_messages.has_no_method.Goals as goal
@@ -11,9 +10,8 @@ pub returns : goal.returns
 returns c = record {
   none = elim (cases_lt (length c.args.bytes.now) most_head_bytes) [
     | inl few ↦
-        let all : c.min.result ≡ length c.args.bytes.now = grind (arith, c.min.ensures, few) in
         c.begins_no_method.ensures.none
-        ∙ ap (λ n. begins_no_method (take n c.args.bytes.now)) all
+        ∙ ap (λ n. begins_no_method (take n c.args.bytes.now)) (grind (arith, c.min.ensures, few))
         ∙ ap begins_no_method (take_all (length c.args.bytes.now) c.args.bytes.now (omega arith))
         ∙ sym (ap begins_no_method (take_all most_head_bytes c.args.bytes.now (omega (arith, few))))
     | inr many ↦

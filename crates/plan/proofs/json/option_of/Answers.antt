@@ -1,37 +1,25 @@
-use Rattle.std.proofs.Common.{◌≡◌, true, false, sym, ap, ◌∙◌, Ok, Err}
-use Rattle.std.specs.Prelude.{unwrap_or}
+use Rattle.std.proofs.Common.{sym, ap, ◌∙◌, Ok, Err, arith, unwrap_or}
 use Rattle.serde_json.specs.View.{view}
 use Rattle.allotment.specs.Texts.{kind_of_word}
 use Rattle.plan.specs.Drafts.{at}
-use Rattle.plan.specs.PlanJson.{has_just, option_members}
 use Rattle.plan.proofs.JsonOptionLemmas.{ReadsMembers, want_unshaped, want_unkind, want_told}
 use Rattle.plan.proofs.json.option_of.Goals as goal
 
 -- it is no object with the six members
 pub returns-then-not-has_just : goal.returns-then-not-has_just
-returns-then-not-has_just c =
-    let d = view c.args.value.now in
-    let no : has_just option_members d ≡ false = sym c.if-not-has_just.ensures.just in
-    record { want = ap Err c.bad.ensures.bad ∙ sym (want_unshaped c.args.step d no) }
+returns-then-not-has_just c = grind (arith, want_unshaped)
 
 -- its kind is no word of a kind
 pub returns-in_default : goal.returns-in_default
-returns-in_default c =
-    let d = view c.args.value.now in
-    let yes : has_just option_members d ≡ true = sym c.if-not-has_just.ensures.just in
-    record {
-      want = ap Err c.bad-in_default.ensures.bad
-          ∙ want_unkind c.args.step d c.text_in.result.now yes c.in_default.ensures c.text_in.ensures.text;
-    }
+returns-in_default c = grind (arith, want_unkind)
 
 -- the want is made of the members
 pub returns-in-Ok : goal.returns-in-Ok
 returns-in-Ok c =
     let d = view c.args.value.now in
-    let yes : has_just option_members d ≡ true = sym c.if-not-has_just.ensures.just in
     let read : ReadsMembers d c.in-Some.kind c.text_in-supplier.result.now c.text_in-product.result.now
     c.text_in-first.result.now c.unwrap_or-nights.result c.unwrap_or-count.result = record {
-      shape = yes;
+      shape = sym c.if-not-has_just.ensures.just;
       kind_is = c.in-Some.ensures ∙ ap kind_of_word c.text_in.ensures.text;
       supplier = c.text_in-supplier.ensures.text;
       product = c.text_in-product.ensures.text;
@@ -45,10 +33,9 @@ returns-in-Ok c =
 pub returns-in-Err : goal.returns-in-Err
 returns-in-Err c =
     let d = view c.args.value.now in
-    let yes : has_just option_members d ≡ true = sym c.if-not-has_just.ensures.just in
     let read : ReadsMembers d c.in-Some.kind c.text_in-supplier.result.now c.text_in-product.result.now
     c.text_in-first.result.now c.unwrap_or-nights.result c.unwrap_or-count.result = record {
-      shape = yes;
+      shape = sym c.if-not-has_just.ensures.just;
       kind_is = c.in-Some.ensures ∙ ap kind_of_word c.text_in.ensures.text;
       supplier = c.text_in-supplier.ensures.text;
       product = c.text_in-product.ensures.text;

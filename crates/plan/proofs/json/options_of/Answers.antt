@@ -7,9 +7,7 @@ use Rattle.plan.proofs.json.options_of.Goals as goal
 
 -- nothing was read yet
 pub loop-value-init : goal.loop-value-init
-loop-value-init c =
-    ap (λ z. behind z (each (λ n v. want_of_json c.args.step (view v)) 0 c.args.values.now)) c.in_ok-options.ensures.items
-    ∙ wants_whole c.args.step c.args.values.now
+loop-value-init c = grind (arith, wants_whole c.args.step c.args.values.now)
 
 -- the option has a fault, and none before it has
 pub returns-in_err-want-clause-refused : goal.returns-in_err-want-clause-refused
@@ -31,10 +29,9 @@ loop-value-preserved c =
     let vs = c.args.values.now in
     let k = c.loop-value.value-index in
     let v = c.value-item.result in
-    let within : k < length vs = omega (arith, c.loop-value-test.true) in
     ap (λ z. behind z (each (λ n w. want_of_json i (view w)) (k + 1) (drop (k + 1) vs))) c.in_ok-push.ensures.items
     ∙ each_more (λ n w. want_of_json i (view w)) k k vs v c.loop-value.options.items c.in_ok-want.want (wants_of_json i (views vs))
-    within c.value-item.is (sym c.in_ok-want.ensures.want) c.loop-value.invariant (k + 1) refl
+    (omega (arith, c.loop-value-test.true)) c.value-item.is (sym c.in_ok-want.ensures.want) c.loop-value.invariant (k + 1) refl
 
 -- each option was read
 pub returns-clause-read : goal.returns-clause-read

@@ -10,12 +10,7 @@ use Rattle.plan.proofs.json.steps_of.Goals as goal
 
 -- nothing was read yet
 pub loop-value-init : goal.loop-value-init
-loop-value-init c = record {
-  number = omega arith;
-  whole = ap (λ z. behind (map step_said z) (each (λ i v. step_of_json (length c.args.values.now) i (view v)) 1 c.args.values.now))
-      c.in_ok-steps.ensures.items
-      ∙ json_steps_whole (length c.args.values.now) c.args.values.now;
-}
+loop-value-init c = grind (arith, json_steps_whole (length c.args.values.now) c.args.values.now)
 
 -- the step has a fault, and none before it has
 pub returns-in_err-read-clause-refused : goal.returns-in_err-read-clause-refused
@@ -25,12 +20,11 @@ returns-in_err-read-clause-refused c =
     let i = c.loop-value.number in
     let k = c.loop-value.value-index in
     let v = c.value-item.result in
-    let within : k < n = omega (arith, c.loop-value-test.true) in
     let p = err_from_is_err_and c.from_residual-in_err-read.result c.from_residual-in_err-read.ensures.1 in
     rw (p.1, p.2)
     (IfBad-weaker c.in_err-read.field-0.0 _ _
     (λ bad same. each_fails (λ m w. step_of_json n m (view w)) i k vs v (map step_said c.loop-value.steps.items) bad (steps_of_json n (views vs))
-    within c.value-item.is same c.loop-value.invariant.whole)
+    (omega (arith, c.loop-value-test.true)) c.value-item.is same c.loop-value.invariant.whole)
     c.in_err-read.ensures.refused)
 
 -- one more step was read

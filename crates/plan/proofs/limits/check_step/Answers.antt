@@ -1,9 +1,6 @@
-use Rattle.std.proofs.Common.{◌≡◌, not, ◌&&◌, ◌==◌, length, sym, ap, ◌∙◌, arith}
+use Rattle.std.proofs.Common.{◌≡◌, length, ap, ◌∙◌, arith}
 use Rattle.std.proofs.lemmas.Result.{err_from_is_err_and}
-use Rattle.std.specs.List.{list_all}
 use Rattle.allotment.proofs.TestLemmas.{and_make}
-use Rattle.allotment.specs.Limits.{is_between, is_want}
-use Rattle.plan.specs.Limits.{most_options}
 use Rattle.plan.specs.PlanModel.{step_said}
 use Rattle.plan.specs.Levels.{step_limits}
 use Rattle.plan.proofs.LevelLemmas.{limits_pass}
@@ -22,19 +19,8 @@ returns-in_err-check_limits-clause-refused c =
 
 -- both are kept
 pub returns-clause-kept : goal.returns-clause-kept
-returns-clause-kept c =
-    let s = step_said c.args.step.now in
-    let good = ap (list_all is_want) (sym c.as_slice.ensures.value) ∙ c.know_limits.ensures.limits in
-    let many : c.len.result ≡ length s.options = omega (arith, c.len.ensures) in
-    kept_within c.args.last c.args.number s good
-    (c.in_ok-check_limits.ensures.limits ∙ ap (step_limits c.args.last c.args.number s.is_marked) many)
+returns-clause-kept c = grind (arith, kept_within)
 
 -- each want keeps its own limits
 pub returns-clause-limits : goal.returns-clause-limits
-returns-clause-limits c =
-    let s = step_said c.args.step.now in
-    let good = ap (list_all is_want) (sym c.as_slice.ensures.value) ∙ c.know_limits.ensures.limits in
-    let many : c.len.result ≡ length s.options = omega (arith, c.len.ensures) in
-    let pass = limits_pass (not (s.is_marked && c.args.number == c.args.last)) (is_between 1 most_options c.len.result)
-    c.args.number c.in_ok-check_limits.ensures.limits in
-    and_make _ _ (ap (is_between 1 most_options) (sym many) ∙ pass.1) good
+returns-clause-limits c = grind (arith, limits_pass, and_make)

@@ -11,11 +11,7 @@ use Rattle.plan.proofs.limits.check_steps.Goals as goal
 
 -- no step was checked yet
 pub loop-step-init : goal.loop-step-init
-loop-step-init c = record {
-  number = omega arith;
-  limits = refl;
-  whole = kept_whole (length c.args.steps.now) (map step_said c.args.steps.now);
-}
+loop-step-init c = grind (arith, kept_whole)
 
 -- the step does not keep a limit, and those before it keep all
 pub returns-in_err-check_step-clause-refused : goal.returns-in_err-check_step-clause-refused

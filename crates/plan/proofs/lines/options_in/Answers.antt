@@ -1,4 +1,4 @@
-use Rattle.std.proofs.Common.{◌≡◌, ◌+◌, ◌∷◌, [], ◌++◌, length, drop, sym, ap, ◌∙◌, lit<}
+use Rattle.std.proofs.Common.{◌≡◌, ◌+◌, ◌∷◌, [], ◌++◌, length, drop, sym, ap, ◌∙◌, lit<, arith}
 use Rattle.std.proofs.lemmas.Iterator.Consumers.{YieldsList-at, YieldsList-turn, YieldsList-end}
 use Rattle.std.proofs.lemmas.Iterator.Splits.{YieldsList-from_str_split}
 use Rattle.std.proofs.lemmas.List.{length_push}
@@ -10,9 +10,7 @@ use Rattle.plan.proofs.lines.options_in.Goals as goal
 
 -- nothing was read yet
 pub loop-part-init : goal.loop-part-init
-loop-part-init c =
-    ap (λ z. behind z (each (λ i. option_in c.args.step) 0 (parts bar c.args.text.now))) c.in_ok-options.ensures.items
-    ∙ options_whole c.args.step c.args.text.now
+loop-part-init c = grind (arith, options_whole c.args.step c.args.text.now)
 
 -- the option has a fault, and none before it has
 pub returns-in_err-want-clause-refused : goal.returns-in_err-want-clause-refused

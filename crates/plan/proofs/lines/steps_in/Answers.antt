@@ -12,11 +12,7 @@ use Rattle.plan.proofs.lines.steps_in.Goals as goal
 
 -- nothing was read yet
 pub loop-part-init : goal.loop-part-init
-loop-part-init c = record {
-  number = omega arith;
-  whole = ap (λ z. behind (map step_said z) (each (step_in c.args.last) 1 (parts semicolon c.args.text.now))) c.in_ok-steps.ensures.items
-      ∙ steps_whole c.args.last c.args.text.now;
-}
+loop-part-init c = grind (arith, each (step_in c.args.last) 1, steps_whole c.args.last c.args.text.now)
 
 -- the step has a fault, and none before it has
 pub returns-in_err-read-clause-refused : goal.returns-in_err-read-clause-refused

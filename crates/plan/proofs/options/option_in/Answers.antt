@@ -1,4 +1,4 @@
-use Rattle.std.proofs.Common.{sym, ap, ◌∙◌, Err}
+use Rattle.std.proofs.Common.{sym, ap, ◌∙◌, Err, arith}
 use Rattle.allotment.specs.Making.{want_made}
 use Rattle.plan.specs.Drafts.{at}
 use Rattle.plan.proofs.NumberLemmas.{small_number}
@@ -7,8 +7,7 @@ use Rattle.plan.proofs.options.option_in.Goals as goal
 
 -- there are not six parts
 pub returns-in_default : goal.returns-in_default
-returns-in_default c =
-    record { want = ap Err c.bad.ensures.bad ∙ sym (option_shape c.args.step c.args.text.now c.in_default.ensures.six) }
+returns-in_default c = grind (arith, option_shape)
 
 -- the first part is the letter of no kind
 pub returns-in_default-from_letter : goal.returns-in_default-from_letter
@@ -28,8 +27,7 @@ pub returns-in-Ok : goal.returns-in-Ok
 returns-in-Ok c =
     let i = c.args.step in
     let six = c.in-Some.six in
-    let k = c.in-Some-from_letter.kind in
-    let made = want_made k six.supplier.now six.product.now six.first.now in
+    let made = want_made c.in-Some-from_letter.kind six.supplier.now six.product.now six.first.now in
     record {
       want = ap (told_want i) c.in-Ok.ensures
           ∙ ap (λ n. told_want i (made n c.number-2.result)) c.number.ensures.number
@@ -44,8 +42,7 @@ pub returns-in-Err : goal.returns-in-Err
 returns-in-Err c =
     let i = c.args.step in
     let six = c.in-Some.six in
-    let k = c.in-Some-from_letter.kind in
-    let made = want_made k six.supplier.now six.product.now six.first.now in
+    let made = want_made c.in-Some-from_letter.kind six.supplier.now six.product.now six.first.now in
     record {
       want = ap Err (c.bad-in-Err.ensures.bad ∙ ap (at i) c.cause_of.ensures.cause)
           ∙ ap (told_want i) c.in-Err.ensures

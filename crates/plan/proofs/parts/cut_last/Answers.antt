@@ -4,6 +4,4 @@ use Rattle.plan.proofs.parts.cut_last.Goals as goal
 
 -- the character that was asked for is no last one
 pub returns-clause-none : goal.returns-clause-none
-returns-clause-none c =
-    not_cut c.from.result c.args.last c.args.text.now c.strip_suffix.result c.from.ensures (omega arith)
-    c.strip_suffix.ensures.cases
+returns-clause-none c = grind (arith, not_cut)

@@ -1,4 +1,4 @@
-use Rattle.std.proofs.Common.{◌≡◌, ap, sym, ◌∙◌, inl, inr, Some}
+use Rattle.std.proofs.Common.{◌≡◌, ap, sym, ◌∙◌, Some, arith}
 use Rattle.std.specs.List.{slice_get}
 use Rattle.std.proofs.lemmas.Result.{MatchResult-at_ok, MatchResult-at_err}
 use Rattle.plan.proofs.NumberLemmas.{small_number, small_number_other, small_number_parsed}
@@ -8,14 +8,7 @@ use Rattle.plan.proofs.parts.number.Goals.{then-first-lt49-via-then-first-lt49, 
 -- the first byte is none of 1 to 9
 pub returns-then-first-lt49 : goal.returns-then-first-lt49
 returns-then-first-lt49 c =
-    let first : slice_get c.args.text.now 0 ≡ Some c.in-Some.first.now =
-    ap (λ z. slice_get z 0) (sym c.as_bytes.ensures.value) ∙ sym c.in-Some.ensures.value in
-    elim c.then-first-lt49.branch [
-      | then-first-lt49-via-then-first-lt49 w ↦
-          record { number = sym (small_number_other c.args.text.now c.in-Some.first.now first (inl w.if-first-lt49.true)) }
-      | then-first-lt49-via-else-first-lt49+then-first-gt57 w ↦
-          record { number = sym (small_number_other c.args.text.now c.in-Some.first.now first (inr w.if-first-gt57.true)) }
-    ]
+    grind (arith, then-first-lt49-via-then-first-lt49, small_number_other, then-first-lt49-via-else-first-lt49+then-first-gt57)
 
 -- the parser reads digits alone, where the first byte is one
 pub returns-in-Ok : goal.returns-in-Ok

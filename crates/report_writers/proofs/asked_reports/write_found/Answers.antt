@@ -1,5 +1,5 @@
 -- The rows that are written are those of the state that is kept.
-use Rattle.std.proofs.Common.{◌+◌, ap, ◌∙◌, rules}
+use Rattle.std.proofs.Common.{◌+◌, ap, ◌∙◌, rules, arith}
 use Rattle.reports.proofs.FrontLemmas.{front_none}
 use Rattle.report_writers.proofs.ShowLemmas.{shows_rows}
 use Rattle.report_writers.proofs.asked_reports.write_found.Goals as goal
@@ -31,9 +31,4 @@ returns g c = record {
 
 -- nothing was written
 pub returns-in-Err : goal.returns-in-Err
-returns-in-Err g c = record {
-  shows = record {
-    told = λ clean v s desk keeps going rows are. record { whole = tt; front = front_none _ _; going = tt; counted = tt };
-    quiet = search rules;
-  };
-}
+returns-in-Err g c = search (rules, arith, front_none)

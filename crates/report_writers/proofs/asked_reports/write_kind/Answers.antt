@@ -1,5 +1,5 @@
 -- The lines of the cells of a kind, or none where it is not asked for.
-use Rattle.std.proofs.Common.{◌≡◌, ◌+◌, arith, false, refl, rules, subst, sym, true, Ok}
+use Rattle.std.proofs.Common.{◌≡◌, ◌+◌, arith, false, refl, rules, subst, sym, Ok}
 use Rattle.allotment.specs.Cells.{kind_number}
 use Rattle.filters.specs.CellFilters.{is_kind_asked}
 use Rattle.reports.proofs.FrontLemmas.{appends_none, front_none}
@@ -12,11 +12,10 @@ use Rattle.report_writers.proofs.asked_reports.write_kind.Goals as goal
 pub returns : goal.returns
 returns g c =
     let filter = c.args.filter.now in
-    let asked : is_kind_asked filter.kind (kind_number c.args.kind) ≡ true = search rules in
     record {
       cells = shows_as g.S.Store c.write_found.ensures.shows (λ s desk found going all stock.
           subst (λ cells. WritesCells (g.O.Write.contents c.args.out.now) (g.O.Write.contents c.write_found.new.out) c.args.format cells c.args.before c.write_found.result)
-          (sym (kind_asked c.args.kind filter all asked)) (found going _ (all, stock, refl)));
+          (sym (kind_asked c.args.kind filter all (search rules))) (found going _ (all, stock, refl)));
     }
 
 -- the kind is not asked for, and no cell of it is

@@ -1,5 +1,5 @@
 -- The report is written in its parts: its head, the lines of its cells, and its ending.
-use Rattle.std.proofs.Common.{◌≡◌, ◌+◌, arith, length, subst, codes}
+use Rattle.std.proofs.Common.{◌≡◌, arith, length, subst, codes, rules}
 use Rattle.std.specs.Io.KnownBytes.{Appends}
 use Rattle.reports.proofs.FrontLemmas.{front_whole}
 use Rattle.reports.specs.Formats.{last_line}
@@ -12,11 +12,7 @@ use Rattle.report_writers.proofs.asked_reports.write_kinds.Goals as goal
 
 -- a prefix of the head was written
 pub returns-in_err-begin_stock : goal.returns-in_err-begin_stock
-returns-in_err-begin_stock g c = record {
-  shows = shows_alone g.S.Store (λ s rows stock.
-      wrote_front _ _ _ c.from_residual.result c.from_residual.ensures.0
-      (head_front c.args.format (asked_cells c.args.filter.now rows) _ _ c.begin_stock.ensures.front));
-}
+returns-in_err-begin_stock g c = search (rules, arith, shows_alone, wrote_front, head_front)
 
 -- the head was written, and a prefix of the lines
 pub returns-in_err-lines : goal.returns-in_err-lines
@@ -33,8 +29,7 @@ returns-in_err-end_stock g c = record {
       let cells = asked_cells c.args.filter.now rows in
       let lines = wrote c.new-none.ensures.going rows stock in
       let none : c.new-none.result.given ≡ 0 = c.new-none.ensures.none in
-      let given : c.in_ok-lines.lines.given ≡ length cells + c.new-none.result.given = lines.counted in
-      let count : c.given-count.result ≡ length cells = omega (arith, none, given, c.given-count.ensures.given) in
+      let count : c.given-count.result ≡ length cells = omega (arith, none, lines.counted, c.given-count.ensures.given) in
       wrote_front _ _ _ c.from_residual-in_err-end_stock.result c.from_residual-in_err-end_stock.ensures.0
       (ending_front c.args.format cells _ _ c.in_ok-begin_stock.ensures.sent _ _ lines.whole
       (subst (λ n. WroteFront (g.O.Write.contents c.write_lines.new.out) (g.O.Write.contents c.end_stock.new.out) (last_line c.args.format (codes "cells") n)) count c.end_stock.ensures.front))));
@@ -47,8 +42,7 @@ returns g c = record {
       let cells = asked_cells c.args.filter.now rows in
       let lines = wrote c.new-none.ensures.going rows stock in
       let none : c.new-none.result.given ≡ 0 = c.new-none.ensures.none in
-      let given : c.in_ok-lines.lines.given ≡ length cells + c.new-none.result.given = lines.counted in
-      let count : c.given-count.result ≡ length cells = omega (arith, none, given, c.given-count.ensures.given) in
+      let count : c.given-count.result ≡ length cells = omega (arith, none, lines.counted, c.given-count.ensures.given) in
       let all = all_written c.args.format cells _ _ c.in_ok-begin_stock.ensures.sent _ _ lines.whole
       (subst (λ n. Appends (g.O.Write.contents c.write_lines.new.out) (g.O.Write.contents c.end_stock.new.out) (last_line c.args.format (codes "cells") n)) count c.in_ok-end_stock.ensures.sent) in
       record { whole = all; front = front_whole _ _ _ all }));

@@ -9,23 +9,20 @@ returns-in_err-flights g c = record {
 
 pub returns-in_err-rooms : goal.returns-in_err-rooms
 returns-in_err-rooms g c = record {
-  cells = shows_asked g.S.Store c.args.format c.args.filter.now
-      (shows_both g.S.Store c.args.format c.in_ok-flights.ensures.cells
+  cells = shows_asked g.S.Store c.args.format c.args.filter.now (shows_both g.S.Store c.args.format c.in_ok-flights.ensures.cells
       (shows_less g.S.Store c.args.format _ _ c.from_residual-in_err-rooms.ensures.0 c.in_err-rooms.ensures.cells));
 }
 
 pub returns-in_err-transfers : goal.returns-in_err-transfers
 returns-in_err-transfers g c = record {
-  cells = shows_asked g.S.Store c.args.format c.args.filter.now
-      (shows_both g.S.Store c.args.format c.in_ok-flights.ensures.cells
+  cells = shows_asked g.S.Store c.args.format c.args.filter.now (shows_both g.S.Store c.args.format c.in_ok-flights.ensures.cells
       (shows_both g.S.Store c.args.format c.in_ok-rooms.ensures.cells
       (shows_less g.S.Store c.args.format _ _ c.from_residual-in_err-transfers.ensures.0 c.in_err-transfers.ensures.cells)));
 }
 
 pub returns : goal.returns
 returns g c = record {
-  cells = shows_asked g.S.Store c.args.format c.args.filter.now
-      (shows_both g.S.Store c.args.format c.in_ok-flights.ensures.cells
+  cells = shows_asked g.S.Store c.args.format c.args.filter.now (shows_both g.S.Store c.args.format c.in_ok-flights.ensures.cells
       (shows_both g.S.Store c.args.format c.in_ok-rooms.ensures.cells
       (shows_both g.S.Store c.args.format c.in_ok-transfers.ensures.cells c.write_kind-4.ensures.cells)));
 }

@@ -6,8 +6,7 @@ use Rattle.report_writers.proofs.whys.read_outlook.Goals as goal
 
 pub returns : goal.returns
 returns g c = record {
-  shows = in_then g.S.Store c.in_ok-taken.ensures.shows
-      (in_each g.S.Store c.in_ok-nights.ensures.shows (λ s told. told))
+  shows = in_then g.S.Store c.in_ok-taken.ensures.shows (in_each g.S.Store c.in_ok-nights.ensures.shows (λ s told. told))
       (λ s desk taken told found rows stock. (
       let here : IsJourneyOf s.ledger c.args.id c.args.journey.now = record { legal = desk.legal; found = found } in
       let next = c.in_ok-next.ensures.next s.ledger c.args.id here taken in

@@ -1,5 +1,5 @@
 -- What was read is the outlook of the journey in each state that was kept.
-use Rattle.std.proofs.Common.{◌≡◌, ◌∙◌, ap₂, subst}
+use Rattle.std.proofs.Common.{◌≡◌, ◌∙◌, ap₂, subst, arith, rules}
 use Rattle.outlooks.specs.Layouts.{why_in, why_of}
 use Rattle.outlooks.specs.Outlooks.{begun_as}
 use Rattle.reports.proofs.FrontLemmas.{front_none}
@@ -20,7 +20,4 @@ returns g c = record {
 
 -- nothing was written
 pub returns-in_err-seen : goal.returns-in_err-seen
-returns-in_err-seen g c = record {
-  shows = in_as g.S.Store c.in_err-seen.ensures.shows (λ s desk told found rows stock.
-      wrote_front _ _ _ c.from_residual.result c.from_residual.ensures.0 (front_none _ _));
-}
+returns-in_err-seen g c = search (rules, arith, in_as, wrote_front, front_none)

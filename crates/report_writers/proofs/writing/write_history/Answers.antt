@@ -1,5 +1,5 @@
 -- A journey that is there is reported, and one that is absent is not.
-use Rattle.std.proofs.Common.{◌≡◌, ◌∙◌, sym, Some}
+use Rattle.std.proofs.Common.{◌≡◌, ◌∙◌, sym, Some, arith, rules}
 use Rattle.ledger.specs.Ledger.{history}
 use Rattle.reports.specs.Formats.{history_in}
 use Rattle.saga_core.specs.Views.{record_of}
@@ -17,13 +17,7 @@ returns-in-Ok-Some g c = record {
 }
 
 pub returns-in-Ok-None : goal.returns-in-Ok-None
-returns-in-Ok-None g c = record {
-  shows = in_read g.S.Store c.read_journey.ensures.quiet (λ clean s desk keeps stock is.
-      written_absent _ (λ journey. history_in c.args.format c.args.id journey (history s.ledger c.args.id)) _
-      (sym (c.in-Ok-None.ensures.shows clean s desk keeps) ∙ c.in-Ok-None.field-0-is));
-}
+returns-in-Ok-None g c = search (rules, arith, in_read, written_absent)
 
 pub returns-in-Err : goal.returns-in-Err
-returns-in-Err g c = record {
-  shows = in_read g.S.Store c.read_journey.ensures.quiet (λ clean s desk keeps stock is. written_fault _ _ _);
-}
+returns-in-Err g c = search (rules, arith, in_read, written_fault)

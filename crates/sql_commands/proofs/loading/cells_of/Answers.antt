@@ -4,7 +4,7 @@ use Rattle.allotment.specs.declared.cells.Cell.{Cell}
 use Rattle.ledger.specs.Ledger.{held, is_not_below_held}
 use Rattle.sql_reads.specs.NightsRead.{IsAmong, held_at}
 use Rattle.sql_reads.proofs.ReadLemmas.{no_read, read_both, read_ok, read_so, then_err}
-use Rattle.sql_writes.proofs.LoadLemmas.{take-more, take-whole}
+use Rattle.sql_writes.proofs.RunLemmas.{take-more, take-whole}
 use Rattle.sql_commands.specs.Loading.{HavePlaces, LeavesPlaces}
 use Rattle.sql_commands.proofs.LoadRows.{first_below, have_more, held_read}
 use Rattle.sql_commands.proofs.loading.cells_of.Goals as goal

@@ -1,7 +1,6 @@
 -- The transaction of the last step finishes the journey, and so do the compensation of the first step and a turn to
 -- position 0 at position 0.
-use Rattle.std.proofs.Common.{◌==◌, ◌&&◌, sym, subst, eq-eqb, Bool, false}
-use Rattle.std.proofs.lemmas.Bool.{ne_eqb}
+use Rattle.std.proofs.Common.{◌==◌, ◌&&◌, sym, subst, eq-eqb, Bool, false, ne_eqb}
 use Rattle.commands.specs.declared.items.Item.{Item}
 use Rattle.commands.specs.declared.items.Item.TheVariants.{Turn}
 use Rattle.sql_reads.specs.Following.{TellsFinished}

@@ -1,6 +1,5 @@
 -- All items of the journey come after the event that began it.
-use Rattle.std.proofs.Common.{◌≡◌, [], Err, refl, ap, sym, ◌∙◌}
-use Rattle.commands.specs.declared.replies.Fault.TheVariants.{Store}
+use Rattle.std.proofs.Common.{[], Err, refl, ap, sym, ◌∙◌}
 use Rattle.sql_model.proofs.Quieting.{quiet_keeps}
 use Rattle.sql_reads.proofs.ReadSought.{all_behind}
 use Rattle.sql_reads.proofs.history_rows.item_cursor.Goals as goal
@@ -32,5 +31,4 @@ returns-in-Err-clause-quiet g c = (c.in-Err.ensures.read c.args.version).quiet
 
 pub returns-in-Err-clause-store : goal.returns-in-Err-clause-store
 returns-in-Err-clause-store g c v clean s desk spelled keeps up store =
-    let is : c.in-Err.fault ≡ Store = cc in
-    (c.in-Err.ensures.read v).store clean s desk spelled keeps tt up (ap Err is)
+    (c.in-Err.ensures.read v).store clean s desk spelled keeps tt up (ap Err cc)

@@ -1,5 +1,5 @@
 -- The cell is the first of the nights that are read from it on.
-use Rattle.std.proofs.Common.{◌≡◌, ◌<◌, ◌≤◌, refl, sym, subst, arith, rules, IfSome}
+use Rattle.std.proofs.Common.{◌≡◌, refl, sym, subst, arith, rules, IfSome}
 use Rattle.sql_reads.specs.NightsRead.{AreFew, AreRead, IsAmong, IsLater}
 use Rattle.sql_reads.specs.declared.nights_read.NightsRead.{NightsRead}
 use Rattle.sql_reads.proofs.ReadLemmas.{also_ok, both_ok, no_read, read_ok}
@@ -8,27 +8,18 @@ use Rattle.sql_reads.proofs.nights_read.nights_with.Goals as goal
 pub returns-in_default-clause-among : goal.returns-in_default-clause-among
 returns-in_default-clause-among g c =
     let x = c.args.cell.now in
-    let some = c.nights_together.ensures.some in
     both_ok c.read_nights.result (λ (read : NightsRead). read.first ≡ x) (λ (read : NightsRead). read.count ≡ c.nights_together.result)
-    (λ (read : NightsRead). read.first ≡ x) (λ read. IsAmong read x)
-    (λ read first count _.
+    (λ (read : NightsRead). read.first ≡ x) (λ read. IsAmong read x) (λ read first count _.
     let here : IsLater x 0 x = record { kind = refl; supplier = refl; product = refl; night = omega arith } in
-    let within : 0 < read.count = omega arith in
-    (0, subst (λ y. IsLater y 0 x) (sym first) here, within))
+    (0, subst (λ y. IsLater y 0 x) (sym first) here, omega arith))
     c.read_nights.ensures.first c.read_nights.ensures.count c.read_nights.ensures.first
 
 -- as many nights are read as belong together
 pub returns-in_default-clause-few : goal.returns-in_default-clause-few
 returns-in_default-clause-few g c =
-    let some = c.nights_together.ensures.some in
-    let most = c.nights_together.ensures.few in
     also_ok c.read_nights.result (λ (read : NightsRead). read.count ≡ c.nights_together.result)
-    (λ (read : NightsRead). IfSome c.args.read AreFew → AreFew read)
-    (λ read count _.
-    let low : 1 ≤ read.count = omega arith in
-    let high : read.count ≤ 64 = omega arith in
-    (low, high))
-    c.read_nights.ensures.count
+    (λ (read : NightsRead). IfSome c.args.read AreFew → AreFew read) (λ read count _.
+    (omega arith, omega arith)) c.read_nights.ensures.count
 
 pub returns-in-Some-clause-read : goal.returns-in-Some-clause-read
 returns-in-Some-clause-read g c = read_ok no_read (λ s desk _ were. search rules)

@@ -19,9 +19,8 @@ loop-step-preserved c =
 pub returns-in-None-clause-exact : goal.returns-in-None-clause-exact
 returns-in-None-clause-exact c id same =
     let n = c.loop-step.step in
-    let low : n < step_count c.args.plan.now = search rules in
     c.in-None.ensures.there id
-    (steps_after id c.args.plan.now (n + 1), c.loop-step.invariant.left id same ∙ steps_left id c.args.plan.now n low)
+    (steps_after id c.args.plan.now (n + 1), c.loop-step.invariant.left id same ∙ steps_left id c.args.plan.now n (search rules))
 
 pub returns-clause-told : goal.returns-clause-told
 returns-clause-told c whole =

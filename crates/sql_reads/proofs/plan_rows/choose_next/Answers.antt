@@ -1,7 +1,6 @@
 -- The row with that number is chosen.
-use Rattle.std.proofs.Common.{◌≡◌, ◌+◌, ◌≤◌, min, length, sym, subst, rules, IfOk}
+use Rattle.std.proofs.Common.{◌≡◌, ◌+◌, min, length, sym, subst, rules, IfOk, ltb-true}
 use Rattle.sql_reads.proofs.ReadLemmas.{also_ok}
-use Rattle.std.proofs.lemmas.Bool.{ltb-true}
 use Rattle.sql_reads.specs.OptionChoice.{IsOfRow, IsRowChosen}
 use Rattle.sql_reads.proofs.ChoiceLemmas.{got_there}
 use Rattle.sql_reads.proofs.plan_rows.choose_next.Goals as goal
@@ -11,12 +10,11 @@ returns-in-Some-clause-chosen c =
     let rows = c.args.rows.now in
     let option = c.min-option.result in
     let is : option ≡ min (c.args.used + 1) (length rows) = search rules in
-    let one : 1 ≤ option = search rules in
     subst (λ n. IfOk c.choice_of.result (IsRowChosen rows n)) is
     (also_ok c.choice_of.result (IsOfRow c.in-Some.row.now option) (IsRowChosen rows option)
     (λ choice told. record {
       row = c.in-Some.row.now;
-      from_one = one;
+      from_one = search rules;
       there = got_there rows _ c.in-Some.row.now (ltb-true _ _ (sym c.in-Some.ensures.lookup.0)) c.in-Some.ensures.lookup.1;
       is = told;
     }) c.choice_of.ensures.row)

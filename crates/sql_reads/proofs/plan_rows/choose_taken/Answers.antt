@@ -1,6 +1,5 @@
 -- The first row of a taken option is chosen.
-use Rattle.std.proofs.Common.{◌∙◌, ap, sym}
-use Rattle.std.specs.Option.{option_copied}
+use Rattle.std.proofs.Common.{◌∙◌, ap, sym, option_copied}
 use Rattle.sql_reads.proofs.ReadLemmas.{also_ok}
 use Rattle.sql_reads.specs.OptionChoice.{IsOfRow, IsTakenChosen}
 use Rattle.sql_reads.proofs.plan_rows.choose_taken.Goals as goal

@@ -2,15 +2,14 @@
 use Rattle.std.proofs.Common.{◌≡◌, ◌<◌, ◌≤◌, ◌+◌, ◌++◌, ◌∷◌, [], ◌∙◌, inl, inr, length, get_or, rules, sym, ap, subst, refl, ◌==◌}
 use Rattle.allotment.specs.Want.{Wanted}
 use Rattle.plan.specs.declared.steps.PlanStep.{PlanStep}
-use Rattle.sql_reads.specs.GoodRows.{IsMemory}
 use Rattle.sql_reads.specs.PlanRows.{Goes}
 use Rattle.sql_reads.proofs.BuiltPlans.{at_start, at_end, next_option}
 use Rattle.sql_reads.proofs.GoodPlans.{not_both, tells_one}
+use Rattle.sql_reads.specs.GoodRows.{IsMemory}
 use Rattle.sql_reads.proofs.plan_rows.steps_told.Goals as goal
 
 pub loop-at-init : goal.loop-at-init
-loop-at-init c id plan are =
-    rw (c.new-steps.ensures.items, c.new-options.ensures.items) (at_start id plan c.args.rows.now are)
+loop-at-init c id plan are = rw (c.new-steps.ensures.items, c.new-options.ensures.items) (at_start id plan c.args.rows.now are)
 
 pub returns-in_err-want-clause-there : goal.returns-in_err-want-clause-there
 returns-in_err-want-clause-there c id plan are =
@@ -48,14 +47,13 @@ loop-at-preserved c id plan are =
     let is_row : row ≡ get_or rows c.loop-at.at row = search rules in
     let next = next_option id plan rows at c.loop-at.steps.items options row (c.loop-at.invariant id plan are) inside is_row in
     let one = tells_one row next.want c.in_ok-want.want next.tells c.in_ok-want.ensures.told in
-    let pushed : c.push.new.self.items ≡ options ++ (c.in_ok-want.want ∷ []) = search rules in
     let step : PlanStep = record { options = c.push.new.self; save = row.save == 1 } in
     let made : c.push-in-loop-at.new.self.items ≡ c.loop-at.steps.items ++ (step ∷ []) = search rules in
     elim next.after [
       | inl on ↦ absurd (not_both c.is_of_place.result (c.is_of_place.ensures.exact on.0) c.if-is_of_place.false)
       | inr off ↦
           rw (made, c.new-options-in-loop-at.ensures.items)
-          (off.1 step (pushed ∙ ap (λ (w : Wanted). options ++ (w ∷ [])) (sym one)) refl)
+          (off.1 step ((search rules) ∙ ap (λ (w : Wanted). options ++ (w ∷ [])) (sym one)) refl)
     ]
 
 pub returns-clause-steps : goal.returns-clause-steps

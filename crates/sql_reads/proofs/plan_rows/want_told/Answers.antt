@@ -1,7 +1,6 @@
 -- The row of a want that keeps its limits gives that want.
-use Rattle.std.proofs.Common.{◌≡◌, sym, rules, Ok, true, subst, string_bytes, Some}
+use Rattle.std.proofs.Common.{◌≡◌, sym, rules, Ok, true, subst, string_bytes}
 use Rattle.allotment.specs.Limits.{is_night}
-use Rattle.allotment.specs.Texts.{kind_of_number}
 use Rattle.allotment.proofs.LawLemmas.{number_read}
 use Rattle.sql_reads.specs.PlanRows.{TellsWant}
 use Rattle.sql_reads.proofs.GoodPlans.{want_good, kept_is, not_both}
@@ -10,10 +9,8 @@ use Rattle.sql_reads.proofs.plan_rows.want_told.Goals.{in_default-new-via-in-Ok-
 
 pub returns-clause-there : goal.returns-clause-there
 returns-clause-there c want good tells =
-    let number : kind_of_number c.args.row.now.kind ≡ Some c.in-Some.kind = search rules in
-    let day : c.args.row.now.night ≡ c.in-Some-from_day.night = kept_is is_night _ _ (search rules) in
     let made = want_good c.args.row.now want c.in-Some.kind c.in-Some-from_day.night (string_bytes c.in-Ok.first) good tells
-    (number_read c.args.row.now.kind c.in-Some.kind number) day c.in-Ok.ensures in
+    (number_read c.args.row.now.kind c.in-Some.kind (search rules)) (kept_is is_night _ _ (search rules)) c.in-Ok.ensures in
     let is : c.new.result ≡ Ok want = search (rules, made) in
     absurd (elim c.in_default-new.branch [
       | in_default-new-via-in-Ok-new+else-is_of_want w ↦

@@ -18,5 +18,4 @@ returns-in-Ok g c =
     })
 
 pub returns-in-Err : goal.returns-in-Err
-returns-in-Err g c =
-    query_fails c.in-Err.ensures.queries c.fault_of.ensures.memory (λ t s st desk spelled low. tt)
+returns-in-Err g c = query_fails c.in-Err.ensures.queries c.fault_of.ensures.memory (λ t s st desk spelled low. tt)

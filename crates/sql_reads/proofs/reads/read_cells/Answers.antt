@@ -34,5 +34,4 @@ returns-in-Ok g c =
     (good_nights s.ledger desk.legal want rows (nights_read at.tables s at.stands desk range want rows is some at.found)))
 
 pub returns-in-Err : goal.returns-in-Err
-returns-in-Err g c =
-    query_fails c.in-Err.ensures.queries c.fault_of.ensures.memory (λ t s st desk spelled _. tt)
+returns-in-Err g c = query_fails c.in-Err.ensures.queries c.fault_of.ensures.memory (λ t s st desk spelled _. tt)

@@ -1,5 +1,5 @@
 -- The row with the least number is that of the first journey.
-use Rattle.std.proofs.Common.{◌≡◌, ◌≤◌, None, Some, sym, ap, ◌∙◌, rules, arith}
+use Rattle.std.proofs.Common.{◌≡◌, None, Some, sym, ap, ◌∙◌, rules, arith}
 use Rattle.saga_core.specs.Views.{first_unfinished as first_shown}
 use Rattle.sql_model.proofs.Readings.{unfinished_read}
 use Rattle.sql_reads.proofs.ReadLemmas.{found_rows, query_fails, read_never, read_ok}
@@ -10,19 +10,17 @@ use Rattle.sql_reads.proofs.reads.read_first_unfinished.Goals as goal
 pub returns-in-Ok-None : goal.returns-in-Ok-None
 returns-in-Ok-None g c =
     let after = c.min.result in
-    let low : after ≤ c.args.after = search rules in
     read_ok (found_rows (rw c.in-Ok-None.field-0-is at c.in-Ok-None.ensures.queries)) (λ s desk at.
-    sym (none_above s.ledger after c.args.after low
+    sym (none_above s.ledger after c.args.after (search rules)
     (sym (none_told (first_shown s.ledger after) (unfinished_read at.tables s at.stands desk after None at.found)))))
 
 pub returns-in-Some : goal.returns-in-Some
 returns-in-Some g c =
     let after = c.min.result in
     let row = c.in-Ok-Some.found in
-    let same : after ≡ c.args.after = search rules in
     read_ok (found_rows (rw c.in-Ok-Some.field-0-is at c.in-Ok-Some.ensures.queries)) (λ s desk at.
     brief_told (first_shown s.ledger after) row c.in-Some.brief (unfinished_read at.tables s at.stands desk after (Some row) at.found)
-    c.in-Some.ensures.told ∙ ap (first_shown s.ledger) same)
+    c.in-Some.ensures.told ∙ ap (first_shown s.ledger) (search rules))
 
 -- the row tells the journey
 pub returns-in-Ok-Some : goal.returns-in-Ok-Some

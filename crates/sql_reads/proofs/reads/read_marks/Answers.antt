@@ -13,8 +13,7 @@ pub returns-in-Some : goal.returns-in-Some
 returns-in-Some g c =
     let rows = c.in-Ok.found.items in
     let same : c.as_slice.result.now ≡ rows = search rules in
-    read_ok (found_rows c.in-Ok.ensures.queries) (λ s desk at.
-    marks_told (history s.ledger c.args.id) c.in-Some.marks
+    read_ok (found_rows c.in-Ok.ensures.queries) (λ s desk at. marks_told (history s.ledger c.args.id) c.in-Some.marks
     (λ p. c.in-Some.ensures.says p ∙ ap (list_any (λ q. q == p)) same ∙ marks_read at.tables s at.stands desk c.args.id rows at.found p)
     c.in-Some.ensures.low)
 
@@ -27,5 +26,4 @@ returns-in-Ok g c =
     (good_marks s.ledger desk.legal c.args.id rows (marks_read at.tables s at.stands desk c.args.id rows at.found))))
 
 pub returns : goal.returns
-returns g c =
-    query_fails c.in-Err.ensures.queries c.fault_of.ensures.memory (λ t s st desk spelled _. tt)
+returns g c = query_fails c.in-Err.ensures.queries c.fault_of.ensures.memory (λ t s st desk spelled _. tt)

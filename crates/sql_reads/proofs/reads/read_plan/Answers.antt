@@ -14,13 +14,11 @@ returns-in-Ok g c v =
     let rows = c.in-Ok.found in
     let id = c.args.id in
     let same : c.as_slice.result.now ≡ rows.items = search rules in
-    read_so c.plan_told.result (found_rows (c.in-Ok.ensures.queries v))
-    (λ s desk at.
+    read_so c.plan_told.result (found_rows (c.in-Ok.ensures.queries v)) (λ s desk at.
     both_ok c.plan_told.result (TellPlan c.as_slice.result.now) (λ plan. plan.tries ≡ c.args.tries) (λ plan. IsTrue (is_plan plan)) (IsPlanOf id c.args.tries s)
     (λ plan told tries good a here is.
     plan_read at.tables s at.stands desk id a rows.items plan here at.found good (rw (← same) (told id)) (tries ∙ is))
-    c.plan_told.ensures.rows c.plan_told.ensures.tries c.plan_told.ensures.good)
-    (λ s desk spelled fits at.
+    c.plan_told.ensures.rows c.plan_told.ensures.tries c.plan_told.ensures.good) (λ s desk spelled fits at.
     c.plan_told.ensures.there id fits.0.plan (rw same (plan_rows at.tables s at.stands desk id fits.0 rows.items fits.1 at.found)) fits.2)
 
 pub returns-in-Err : goal.returns-in-Err

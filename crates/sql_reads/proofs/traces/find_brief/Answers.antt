@@ -43,10 +43,8 @@ returns-in-Ok-Some-clause-read g c =
 -- each journey was begun by one of the events
 pub returns-in-Ok-Some-2-clause-read : goal.returns-in-Ok-Some-2-clause-read
 returns-in-Ok-Some-2-clause-read g c =
-    let row = c.in-Ok-Some.found in
     read_never (found_rows (rw c.in-Ok-Some.field-0-is at (c.in-Ok-Some.ensures.queries Two))) (λ s desk spelled _ at.
-    let low = row_number at.tables s at.stands spelled c.args.id row at.found in
-    omega (arith, low, c.if-this-le-LARGEST.false))
+    omega (arith, row_number at.tables s at.stands spelled c.args.id c.in-Ok-Some.found at.found, c.if-this-le-LARGEST.false))
 
 pub returns-clause-read : goal.returns-clause-read
 returns-clause-read g c =

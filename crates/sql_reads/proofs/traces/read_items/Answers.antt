@@ -18,17 +18,13 @@ returns-in-Ok g c =
     let id = c.args.id in
     let after = c.args.after in
     let rows = c.in-Ok.found.items in
-    read_so c.items_told.result (found_rows c.in-Ok.ensures.queries)
-    (λ s desk at.
+    read_so c.items_told.result (found_rows c.in-Ok.ensures.queries) (λ s desk at.
     also_ok c.items_told.result (λ items. TellItems rows items.items) (λ items. HasNoItemTo id after s → items.items ≡ history s.ledger id)
-    (λ items tell first.
-    some_one items.items (history s.ledger id)
+    (λ items tell first. some_one items.items (history s.ledger id)
     (sym tell ∙ items_read at.tables s at.stands desk id after rows first at.rows.entries.rise at.found)) (search rules))
-    (λ s desk spelled first at.
-    (simp c.as_slice.ensures.value at c.items_told.ensures.there)
+    (λ s desk spelled first at. (simp c.as_slice.ensures.value at c.items_told.ensures.there)
     (all_some (λ (i : ItemFound). item_in (item_of 0 i)) rows (history s.ledger id)
     (items_read at.tables s at.stands desk id after rows first at.rows.entries.rise at.found)))
 
 pub returns-in-Err : goal.returns-in-Err
-returns-in-Err g c =
-    query_fails c.in-Err.ensures.queries c.fault_of.ensures.memory (λ t s st desk spelled first. tt)
+returns-in-Err g c = query_fails c.in-Err.ensures.queries c.fault_of.ensures.memory (λ t s st desk spelled first. tt)

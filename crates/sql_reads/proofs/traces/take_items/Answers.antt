@@ -22,8 +22,7 @@ loop-round-preserved g c =
     one_more g.S.Store c.args.conn.now at.conn c.next_item.new.conn c.args.cursor.now at.cursor c.next_item.new.self at.items.items at._round so made.quiet
     c.in-Some.item _ _
     (λ clean. subst (Hands (ItemsRest g.S.Store at.conn at.cursor) (ItemsRest g.S.Store c.next_item.new.conn c.next_item.new.self)) c.in-Some.is
-    (c.in_ok-item.ensures.next clean))
-    (search rules) (made.low so.low) made.version
+    (c.in_ok-item.ensures.next clean)) (search rules) (made.low so.low) made.version
     (let counted = subst (λ o. c.next_item.new.self.given ≡ count_of o + at.cursor.given) c.in-Some.is c.in_ok-item.ensures.counted in
     omega (arith, counted, so.given))
 

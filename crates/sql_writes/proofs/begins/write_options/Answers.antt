@@ -2,9 +2,8 @@ use Rattle.std.proofs.Common.{◌∙◌, ◌+◌, length, sym, ap, arith, rules,
 use Rattle.plan.proofs.LimitLemmas.{few_options}
 use Rattle.sql_model.specs.Beginning.{adds_steps, first_rows_of_step, rows_of_option}
 use Rattle.sql_model.proofs.PlanParts.{first_rows_of_step-more, first_rows_of_step-all}
-use Rattle.sql_writes.proofs.BeginLemmas.{adds_steps-append}
+use Rattle.sql_writes.proofs.OptionLemmas.{adds_steps-append, next_option, next_option_fits}
 use Rattle.sql_writes.proofs.Doing.{open_as, open_both, open_of, open_then_fail}
-use Rattle.sql_writes.proofs.OptionLemmas.{next_option, next_option_fits}
 use Rattle.sql_writes.proofs.begins.write_options.Goals as goal
 
 pub write_option-requires-clause-options : goal.write_option-requires-clause-options
@@ -45,4 +44,6 @@ pub returns : goal.returns
 returns g c =
     let all = first_rows_of_step-all c.args.id c.args.plan.now c.args.step c.loop-option.option (omega arith) in
     let size = ap length all in
-    record { did = open_as c.loop-option.invariant.did (λ _ t _ _. (tt, ap (λ rows. adds_steps rows t) all)) (omega (arith, size)) }
+    record {
+      did = open_as c.loop-option.invariant.did (λ _ t _ _. (tt, ap (λ rows. adds_steps rows t) all)) (omega (arith, size));
+    }

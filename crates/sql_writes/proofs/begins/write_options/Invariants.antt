@@ -1,6 +1,5 @@
 -- The rows of the first options are written so far.
-use Rattle.std.proofs.Common.{◌≡◌, length}
-use Rattle.std.specs.Prelude.{⊤}
+use Rattle.std.specs.Prelude.{⊤, ◌≡◌, length}
 use Rattle.plan.specs.PlanModel.{option_count}
 use Rattle.sql_model.specs.Beginning.{adds_steps, first_rows_of_step}
 use Rattle.sql_writes.specs.Did.{DidSoFar}

@@ -1,11 +1,10 @@
-use Rattle.std.proofs.Common.{◌≡◌, ◌∙◌, ◌+◌, length, sym, ap, arith, rules, length-append}
+use Rattle.std.proofs.Common.{◌∙◌, ◌+◌, length, sym, ap, arith, rules, length-append}
 use Rattle.sql_model.specs.ExpectedRows.{step_rows_of, none_taken}
 use Rattle.sql_model.specs.Beginning.{adds_steps, first_steps, rows_of_step}
 use Rattle.sql_model.proofs.PlanParts.{step_rows_of-more}
 use Rattle.sql_model.proofs.PlanWriting.{step_rows-all}
-use Rattle.sql_writes.proofs.BeginLemmas.{adds_steps-append}
+use Rattle.sql_writes.proofs.OptionLemmas.{adds_steps-append, next_step, next_step_fits}
 use Rattle.sql_writes.proofs.Doing.{open_as, open_both, open_then_fail}
-use Rattle.sql_writes.proofs.OptionLemmas.{next_step, next_step_fits}
 use Rattle.sql_writes.proofs.begins.write_steps.Goals as goal
 
 -- the rows of one more step are written
@@ -40,7 +39,6 @@ pub returns : goal.returns
 returns g c =
     let id = c.args.id in
     let plan = c.args.plan.now in
-    let last : c.loop-step.step ≡ length plan.steps = omega arith in
-    let all = ap (λ k. step_rows_of id (first_steps k plan)) last ∙ step_rows-all none_taken id plan in
+    let all = ap (λ k. step_rows_of id (first_steps k plan)) (omega arith) ∙ step_rows-all none_taken id plan in
     let size = ap length all in
     record { did = open_as c.loop-step.invariant.did (λ _ t _ _. (tt, ap (λ rows. adds_steps rows t) all)) (omega (arith, size)) }

@@ -1,6 +1,5 @@
 -- The rows of the first steps are written so far.
-use Rattle.std.proofs.Common.{◌≡◌, length}
-use Rattle.std.specs.Prelude.{⊤}
+use Rattle.std.specs.Prelude.{⊤, ◌≡◌, length}
 use Rattle.plan.specs.PlanModel.{step_count}
 use Rattle.sql_model.specs.ExpectedRows.{step_rows_of}
 use Rattle.sql_model.specs.Beginning.{adds_steps, first_steps}

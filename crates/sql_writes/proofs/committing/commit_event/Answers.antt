@@ -5,8 +5,7 @@ use Rattle.commands.specs.declared.replies.Fault.TheVariants.{Store}
 use Rattle.sqlite.specs.Held.{Held}
 use Rattle.sql_writes.specs.Commits.{CommitsEvent, LeavesEvent}
 use Rattle.sql_writes.specs.Kinds.{asks}
-use Rattle.sql_writes.proofs.CommitLemmas.{left_of, wrote_of}
-use Rattle.sql_writes.proofs.CommitReasons.{commits_ok, commits_err, leaves_undone}
+use Rattle.sql_writes.proofs.CommitLemmas.{left_of, wrote_of, commits_ok, commits_err, leaves_undone}
 use Rattle.sql_writes.proofs.committing.commit_event.Goals as goal
 
 -- the commit succeeded: the connection keeps the next state

@@ -6,8 +6,8 @@ use Rattle.desk_sql.specs.Changes.{adds_answer, kept}
 use Rattle.desk_sql.specs.Rows.{AnswerRow}
 use Rattle.desk_sql.specs.Writable.{MayKeep}
 use Rattle.sql_writes.specs.Kinds.{rows_after}
-use Rattle.sql_writes.proofs.Doing.{did_both, did_fail, did_then_fail, numbered, numbered_fails, open_of}
-use Rattle.sql_writes.proofs.EventLemmas.{permits_fits, permits_reply}
+use Rattle.sql_writes.proofs.Doing.{did_both, did_fail, did_then_fail, numbered, open_of}
+use Rattle.sql_writes.proofs.CommitLemmas.{permits_fits, permits_reply}
 use Rattle.sql_writes.proofs.committing.write_kept.Goals as goal
 
 -- the row that is kept is that of the ask, with the line
@@ -28,7 +28,7 @@ returns-in_err-insert_answer g c =
     record {
       did = λ line is. (
           let row = row_is ask line (c.as_str.ensures.text ∙ c.agent-agent.ensures.agent) (c.as_str-2.ensures.text ∙ c.key-key.ensures.key) c.text.ensures.text is in
-          did_then_fail c.in_ok-write_rows.ensures.did (open_of (numbered_fails c.in_err-insert_answer.ensures.writes))
+          did_then_fail c.in_ok-write_rows.ensures.did (open_of (numbered c.in_err-insert_answer.ensures.writes (λ _ _. tt)))
           (λ t permits. (
             permits_fits n event t permits.0,
             subst (λ (r : AnswerRow). MayKeep r (rows_after n event t)) (sym row)
@@ -38,12 +38,11 @@ returns-in_err-insert_answer g c =
 
 pub returns : goal.returns
 returns g c =
-    let n = c.args.numbers in
     let event = c.args.event.now in
     record {
       did = λ line is. (
           let row = row_is c.args.keeping.ask.now line (c.as_str.ensures.text ∙ c.agent-agent.ensures.agent)
           (c.as_str-2.ensures.text ∙ c.key-key.ensures.key) c.text.ensures.text is in
           did_both c.in_ok-write_rows.ensures.did (open_of (numbered c.in_ok-insert_answer.ensures.writes (λ _ _. tt)))
-          (λ t fits. (fits, (tt, ap (λ (r : AnswerRow). adds_answer r (rows_after n event t)) row))) (omega arith));
+          (λ t fits. (fits, (tt, ap (λ (r : AnswerRow). adds_answer r (rows_after c.args.numbers event t)) row))) (omega arith));
     }

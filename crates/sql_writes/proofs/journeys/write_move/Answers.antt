@@ -4,25 +4,22 @@ use Rattle.desk_sql.specs.Changes.{moves_journey}
 use Rattle.desk_sql.specs.Writable.{MayMove}
 use Rattle.desk_sql.specs.declared.journeys.Cursor.{Cursor as CursorWritten}
 use Rattle.sql_transitions.specs.Moving.{with_item}
-use Rattle.sql_writes.proofs.Doing.{did_fail, did_then, keyed, keyed_fails, open_of}
+use Rattle.sql_writes.proofs.Doing.{did_fail, did_then, keyed, open_of}
 use Rattle.sql_writes.proofs.Permitting.{may_move, moved_on}
 use Rattle.sql_writes.proofs.journeys.write_move.Goals as goal
 
 pub returns-in_err-move_journey : goal.returns-in_err-move_journey
-returns-in_err-move_journey g c =
-    let move = c.in_err-move_journey.ensures in
-    record {
-      did = did_fail (keyed_fails move.writes)
-          (λ t permits. subst (λ (r : CursorWritten). MayMove c.args.journey r t) (sym c.cursor_row-row.ensures)
-          (may_move c.args.numbers c.args.journey c.args.cursor t permits)) (omega arith) (search rules);
-    }
+returns-in_err-move_journey g c = record {
+  did = did_fail (keyed c.in_err-move_journey.ensures.writes)
+      (λ t permits. subst (λ (r : CursorWritten). MayMove c.args.journey r t) (sym c.cursor_row-row.ensures)
+      (may_move c.args.numbers c.args.journey c.args.cursor t permits)) (omega arith) (search rules);
+}
 
 pub returns : goal.returns
 returns g c =
-    let move = c.in_ok-move_journey.ensures in
     let n = c.args.numbers in
     record {
-      did = did_then (keyed move.writes) (open_of c.write_item.ensures.did)
+      did = did_then (keyed c.in_ok-move_journey.ensures.writes) (open_of c.write_item.ensures.did)
           (λ _ t _ below. (
             tt,
             (

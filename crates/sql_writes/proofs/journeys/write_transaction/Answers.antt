@@ -1,7 +1,7 @@
 -- First the want's nights, then the option and the move.
 use Rattle.std.proofs.Common.{refl, arith, rules}
 use Rattle.sql_transitions.specs.Moving.{takes_want}
-use Rattle.sql_writes.proofs.Doing.{did_and, did_fail, did_then, did_then_fail, numbered, numbered_fails, open_of}
+use Rattle.sql_writes.proofs.Doing.{did_and, did_fail, did_then, did_then_fail, numbered, open_of}
 use Rattle.sql_writes.proofs.Permitting.{may_mark}
 use Rattle.sql_writes.proofs.journeys.write_transaction.Goals as goal
 
@@ -12,24 +12,21 @@ returns-in_err-take_want g c = record {
 
 pub returns-in_err-mark_step : goal.returns-in_err-mark_step
 returns-in_err-mark_step g c =
-    let mark = c.in_err-mark_step.ensures in
     let m = c.args.made in
     record {
-      did = did_then_fail c.in_ok-take_want.ensures.did (open_of (numbered_fails mark.writes))
+      did = did_then_fail c.in_ok-take_want.ensures.did (open_of (numbered c.in_err-mark_step.ensures.writes (λ _ _. tt)))
           (λ t permits. (permits.free, may_mark m.journey m.step m.option 1 (takes_want m.want t) (omega arith) permits.options)) (omega arith) (search rules);
     }
 
 pub returns : goal.returns
-returns g c =
-    let mark = c.in_ok-mark_step.ensures in
-    record {
-      did = did_then (did_and c.in_ok-take_want.ensures.did (open_of (numbered mark.writes (λ _ _. tt))))
-          (open_of c.write_move.ensures.did) (λ _ t _ fit. ((fit.free, tt), (fit.below, refl)))
-          (λ _ t _ permits. (
-            (permits.free, tt),
-            record {
-              item = record { journey_is = permits.move.item.journey_is; below = permits.move.item.below };
-              short = permits.move.short;
-            },
-          )) (omega arith);
-    }
+returns g c = record {
+  did = did_then (did_and c.in_ok-take_want.ensures.did (open_of (numbered c.in_ok-mark_step.ensures.writes (λ _ _. tt))))
+      (open_of c.write_move.ensures.did) (λ _ t _ fit. ((fit.free, tt), (fit.below, refl)))
+      (λ _ t _ permits. (
+        (permits.free, tt),
+        record {
+          item = record { journey_is = permits.move.item.journey_is; below = permits.move.item.below };
+          short = permits.move.short;
+        },
+      )) (omega arith);
+}

@@ -3,7 +3,7 @@ use Rattle.sqlite_rules.proofs.ListLemmas.{all_more}
 use Rattle.sql_writes.specs.Loads.{puts_each}
 use Rattle.sql_writes.specs.Runs.{HasShortTexts}
 use Rattle.sql_writes.proofs.Doing.{open_as, open_both, open_none, open_of, open_then_fail}
-use Rattle.sql_writes.proofs.LoadLemmas.{apart_put, put_each-append, short_each, take-more, take-whole}
+use Rattle.sql_writes.proofs.RunLemmas.{apart_put, put_each-append, short_each, take-more, take-whole}
 use Rattle.sql_writes.proofs.loads.put_all.Goals as goal
 
 pub loop-cell-init : goal.loop-cell-init
@@ -46,4 +46,6 @@ returns g c =
     let cells = c.args.cells.now in
     let n = c.loop-cell.cell-index in
     let all : n ≡ length cells = omega (arith, c.loop-cell.auto.cell-index-end, c.loop-cell-test.false) in
-    record { did = open_as c.loop-cell.invariant.did (λ _ t _ fit. (fit, ap (λ xs. puts_each xs t) (take-whole n cells all))) (omega (arith, all)) }
+    record {
+      did = open_as c.loop-cell.invariant.did (λ _ t _ fit. (fit, ap (λ xs. puts_each xs t) (take-whole n cells all))) (omega (arith, all));
+    }

@@ -1,8 +1,7 @@
 use Rattle.std.proofs.Common.{◌≡◌, ◌<◌, ◌∙◌, sym, ap, take, length, arith, rules, append-nil}
 use Rattle.sql_writes.specs.Runs.{adds_each}
 use Rattle.sql_writes.proofs.Doing.{open_as, open_both, open_none, open_of, open_then_fail}
-use Rattle.sql_writes.proofs.LoadLemmas.{take-more, take-whole}
-use Rattle.sql_writes.proofs.RunLemmas.{adds-more}
+use Rattle.sql_writes.proofs.RunLemmas.{take-more, take-whole, adds-more}
 use Rattle.sql_writes.proofs.RunWrites.{next_new}
 use Rattle.sql_writes.proofs.runs.add_all.Goals as goal
 
@@ -14,8 +13,7 @@ pub loop-cell-preserved : goal.loop-cell-preserved
 loop-cell-preserved g c =
     let cells = c.args.cells.now in
     let n = c.loop-cell.cell-index in
-    let within : n < length cells = omega (arith, c.loop-cell-test.true) in
-    let more = take-more cells n _ within c.loop-cell-item.is in
+    let more = take-more cells n _ (omega (arith, c.loop-cell-test.true)) c.loop-cell-item.is in
     open_both c.loop-cell.invariant (open_of c.in_ok-add_places.ensures.did)
     (λ t _. (tt, (tt, adds-more (take n cells) _ t ∙ ap (λ xs. adds_each xs t) (sym more)))) (omega arith)
 

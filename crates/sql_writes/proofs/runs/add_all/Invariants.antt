@@ -1,6 +1,5 @@
 -- The rows of the first cells are added so far.
-use Rattle.std.proofs.Common.{take}
-use Rattle.std.specs.Prelude.{⊤}
+use Rattle.std.specs.Prelude.{⊤, take}
 use Rattle.sql_writes.specs.Did.{DidSoFar}
 use Rattle.sql_writes.specs.Runs.{adds_each}
 use Rattle.sql_writes.proofs.runs.add_all.Given as goal

@@ -1,8 +1,8 @@
-use Rattle.std.proofs.Common.{◌≡◌, true, eqb-true, ◌∙◌, length, sym, ap, subst, rules, append-nil}
+use Rattle.std.proofs.Common.{◌≡◌, eqb-true, ◌∙◌, length, sym, ap, subst, rules, append-nil, arith}
 use Rattle.sql_writes.specs.Runs.{IsRun}
+use Rattle.std.proofs.lemmas.List.{nil_from_length}
 use Rattle.sql_writes.proofs.Doing.{open_then_fail}
-use Rattle.sql_writes.proofs.RunWrites.{run_fits, none_left, HasWrittenUpTo-none, HasWrittenUpTo-some, HasWrittenUpTo-all}
-use Rattle.sql_writes.proofs.RunWeeks.{front_run, rest_run, some_new, adds-then}
+use Rattle.sql_writes.proofs.RunWrites.{run_fits, HasWrittenUpTo-none, HasWrittenUpTo-some, HasWrittenUpTo-all, front_run, rest_run, some_new, adds-then}
 use Rattle.sql_writes.proofs.runs.add_run.Goals as goal
 
 pub loop-rest-init : goal.loop-rest-init
@@ -13,9 +13,7 @@ loop-rest-init g c = record {
 
 -- the next cells of a run are one
 pub add_some-requires : goal.add_some-requires
-add_some-requires g c = record {
-  run = front_run c.split_at.result.0.now c.split_at.result.1.now (subst IsRun c.split_at.ensures.by_index.0 c.loop-rest.invariant.run);
-}
+add_some-requires g c = search (rules, arith, front_run)
 
 -- some more rows are added
 pub loop-rest-preserved : goal.loop-rest-preserved
@@ -47,6 +45,5 @@ returns-in_err-add_some g c =
 pub returns : goal.returns
 returns g c =
     let rest = c.loop-rest.rest.now in
-    let empty : c.is_empty.result ≡ true = search (rules, c.loop-rest-test.false) in
-    let zero : length rest ≡ 0 = eqb-true (length rest) 0 (sym c.is_empty.ensures ∙ empty) in
-    record { did = HasWrittenUpTo-all c.args.run.now rest c.loop-rest.invariant.added (none_left rest zero) }
+    let zero : length rest ≡ 0 = eqb-true (length rest) 0 (sym c.is_empty.ensures ∙ (search (rules, c.loop-rest-test.false))) in
+    record { did = HasWrittenUpTo-all c.args.run.now rest c.loop-rest.invariant.added (nil_from_length rest zero) }

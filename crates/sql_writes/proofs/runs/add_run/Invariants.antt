@@ -1,6 +1,5 @@
 -- The rows of the cells before those that are left are added so far, and those that are left are a run. Each step leaves fewer.
-use Rattle.std.proofs.Common.{length}
-use Rattle.std.specs.Prelude.{⊤}
+use Rattle.std.specs.Prelude.{⊤, length}
 use Rattle.sql_writes.specs.Runs.{HasWrittenUpTo, IsRun, adds_each}
 use Rattle.sql_writes.proofs.runs.add_run.Given as goal
 

@@ -1,7 +1,7 @@
 -- A week of a run whose cells are new has none of its nights.
 use Rattle.std.proofs.Common.{◌≡◌, ◌++◌, length, ap, arith, rules}
 use Rattle.sql_writes.proofs.Doing.{open_like, open_of}
-use Rattle.sql_writes.proofs.RunWeeks.{week_lacks, week_rows}
+use Rattle.sql_writes.proofs.RunWrites.{week_lacks, week_rows}
 use Rattle.sql_writes.proofs.runs.add_some.Goals as goal
 
 pub returns-then-is_week : goal.returns-then-is_week

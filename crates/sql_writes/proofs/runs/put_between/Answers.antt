@@ -1,5 +1,5 @@
 -- After the UPDATE all cells have their places, or none of them has a row, or each is put.
-use Rattle.std.proofs.Common.{◌≡◌, ◌∙◌, length, sym, arith, rules}
+use Rattle.std.proofs.Common.{◌≡◌, ◌∙◌, sym, arith, rules}
 use Rattle.sql_writes.proofs.Doing.{did_as, did_fail, did_then}
 use Rattle.sql_writes.proofs.RunLemmas.{all_known, none_known, put_given, added_given, apart_given, short_given}
 use Rattle.sql_writes.proofs.runs.put_between.Goals as goal
@@ -8,15 +8,13 @@ use Rattle.sql_writes.proofs.runs.put_between.Goals as goal
 pub returns-then-are_known-clause-did : goal.returns-then-are_known-clause-did
 returns-then-are_known-clause-did g c =
     let run = c.args.run.now in
-    let first = c.args.first.now in
     let last = c.args.last.now in
-    let all : c.in_ok-known.known ≡ length run = search rules in
     let set = c.in_ok-known.ensures in
     did_as set.did
     (λ clean t may apart. (
       tt,
-      all_known run first last c.requires.first c.requires.last c.requires.run c.night.result c.night.ensures t apart
-          (sym (set.known clean t may) ∙ all),
+      all_known run c.args.first.now last c.requires.first c.requires.last c.requires.run c.night.result c.night.ensures t apart
+          (sym (set.known clean t may) ∙ (search rules)),
     )) (omega arith)
 
 -- none had one, and each is added

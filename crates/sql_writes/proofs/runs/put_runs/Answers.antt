@@ -1,7 +1,8 @@
 use Rattle.std.proofs.Common.{◌≡◌, true, eqb-true, ◌∙◌, length, sym, ap, refl, rules}
+use Rattle.std.proofs.lemmas.List.{nil_from_length}
 use Rattle.sql_writes.proofs.Doing.{open_then_fail}
-use Rattle.sql_writes.proofs.LoadLemmas.{apart-each, short_each, put_each-append}
-use Rattle.sql_writes.proofs.RunWrites.{run_fits, none_left, short-append, HasWrittenUpTo-none, HasWrittenUpTo-some, HasWrittenUpTo-all}
+use Rattle.sql_writes.proofs.RunLemmas.{apart-each, short_each, put_each-append}
+use Rattle.sql_writes.proofs.RunWrites.{run_fits, short-append, HasWrittenUpTo-none, HasWrittenUpTo-some, HasWrittenUpTo-all}
 use Rattle.sql_writes.proofs.runs.put_runs.Goals as goal
 
 pub loop-rest-init : goal.loop-rest-init
@@ -42,4 +43,4 @@ returns g c =
     let rest = c.loop-rest.rest.now in
     let empty : c.is_empty.result ≡ true = search (rules, c.loop-rest-test.false) in
     let zero : length rest ≡ 0 = eqb-true (length rest) 0 (sym c.is_empty.ensures ∙ empty) in
-    record { did = HasWrittenUpTo-all c.args.cells.now rest c.loop-rest.invariant.put (none_left rest zero) }
+    record { did = HasWrittenUpTo-all c.args.cells.now rest c.loop-rest.invariant.put (nil_from_length rest zero) }

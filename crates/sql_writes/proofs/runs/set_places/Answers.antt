@@ -1,7 +1,6 @@
 -- The nights of the range are those of the product, up to the last one.
-use Rattle.std.proofs.Common.{IsTrue, ◌≡◌, subst, arith, rules, IfOk}
+use Rattle.std.proofs.Common.{◌≡◌, subst, arith, rules, IfOk}
 use Rattle.allotment.specs.Cells.{kind_number}
-use Rattle.allotment.specs.Limits.{is_code}
 use Rattle.desk_sql.specs.declared.stock.NightRange.{NightRange}
 use Rattle.sql_writes.proofs.Doing.{did_like, numbered}
 use Rattle.sql_writes.proofs.Permitting.{codes_short}
@@ -19,11 +18,9 @@ returns-clause-did g c =
     let to : range.last ≡ c.args.last = search rules in
     let allot : c.from-4.result ≡ first.1.allot = search rules in
     let free : c.from-5.result ≡ first.1.free = search rules in
-    let within = first.1.within in
-    let set = c.set_nights.ensures in
-    did_like (numbered set.writes (λ _ it. it))
+    did_like (numbered c.set_nights.ensures.writes (λ _ it. it))
     (λ t _. (tt, same_nights range first c.args.last c.from-4.result c.from-5.result t kind supplier product from to allot free))
-    (λ t cells. record { free_is = omega (arith, within, allot, free); short = short_nights range t cells }) (omega arith)
+    (λ t cells. record { free_is = omega (arith, first.1.within, allot, free); short = short_nights range t cells }) (omega arith)
 
 -- the rows are counted
 pub returns-clause-known : goal.returns-clause-known
@@ -39,7 +36,4 @@ returns-clause-known g c clean t may =
     (c.set_nights.ensures.count clean t may)
 
 pub returns-clause-short : goal.returns-clause-short
-returns-clause-short g c =
-    codes_short c.args.first.now.0.supplier c.args.first.now.0.product
-    (subst (λ text. IsTrue (is_code text)) c.supplier-supplier.ensures c.as_str.ensures.limits)
-    (subst (λ text. IsTrue (is_code text)) c.product-product.ensures c.as_str-2.ensures.limits)
+returns-clause-short g c = grind (arith, codes_short)

@@ -1,9 +1,8 @@
 -- The words are the line cut at its blanks, so a reply that is found by the words is found by the line.
-use Rattle.std.proofs.Common.{arith, ◌≡◌}
+use Rattle.std.proofs.Common.{arith}
 use Rattle.std.proofs.lemmas.Iterator.Consumers.{map_from_collect}
 use Rattle.std.proofs.lemmas.Iterator.Splits.{YieldsList-from_str_split}
 use Rattle.std.proofs.lemmas.Result.{IfOk-at_ok}
-use Rattle.allotment.specs.Texts.{parts, blank}
 use Rattle.commands.specs.Readings.{texts_of}
 use Rattle.commands.proofs.LineLemmas.{found_by_words}
 use Rattle.commands.proofs.OneLineLemmas.{found_is_read}
@@ -18,7 +17,6 @@ returns c =
     let yields =
     YieldsList-from_str_split 32 text (omega arith) split.text split.has_more split.pattern in
     let collected = map_from_collect _ c.collect.ensures.ran yields in
-    let cut : texts_of words ≡ parts blank text = IfOk-at_ok _ c.in_ok-words.was collected in
     let told = rw c.deref.ensures.value at c.reply_in.ensures.found in
-    let found = found_by_words text (texts_of words) c.reply_in.result cut told in
+    let found = found_by_words text (texts_of words) c.reply_in.result (IfOk-at_ok _ c.in_ok-words.was collected) told in
     record { found = found; reads = found_is_read text c.reply_in.result found }

@@ -1,11 +1,62 @@
 -- Each step goes on where the one before ended.
-use Rattle.std.proofs.Common.{◌≡◌, ◌∙◌, ap, sym, subst, drop, arith, length-drop, Err}
+use Rattle.std.proofs.Common.{◌≡◌, ◌∙◌, ap, sym, subst, drop, arith, length-drop, Err, ℕ, ◌+◌, ◌≤◌, List, [], ◌++◌, length, inl, inr, append-nil, drop-drop}
 use Rattle.std.proofs.lemmas.List.{take_rest}
 use Rattle.std.proofs.lemmas.Result.{err_from_is_err_and}
-use Rattle.http_messages.specs.declared.bodies.BodyFault.TheVariants.{Malformed, TooLarge}
-use Rattle.http_messages.specs.Bodies.{Ends, Exceeds, Goes, Moves, NeverEnds}
-use Rattle.http_messages.proofs.ReadLemmas.{ends_more, goes_more, moves_more, moves_none, never_more}
+use Rattle.http_messages.specs.Bodies.{Ends, Exceeds, Goes, Moves, NeverEnds, Awaits, Reading}
 use Rattle.http_messages.proofs.bodies.BodyReader.read.Goals as goal
+use Rattle.http1.specs.Decoder.{AwaitsTrailers}
+
+-- nothing was used yet
+moves_none : (r : Reading) (input : List ℕ) → Moves r input r 0
+moves_none r input = grind arith
+
+module _ (a b : Reading) (input : List ℕ) (m : ℕ) (first : Moves a input b m) where
+  -- the bytes after both parts
+  after : (n : ℕ) → drop n (drop m input) ≡ drop (m + n) input
+  after n = drop-drop n m input
+
+  -- so many bytes were used, and then so many more
+  inside : (n : ℕ) → n ≤ length (drop m input) → m + n ≤ length input
+  inside n less = omega (arith, less, first.within, length-drop m input)
+
+  moves_more : (c : Reading) (n : ℕ) → Moves b (drop m input) c n → Moves a input c (m + n)
+  moves_more c n second = record {
+    within = inside n second.within;
+    back = λ more body rest waits. first.back more body rest
+        (second.back more body rest (subst (λ left. Awaits c (left ++ more) body rest) (sym (after n)) waits));
+    forth = λ more body rest waits. subst (λ left. Awaits c (left ++ more) body rest) (after n)
+        (second.forth more body rest (first.forth more body rest waits));
+    exceeds = λ past. first.exceeds (second.exceeds (subst (λ left. Exceeds c left) (sym (after n)) past));
+  }
+
+  -- and the rest does not suffice
+  goes_more : (c : Reading) (n : ℕ) → Goes b (drop m input) c n → Goes a input c (m + n)
+  goes_more c n second = record {
+    moves = moves_more c n second.moves;
+    used = elim second.used [
+      | inl all ↦ inl (omega (arith, all, first.within, length-drop m input))
+      | inr trailers ↦ inr (subst (λ left. AwaitsTrailers c.waits (length left)) (after n) trailers)
+    ];
+    unfinished = λ body rest waits. second.unfinished body rest (bare (first.forth [] body rest (full waits)));
+  }
+    where
+      full : {body rest : List ℕ} → Awaits a input body rest → Awaits a (input ++ []) body rest
+      full {body} {rest} waits = subst (λ s. Awaits a s body rest) (sym (append-nil input)) waits
+
+      bare : {body rest : List ℕ} → Awaits b (drop m input ++ []) body rest → Awaits b (drop m input) body rest
+      bare {body} {rest} waits = subst (λ s. Awaits b s body rest) (append-nil (drop m input)) waits
+
+  -- and the body ends
+  ends_more : (c : Reading) (n : ℕ) → Ends b (drop m input) c n → Ends a input c (m + n)
+  ends_more c n second = record {
+    within = inside n second.within;
+    whole = λ more. first.back more c.body (drop (m + n) input ++ more)
+        (subst (λ left. Awaits b (drop m input ++ more) c.body (left ++ more)) (after n) (second.whole more));
+  }
+
+  -- and no body begins so
+  never_more : NeverEnds b (drop m input) → NeverEnds a input
+  never_more never more body rest waits = never more body rest (first.forth more body rest waits)
 
 -- nothing was used
 pub loop-count-init : goal.loop-count-init
@@ -44,33 +95,17 @@ loop-count-preserved c =
 
 -- fewer bytes are left
 pub loop-count-smaller : goal.loop-count-smaller
-loop-count-smaller c =
-    let before = c.loop-count.self in
-    let input = c.args.input.now in
-    let used = c.loop-count.used in
-    let count = c.in-Took.count in
-    let found = rw c.in-Took.is at c.in_ok-count.ensures.steps in
-    let took : Moves before (drop used input) c.step.new.self count =
-    subst (λ given. Moves before given c.step.new.self count) (take_rest input used) found.1 in
-    omega (arith, found.0, took.within, c.loop-count.invariant.within, length-drop used input)
+loop-count-smaller c = grind (arith, take_rest, length-drop)
 
 -- what is too large now was so from the beginning
 pub returns-in_err-count-clause-too_large : goal.returns-in_err-count-clause-too_large
-returns-in_err-count-clause-too_large c large =
-    let before = c.loop-count.self in
-    let failed = err_from_is_err_and c.from_residual.result c.from_residual.ensures.1 in
-    let both = sym failed.1 ∙ large in
-    let is : failed.0 ≡ TooLarge = cc in
-    c.loop-count.invariant.exceeds (subst (λ given. Exceeds before given) (take_rest c.args.input.now c.loop-count.used)
-    (c.in_err-count.ensures.too_large (ap Err (sym failed.2 ∙ is))))
+returns-in_err-count-clause-too_large c large = grind (arith, err_from_is_err_and, take_rest)
 
 -- what never ends now never ended
 pub returns-in_err-count-clause-malformed : goal.returns-in_err-count-clause-malformed
 returns-in_err-count-clause-malformed c bad =
     let before = c.loop-count.self in
     let failed = err_from_is_err_and c.from_residual.result c.from_residual.ensures.1 in
-    let both = sym failed.1 ∙ bad in
-    let is : failed.0 ≡ Malformed = cc in
     never_more c.args.self.now before c.args.input.now c.loop-count.used c.loop-count.invariant
     (subst (λ given. NeverEnds before given) (take_rest c.args.input.now c.loop-count.used)
-    (c.in_err-count.ensures.malformed (ap Err (sym failed.2 ∙ is))))
+    (c.in_err-count.ensures.malformed (ap Err (sym failed.2 ∙ cc))))

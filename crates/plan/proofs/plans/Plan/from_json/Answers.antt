@@ -13,14 +13,11 @@ use Rattle.plan.proofs.plans.Plan.from_json.Goals.{then-last-eq0-via-then-last-e
 
 -- it has not the shape of a plan
 pub returns-in_default-clause-refused : goal.returns-in_default-clause-refused
-returns-in_default-clause-refused c =
-    json_unshaped (view c.args.value.now) c.in_default.ensures.steps ∙ ap Err (sym c.bad.ensures.bad)
+returns-in_default-clause-refused c = cc (json_unshaped (view c.args.value.now) c.in_default.ensures.steps)
 
 -- it has no tries
 pub returns-in_default-plan_tries-clause-refused : goal.returns-in_default-plan_tries-clause-refused
-returns-in_default-plan_tries-clause-refused c =
-    json_no_tries (view c.args.value.now) c.in-Some.values.now c.in-Some.ensures.steps c.in_default-plan_tries.ensures.tries
-    ∙ ap Err (sym c.bad-in_default-plan_tries.ensures.bad)
+returns-in_default-plan_tries-clause-refused c = grind (arith, json_no_tries)
 
 -- it has no step, or more than a plan may
 pub returns-then-last-eq0-clause-refused : goal.returns-then-last-eq0-clause-refused
@@ -47,11 +44,7 @@ returns-in_err-steps-clause-refused c =
 
 -- the fault of a step names a step up to the last
 pub returns-in_err-steps-clause-step : goal.returns-in_err-steps-clause-step
-returns-in_err-steps-clause-step c =
-    let p = err_from_is_err_and c.from_residual.result c.from_residual.ensures.1 in
-    rw (p.1, p.2)
-    (IfBad-weaker c.in_err-steps.field-0.0 _ _ (λ bad same. json_fault_step (view c.args.value.now) bad same)
-    (rw (p.1, p.2) at (returns-in_err-steps-clause-refused c)))
+returns-in_err-steps-clause-step c = grind (arith, err_from_is_err_and, json_fault_step, returns-in_err-steps-clause-refused)
 
 -- what is read keeps the limits
 pub invariant_of-result : goal.invariant_of-result

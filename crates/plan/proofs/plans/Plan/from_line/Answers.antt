@@ -1,4 +1,4 @@
-use Rattle.std.proofs.Common.{◌≡◌, sym, ap, ◌∙◌, Ok, Err}
+use Rattle.std.proofs.Common.{◌≡◌, Ok, Err, arith}
 use Rattle.std.proofs.lemmas.Result.{err_from_is_err_and}
 use Rattle.plan.specs.PlanModel.{plan_said}
 use Rattle.plan.specs.PlanLine.{plan_in}
@@ -10,15 +10,11 @@ use Rattle.plan.proofs.plans.Plan.from_line.Goals as goal
 
 -- the line ends in no tries
 pub returns-in_default-clause-refused : goal.returns-in_default-clause-refused
-returns-in_default-clause-refused c =
-    line_no_tries c.args.text.now c.in_default.ensures.none ∙ ap Err (sym c.bad.ensures.bad)
+returns-in_default-clause-refused c = cc (line_no_tries c.args.text.now c.in_default.ensures.none)
 
 -- it has more steps than a plan may
 pub returns-then-count-gt-MOST_STEPS-clause-refused : goal.returns-then-count-gt-MOST_STEPS-clause-refused
-returns-then-count-gt-MOST_STEPS-clause-refused c =
-    line_too_long c.args.text.now c.in-Some.front.now c.in-Some.tries c.count_steps-count.result
-    c.in-Some.ensures.rest c.in-Some.ensures.tries c.count_steps-count.ensures.count c.if-count-gt-MOST_STEPS.true
-    ∙ ap Err (sym c.bad-then-count-gt-MOST_STEPS.ensures.bad)
+returns-then-count-gt-MOST_STEPS-clause-refused c = grind (arith, line_too_long)
 
 -- a step has a fault
 pub returns-in_err-steps-clause-refused : goal.returns-in_err-steps-clause-refused
@@ -32,11 +28,7 @@ returns-in_err-steps-clause-refused c =
 
 -- the fault of a step names a step up to the last
 pub returns-in_err-steps-clause-step : goal.returns-in_err-steps-clause-step
-returns-in_err-steps-clause-step c =
-    let p = err_from_is_err_and c.from_residual.result c.from_residual.ensures.1 in
-    rw (p.1, p.2)
-    (IfBad-weaker c.in_err-steps.field-0.0 _ _ (λ bad same. fault_step c.args.text.now bad same)
-    (rw (p.1, p.2) at (returns-in_err-steps-clause-refused c)))
+returns-in_err-steps-clause-step c = grind (arith, err_from_is_err_and, fault_step, returns-in_err-steps-clause-refused)
 
 -- what is read keeps the limits
 pub invariant_of-result : goal.invariant_of-result

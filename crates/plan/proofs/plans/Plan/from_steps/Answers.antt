@@ -12,8 +12,7 @@ use Rattle.plan.proofs.plans.Plan.from_steps.Goals.{then-count-eq0-via-then-coun
 
 -- there are more than nine tries
 pub returns-then-tries-gt-MOST_TRIES-clause-refused : goal.returns-then-tries-gt-MOST_TRIES-clause-refused
-returns-then-tries-gt-MOST_TRIES-clause-refused c =
-    made_tries (plan_said c.args.steps.items c.args.tries) c.if-tries-gt-MOST_TRIES.true ∙ ap Err (sym c.bad.ensures.bad)
+returns-then-tries-gt-MOST_TRIES-clause-refused c = grind (arith, made_tries)
 
 -- there is no step, or there are more than a plan may have
 pub returns-then-count-eq0-clause-refused : goal.returns-then-count-eq0-clause-refused
@@ -30,15 +29,7 @@ returns-then-count-eq0-clause-refused c =
 
 -- a step does not keep a limit
 pub returns-in_err-check_steps-clause-refused : goal.returns-in_err-check_steps-clause-refused
-returns-in_err-check_steps-clause-refused c =
-    let items = c.args.steps.items in
-    let told : List PlanStep → Type 0 = λ z. steps_kept (length z) (map step_said z) ≡ Err c.in_err-check_steps.field-0.0 in
-    let refused = subst told c.as_slice.ensures.value c.in_err-check_steps.ensures.refused in
-    let p = err_from_is_err_and c.from_residual.result c.from_residual.ensures.1 in
-    rw (p.1, p.2)
-    (made_by_steps (plan_said items c.args.tries) (length items) _ (sym (length-map items step_said))
-    c.if-tries-gt-MOST_TRIES.false (omega (arith, c.if-count-eq0.false, c.len-count.ensures))
-    (omega (arith, c.if-count-gt-MOST_STEPS.false, c.len-count.ensures)) refused)
+returns-in_err-check_steps-clause-refused c = grind (arith, err_from_is_err_and, made_by_steps, length-map)
 
 -- all keep all limits
 pub invariant_of-result : goal.invariant_of-result
@@ -54,10 +45,4 @@ invariant_of-result c =
 
 -- the plan is that of the steps
 pub returns-clause-made : goal.returns-clause-made
-returns-clause-made c =
-    let items = c.args.steps.items in
-    let told : List PlanStep → Type 0 = λ z. steps_kept (length z) (map step_said z) ≡ Ok (map step_said z) in
-    made_by_steps (plan_said items c.args.tries) (length items) _ (sym (length-map items step_said))
-    c.if-tries-gt-MOST_TRIES.false (omega (arith, c.if-count-eq0.false, c.len-count.ensures))
-    (omega (arith, c.if-count-gt-MOST_STEPS.false, c.len-count.ensures))
-    (subst told c.as_slice.ensures.value c.in_ok-check_steps.ensures.kept)
+returns-clause-made c = grind (arith, made_by_steps, length-map)

@@ -1,5 +1,4 @@
-use Rattle.std.proofs.Common.{ap, sym, option_map, false}
-use Rattle.std.specs.Prelude.{unwrap_or}
+use Rattle.std.proofs.Common.{ap, sym, option_map, false, unwrap_or}
 use Rattle.plan.specs.PlanModel.{StepPlan}
 use Rattle.plan.proofs.StepLemmas.{step_read}
 use Rattle.plan.proofs.plans.Plan.marked.Goals as goal

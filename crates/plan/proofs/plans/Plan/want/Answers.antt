@@ -1,5 +1,4 @@
-use Rattle.std.proofs.Common.{◌≤◌, ap, ◌∙◌, length, arith, option_map, option_and_then}
-use Rattle.std.specs.Prelude.{unwrap_or}
+use Rattle.std.proofs.Common.{◌≤◌, ap, ◌∙◌, length, arith, option_map, option_and_then, unwrap_or}
 use Rattle.plan.specs.PlanModel.{StepPlan, numbered}
 use Rattle.plan.proofs.StepLemmas.{step_read, numbered_read}
 use Rattle.plan.proofs.plans.Plan.want.Goals as goal
@@ -17,9 +16,8 @@ pub returns : goal.returns
 returns c =
     let step = step_read c.self.inside.steps.items c.self.inside.tries c.args.step c.args.self.now c.index.result.now
     c.self.view_is c.requires.step_from_one c.requires.step_in_plan c.index.ensures in
-    let many = ap (λ s. unwrap_or (option_map (λ (s : StepPlan). length s.options) s) 0) step in
     let within : c.args.option ≤ length c.index.result.now.options.items =
-    omega (arith, many, c.requires.option_in_step) in
+    omega (arith, ap (λ s. unwrap_or (option_map (λ (s : StepPlan). length s.options) s) 0) step, c.requires.option_in_step) in
     record {
       want = ap (option_and_then (λ (s : StepPlan). numbered s.options c.args.option)) step
           ∙ numbered_read c.index.result.now.options.items c.args.option c.index-2.result.now
