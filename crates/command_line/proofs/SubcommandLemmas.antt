@@ -1,5 +1,6 @@
 -- A command to which the values of a subcommand were added reads them, and each parse has them all.
 use Rattle.std.proofs.Common.{◌≡◌, ◌∙◌, ◌<◌, ◌⊎◌, ℕ, Bor, Some, zero, suc, Bool, true, false, not, List, [], ◌∷◌, map, length, codes, sym, ap, refl, inl, inr, arith, subst, ◌||◌, ◌&&◌, bytes_eq, if◌then◌else◌}
+use Rattle.std.proofs.lemmas.Bool.{or_parts, and_parts, not-true}
 use Rattle.std.specs.List.{All, list_all, list_any, slice_index_or}
 use Rattle.clap.specs.Words.{App, Rule, Text, first_of, matches_of, rows_of, AddsArg, AddsInTurn, app_of, args_of, groups_of, first_value, found_of, rule_of}
 use Rattle.clap.specs.Built.{FitsChain, HasDistinctIds}
@@ -44,33 +45,21 @@ is_own id = has_any id && not (bytes_eq id (codes "help") || bytes_eq id (codes 
 abbrev pub fit_together : List Text → Bool
 fit_together ids = list_all is_own ids && differ ids
 
-neither : (a b : Bool) → (a || b) ≡ false → (a ≡ false) × (b ≡ false)
-neither true b e = cc
-neither false b e = (refl, e)
-
-both : (a b : Bool) → (a && b) ≡ true → (a ≡ true) × (b ≡ true)
-both true b e = (refl, e)
-both false b e = cc
-
-denied : (a : Bool) → not a ≡ true → a ≡ false
-denied true e = cc
-denied false e = refl
-
 -- a test that fails on each name fails on each value
 none_passes : (p : Text → Bool) (xs : List Arg) (k : ℕ) (d : Arg) → list_any p (ids_in (map rule_of xs)) ≡ false
     → k < length xs → p (slice_index_or xs k d).id.now ≡ false
 none_passes p [] k d none lt = absurd (omega arith)
-none_passes p (x ∷ xs) zero d none lt = (neither (p x.id.now) (list_any p (ids_in (map rule_of xs))) none).0
+none_passes p (x ∷ xs) zero d none lt = (or_parts (p x.id.now) (list_any p (ids_in (map rule_of xs))) none).0
 none_passes p (x ∷ xs) (suc k) d none lt =
-    none_passes p xs k d (neither (p x.id.now) (list_any p (ids_in (map rule_of xs))) none).1 (omega arith)
+    none_passes p xs k d (or_parts (p x.id.now) (list_any p (ids_in (map rule_of xs))) none).1 (omega arith)
 
 -- a test that passes on each name passes on each value
 each_passes : (p : Text → Bool) (xs : List Arg) (k : ℕ) (d : Arg) → list_all p (ids_in (map rule_of xs)) ≡ true
     → k < length xs → p (slice_index_or xs k d).id.now ≡ true
 each_passes p [] k d all lt = absurd (omega arith)
-each_passes p (x ∷ xs) zero d all lt = (both (p x.id.now) (list_all p (ids_in (map rule_of xs))) all).0
+each_passes p (x ∷ xs) zero d all lt = (and_parts (p x.id.now) (list_all p (ids_in (map rule_of xs))) all).0
 each_passes p (x ∷ xs) (suc k) d all lt =
-    each_passes p xs k d (both (p x.id.now) (list_all p (ids_in (map rule_of xs))) all).1 (omega arith)
+    each_passes p xs k d (and_parts (p x.id.now) (list_all p (ids_in (map rule_of xs))) all).1 (omega arith)
 
 -- a value differs by its name from the later ones, which differ from each other
 apart_from_later : (x : Arg) (xs : List Arg) → list_any (is_same x.id.now) (ids_in (map rule_of xs)) ≡ false
@@ -79,7 +68,7 @@ apart_from_later x xs none later = λ j k d e in_j in_k same. at j k d e in_j in
   where
     apart : (k : ℕ) (d : Arg) → k < length xs
         → (bytes_eq (slice_index_or xs k d).id.now x.id.now ≡ false) × (bytes_eq x.id.now (slice_index_or xs k d).id.now ≡ false)
-    apart k d lt = neither (bytes_eq (slice_index_or xs k d).id.now x.id.now) (bytes_eq x.id.now (slice_index_or xs k d).id.now)
+    apart k d lt = or_parts (bytes_eq (slice_index_or xs k d).id.now x.id.now) (bytes_eq x.id.now (slice_index_or xs k d).id.now)
         (none_passes (is_same x.id.now) xs k d none lt)
 
     at : (j k : ℕ) (d e : Arg) → j < length (x ∷ xs) → k < length (x ∷ xs)
@@ -93,8 +82,8 @@ apart_from_later x xs none later = λ j k d e in_j in_k same. at j k d e in_j in
 differ_by_id : (xs : List Arg) → differ (ids_in (map rule_of xs)) ≡ true → HasDistinctIds xs
 differ_by_id [] all = λ j k d e in_j in_k same. absurd (omega arith)
 differ_by_id (x ∷ xs) all =
-    let parts = both (not (list_any (is_same x.id.now) (ids_in (map rule_of xs)))) (differ (ids_in (map rule_of xs))) all in
-    apart_from_later x xs (denied (list_any (is_same x.id.now) (ids_in (map rule_of xs))) parts.0) (differ_by_id xs parts.1)
+    let parts = and_parts (not (list_any (is_same x.id.now) (ids_in (map rule_of xs)))) (differ (ids_in (map rule_of xs))) all in
+    apart_from_later x xs (not-true (list_any (is_same x.id.now) (ids_in (map rule_of xs))) parts.0) (differ_by_id xs parts.1)
 
 -- such a name is not empty, and clap adds no argument of that name
 own_fits : (id : Text) → is_own id ≡ true
@@ -138,7 +127,7 @@ all_required : (start cmd : Command) (xs : List Arg) → AddsInTurn AddsArg star
     → All IsWord xs → fit_together (ids_in (map rule_of xs)) ≡ true → All (Requires cmd) (needed_in (map rule_of xs))
 all_required start cmd xs chain args groups globals negates values good =
     let ids = ids_in (map rule_of xs) in
-    let tests = both (list_all is_own ids) (differ ids) good in
+    let tests = and_parts (list_all is_own ids) (differ ids) good in
     needed_have (Requires cmd) xs (λ k d lt is m parsed.
     let word = values k d lt in
     let here = word.needed is in
@@ -191,7 +180,7 @@ pub flag_word : (x : Arg) → IsFlag x → IsWord x
 flag_word x here = record { plain = here.plain; global = here.global; needed = λ is. absurd (not_required is) }
   where
     not_required : x.required ≡ true → ⊥
-    not_required is = let both : true ≡ false = sym is ∙ here.required in cc
+    not_required is = let and_parts : true ≡ false = sym is ∙ here.required in cc
 
 -- no value
 no_value : All IsWord []

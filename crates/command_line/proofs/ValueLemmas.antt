@@ -1,22 +1,10 @@
 -- A value that spells nothing makes the values that ask for cells bad, wherever it stands among them. For cells_in and others.
 use Rattle.std.proofs.Common.{◌≡◌, ◌∙◌, ap, codes, refl, Option, Bool, true, false, ◌||◌, is_none}
+use Rattle.std.proofs.lemmas.Bool.{or_left, or_right}
 use Rattle.clap.specs.Words.{Text}
 use Rattle.allotment.specs.Nights.{night_in}
 use Rattle.allotment.specs.Texts.{kind_of_word}
 use Rattle.command_line.specs.Filters.{code_named, has_bad_cells, spelled}
-
-or_true : (a : Bool) → (a || true) ≡ true
-or_true true = refl
-or_true false = refl
-
-pub none_bad : (a b : Bool) → a ≡ false → b ≡ false → (a || b) ≡ false
-none_bad a b first second = ap (λ x. x || b) first ∙ second
-
-pub first_bad : (a b : Bool) → a ≡ true → (a || b) ≡ true
-first_bad a b first = ap (λ x. x || b) first
-
-pub later_bad : (a b : Bool) → b ≡ true → (a || b) ≡ true
-later_bad a b later = ap (λ x. a || x) later ∙ or_true a
 
 -- each value that asks for cells may be the bad one
 module _ (v : Text → Option Text) where
@@ -36,22 +24,22 @@ module _ (v : Text → Option Text) where
   to_bad = is_none (spelled night_in (v (codes "TO")))
 
   pub bad_kind : kind_bad ≡ true → has_bad_cells v ≡ true
-  bad_kind bad = first_bad kind_bad (supplier_bad || (product_bad || (from_bad || to_bad))) bad
+  bad_kind bad = or_left kind_bad (supplier_bad || (product_bad || (from_bad || to_bad))) bad
 
   pub bad_supplier : supplier_bad ≡ true → has_bad_cells v ≡ true
-  bad_supplier bad = later_bad kind_bad (supplier_bad || (product_bad || (from_bad || to_bad))) (first_bad supplier_bad (product_bad || (from_bad || to_bad)) bad)
+  bad_supplier bad = or_right kind_bad (supplier_bad || (product_bad || (from_bad || to_bad))) (or_left supplier_bad (product_bad || (from_bad || to_bad)) bad)
 
   pub bad_product : product_bad ≡ true → has_bad_cells v ≡ true
   bad_product bad =
-      later_bad kind_bad (supplier_bad || (product_bad || (from_bad || to_bad)))
-      (later_bad supplier_bad (product_bad || (from_bad || to_bad)) (first_bad product_bad (from_bad || to_bad) bad))
+      or_right kind_bad (supplier_bad || (product_bad || (from_bad || to_bad)))
+      (or_right supplier_bad (product_bad || (from_bad || to_bad)) (or_left product_bad (from_bad || to_bad) bad))
 
   pub bad_from : from_bad ≡ true → has_bad_cells v ≡ true
   bad_from bad =
-      later_bad kind_bad (supplier_bad || (product_bad || (from_bad || to_bad)))
-      (later_bad supplier_bad (product_bad || (from_bad || to_bad)) (later_bad product_bad (from_bad || to_bad) (first_bad from_bad to_bad bad)))
+      or_right kind_bad (supplier_bad || (product_bad || (from_bad || to_bad)))
+      (or_right supplier_bad (product_bad || (from_bad || to_bad)) (or_right product_bad (from_bad || to_bad) (or_left from_bad to_bad bad)))
 
   pub bad_to : to_bad ≡ true → has_bad_cells v ≡ true
   bad_to bad =
-      later_bad kind_bad (supplier_bad || (product_bad || (from_bad || to_bad)))
-      (later_bad supplier_bad (product_bad || (from_bad || to_bad)) (later_bad product_bad (from_bad || to_bad) (later_bad from_bad to_bad bad)))
+      or_right kind_bad (supplier_bad || (product_bad || (from_bad || to_bad)))
+      (or_right supplier_bad (product_bad || (from_bad || to_bad)) (or_right product_bad (from_bad || to_bad) (or_right from_bad to_bad bad)))

@@ -1,5 +1,4 @@
 pub mod LineLemmas
-pub mod AnswerLemmas
 pub mod ServeLemmas
 pub mod WorldLemmas
 pub mod ReasonLemmas

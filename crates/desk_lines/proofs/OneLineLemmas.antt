@@ -1,5 +1,5 @@
 -- A text makes a request exactly if it is the line of that request. For the law of lines.
-use Rattle.std.proofs.Common.{◌≡◌, ◌∙◌, ap, sym, subst, refl, ℕ, ◌<◌, ◌^◌, ◌==◌, ◌&&◌, not, List, [], ◌∷◌, ◌++◌, Bool, true, false, length, drop, take, take-append-drop, arith, Option, Some, None, Result, Ok, Err, bytes_eq, codes, decimal, nat_le, option_and_then, option_map, IsTrue, if◌then◌else◌}
+use Rattle.std.proofs.Common.{◌≡◌, ◌∙◌, ap, sym, subst, refl, ℕ, ◌<◌, ◌^◌, ◌==◌, not, List, [], ◌∷◌, ◌++◌, Bool, true, false, length, drop, take-append-drop, arith, Option, Some, None, Result, Ok, bytes_eq, codes, decimal, nat_le, option_and_then, option_map, IsTrue, if◌then◌else◌}
 use Rattle.std.specs.Str.Parse.{digits_value}
 use Rattle.std.proofs.lemmas.Bool.{and_from, and_parts, le-leb}
 use Rattle.std.proofs.lemmas.Bool.Decides.{nat_tests}
@@ -14,14 +14,14 @@ use Rattle.allotment.proofs.LawLemmas.{cell_again, cell_read, is_sound}
 use Rattle.allotment.proofs.PlainLemmas.{is_plain, is_plain_byte, letter_plain, code_plain, night_plain}
 use Rattle.allotment.proofs.TestLemmas.{keep_if_some, keep_if_yes, same_bytes}
 use Rattle.plan.specs.PlanModel.{Planned}
-use Rattle.plan.specs.PlanLine.{plan_in, plan_line}
+use Rattle.plan.specs.PlanLine.{plan_in}
 use Rattle.plan.specs.declared.faults.BadPlan.{BadPlan}
 use Rattle.plan.proofs.ReadLemmas.{read_is_spelled}
 use Rattle.plan.proofs.SpellLemmas.{spelled_is_read}
 use Rattle.commands.specs.Batches.{is_batch, is_good_row}
 use Rattle.commands.specs.Limits.{most_events, most_named_position}
 use Rattle.commands.specs.Names.{is_batch_name}
-use Rattle.commands.specs.Request.{Request, Load, Begin, Step, Abort, Stop, Save}
+use Rattle.commands.specs.Request.{Request, Load, Step, Abort, Save}
 use Rattle.commands.specs.Texts.{is_journey, sentence}
 use Rattle.commands.specs.declared.replies.Reply.TheVariants.{Loaded}
 use Rattle.commands.proofs.BlankLemmas.{has_no_blank, number_lacks, parts_joined, words_no_blank}
@@ -67,20 +67,12 @@ four_words a b d e x y z w p q r s = cc
 -- a step of the journey that a word names
 step_read : (verb word : List ℕ) (o : Option ℕ) (request : Request) → verb ≡ codes "step" → journey_in word ≡ o
     → option_map Step o ≡ Some request → IsLineOf (sentence (verb ∷ word ∷ [])) request
-step_read verb word None request says is e = cc
-step_read verb word (Some id) request says is e =
-    let read = number_read 1 most_events word id is in
-    let same : Step id ≡ request = cc in
-    subst (IsLineOf (sentence (verb ∷ word ∷ []))) same (read.0, two_words verb word _ _ says read.1)
+step_read verb word o request says is e = grind (arith, number_read, two_words)
 
 -- a save-point of the journey that a word names
 save_read : (verb word : List ℕ) (o : Option ℕ) (request : Request) → verb ≡ codes "save" → journey_in word ≡ o
     → option_map Save o ≡ Some request → IsLineOf (sentence (verb ∷ word ∷ [])) request
-save_read verb word None request says is e = cc
-save_read verb word (Some id) request says is e =
-    let read = number_read 1 most_events word id is in
-    let same : Save id ≡ request = cc in
-    subst (IsLineOf (sentence (verb ∷ word ∷ []))) same (read.0, two_words verb word _ _ says read.1)
+save_read verb word o request says is e = grind (arith, number_read, two_words)
 
 -- two words make one of these requests
 two_read : (verb word : List ℕ) (request : Request) (step save : Bool)
@@ -88,109 +80,66 @@ two_read : (verb word : List ℕ) (request : Request) (step save : Bool)
     → (if step then option_map Step (journey_in word) else if save then option_map Save (journey_in word) else None)
     ≡ Some request
     → IsLineOf (sentence (verb ∷ word ∷ [])) request
-two_read verb word request true save is other e =
-    step_read verb word (journey_in word) request (same_bytes verb (codes "step") is) refl e
-two_read verb word request false true is other e =
-    save_read verb word (journey_in word) request (same_bytes verb (codes "save") other) refl e
-two_read verb word request false false is other e = cc
+two_read verb word request step save is other e = search (arith, step_read, same_bytes, save_read)
 
 -- a turn of the journey that one word names, to the position that another names
 turn_read : (verb word place : List ℕ) (o p : Option ℕ) (request : Request) → verb ≡ codes "abort"
     → journey_in word ≡ o → position_in place ≡ p
     → abort_of o p ≡ Some request → IsLineOf (sentence (verb ∷ word ∷ place ∷ [])) request
-turn_read verb word place None p request says is at e = cc
-turn_read verb word place (Some id) None request says is at e = cc
-turn_read verb word place (Some id) (Some position) request says is at e =
-    let read = number_read 1 most_events word id is in
-    let target = number_read 0 most_named_position place position at in
-    let same : Abort id position ≡ request = cc in
-    subst (IsLineOf (sentence (verb ∷ word ∷ place ∷ []))) same
-    (and_from _ _ read.0 target.0, three_words verb word place _ _ _ says read.1 target.1)
+turn_read verb word place o p request says is at e = grind (arith, number_read, and_from, three_words)
 
 -- three words make this request
 three_read : (verb word place : List ℕ) (request : Request) (abort : Bool) → bytes_eq verb (codes "abort") ≡ abort
     → (if abort then abort_of (journey_in word) (position_in place) else None) ≡ Some request
     → IsLineOf (sentence (verb ∷ word ∷ place ∷ [])) request
-three_read verb word place request true is e =
-    turn_read verb word place (journey_in word) (position_in place) request (same_bytes verb (codes "abort") is) refl refl e
-three_read verb word place request false is e = cc
+three_read verb word place request abort is e = search (arith, turn_read, same_bytes)
 
 -- one row within its limits is a batch under a good name
 one_row_good : (name : List ℕ) (row : Row) → is_batch_name name ≡ true → is_good_row row ≡ true
     → is_batch name (row ∷ []) ≡ true
-one_row_good name row named good =
-    and_from _ _ (and_from _ _ (and_from _ _ named refl) (and_from _ _ good refl)) refl
+one_row_good name row named good = grind (arith, and_from)
 
 -- a load of the cell and places that words spell, under the name in another
 row_read : (verb name cell places : List ℕ) (n : Option (List ℕ)) (x : Option Cell) (p : Option ℕ) (request : Request)
     → verb ≡ codes "set" → name_in name ≡ n → cell_in cell ≡ x → places_in places ≡ p
     → load_of n (row_of x p) ≡ Some request → IsLineOf (sentence (verb ∷ name ∷ cell ∷ places ∷ [])) request
-row_read verb name cell places None None p request says is of many e = cc
-row_read verb name cell places None (Some x) None request says is of many e = cc
-row_read verb name cell places None (Some x) (Some k) request says is of many e = cc
-row_read verb name cell places (Some n) None p request says is of many e = cc
-row_read verb name cell places (Some n) (Some x) None request says is of many e = cc
-row_read verb name cell places (Some n) (Some x) (Some k) request says is of many e =
-    let named = keep_if_some is_batch_name name n is in
-    let sold = cell_read cell x of in
-    let count = number_read 0 most_places places k many in
-    let row : Row = allotted x k in
-    let few = (and_parts (nat_le 0 k) (nat_le k most_places) count.0).1 in
-    let same : Load n (row ∷ []) ≡ request = cc in
-    subst (IsLineOf (sentence (verb ∷ name ∷ cell ∷ places ∷ []))) same
-    (one_row_good n row named.1 (and_from _ _ sold.0 few), four_words verb name cell places _ _ _ _ says named.0 sold.1 count.1)
+row_read verb name cell places n x p request says is of many e =
+    grind (arith, keep_if_some, cell_read, number_read, and_parts, one_row_good, and_from, four_words)
 
 -- four words make this request
 four_read : (verb name cell places : List ℕ) (request : Request) (set : Bool) → bytes_eq verb (codes "set") ≡ set
     → (if set then load_of (name_in name) (row_of (cell_in cell) (places_in places)) else None) ≡ Some request
     → IsLineOf (sentence (verb ∷ name ∷ cell ∷ places ∷ [])) request
-four_read verb name cell places request true is e =
-    row_read verb name cell places (name_in name) (cell_in cell) (places_in places) request
-    (same_bytes verb (codes "set") is) refl refl refl e
+four_read verb name cell places request true is e = search (arith, row_read, same_bytes)
 four_read verb name cell places request false is e = cc
 
 -- words that make a request are those of its line
 words_read : (words : List (List ℕ)) (request : Request)
     → request_of_words words ≡ Some request → IsLineOf (sentence words) request
-words_read [] request e = cc
-words_read (a ∷ []) request e = cc
-words_read (a ∷ b ∷ []) request e =
-    two_read a b request (bytes_eq a (codes "step")) (bytes_eq a (codes "save")) refl refl e
-words_read (a ∷ b ∷ d ∷ []) request e = three_read a b d request (bytes_eq a (codes "abort")) refl e
-words_read (a ∷ b ∷ d ∷ f ∷ []) request e = four_read a b d f request (bytes_eq a (codes "set")) refl e
-words_read (a ∷ b ∷ d ∷ f ∷ g ∷ words) request e = cc
+words_read words request e = grind (arith, two_read, three_read, four_read)
 
 -- a request that is meant was found
 was_found : (o : Option Request) (request : Request) → found_meaning o ≡ Ok request → o ≡ Some request
-was_found None request e = cc
-was_found (Some found) request e = let same : found ≡ request = cc in ap (λ r. Some r) same
+was_found o request e = grind arith
 
 -- a plan after the word that begins a journey
 plan_read : (text rest : List ℕ) (read : Result Planned BadPlan) (request : Request) → text ≡ begin_word ++ rest
     → plan_in rest ≡ read → begin_meaning read ≡ Ok request → IsLineOf text request
-plan_read text rest (Err fault) request whole is e = cc
-plan_read text rest (Ok plan) request whole is e =
-    let line = read_is_spelled rest plan is in
-    let same : Begin plan ≡ request = cc in
-    subst (IsLineOf text) same (line.keeps_limits, whole ∙ ap (λ t. begin_word ++ t) line.spelled)
+plan_read text rest read request whole is e = grind (arith, read_is_spelled)
 
 -- a text with that prefix is the word and the text after it
 behind_begin : (text : List ℕ) → is_begin text ≡ true → text ≡ begin_word ++ drop (length begin_word) text
-behind_begin text is =
-    let front : begin_word ≡ take (length begin_word) text = same_bytes begin_word (take (length begin_word) text) is in
-    sym (take-append-drop (length begin_word) text) ∙ ap (λ t. t ++ drop (length begin_word) text) (sym front)
+behind_begin text is = grind (arith, same_bytes, take-append-drop)
 
 -- a text that makes a request is its line, whether it begins a journey or not
 meant_by : (text : List ℕ) (request : Request) (begins : Bool) → is_begin text ≡ begins
     → (if begins then begin_meaning (plan_in (drop (length begin_word) text))
     else found_meaning (request_of_words (parts blank text))) ≡ Ok request
     → IsLineOf text request
-meant_by text request true is e =
-    plan_read text (drop (length begin_word) text) (plan_in (drop (length begin_word) text)) request (behind_begin text is) refl e
+meant_by text request true is e = search (arith, plan_read, behind_begin)
 meant_by text request false is e =
-    let again : sentence (parts blank text) ≡ text = join_with_byte-slice_split blank text in
     let found = was_found (request_of_words (parts blank text)) request e in
-    subst (λ t. IsLineOf t request) again (words_read (parts blank text) request found)
+    subst (λ t. IsLineOf t request) (join_with_byte-slice_split blank text) (words_read (parts blank text) request found)
 
 -- the same for each text
 pub meant_is_line : (text : List ℕ) (request : Request) → text_meaning text ≡ Ok request → IsLineOf text request
@@ -208,22 +157,17 @@ append_no_blank (b ∷ x) y front back =
 -- a text of digits, capitals and dashes has no blank
 plain_no_blank : (text : List ℕ) → is_plain text ≡ true → has_no_blank text ≡ true
 plain_no_blank [] plain = refl
-plain_no_blank (b ∷ text) plain =
-    let both = and_parts (is_plain_byte b) (is_plain text) plain in
-    let passes : is_plain_byte b ≡ true = both.0 in
-    let here : not (b == 32) ≡ true = grind (arith, nat_tests) in
-    and_from _ _ here (plain_no_blank text both.1)
+plain_no_blank (b ∷ text) plain = grind (arith, and_parts, is_plain_byte, is_plain, nat_tests, and_from, plain_no_blank text)
 
 -- the text of a cell has no blank
 cell_no_blank : (x : Cell) → is_good_cell x ≡ true → has_no_blank (cell_text x) ≡ true
 cell_no_blank x good =
     let sound = is_sound x good in
     let letter = kind_letter x.kind in
-    let night = night_text x.night in
     append_no_blank letter _ (plain_no_blank letter (letter_plain x.kind))
     (append_no_blank x.supplier _ (plain_no_blank x.supplier (code_plain x.supplier sound.supplier))
     (append_no_blank x.product _ (plain_no_blank x.product (code_plain x.product sound.product))
-    (plain_no_blank night (night_plain x.night sound.night))))
+    (plain_no_blank (night_text x.night) (night_plain x.night sound.night))))
 
 -- the name of a batch has no blank
 name_no_blank : (name : List ℕ) → is_batch_name name ≡ true → has_no_blank name ≡ true
@@ -279,25 +223,9 @@ set_again name x places named sold few =
 -- a batch of one row keeps the limits of its parts
 row_limits : (name : List ℕ) (row : Row) → is_batch name (row ∷ []) ≡ true
     → (is_batch_name name ≡ true) × (is_good_cell row.cell ≡ true) × (nat_le row.places most_places ≡ true)
-row_limits name row good =
-    let all = (and_parts _ true good).0 in
-    let both = and_parts (is_batch_name name && true) (is_good_row row && true) all in
-    let one = and_parts (is_good_cell row.cell) (nat_le row.places most_places) (and_parts (is_good_row row) true both.1).0 in
-    ((and_parts (is_batch_name name) true both.0).0, one.0, one.1)
+row_limits name row good = grind (arith, and_parts)
 
 -- the line of a request means that request
 pub line_is_meant : (text : List ℕ) (request : Request) → IsLineOf text request → text_meaning text ≡ Ok request
-line_is_meant text (Load name []) is = absurd is
-line_is_meant text (Load name (row ∷ [])) is =
-    let limits = row_limits name row is.0 in
-    ap text_meaning is.1 ∙ set_again name row.cell row.places limits.0 limits.1 limits.2
-line_is_meant text (Load name (row ∷ next ∷ rows)) is = absurd is
-line_is_meant text (Begin plan) is =
-    ap text_meaning is.1
-    ∙ ap begin_meaning (spelled_is_read (plan_line plan) plan (record { keeps_limits = is.0; spelled = refl }))
-line_is_meant text (Step id) is = ap text_meaning is.1 ∙ step_again id is.0
-line_is_meant text (Abort id position) is =
-    let both = and_parts (is_journey id) (is_named_position position) is.0 in
-    ap text_meaning is.1 ∙ abort_again id position both.0 both.1
-line_is_meant text (Stop id) is = absurd is
-line_is_meant text (Save id) is = ap text_meaning is.1 ∙ save_again id is.0
+line_is_meant text request is =
+    grind (arith, row_limits, set_again, spelled_is_read, step_again, and_parts, abort_again, save_again)

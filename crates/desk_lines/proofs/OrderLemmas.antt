@@ -1,12 +1,12 @@
 -- The meaning of a line, by what is kept of it, and the number that a word spells. For the order of a line.
-use Rattle.std.proofs.Common.{◌≡◌, ◌≢◌, ◌∙◌, ap, sym, subst, refl, ℕ, List, [], ◌∷◌, Bool, true, false, true≢false, length, arith, None, Err, nat_le}
+use Rattle.std.proofs.Common.{◌≡◌, ◌≢◌, refl, ℕ, List, [], ◌∷◌, Bool, true, false, length, arith, None, Err, nat_le}
 use Rattle.std.specs.Str.{IsUtf8, is_utf8}
 use Rattle.std.proofs.lemmas.Str.{IsUtf8-from_is_utf8, is_utf8-from_IsUtf8}
 use Rattle.std.specs.Borrow.{Bor}
 use Rattle.commands.specs.Readings.{texts_of}
 use Rattle.commands.specs.declared.replies.Refusal.TheVariants.{BadBody}
-use Rattle.desk_lines.specs.Lines.{Meaning, is_readable, longest_line, meaning_in, request_of_words, text_meaning}
-use Rattle.desk_lines.specs.Reading.{Keeps, KeepsWhere}
+use Rattle.desk_lines.specs.Lines.{Meaning, longest_line, meaning_in, request_of_words, text_meaning}
+use Rattle.desk_lines.specs.Reading.{Keeps}
 use Rattle.desk_lines.specs.declared.runs.Line.{Line}
 
 -- Lines.
@@ -16,14 +16,7 @@ kept_text : (line : Line) (text : List ℕ)
     → line.is_long ≡ false
     → Keeps line text
     → (nat_le (length text) longest_line ≡ true) × (line.kept.items ≡ text)
-kept_text line text short kept = go (nat_le (length text) longest_line) refl kept
-  where
-    go : (b : Bool)
-        → nat_le (length text) longest_line ≡ b
-        → KeepsWhere b line text
-        → (nat_le (length text) longest_line ≡ true) × (line.kept.items ≡ text)
-    go true is where_kept = (is, where_kept.1)
-    go false is long = absurd (true≢false (sym long ∙ short))
+kept_text line text short kept = grind arith
 
 -- a text that is not UTF-8 fails the test for UTF-8
 not_utf8 : (text : List ℕ) → (IsUtf8 text → ⊥) → is_utf8 text ≡ false
@@ -39,11 +32,7 @@ pub means_as_text : (line : Line) (read text : List ℕ) (meaning : Meaning)
     → read ≡ line.kept.items
     → IsUtf8 read
     → meaning ≡ text_meaning read → Keeps line text → meaning ≡ meaning_in text
-means_as_text line read text meaning short is utf8 means kept =
-    let facts = kept_text line text short kept in
-    let same : read ≡ text = is ∙ facts.1 in
-    let readable : is_readable text ≡ true = rw (facts.0) (is_utf8-from_IsUtf8 text (subst IsUtf8 same utf8)) in
-    rw readable (means ∙ ap text_meaning same)
+means_as_text line read text meaning short is utf8 means kept = grind (arith, kept_text, is_utf8-from_IsUtf8)
 
 -- a line that is not UTF-8 is malformed
 pub means_no_text : (line : Line) (read text : List ℕ)
@@ -51,11 +40,7 @@ pub means_no_text : (line : Line) (read text : List ℕ)
     → read ≡ line.kept.items
     → (IsUtf8 read → ⊥)
     → Keeps line text → Err BadBody ≡ meaning_in text
-means_no_text line read text short is other kept =
-    let facts = kept_text line text short kept in
-    let same : read ≡ text = is ∙ facts.1 in
-    let unreadable : is_readable text ≡ false = rw (facts.0) (not_utf8 text (λ utf8. other (subst IsUtf8 (sym same) utf8))) in
-    rw unreadable refl
+means_no_text line read text short is other kept = grind (arith, kept_text, not_utf8)
 
 -- Words.
 

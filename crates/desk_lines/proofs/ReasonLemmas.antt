@@ -1,8 +1,7 @@
 -- A book that may act for the lines of an input, one line after another. For run_lines.
-use Rattle.std.proofs.Common.{◌≡◌, ◌∙◌, ap, sym, subst, refl, List, [], ◌∷◌, ◌++◌, ℕ, true, false, append_assoc, append-nil, Option, Some, None, Result, Ok, Err}
+use Rattle.std.proofs.Common.{◌≡◌, ◌∙◌, ap, sym, subst, List, [], ◌∷◌, ◌++◌, ℕ, true, false, append_assoc, append-nil, Option, Some, None, Result, Ok, Err, arith}
 use Rattle.commands.specs.Request.{Request}
 use Rattle.commands.specs.declared.replies.Fault.{Fault}
-use Rattle.commands.specs.declared.replies.Fault.TheVariants as fault
 use Rattle.commands.specs.declared.replies.Reply.{Reply}
 use Rattle.ledger.specs.Answer.{State}
 use Rattle.saga_core.specs.Reasons.{ActsOn, ActsOnAfter, FailsAmong, HasReasonAmong}
@@ -29,8 +28,7 @@ same_fault result handed came is same store = cc
 -- a command that failed had a reason
 pub command_fails : (could can : State → Asks → Type 0) (reason : State → State → Type 0) (request : Request) (came : Fault)
     → ActsOn {T = Reply} could can reason None request (Err came) → served_fault came ≡ Store → FailsAmong could reason (asks_meant (Ok request))
-command_fails could can reason request fault.Store acts is s later may = among_one reason s None request (acts s later may)
-command_fails could can reason request fault.Memory acts is s later may = cc
+command_fails could can reason request came acts is s later may = grind (arith, among_one)
 
 -- Lines.
 
@@ -48,11 +46,7 @@ pub record MayStill (can : State → Asks → Type 0) (s : State) (input : List 
 -- at first no line was answered
 pub may_at_first : (could : State → Asks → Type 0) (s : State) (input : List ℕ) (later : Asks) (u : Unanswered) (known : Option (List ℕ))
     → u.waiting ≡ [] → known ≡ Some input → could s (asks_in (lines input) ++ later) → MayStill could s input (to_come u known) later
-may_at_first could s input later u known nothing is may = record {
-  answered = [];
-  comes = rw (is, nothing) refl;
-  may = rw (is, nothing) may;
-}
+may_at_first could s input later u known nothing is may = grind arith
 
 -- at the end the book may act for the later asks
 pub may_at_end : (can : State → Asks → Type 0) (s : State) (input : List ℕ) (left rest : Option (List ℕ)) (line : Line) (later : Asks)
@@ -80,19 +74,7 @@ may_take : (could : State → Asks → Type 0) (s : State) (input : List ℕ) (l
     → MayStill could s input left later → TakesLine left rest true line → MayTake could s input rest line later
 may_take could s input None rest line later still taken = absurd still.comes
 may_take could s input (Some left) None line later still taken = absurd taken
-may_take could s input (Some left) (Some rest) line later still taken =
-    let at = state_after s (asks_in still.answered) in
-    let asks = asks_meant (meaning_in taken.0) in
-    record {
-      answered = still.answered;
-      text = taken.0;
-      kept = taken.1;
-      left = rest;
-      rest_is = refl;
-      cut = still.comes ∙ ap (λ ls. still.answered ++ ls) taken.2;
-      may = subst (could at) (append_assoc asks (asks_in (lines rest)) later)
-          (subst (λ ls. could at (asks_in ls ++ later)) taken.2 still.may);
-    }
+may_take could s input (Some left) (Some rest) line later still taken = grind (arith, append_assoc)
 
 -- it was answered
 pub may_go_on : (could can : State → Asks → Type 0) (s : State) (input : List ℕ) (left rest : Option (List ℕ)) (line : Line) (later : Asks)

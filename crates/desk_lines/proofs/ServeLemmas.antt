@@ -1,18 +1,17 @@
 -- A run over lines answers one line after another, until the input ends or a fault comes. For run_lines.
-use Rattle.std.proofs.Common.{◌≡◌, ◌∙◌, ap, sym, subst, refl, inl, ◌+◌, List, [], ◌∷◌, ◌++◌, ℕ, true, false, length, take, append_assoc, append-nil, length-append, Option, String, Global, Some, None, Ok, Err}
+use Rattle.std.proofs.Common.{◌≡◌, ◌∙◌, ap, sym, subst, refl, ◌+◌, List, [], ◌∷◌, ◌++◌, ℕ, true, false, length, append_assoc, append-nil, length-append, Option, String, Global, Some, None, Ok, Err, arith}
 use Rattle.std.specs.String.{string_bytes}
 use Rattle.std.specs.Io.KnownBytes.{Appends}
 use Rattle.ledger.specs.Answer.{State}
 use Rattle.desk_lines.specs.Answering.{AnswersLine}
 use Rattle.desk_lines.specs.Lines.{answer_line, answer_lines, lines, state_after_lines, written}
-use Rattle.protocols.specs.Scenes.{ended}
 use Rattle.desk_lines.specs.Reading.{Keeps, TakesLine, Unanswered, to_come}
 use Rattle.protocols.specs.Faults.{IsOfReading}
 use Rattle.streams.specs.Written.{WroteFront}
-use Rattle.protocols.specs.Scenes.{Scene, scene}
-use Rattle.desk_lines.specs.Serving.{AnswersAll, AnswersSome, Leaves, WroteAll}
+use Rattle.protocols.specs.Scenes.{Scene, scene, ended}
+use Rattle.desk_lines.specs.Serving.{AnswersAll, AnswersSome, WroteAll}
 use Rattle.protocols.specs.declared.faults.ServeFault.{ServeFault}
-use Rattle.protocols.specs.declared.faults.ServeFault.TheVariants.{Memory, Read, Store, Write}
+use Rattle.protocols.specs.declared.faults.ServeFault.TheVariants.{Write}
 use Rattle.desk_lines.specs.declared.runs.Line.{Line}
 use Rattle.streams.proofs.ByteLemmas.{appends_more, appends_none, keeps_same}
 
@@ -31,8 +30,7 @@ answers_more s [] line = refl
 answers_more s (l ∷ ls) line = ap (λ texts. (answer_line s l).text ∷ texts) (answers_more (answer_line s l).after ls line)
 
 -- the bytes for one more text
-written_more : (texts : List (List ℕ)) (text : List ℕ)
-    → written (texts ++ text ∷ []) ≡ written texts ++ ended text
+written_more : (texts : List (List ℕ)) (text : List ℕ) → written (texts ++ text ∷ []) ≡ written texts ++ ended text
 written_more [] text = append-nil (ended text)
 written_more (t ∷ texts) text = ap (λ rest. ended t ++ rest) (written_more texts text) ∙ sym (append_assoc (ended t) (written texts) (ended text))
 
@@ -61,49 +59,17 @@ pub record SoFar (x : Scene) (s : State) (input : List ℕ) (left : Option (List
 pub starts : (held : Option (List ℕ)) (stands : State → Type 0) (leaves : State → State → Type 0)
     (s : State) (input : List ℕ) (u : Unanswered)
     (known : Option (List ℕ)) → u.waiting ≡ [] → known ≡ Some input → stands s → SoFar (scene held held stands leaves) s input (to_come u known) 0
-starts held stands leaves s input u known nothing is stood = record {
-  answered = [];
-  sent = appends_none held held (keeps_same held);
-  stands = stood;
-  counted = refl;
-  later = rw (is, nothing) refl;
-}
+starts held stands leaves s input u known nothing is stood = grind (arith, appends_none, keeps_same)
 
 -- a fault of reading comes between two lines
-pub read_fails : (x : Scene) (s : State) (input : List ℕ) (left : Option (List ℕ)) (count : ℕ)
-    (fault : ServeFault)
-    → SoFar x s input left count
-    → IsOfReading fault → AnswersSome x s input fault
-read_fails x s input None count fault so_far of = absurd so_far.later
-read_fails x s input (Some left) count Read so_far of = record {
-  answered = so_far.answered;
-  later = lines left;
-  cut = so_far.later;
-  leaves = (so_far.sent, so_far.stands);
-}
-read_fails x s input (Some left) count Memory so_far of = record {
-  answered = so_far.answered;
-  later = lines left;
-  cut = so_far.later;
-  leaves = (so_far.sent, inl so_far.stands);
-}
-read_fails x s input (Some left) count Store so_far of = absurd of
-read_fails x s input (Some left) count Write so_far of = absurd of
+pub read_fails : (x : Scene) (s : State) (input : List ℕ) (left : Option (List ℕ)) (count : ℕ) (fault : ServeFault)
+    → SoFar x s input left count → IsOfReading fault → AnswersSome x s input fault
+read_fails x s input left count fault so_far of = grind arith
 
 -- where there is no further line, all lines were answered
-pub all_answered : (x : Scene) (s : State) (input : List ℕ) (left rest : Option (List ℕ))
-    (count : ℕ) (line : Line)
-    → SoFar x s input left count
-    → TakesLine left rest false line → AnswersAll x s input count
-all_answered x s input None rest count line so_far taken = absurd so_far.later
-all_answered x s input (Some left) None count line so_far taken = absurd taken
-all_answered x s input (Some left) (Some rest) count line so_far taken =
-    let whole : lines input ≡ so_far.answered = so_far.later ∙ ap (λ ls. so_far.answered ++ ls) taken ∙ append-nil so_far.answered in
-    record {
-      sent = subst (WroteAll x s) (sym whole) so_far.sent;
-      left = subst (λ ls. x.stands (state_after_lines s ls)) (sym whole) so_far.stands;
-      counted = so_far.counted ∙ ap length (sym whole);
-    }
+pub all_answered : (x : Scene) (s : State) (input : List ℕ) (left rest : Option (List ℕ)) (count : ℕ) (line : Line)
+    → SoFar x s input left count → TakesLine left rest false line → AnswersAll x s input count
+all_answered x s input left rest count line so_far taken = grind (arith, append-nil)
 
 -- the next line, and the lines after it
 record HasNext (rest : Option (List ℕ)) (input : List ℕ) (answered : List (List ℕ))
@@ -116,17 +82,8 @@ record HasNext (rest : Option (List ℕ)) (input : List ℕ) (answered : List (L
 
 -- a line that was taken is the next line
 next_of : (x : Scene) (s : State) (input : List ℕ) (left rest : Option (List ℕ)) (count : ℕ)
-    (line : Line) (so_far : SoFar x s input left count)
-    → TakesLine left rest true line → HasNext rest input so_far.answered line
-next_of x s input None rest count line so_far taken = absurd so_far.later
-next_of x s input (Some left) None count line so_far taken = absurd taken
-next_of x s input (Some left) (Some rest) count line so_far taken = record {
-  text = taken.0;
-  kept = taken.1;
-  left = rest;
-  rest_is = refl;
-  cut = so_far.later ∙ ap (λ ls. so_far.answered ++ ls) taken.2;
-}
+    (line : Line) (so_far : SoFar x s input left count) → TakesLine left rest true line → HasNext rest input so_far.answered line
+next_of x s input left rest count line so_far taken = grind arith
 
 -- one more line was answered, and its answer written
 pub goes_on : (held holds now : Option (List ℕ)) (stands0 stands1 : State → Type 0)
@@ -134,8 +91,7 @@ pub goes_on : (held holds now : Option (List ℕ)) (stands0 stands1 : State → 
     (left rest : Option (List ℕ)) (count : ℕ) (line : Line) (answer : String Global)
     → SoFar (scene held holds stands0 leaves0) s input left count → TakesLine left rest true line
     → ((t : State) → stands0 t → (text : List ℕ) → Keeps line text → AnswersLine stands1 leaves1 t {Z = Global} text (Ok answer))
-    → Appends holds now (string_bytes answer)
-    → SoFar (scene held now stands1 leaves1) s input rest (count + 1)
+    → Appends holds now (string_bytes answer) → SoFar (scene held now stands1 leaves1) s input rest (count + 1)
 goes_on held holds now stands0 stands1 leaves0 leaves1 s input left rest count line answer so_far taken told sent =
     let next = next_of (scene held holds stands0 leaves0) s input left rest count line so_far taken in
     let done = so_far.answered in
@@ -157,33 +113,9 @@ pub write_fails : (held holds now : Option (List ℕ)) (stands0 stands1 : State 
     (left rest : Option (List ℕ)) (count : ℕ) (line : Line) (answer : String Global)
     → SoFar (scene held holds stands0 leaves0) s input left count → TakesLine left rest true line
     → ((t : State) → stands0 t → (text : List ℕ) → Keeps line text → AnswersLine stands1 leaves1 t {Z = Global} text (Ok answer))
-    → WroteFront holds now (string_bytes answer)
-    → AnswersSome (scene held now stands1 leaves1) s input Write
+    → WroteFront holds now (string_bytes answer) → AnswersSome (scene held now stands1 leaves1) s input Write
 write_fails held holds now stands0 stands1 leaves0 leaves1 s input left rest count line answer so_far taken told cut =
-    let next = next_of (scene held holds stands0 leaves0) s input left rest count line so_far taken in
-    let done = so_far.answered in
-    let t = state_after_lines s done in
-    let answered = told t so_far.stands next.text next.kept in
-    let text = (answer_line t next.text).text in
-    let front : Appends holds now (take cut.0 (ended text)) = subst (λ bytes. Appends holds now (take cut.0 bytes)) answered.0 cut.1 in
-    record {
-      answered = done;
-      later = next.text ∷ lines next.left;
-      cut = next.cut;
-      leaves = (cut.0, appends_more held holds now (written (answer_lines s done)) (take cut.0 (ended text)) so_far.sent front, answered.1);
-    }
-
--- the state where the answer to a line failed
-answer_leaves : (held holds : Option (List ℕ)) (stands : State → Type 0)
-    (leaves : State → State → Type 0) (s : State) (answered : List (List ℕ))
-    (line : List ℕ) (later : List (List ℕ))
-    (fault : ServeFault) → WroteAll (scene held holds stands leaves) s answered
-    → AnswersLine stands leaves (state_after_lines s answered) {Z = Global} line (Err fault)
-    → Leaves fault (scene held holds stands leaves) s answered (line ∷ later)
-answer_leaves held holds stands leaves s answered line later Memory sent told = (sent, told)
-answer_leaves held holds stands leaves s answered line later Store sent told = (sent, told)
-answer_leaves held holds stands leaves s answered line later Read sent told = absurd told
-answer_leaves held holds stands leaves s answered line later Write sent told = absurd told
+    grind (arith, next_of, appends_more)
 
 -- the line was not answered
 pub answer_fails : (held holds : Option (List ℕ)) (stands0 stands1 : State → Type 0)
@@ -193,12 +125,4 @@ pub answer_fails : (held holds : Option (List ℕ)) (stands0 stands1 : State →
     → ((t : State) → stands0 t → (text : List ℕ) → Keeps line text → AnswersLine stands1 leaves1 t {Z = Global} text (Err fault))
     → AnswersSome (scene held holds stands1 leaves1) s input fault
 answer_fails held holds stands0 stands1 leaves0 leaves1 s input left rest count line fault so_far taken told =
-    let next = next_of (scene held holds stands0 leaves0) s input left rest count line so_far taken in
-    let done = so_far.answered in
-    record {
-      answered = done;
-      later = next.text ∷ lines next.left;
-      cut = next.cut;
-      leaves = answer_leaves held holds stands1 leaves1 s done next.text (lines next.left) fault so_far.sent
-          (told (state_after_lines s done) so_far.stands next.text next.kept);
-    }
+    grind (arith, next_of (scene held holds stands0 leaves0) s input left rest count line so_far taken)

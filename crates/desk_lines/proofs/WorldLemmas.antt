@@ -39,8 +39,7 @@ asked_in_limits : (line : List ℕ) (request : Request) (readable : Bool) → re
     → meaning_in line ≡ Ok request → IsTrue (is_request request)
 asked_in_limits line request true is means =
     line_in_limits line request (meant_is_line line request (readable_means line true is ∙ means))
-asked_in_limits line request false is means =
-    let bad : Err BadBody ≡ Ok request = readable_means line false is ∙ means in cc
+asked_in_limits line request false is means = cc (readable_means line false is)
 
 limits_of : (line : List ℕ) (request : Request) → meaning_in line ≡ Ok request → IsTrue (is_request request)
 limits_of line request = asked_in_limits line request (is_readable line) refl
@@ -48,8 +47,7 @@ limits_of line request = asked_in_limits line request (is_readable line) refl
 -- the requests of lines keep the limits
 meant-in_limits : (m : Meaning) (rest : Asks) → ((request : Request) → m ≡ Ok request → IsTrue (is_request request))
     → KeepLimits rest → KeepLimits (asks_meant m ++ rest)
-meant-in_limits (Ok request) rest limits all = (limits request refl, all)
-meant-in_limits (Err why) rest limits all = all
+meant-in_limits m rest limits all = grind arith
 
 in-limits : (ls : List (List ℕ)) → KeepLimits (asks_in ls)
 in-limits [] = tt
@@ -60,20 +58,16 @@ in-limits (line ∷ ls) = meant-in_limits (meaning_in line) (asks_in ls) (limits
 -- the requests of lines followed by other lines
 pub asks_in-append : (ls ms : List (List ℕ)) → asks_in (ls ++ ms) ≡ asks_in ls ++ asks_in ms
 asks_in-append [] ms = refl
-asks_in-append (line ∷ ls) ms =
-    ap (λ l. asks_meant (meaning_in line) ++ l) (asks_in-append ls ms)
-    ∙ sym (append_assoc (asks_meant (meaning_in line)) (asks_in ls) (asks_in ms))
+asks_in-append (line ∷ ls) ms = grind (arith, append_assoc, asks_in-append ls)
 
 -- one line makes at most one request
 one-meant : (m : Meaning) → length (asks_meant m ++ []) ≤ 1
-one-meant (Ok request) = omega arith
-one-meant (Err why) = omega arith
+one-meant m = grind arith
 
 -- a line leads to the state to which its request leads
 leads-meant : (s : State) (m : Meaning) (rest : Asks)
     → state_after (answer_to s m).after rest ≡ state_after s (asks_meant m ++ rest)
-leads-meant s (Ok request) rest = refl
-leads-meant s (Err why) rest = refl
+leads-meant s m rest = grind arith
 
 leads : (s : State) (ls : List (List ℕ)) → state_after_lines s ls ≡ state_after s (asks_in ls)
 leads s [] = refl
@@ -123,8 +117,7 @@ parted : (input : List ℕ) (answered : List (List ℕ)) (line : List ℕ) (late
     → lines input ≡ answered ++ line ∷ later
     → asks_in (lines input) ≡ asks_in answered ++ asks_in (line ∷ []) ++ asks_in later
 parted input answered line later cut =
-    ap asks_in (one-more input answered line later cut) ∙ asks_in-append (answered ++ line ∷ []) later
-    ∙ ap (λ l. l ++ asks_in later) (asks_in-append answered (line ∷ []))
+    grind (arith, one-more input answered line later, asks_in-append (answered ++ line ∷ []) later, asks_in-append answered)
 
 -- a fault ended the run
 ends_by : {stood : State → Type 0} (x : Scene) (w : List Moment) (input : List ℕ) (fault : ServeFault)

@@ -1,5 +1,5 @@
 //! The line of a holder with its cell and journey, in each format.
-ghost use Rattle.std.specs.Prelude.{◌≡◌, [], ◌∷◌, codes, IfOk, string_bytes};
+ghost use Rattle.std.specs.Prelude.{◌≡◌, [], ◌∷◌, codes, decimal, IfOk, string_bytes};
 ghost use Rattle.allotment.specs.Nights.{night_text};
 ghost use Rattle.allotment.specs.Texts.{kind_word};
 ghost use Rattle.csv.specs.Records.{partial_of};
@@ -15,8 +15,10 @@ use crate::writing::Laid;
 use allotment::Cell;
 use csv::ByteRecord;
 use filters::JourneyState;
-use reports::{Format, csv_line, json_line, night_text, put_field, put_number};
-use serde_json::{Value, json};
+use reports::{
+    Format, csv_line, json_line, night_text, put_field, put_number, put_text, put_whole,
+};
+use serde_json::{Map, Value};
 use std::alloc::{AllocError, Global};
 
 impl Laid for Holding {
@@ -113,23 +115,26 @@ fn holding_value(alloc: Global, holding: &Holding, night: &str) -> Result<Value,
     ensures value { night.now ≡ night_text holding.now.cell.night →
         IfOk result (λ value. view value ≡ holding_data holding.now) }
 {
-    let agent = holding.agent.as_str();
-    let journey = holding.journey;
-    let kind = holding.cell.kind.word();
-    let places = holding.places;
-    let product = holding.cell.product.as_str();
-    let state = holding.state.word();
-    let supplier = holding.cell.supplier.as_str();
-    json!(in alloc; {
-        "agent": agent,
-        "journey": journey,
-        "kind": kind,
-        "night": night,
-        "places": places,
-        "product": product,
-        "state": state,
-        "supplier": supplier
-    })
+    let mut members = Map::new(alloc);
+    put_text(alloc, &mut members, "agent", holding.agent.as_str())?;
+    put_whole(alloc, &mut members, "journey", holding.journey)?;
+    put_text(alloc, &mut members, "kind", holding.cell.kind.word())?;
+    put_text(alloc, &mut members, "night", night)?;
+    put_whole(alloc, &mut members, "places", holding.places)?;
+    put_text(
+        alloc,
+        &mut members,
+        "product",
+        holding.cell.product.as_str(),
+    )?;
+    put_text(alloc, &mut members, "state", holding.state.word())?;
+    put_text(
+        alloc,
+        &mut members,
+        "supplier",
+        holding.cell.supplier.as_str(),
+    )?;
+    Ok(Value::Object(members))
 }
 
 /// The same line as a record.
@@ -139,11 +144,22 @@ fn holding_record(alloc: Global, holding: &Holding) -> Result<Vec<u8>, AllocErro
     let night = night_text(alloc, holding.cell.night)?;
     let mut row = ByteRecord::new(alloc);
     put_cell(&mut row, &holding.cell, night.as_str())?;
-    put_number(alloc, &mut row, holding.journey)?;
-    put_field(&mut row, holding.agent.as_str())?;
-    put_field(&mut row, holding.state.word())?;
-    put_number(alloc, &mut row, holding.places)?;
+    put_holder(alloc, &mut row, holding)?;
     csv_line(alloc, &row)
+}
+
+/// Adds the fields of a holder: journey, agent, state and places.
+fn put_holder(alloc: Global, row: &mut ByteRecord, holding: &Holding) -> Result<(), AllocError>
+    requires whole { partial_of row.old ≡ [] }
+
+    ensures adds { Adds row.old row.new
+        (decimal holding.now.journey ∷ holding.now.agent ∷ state_word holding.now.state
+        ∷ decimal holding.now.places ∷ []) result }
+{
+    put_number(alloc, row, holding.journey)?;
+    put_field(row, holding.agent.as_str())?;
+    put_field(row, holding.state.word())?;
+    put_number(alloc, row, holding.places)
 }
 
 /// Adds the fields of a cell, whose night has this text: night, kind, supplier and product.

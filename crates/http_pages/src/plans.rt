@@ -5,6 +5,7 @@ ghost use Rattle.serde_json.specs.View.{view};
 ghost use Rattle.plan.specs.PlanData.{plan_data, step_data, want_data};
 ghost use Rattle.plan.specs.PlanModel.{StepPlan, numbered, step_count};
 
+use crate::values::{put_text, put_whole};
 use allotment::Want;
 use plan::Plan;
 use serde_json::{Map, Value, put};
@@ -69,32 +70,13 @@ fn wants_value(alloc: Global, plan: &Plan, step: usize) -> Result<Value, AllocEr
 fn want_value(alloc: Global, want: &Want) -> Result<Value, AllocError>
     ensures value { IfOk result (λ value. view value ≡ want_data want.now) }
 {
+    let first = want.first().text(alloc)?;
     let mut members = Map::new(alloc);
-    put(&mut members, alloc, "count", Value::from(want.count()))?;
-    put(
-        &mut members,
-        alloc,
-        "first",
-        Value::String(want.first().text(alloc)?),
-    )?;
-    put(
-        &mut members,
-        alloc,
-        "kind",
-        Value::try_from_str(alloc, want.kind().word())?,
-    )?;
-    put(&mut members, alloc, "nights", Value::from(want.nights()))?;
-    put(
-        &mut members,
-        alloc,
-        "product",
-        Value::try_from_str(alloc, want.product().as_str())?,
-    )?;
-    put(
-        &mut members,
-        alloc,
-        "supplier",
-        Value::try_from_str(alloc, want.supplier().as_str())?,
-    )?;
+    put_whole(alloc, &mut members, "count", u64::from(want.count()))?;
+    put_text(alloc, &mut members, "first", first.as_str())?;
+    put_text(alloc, &mut members, "kind", want.kind().word())?;
+    put_whole(alloc, &mut members, "nights", u64::from(want.nights()))?;
+    put_text(alloc, &mut members, "product", want.product().as_str())?;
+    put_text(alloc, &mut members, "supplier", want.supplier().as_str())?;
     Ok(Value::Object(members))
 }

@@ -1,9 +1,10 @@
 //! Replies, refusals and journeys as JSON values.
 ghost use Rattle.std.specs.Prelude.{◌≡◌, IfOk, OnOk, map};
+ghost use Rattle.serde_json.specs.Data.{string, object, no_members, put};
 ghost use Rattle.serde_json.specs.View.{view, members_view};
-ghost use Rattle.http_pages.specs.Bodies.{item_data, moved_data, refusal_data, reply_data, list};
+ghost use Rattle.http_pages.specs.Bodies.{item_data, moved_data, refusal_data, reply_data, list, whole};
 ghost use Rattle.http_pages.specs.Bodies.{journey_data, brief_data, mine_data, unfinished_data};
-ghost use Rattle.http_pages.specs.Bodies.{agent_data, health_data, stopping_data};
+ghost use Rattle.http_pages.specs.Bodies.{agent_data, begun_data, health_data, loaded_data, stopping_data};
 ghost use Rattle.http_pages.specs.Members.{with_standing};
 
 use crate::bodies::Owners;
@@ -18,8 +19,8 @@ pub fn reply_value(alloc: Global, reply: &Reply) -> Result<Value, AllocError>
     ensures value { IfOk result (λ value. view value ≡ reply_data reply.now) }
 {
     match reply {
-        Reply::Loaded { name, rows } => { json!(in alloc; {"batch": name.as_str(), "rows": *rows}) }
-        Reply::Begun { id } => json!(in alloc; {"journey": *id}),
+        Reply::Loaded { name, rows } => loaded_value(alloc, name.as_str(), *rows),
+        Reply::Begun { id } => begun_value(alloc, *id),
         Reply::Moved {
             id,
             item,
@@ -30,25 +31,56 @@ pub fn reply_value(alloc: Global, reply: &Reply) -> Result<Value, AllocError>
     }
 }
 
+/// The value of a batch that was loaded.
+fn loaded_value(alloc: Global, name: &str, rows: usize) -> Result<Value, AllocError>
+    ensures value { IfOk result (λ value. view value ≡ loaded_data name.now rows) }
+{
+    let mut members = Map::new(alloc);
+    put_text(alloc, &mut members, "batch", name)?;
+    put_whole(alloc, &mut members, "rows", rows as u64)?;
+    Ok(Value::Object(members))
+}
+
+/// The value of a journey that is begun.
+fn begun_value(alloc: Global, id: u64) -> Result<Value, AllocError>
+    ensures value { IfOk result (λ value. view value ≡ begun_data id) }
+{
+    let mut members = Map::new(alloc);
+    put_whole(alloc, &mut members, "journey", id)?;
+    Ok(Value::Object(members))
+}
+
 /// The value of a refusal: its name and number, and its cause, row and step if it has them.
 pub fn refusal_value(alloc: Global, refusal: &Refusal) -> Result<Value, AllocError>
     ensures value { IfOk result (λ value. view value ≡ refusal_data refusal.now) }
 {
-    let name = refusal.name();
-    let number = refusal.number();
+    let mut members = Map::new(alloc);
+    put_refusal(alloc, &mut members, refusal)?;
+    Ok(Value::Object(members))
+}
+
+/// Inserts the members of a refusal, where there are none yet.
+fn put_refusal(
+    alloc: Global,
+    members: &mut Map<String, Value>,
+    refusal: &Refusal,
+) -> Result<(), AllocError>
+    ensures refusal { members_view members.old.entries ≡ no_members →
+        OnOk result (object (members_view members.new.entries) ≡ refusal_data refusal.now) }
+{
+    put_text(alloc, members, "name", refusal.name())?;
+    put_whole(alloc, members, "refused", u64::from(refusal.number()))?;
     match refusal {
         Refusal::BadPlan(BadPlan { step, cause }) => {
-            let cause = cause.word();
-            json!(in alloc; {"cause": cause, "name": name, "refused": number, "step": *step})
+            put_text(alloc, members, "cause", cause.word())?;
+            put_whole(alloc, members, "step", *step as u64)
         }
         Refusal::BadCsv { row, cause } => {
-            let cause = cause.word();
-            json!(in alloc; {"cause": cause, "name": name, "refused": number, "row": *row})
+            put_text(alloc, members, "cause", cause.word())?;
+            put_whole(alloc, members, "row", *row as u64)
         }
-        Refusal::BelowHeld { row } => {
-            json!(in alloc; {"name": name, "refused": number, "row": *row})
-        }
-        _ => json!(in alloc; {"name": name, "refused": number}),
+        Refusal::BelowHeld { row } => put_whole(alloc, members, "row", *row as u64),
+        _ => Ok(()),
     }
 }
 
@@ -135,8 +167,7 @@ pub fn brief_value(alloc: Global, owners: Owners, brief: &Brief) -> Result<Value
 {
     let mut members = Map::new(alloc);
     if owners == Owners::Shown {
-        let agent = Value::try_from_str(alloc, brief.agent.as_str())?;
-        put(&mut members, alloc, "agent", agent)?;
+        put_text(alloc, &mut members, "agent", brief.agent.as_str())?;
     }
     let Cursor { pos, phase, .. } = brief.cursor;
     put_standing(alloc, &mut members, brief.id, pos, phase)?;
@@ -152,7 +183,11 @@ pub fn health_value(alloc: Global, counts: Counts) -> Result<Value, AllocError>
         journeys,
         unfinished,
     } = counts;
-    json!(in alloc; {"events": events, "journeys": journeys, "unfinished": unfinished})
+    let mut members = Map::new(alloc);
+    put_whole(alloc, &mut members, "events", events)?;
+    put_whole(alloc, &mut members, "journeys", journeys)?;
+    put_whole(alloc, &mut members, "unfinished", unfinished)?;
+    Ok(Value::Object(members))
 }
 
 /// The value of the agent who asks.
@@ -188,16 +223,37 @@ fn put_standing(
         (members_view members.new.entries
         ≡ with_standing id pos phase (members_view members.old.entries)) }
 {
-    put(members, alloc, "journey", Value::from(id))?;
-    put(members, alloc, "pos", Value::from(pos))?;
-    put(
-        members,
-        alloc,
-        "state",
-        Value::try_from_str(alloc, phase.word())?,
-    )?;
-    if let Phase::Back(target) = phase {
-        put(members, alloc, "target", Value::from(target))?;
+    put_whole(alloc, members, "journey", id)?;
+    put_whole(alloc, members, "pos", pos as u64)?;
+    put_text(alloc, members, "state", phase.word())?;
+    match phase {
+        Phase::Back(target) => put_whole(alloc, members, "target", target as u64),
+        _ => Ok(()),
     }
-    Ok(())
+}
+
+/// Inserts a member that is a whole number.
+pub fn put_whole(
+    alloc: Global,
+    members: &mut Map<String, Value>,
+    name: &str,
+    number: u64,
+) -> Result<(), AllocError>
+    ensures whole { OnOk result (members_view members.new.entries
+        ≡ put name.now (whole number) (members_view members.old.entries)) }
+{
+    put(members, alloc, name, Value::from(number))
+}
+
+/// Inserts a member that is a text.
+pub fn put_text(
+    alloc: Global,
+    members: &mut Map<String, Value>,
+    name: &str,
+    text: &str,
+) -> Result<(), AllocError>
+    ensures text { OnOk result (members_view members.new.entries
+        ≡ put name.now (string text.now) (members_view members.old.entries)) }
+{
+    put(members, alloc, name, Value::try_from_str(alloc, text)?)
 }

@@ -1,5 +1,6 @@
 -- Some head has the parts that the profile would have of a wide request. For first_wide.
 use Rattle.std.proofs.Common.{◌≡◌, ◌∙◌, ap, ap₂, refl, ℕ, Bool, true, false, List, [], ◌∷◌, ◌++◌, map, length, reverse, arith, ◌&&◌, ◌==◌, codes, filter, not, if◌then◌else◌, slice_range, slice_index}
+use Rattle.std.proofs.lemmas.Bool.{and_parts}
 use Rattle.std.specs.Prelude.{⊤}
 use Rattle.std.specs.Char.{is_ascii_hexdigit}
 use Rattle.std.proofs.lemmas.Bool.Decides.{nat_tests}
@@ -70,14 +71,10 @@ visible_trimmed : (text : List ℕ) → starts_visible text ≡ true → starts_
 visible_trimmed text front back =
     record { raw = 32 ∷ text; trims = trim_ows_space text (skip_visible text front) (skip_visible (reverse text) back) }
 
-both : (a b : Bool) → (a && b) ≡ true → (a ≡ true) × (b ≡ true)
-both true b e = (refl, e)
-both false b e = cc
-
 numeral_trimmed : (n : ℕ) → IsTrimmed (numeral 10 n)
 numeral_trimmed n =
-    let ends = both (starts_visible (numeral 10 n)) _ (decimal_is_trimmed n) in
-    visible_trimmed (numeral 10 n) ends.0 (both (starts_visible (reverse (numeral 10 n))) _ ends.1).0
+    let ends = and_parts (starts_visible (numeral 10 n)) _ (decimal_is_trimmed n) in
+    visible_trimmed (numeral 10 n) ends.0 (and_parts (starts_visible (reverse (numeral 10 n))) _ ends.1).0
 
 digit_visible : (c : ℕ) → is_ascii_hexdigit c ≡ true → not (is_ows c) ≡ true
 digit_visible c digit = grind (arith, nat_tests)
@@ -94,21 +91,21 @@ digits_trimmed text digits =
 digits_append : (a b : List ℕ) → are_digits a ≡ true → are_digits b ≡ true → are_digits (a ++ b) ≡ true
 digits_append [] b one other = other
 digits_append (c ∷ a) b one other =
-    let parts = both (is_ascii_hexdigit c) (are_digits a) one in
+    let parts = and_parts (is_ascii_hexdigit c) (are_digits a) one in
     ap (λ t. t && are_digits (a ++ b)) parts.0 ∙ digits_append a b parts.1 other
 
 -- a UUID has digits alone, but for its hyphens
 uuid_is_digits : (key : List ℕ) → is_uuid key ≡ true → are_digits (uuid_digits key) ≡ true
 uuid_is_digits key is =
-    let q1 = both _ (are_digits (slice_range key 24 36)) is in
-    let q2 = both _ (slice_index key 23 == 45) q1.0 in
-    let q3 = both _ (are_digits (slice_range key 19 23)) q2.0 in
-    let q4 = both _ (slice_index key 18 == 45) q3.0 in
-    let q5 = both _ (are_digits (slice_range key 14 18)) q4.0 in
-    let q6 = both _ (slice_index key 13 == 45) q5.0 in
-    let q7 = both _ (are_digits (slice_range key 9 13)) q6.0 in
-    let q8 = both _ (slice_index key 8 == 45) q7.0 in
-    let q9 = both (length key == 36) (are_digits (slice_range key 0 8)) q8.0 in
+    let q1 = and_parts _ (are_digits (slice_range key 24 36)) is in
+    let q2 = and_parts _ (slice_index key 23 == 45) q1.0 in
+    let q3 = and_parts _ (are_digits (slice_range key 19 23)) q2.0 in
+    let q4 = and_parts _ (slice_index key 18 == 45) q3.0 in
+    let q5 = and_parts _ (are_digits (slice_range key 14 18)) q4.0 in
+    let q6 = and_parts _ (slice_index key 13 == 45) q5.0 in
+    let q7 = and_parts _ (are_digits (slice_range key 9 13)) q6.0 in
+    let q8 = and_parts _ (slice_index key 8 == 45) q7.0 in
+    let q9 = and_parts (length key == 36) (are_digits (slice_range key 0 8)) q8.0 in
     digits_append (((slice_range key 0 8 ++ slice_range key 9 13) ++ slice_range key 14 18) ++ slice_range key 19 23) (slice_range key 24 36)
     (digits_append ((slice_range key 0 8 ++ slice_range key 9 13) ++ slice_range key 14 18) (slice_range key 19 23)
     (digits_append (slice_range key 0 8 ++ slice_range key 9 13) (slice_range key 14 18)

@@ -1,16 +1,17 @@
 //! The line of a month in a summary, in each format.
-ghost use Rattle.std.specs.Prelude.{◌≡◌, ◌≤◌, [], ◌∷◌, ◌++◌, decimal, length, IfOk, OnOk, string_bytes};
-ghost use Rattle.csv.specs.Records.{fields_of, partial_of};
+ghost use Rattle.std.specs.Prelude.{◌≡◌, ◌≤◌, [], ◌∷◌, decimal, length, IfOk, string_bytes};
+ghost use Rattle.allotment.specs.Texts.{kind_word};
+ghost use Rattle.csv.specs.Records.{partial_of};
 ghost use Rattle.reports.specs.Objects.{json_line};
-ghost use Rattle.reports.specs.Records.{csv_line};
+ghost use Rattle.reports.specs.Records.{Adds, csv_line};
 ghost use Rattle.serde_json.specs.View.{view};
 ghost use Rattle.month_reports.specs.Summaries.{month_text, product_columns, summary_data, summary_fields, summary_head, summary_line, summary_names, summary_row, sums_columns};
 
 use crate::sums::{MOST_NIGHTS, Sums, sums_of};
 use allotment::{Cell, Held, Night};
 use csv::ByteRecord;
-use reports::{Format, csv_line, json_line, put_field, put_number};
-use serde_json::{Value, json};
+use reports::{Format, csv_line, json_line, put_field, put_number, put_text, put_whole};
+use serde_json::{Map, Value};
 use std::alloc::{AllocError, Global};
 
 /// The heading of a summary in this format.
@@ -109,25 +110,16 @@ fn summary_value(alloc: Global, cell: &Cell, month: &str, sums: &Sums) -> Result
     ensures value { month.now ≡ month_text cell.now.night →
         IfOk result (λ value. view value ≡ summary_data cell.now sums.now) }
 {
-    let Sums {
-        nights,
-        allot,
-        held,
-        free,
-    } = *sums;
-    let kind = cell.kind.word();
-    let product = cell.product.as_str();
-    let supplier = cell.supplier.as_str();
-    json!(in alloc; {
-        "allot": allot,
-        "free": free,
-        "held": held,
-        "kind": kind,
-        "month": month,
-        "nights": nights,
-        "product": product,
-        "supplier": supplier,
-    })
+    let mut members = Map::new(alloc);
+    put_whole(alloc, &mut members, "allot", sums.allot)?;
+    put_whole(alloc, &mut members, "free", sums.free)?;
+    put_whole(alloc, &mut members, "held", sums.held)?;
+    put_text(alloc, &mut members, "kind", cell.kind.word())?;
+    put_text(alloc, &mut members, "month", month)?;
+    put_whole(alloc, &mut members, "nights", sums.nights)?;
+    put_text(alloc, &mut members, "product", cell.product.as_str())?;
+    put_text(alloc, &mut members, "supplier", cell.supplier.as_str())?;
+    Ok(Value::Object(members))
 }
 
 /// The same line as a record.
@@ -137,13 +129,34 @@ fn summary_record(alloc: Global, cell: &Cell, sums: &Sums) -> Result<Vec<u8>, Al
 {
     let month = month_text(alloc, cell.night)?;
     let mut row = ByteRecord::new(alloc);
-    put_field(&mut row, cell.kind.word())?;
-    put_field(&mut row, cell.supplier.as_str())?;
-    put_field(&mut row, cell.product.as_str())?;
-    put_field(&mut row, month.as_str())?;
-    put_number(alloc, &mut row, sums.nights)?;
-    put_number(alloc, &mut row, sums.allot)?;
-    put_number(alloc, &mut row, sums.held)?;
-    put_number(alloc, &mut row, sums.free)?;
+    put_month(&mut row, cell, month.as_str())?;
+    put_sums(alloc, &mut row, sums)?;
     csv_line(alloc, &row)
+}
+
+/// Adds the fields of a month with this text, of which a cell is this one: kind, supplier, product and month.
+fn put_month(row: &mut ByteRecord, cell: &Cell, month: &str) -> Result<(), AllocError>
+    requires whole { partial_of row.old ≡ [] }
+
+    ensures adds { Adds row.old row.new
+        (kind_word cell.now.kind ∷ cell.now.supplier ∷ cell.now.product ∷ month.now ∷ []) result }
+{
+    put_field(row, cell.kind.word())?;
+    put_field(row, cell.supplier.as_str())?;
+    put_field(row, cell.product.as_str())?;
+    put_field(row, month)
+}
+
+/// Adds the fields of sums: nights, and allotted, held and free places.
+fn put_sums(alloc: Global, row: &mut ByteRecord, sums: &Sums) -> Result<(), AllocError>
+    requires whole { partial_of row.old ≡ [] }
+
+    ensures adds { Adds row.old row.new
+        (decimal sums.now.nights ∷ decimal sums.now.allot ∷ decimal sums.now.held
+        ∷ decimal sums.now.free ∷ []) result }
+{
+    put_number(alloc, row, sums.nights)?;
+    put_number(alloc, row, sums.allot)?;
+    put_number(alloc, row, sums.held)?;
+    put_number(alloc, row, sums.free)
 }

@@ -5,14 +5,13 @@ ghost use Rattle.serde_json.specs.Data.{array, string};
 ghost use Rattle.serde_json.specs.View.{items_of, members_view, view};
 ghost use Rattle.serde_json.specs.Written.{compact_text};
 ghost use Rattle.outlooks.specs.Layouts.{free_data, why_data};
-ghost use Rattle.outlooks.specs.Members.{with_next, with_standing};
+ghost use Rattle.outlooks.specs.Members.{with_brief, with_next};
 ghost use Rattle.outlooks.specs.declared.nights.FreeNight.{FreeNight};
 
 use crate::lines::step_word;
 use crate::nights::FreeNight;
 use crate::steps::{NextStep, Outlook};
-use commands::{Cursor, Phase};
-use reports::night_text;
+use reports::{night_text, put_standing, put_text};
 use saga_core::Brief;
 use serde_json::{Map, Value, json, put};
 use std::alloc::{AllocError, Global};
@@ -38,7 +37,7 @@ fn why_value(alloc: Global, outlook: &Outlook, nights: &[FreeNight]) -> Result<V
     ensures value { IfOk result (λ value. view value ≡ why_data outlook.now nights.now) }
 {
     let mut members = Map::new(alloc);
-    put_standing(alloc, &mut members, &outlook.brief)?;
+    put_brief(alloc, &mut members, &outlook.brief)?;
     let step = step_word(alloc, &outlook.step)?;
     put(&mut members, alloc, "step", Value::String(step))?;
     put(&mut members, alloc, "nights", nights_value(alloc, nights)?)?;
@@ -47,25 +46,16 @@ fn why_value(alloc: Global, outlook: &Outlook, nights: &[FreeNight]) -> Result<V
 }
 
 /// Inserts whose a journey is, and where it is.
-fn put_standing(
+fn put_brief(
     alloc: Global,
     members: &mut Map<String, Value>,
     brief: &Brief,
 ) -> Result<(), AllocError>
-    ensures standing { OnOk result (members_view members.new.entries
-        ≡ with_standing brief.now (members_view members.old.entries)) }
+    ensures brief { OnOk result (members_view members.new.entries
+        ≡ with_brief brief.now (members_view members.old.entries)) }
 {
-    let agent = Value::try_from_str(alloc, brief.agent.as_str())?;
-    let Cursor { pos, phase, .. } = brief.cursor;
-    let state = Value::try_from_str(alloc, phase.word())?;
-    put(members, alloc, "agent", agent)?;
-    put(members, alloc, "journey", Value::from(brief.id))?;
-    put(members, alloc, "pos", Value::from(pos))?;
-    put(members, alloc, "state", state)?;
-    if let Phase::Back(target) = phase {
-        put(members, alloc, "target", Value::from(target))?;
-    }
-    Ok(())
+    put_text(alloc, members, "agent", brief.agent.as_str())?;
+    put_standing(alloc, members, brief.id, &brief.cursor)
 }
 
 /// Inserts the item of the next step, and its want; nothing if there is none.

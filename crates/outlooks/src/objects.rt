@@ -9,8 +9,8 @@ use crate::lines::step_word;
 use crate::nights::FreeNight;
 use crate::steps::NextStep;
 use commands::Item;
-use reports::{json_line, night_text};
-use serde_json::{Value, json};
+use reports::{json_line, night_text, put_text, put_whole};
+use serde_json::{Map, Value, json};
 use std::alloc::{AllocError, Global};
 
 /// The line of the next step and its want; nothing if there is none.
@@ -62,7 +62,11 @@ fn next_value(alloc: Global, id: u64, item: &str, want: &str) -> Result<Value, A
         (counts (codes "journey") id ∷ says (codes "next") item.now
         ∷ says (codes "want") want.now ∷ [])) }
 {
-    json!(in alloc; {"journey": id, "next": item, "want": want})
+    let mut members = Map::new(alloc);
+    put_whole(alloc, &mut members, "journey", id)?;
+    put_text(alloc, &mut members, "next", item)?;
+    put_text(alloc, &mut members, "want", want)?;
+    Ok(Value::Object(members))
 }
 
 /// The value of a night with this text, and what is free of it.
@@ -81,5 +85,8 @@ fn step_value(alloc: Global, id: u64, word: &str) -> Result<Value, AllocError>
     ensures value { IfOk result (λ value.
         view value ≡ json (counts (codes "journey") id ∷ says (codes "step") word.now ∷ [])) }
 {
-    json!(in alloc; {"journey": id, "step": word})
+    let mut members = Map::new(alloc);
+    put_whole(alloc, &mut members, "journey", id)?;
+    put_text(alloc, &mut members, "step", word)?;
+    Ok(Value::Object(members))
 }

@@ -1,6 +1,7 @@
 pub mod Columns
 pub mod Layouts
 pub mod Objects
+pub mod Members
 pub mod Records
 pub mod Writing
 pub mod Formats

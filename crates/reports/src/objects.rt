@@ -5,11 +5,12 @@ ghost use Rattle.serde_json.specs.Written.{has_float};
 ghost use Rattle.reports.specs.Objects.{json, counts, says, json_line, cell_data, journey_data, begin_data, item_data, state_data};
 
 use crate::columns::night_digits;
+use crate::members::{put_standing, put_text, put_whole};
 use crate::pieces::{put_count, put_piece};
 use allotment::{Cell, Held};
-use commands::{Cursor, Item, Phase};
+use commands::{Cursor, Item};
 use saga_core::{Brief, Record};
-use serde_json::{Value, json};
+use serde_json::{Map, Value};
 use std::alloc::{AllocError, Global};
 
 /// The line of a cell and its places. It has at most 127 bytes.
@@ -85,30 +86,19 @@ pub fn json_line(alloc: Global, value: &Value) -> Result<String, AllocError>
 fn journey_value(alloc: Global, brief: &Brief) -> Result<Value, AllocError>
     ensures value { IfOk result (λ value. view value ≡ journey_data brief.now) }
 {
-    let agent = brief.agent.as_str();
-    let id = brief.id;
-    let Cursor { pos, phase, .. } = brief.cursor;
-    let state = phase.word();
-    match phase {
-        Phase::Back(target) => json!(in alloc; {
-            "agent": agent, "journey": id, "pos": pos, "state": state, "target": target
-        }),
-        _ => json!(in alloc; {"agent": agent, "journey": id, "pos": pos, "state": state}),
-    }
+    let mut members = Map::new(alloc);
+    put_text(alloc, &mut members, "agent", brief.agent.as_str())?;
+    put_standing(alloc, &mut members, brief.id, &brief.cursor)?;
+    Ok(Value::Object(members))
 }
 
 /// The value of where a journey is.
 fn state_value(alloc: Global, id: u64, cursor: &Cursor) -> Result<Value, AllocError>
     ensures value { IfOk result (λ value. view value ≡ state_data id cursor.now) }
 {
-    let Cursor { pos, phase, .. } = *cursor;
-    let state = phase.word();
-    match phase {
-        Phase::Back(target) => {
-            json!(in alloc; {"journey": id, "pos": pos, "state": state, "target": target})
-        }
-        _ => json!(in alloc; {"journey": id, "pos": pos, "state": state}),
-    }
+    let mut members = Map::new(alloc);
+    put_standing(alloc, &mut members, id, cursor)?;
+    Ok(Value::Object(members))
 }
 
 /// The value of a journey with its agent and plan.
@@ -117,7 +107,11 @@ fn begin_value(alloc: Global, id: u64, agent: &str, plan: &str) -> Result<Value,
         (says (codes "agent") agent.now ∷ counts (codes "journey") id
         ∷ says (codes "plan") plan.now ∷ [])) }
 {
-    json!(in alloc; {"agent": agent, "journey": id, "plan": plan})
+    let mut members = Map::new(alloc);
+    put_text(alloc, &mut members, "agent", agent)?;
+    put_whole(alloc, &mut members, "journey", id)?;
+    put_text(alloc, &mut members, "plan", plan)?;
+    Ok(Value::Object(members))
 }
 
 /// The value of an item of a history.
@@ -125,5 +119,8 @@ fn item_value(alloc: Global, id: u64, item: &str) -> Result<Value, AllocError>
     ensures value { IfOk result (λ value.
         view value ≡ json (says (codes "item") item.now ∷ counts (codes "journey") id ∷ [])) }
 {
-    json!(in alloc; {"item": item, "journey": id})
+    let mut members = Map::new(alloc);
+    put_text(alloc, &mut members, "item", item)?;
+    put_whole(alloc, &mut members, "journey", id)?;
+    Ok(Value::Object(members))
 }

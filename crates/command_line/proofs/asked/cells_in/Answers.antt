@@ -1,9 +1,10 @@
 -- The filter has the values that were read, and one that spells nothing is the only bad one.
 use Rattle.std.proofs.Common.{◌∙◌, ap, subst, Err, is_none}
+use Rattle.std.proofs.lemmas.Bool.{or_from}
 use Rattle.std.proofs.lemmas.Result.{err_from_is_err_and}
 use Rattle.clap.specs.Words.{first_value, found_of}
 use Rattle.command_line.specs.Jobs.{IsUsage}
-use Rattle.command_line.proofs.ValueLemmas.{bad_from, bad_kind, bad_product, bad_supplier, bad_to, none_bad}
+use Rattle.command_line.proofs.ValueLemmas.{bad_from, bad_kind, bad_product, bad_supplier, bad_to}
 use Rattle.command_line.proofs.asked.cells_in.Goals as goal
 
 pub returns-clause-cells : goal.returns-clause-cells
@@ -17,9 +18,9 @@ returns-clause-cells c = record {
 
 pub returns-clause-taken : goal.returns-clause-taken
 returns-clause-taken c = λ _.
-    none_bad _ _ (ap is_none c.in_ok-kind.ensures.kind) (none_bad _ _ (ap is_none c.in_ok-supplier.ensures.code)
-    (none_bad _ _ (ap is_none c.in_ok-product.ensures.code)
-    (none_bad _ _ (ap is_none c.in_ok-from.ensures.night) (ap is_none c.in_ok-to.ensures.night))))
+    or_from _ _ (ap is_none c.in_ok-kind.ensures.kind) (or_from _ _ (ap is_none c.in_ok-supplier.ensures.code)
+    (or_from _ _ (ap is_none c.in_ok-product.ensures.code)
+    (or_from _ _ (ap is_none c.in_ok-from.ensures.night) (ap is_none c.in_ok-to.ensures.night))))
 
 pub returns-in_err-kind-clause-usage : goal.returns-in_err-kind-clause-usage
 returns-in_err-kind-clause-usage c = λ usage.

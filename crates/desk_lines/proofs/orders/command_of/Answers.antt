@@ -5,6 +5,4 @@ use Rattle.desk_lines.proofs.orders.command_of.Goals as goal
 
 -- there are not two, three or four words
 pub returns-in_default : goal.returns-in_default
-returns-in_default c = record {
-  command = other_words c.args.words.now (omega (arith, c.in_default)) (omega (arith, c.in_default)) (omega (arith, c.in_default));
-}
+returns-in_default c = grind (arith, other_words)

@@ -1,5 +1,5 @@
 -- A run over lines answers one line after another, until the input ends or a fault comes.
-use Rattle.std.proofs.Common.{ap, sym, subst, refl, [], Err}
+use Rattle.std.proofs.Common.{ap, sym, subst, refl, [], Err, arith}
 use Rattle.std.specs.Io.KnownBytes.{Appends}
 use Rattle.std.proofs.lemmas.Result.{err_from_is_err_and}
 use Rattle.desk_lines.specs.Reading.{TakesLine, to_come}
@@ -16,15 +16,7 @@ use Rattle.desk_lines.proofs.runs.answer_input.Goals as goal
 
 -- no line was answered
 pub loop-answered-init : goal.loop-answered-init
-loop-answered-init g c = record {
-  stays = stays_alone c.args.book.now;
-  so_far = λ sound s stood input is.
-      starts (g.W.Write.contents c.args.writer.now) (g.B.Book.stands c.args.book.now) (g.B.Book.leaves c.args.book.now) s input
-      c.in_ok-unread.unread (g.R.Read.remaining c.args.reader.now) c.in_ok-unread.ensures.empty is stood;
-  may_act = λ sound first s later input is may.
-      may_at_first (g.B.Book.may_act first c.args.book.now) s input later c.in_ok-unread.unread (g.R.Read.remaining c.args.reader.now)
-      c.in_ok-unread.ensures.empty is may;
-}
+loop-answered-init g c = grind (arith, stays_alone, starts, may_at_first)
 
 -- one more line was answered
 pub loop-answered-preserved : goal.loop-answered-preserved
@@ -93,15 +85,7 @@ returns-then-not-branch-clause-all g c = λ sound s stood.
 
 -- and the book may act for later asks
 pub returns-then-not-branch-clause-may_act : goal.returns-then-not-branch-clause-may_act
-returns-then-not-branch-clause-may_act g c = λ sound first.
-    let left = g.R.Read.remaining in
-    let at = c.loop-answered in
-    let before = to_come at.unread (left at.reader) in
-    let after = to_come c.next_line.new.self (left c.next_line.new.reader) in
-    for_known (left c.args.reader.now) _ (λ input is s later may.
-    may_at_end (g.B.Book.may_act first at.book) s input before after c.next_line.new.line later
-    (at.invariant.may_act sound first s later input is may)
-    (subst (λ found. TakesLine before after found c.next_line.new.line) c.if-not-branch.true c.in_ok-next_line.ensures.line))
+returns-then-not-branch-clause-may_act g c = grind (arith, for_known, may_at_end)
 
 -- the store failed at a line, for a reason
 pub returns-in_err-text-clause-reason : goal.returns-in_err-text-clause-reason

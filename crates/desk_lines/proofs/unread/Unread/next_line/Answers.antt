@@ -1,5 +1,5 @@
 -- Pieces are taken until a line feed or the end of the input completes a line.
-use Rattle.std.proofs.Common.{subst}
+use Rattle.std.proofs.Common.{subst, arith}
 use Rattle.desk_lines.specs.Reading.{TakesPiece, to_come}
 use Rattle.desk_lines.proofs.LineLemmas.{at_end, begun_more, line_ended, line_found}
 use Rattle.desk_lines.proofs.unread.Unread.next_line.Goals as goal
@@ -15,14 +15,7 @@ returns-then-branch-clause-line g c =
 
 -- the next piece continues the line
 pub loop-self-preserved : goal.loop-self-preserved
-loop-self-preserved g c =
-    let left = g.R.Read.remaining in
-    let u0 = c.loop-self.self in
-    let u1 = c.take_piece.new.self in
-    begun_more (to_come c.args.self.now (left c.args.reader.now)) u0 u1 c.fill.new.self (left c.loop-self.reader) (left c.fill.new.reader)
-    c.loop-self.line c.take_piece.new.line c.loop-self.invariant
-    (subst (λ b. TakesPiece b u0.waiting u1.waiting c.loop-self.line c.take_piece.new.line) c.if-branch.false c.in_ok-take_piece.ensures.piece)
-    c.in_ok-fill.ensures.bytes
+loop-self-preserved g c = grind (arith, begun_more)
 
 -- at the end of the input, the text that was taken is a line unless it is empty
 pub returns-then-not-branch-clause-line : goal.returns-then-not-branch-clause-line
