@@ -1,6 +1,9 @@
 //! How a connection to a file is closed, and what is left of the files.
-ghost use Rattle.std.specs.Prelude.{IfErr, IfOk};
+ghost use Rattle.std.specs.Prelude.{◌≡◌, ◌↔◌, IfErr, IfOk, IsTrue};
+ghost use Rattle.std.specs.List.{list_any};
+ghost use Rattle.sqlite.specs.Files.{file_state};
 ghost use Rattle.program_ends.specs.Ends.{EndsJob};
+ghost use Rattle.desk_files.specs.Causes.{cause_of_closing, cause_of_refusals, end_of_left, has_failed, is_meta, is_unopened, HasOtherTables, IsUnlogged};
 ghost use Rattle.desk_files.specs.Images.{Closes};
 
 use crate::connections::FileConnection;
@@ -58,6 +61,9 @@ pub fn close_from<D: Disk + Drop>(
     job: &End,
 ) -> (Ended, Left<D>)
     ensures job { EndsJob result.0.end }
+    ensures end { result.0.end ≡ end_of_left result.1 }
+    ensures other { IsTrue (is_unopened job.now)
+        → HasOtherTables (file_state conn).now.schema → IsUnlogged result.1 }
     ensures closes { Closes conn result.1 }
 {
     if is_unopened(job) && has_other_tables(conn.schema()) {
@@ -77,6 +83,7 @@ fn set_aside<D: Disk + Drop>(
     log: NewLog,
 ) -> Left<D>
     ensures closes { Closes conn result }
+    ensures unlogged { IsUnlogged result }
 {
     let store = conn.into_store();
     let files = store.close();
@@ -87,6 +94,7 @@ fn set_aside<D: Disk + Drop>(
 /// Closes a connection in the same way, whatever its tables are.
 fn close<D: Disk + Drop>(conn: Connection<FileStore<D>>, job: &End) -> (Ended, Left<D>)
     ensures job { EndsJob result.0.end }
+    ensures end { result.0.end ≡ end_of_left result.1 }
     ensures closes { Closes conn result.1 }
 {
     match copy_log(conn) {
@@ -114,6 +122,7 @@ fn copy_log<D: Disk + Drop>(
 ) -> Result<Files<D>, (StoreError, Left<D>)>
     ensures copied { IfOk result (λ files. Closes conn (Left.Closed files)) }
     ensures failed { IfErr result (λ e. Closes conn e.1) }
+    ensures end { IfErr result (λ e. end_of_left e.1 ≡ End.Fault ProgramFault.Store) }
 {
     let mut store = conn.into_store();
     if store.is_broken() {
@@ -129,27 +138,44 @@ fn copy_log<D: Disk + Drop>(
 }
 
 /// Whether a job ended since its store could not be opened.
-fn is_unopened(job: &End) -> bool {
+fn is_unopened(job: &End) -> bool
+    ensures unopened { result ≡ is_unopened job.now }
+{
     matches!(job, End::Fault(ProgramFault::OpeningStore))
 }
 
 /// Whether a job ended since its store failed.
-fn has_failed(job: &End) -> bool {
+fn has_failed(job: &End) -> bool
+    ensures failed { result ≡ has_failed job.now }
+{
     is_unopened(job) || matches!(job, End::Fault(ProgramFault::Store))
 }
 
 /// Whether a database has tables, and not those of a desk.
-fn has_other_tables(schema: &Schema) -> bool {
-    !has_no_tables(schema) && !schema.tables.as_slice().iter().any(is_meta)
+fn has_other_tables(schema: &Schema) -> bool
+    ensures other { IsTrue result ↔ HasOtherTables schema.now }
+{
+    !has_no_tables(schema) && !has_meta(schema)
+}
+
+/// Whether a database has the table in which a desk keeps its version.
+fn has_meta(schema: &Schema) -> bool
+    ensures meta { result ≡ list_any is_meta schema.now.tables }
+{
+    schema.tables.as_slice().iter().any(is_meta)
 }
 
 /// Whether a table is the one in which a desk keeps its version.
-fn is_meta(table: &Table) -> bool {
+fn is_meta(table: &Table) -> bool
+    ensures meta { result ≡ is_meta table.now }
+{
     same_name(table.name.as_slice(), b"meta")
 }
 
 /// The cause of a job's end where the disk refused so many writes for want of room.
-fn cause_of_refusals(job: &End, refused: u64) -> Option<Cause> {
+fn cause_of_refusals(job: &End, refused: u64) -> Option<Cause>
+    ensures cause { result ≡ cause_of_refusals job.now refused }
+{
     if has_failed(job) && refused > 0 {
         Some(Cause::FullDisk)
     } else {
@@ -158,7 +184,9 @@ fn cause_of_refusals(job: &End, refused: u64) -> Option<Cause> {
 }
 
 /// The cause of an error of the store that kept the log from being copied.
-fn cause_of_closing(error: StoreError) -> Option<Cause> {
+fn cause_of_closing(error: StoreError) -> Option<Cause>
+    ensures cause { result ≡ cause_of_closing error }
+{
     match error {
         StoreError::Corrupt => Some(Cause::Damaged),
         StoreError::Full => Some(Cause::FullDisk),

@@ -1,7 +1,7 @@
 //! Connections to the database in a file.
 //!
 //! `S: Start` stands for what the file and its log held as they were opened. The program opens them as `Unknown`.
-ghost use Rattle.std.specs.Prelude.{◌≡◌, ◌≢◌, ◌↔◌, ℕ, false, None, IfErr, IfOk, IsTrue};
+ghost use Rattle.std.specs.Prelude.{◌≡◌, ◌≢◌, ◌↔◌, ℕ, false, None, IfErr, IfOk, IfSome, IsTrue};
 ghost use Rattle.sqlite.specs.Files.{file_state};
 ghost use Rattle.sqlite.specs.Held.{state};
 ghost use Rattle.sqlite.specs.State.{HasCleanDisk};
@@ -9,6 +9,7 @@ ghost use Rattle.sqlite_trees.specs.Tree.{Trees};
 ghost use Rattle.sqlite_wal.specs.Files.{image_at};
 ghost use Rattle.desk_sql.specs.Calls.{Idle};
 ghost use Rattle.program_ends.specs.Ends.{EndsBadly};
+ghost use Rattle.desk_files.specs.Causes.{cause_of_store, is_of_path};
 ghost use Rattle.desk_files.specs.Images.{LeavesAsFound, LeavesLastCommit, OpensOver};
 
 use crate::closing::Left;
@@ -139,7 +140,9 @@ fn not_opened(fault: ProgramFault, cause: Option<Cause>) -> Ended
 }
 
 /// Whether a file has no database that can be read.
-fn is_unreadable(error: &Error) -> bool {
+fn is_unreadable(error: &Error) -> bool
+    ensures damaged { IsTrue result ↔ (cause_of_store error.now ≡ Some Cause.Damaged) }
+{
     matches!(
         error,
         Error::SqliteFailure(ErrorCode::NotADatabase | ErrorCode::DatabaseCorrupt)
@@ -147,7 +150,12 @@ fn is_unreadable(error: &Error) -> bool {
 }
 
 /// The cause of an error of an opening.
-fn cause_of_error(rt: &HostRuntime, file: &str, error: &Error) -> Option<Cause> {
+fn cause_of_error(rt: &HostRuntime, file: &str, error: &Error) -> Option<Cause>
+    ensures path { error.now ≡ Error.SqliteFailure ErrorCode.CannotOpen
+        → IfSome result (λ cause. IsTrue (is_of_path cause)) }
+    ensures store { error.now ≢ Error.SqliteFailure ErrorCode.CannotOpen
+        → result ≡ cause_of_store error.now }
+{
     match error {
         Error::SqliteFailure(ErrorCode::CannotOpen) => cause_of_path(rt, file),
         error => cause_of_store(error),
@@ -155,7 +163,9 @@ fn cause_of_error(rt: &HostRuntime, file: &str, error: &Error) -> Option<Cause> 
 }
 
 /// The cause of an error of the store.
-fn cause_of_store(error: &Error) -> Option<Cause> {
+fn cause_of_store(error: &Error) -> Option<Cause>
+    ensures cause { result ≡ cause_of_store error.now }
+{
     match error {
         Error::SqliteFailure(ErrorCode::DatabaseBusy) => Some(Cause::InUse),
         Error::SqliteFailure(ErrorCode::NotADatabase | ErrorCode::DatabaseCorrupt) => {

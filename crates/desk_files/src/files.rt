@@ -1,4 +1,9 @@
 //! What can be said of a database file without opening it as a database.
+ghost use Rattle.std.specs.Prelude.{◌≡◌, ◌⊎◌, codes, not, is_some, nat_eq, IfSome, IsTrue};
+ghost use Rattle.std.specs.List.{starts_with};
+ghost use Rattle.std.specs.String.{string_bytes};
+ghost use Rattle.desk_files.specs.Causes.{cause_of_kind, folder_before, is_of_path, IsFolder, IsLogPath};
+
 use program_ends::Cause;
 use std::alloc::Global;
 use std::fs;
@@ -19,7 +24,9 @@ pub struct NewLog {
 impl NewLog {
     /// The log that an opening of the file would make. There is none where a log stands beside the file already, where
     /// the file may be that of a new desk, or where that cannot be found out.
-    pub(crate) fn beside(rt: &HostRuntime, file: &str) -> NewLog {
+    pub(crate) fn beside(rt: &HostRuntime, file: &str) -> NewLog
+        ensures log { IfSome result.path (λ path. IsLogPath (string_bytes path)) }
+    {
         if !may_be_other(rt, file) {
             return NewLog { path: None };
         }
@@ -34,7 +41,9 @@ impl NewLog {
     }
 
     /// Whether no log stood beside the file.
-    pub(crate) fn is_new(&self) -> bool {
+    pub(crate) fn is_new(&self) -> bool
+        ensures new { result ≡ is_some self.now.path }
+    {
         self.path.is_some()
     }
 
@@ -56,7 +65,9 @@ fn may_be_other(rt: &HostRuntime, file: &str) -> bool {
 }
 
 /// The path of the log of a file that is there.
-fn log_of(rt: &HostRuntime, file: &str) -> Option<String> {
+fn log_of(rt: &HostRuntime, file: &str) -> Option<String>
+    ensures log { IfSome result (λ path. IsLogPath (string_bytes path)) }
+{
     let alloc: Global = rt.alloc();
     let real = fs::canonicalize(rt, file).ok()?;
     format!(in alloc; "{}-wal", real.as_str()).ok()
@@ -70,15 +81,24 @@ pub(crate) fn is_no_database(rt: &HostRuntime, file: &str) -> bool {
     let mut bytes = [0; 16];
     match read_some(&mut opened, &mut bytes) {
         Ok(count) => match bytes.get(..count) {
-            Some(first) => !FIRST_BYTES.starts_with(first),
+            Some(first) => begins_otherwise(first),
             None => false,
         },
         Err(_) => false,
     }
 }
 
+/// Whether these are no first bytes of a database, of which there may be fewer.
+fn begins_otherwise(first: &[u8]) -> bool
+    ensures otherwise { result ≡ not (starts_with nat_eq (codes "SQLite format 3\0") first.now) }
+{
+    !FIRST_BYTES.starts_with(first)
+}
+
 /// Why a path could not be opened, as far as the path itself shows it.
-pub(crate) fn cause_of_path(rt: &HostRuntime, file: &str) -> Option<Cause> {
+pub(crate) fn cause_of_path(rt: &HostRuntime, file: &str) -> Option<Cause>
+    ensures path { IfSome result (λ cause. IsTrue (is_of_path cause)) }
+{
     match fs::metadata(rt, file) {
         Ok(found) if !found.is_file() => Some(Cause::NoFile),
         Ok(_) => cause_of_file(rt, file),
@@ -88,7 +108,9 @@ pub(crate) fn cause_of_path(rt: &HostRuntime, file: &str) -> Option<Cause> {
 }
 
 /// Why a file that is there could not be opened.
-fn cause_of_file(rt: &HostRuntime, file: &str) -> Option<Cause> {
+fn cause_of_file(rt: &HostRuntime, file: &str) -> Option<Cause>
+    ensures path { IfSome result (λ cause. IsTrue (is_of_path cause)) }
+{
     match OpenOptions::new().read(true).write(true).open(rt, file) {
         Ok(_) if has_second_link(rt, file) => Some(Cause::SecondLink),
         Ok(_) => None,
@@ -114,20 +136,36 @@ fn is_linked(rt: &HostRuntime, file: &str) -> bool {
 }
 
 /// Why a file that is absent could not be made.
-fn cause_of_folder(rt: &HostRuntime, file: &str) -> Cause {
-    let folder = match file.rsplit_once('/') {
-        Some((folder, _)) if folder.is_empty() => "/",
-        Some((folder, _)) => folder,
-        None => ".",
-    };
-    match fs::exists(rt, folder) {
+fn cause_of_folder(rt: &HostRuntime, file: &str) -> Cause
+    ensures folder { (result ≡ Cause.NoFolder) ⊎ (result ≡ Cause.NotMade) }
+{
+    match fs::exists(rt, folder_of(file)) {
         Ok(false) => Cause::NoFolder,
         _ => Cause::NotMade,
     }
 }
 
+/// The folder of a path: what stands before its last slash.
+fn folder_of(file: &str) -> &str
+    ensures folder { IsFolder file.now result.now }
+{
+    match file.rsplit_once('/') {
+        Some((before, _)) => folder_before(before),
+        None => ".",
+    }
+}
+
+/// The folder of a path that has a slash, by what stands before its last one.
+fn folder_before(before: &str) -> &str
+    ensures folder { result.now ≡ folder_before before.now }
+{
+    if before.is_empty() { "/" } else { before }
+}
+
 /// The cause of an error of the system.
-pub(crate) fn cause_of_kind(kind: ErrorKind) -> Option<Cause> {
+pub(crate) fn cause_of_kind(kind: ErrorKind) -> Option<Cause>
+    ensures cause { result ≡ cause_of_kind kind }
+{
     match kind {
         ErrorKind::NotFound => Some(Cause::Absent),
         ErrorKind::PermissionDenied | ErrorKind::ReadOnlyFilesystem => Some(Cause::NotPermitted),

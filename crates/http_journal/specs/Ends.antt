@@ -1,20 +1,29 @@
 -- What is counted and written of a connection that ended.
-use Rattle.std.specs.Prelude.{ℕ, nat_lt, Bool, true, false, List, Option, Some, None, if◌then◌else◌, slice_get}
+use Rattle.std.specs.Prelude.{◌≡◌, ℕ, zero, suc, nat_lt, Bool, true, false, List, Option, Some, None, if◌then◌else◌, slice_get}
 use Rattle.std.specs.Option.{option_map_or}
 use Rattle.http_log.specs.Counted.{with_end}
 use Rattle.http_log.specs.Lines.{ended_text}
 use Rattle.http_log.specs.declared.counting.Metrics.{Metrics}
 use Rattle.http_log.specs.declared.endings.Why.{Why}
-use Rattle.http_log.specs.declared.endings.Why.TheVariants.{Left, CutOff, NotTaken, Closed, Memory}
+use Rattle.http_log.specs.declared.endings.Why.TheVariants.{Left, CutOff, NotTaken, Closed, Memory, Stopped}
 use Rattle.http_journal.specs.declared.known.Known.{Known}
 
 -- somebody is at this seat
 abbrev pub is_taken : List Known → ℕ → Bool
 is_taken seats at = option_map_or (λ (known : Known). known.is_here) (slice_get seats at) false
 
+-- nobody is here
+abbrev pub IsNobody : Known → Type 0
+IsNobody known = known.is_here ≡ false
+
 -- what was counted, once the connection of a seat ended, if one was there
 abbrev pub counted_end : List Known → ℕ → Why → Metrics → Metrics
 counted_end seats at why metrics = if is_taken seats at then with_end why metrics else metrics
+
+-- the same, once each connection of so many seats ended since the desk did
+abbrev pub counted_ends : ℕ → List Known → Metrics → Metrics
+counted_ends zero seats metrics = metrics
+counted_ends (suc at) seats metrics = counted_end seats at Stopped (counted_ends at seats metrics)
 
 -- the line of a connection that ended, if one was here
 abbrev pub end_line : Known → Why → Option (List ℕ)

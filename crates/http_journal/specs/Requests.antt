@@ -1,5 +1,10 @@
 -- What the line of a request says of it.
-use Rattle.std.specs.Prelude.{ℕ, Bool, false, List, [], bytes_eq, codes, if◌then◌else◌, Option, None, option_and_then, option_map}
+use Rattle.std.specs.Prelude.{ℕ, ◌&&◌, Bool, false, not, List, [], ◌∷◌, bytes_eq, codes, drop, is_some, length, nat_le, slice_range, take, if◌then◌else◌, Option, None, option_and_then, option_map}
+use Rattle.std.specs.Char.{is_ascii_digit}
+use Rattle.std.specs.List.{before_first}
+use Rattle.std.specs.Option.{option_map_or}
+use Rattle.http_log.specs.Recent.{is_among, Pair}
+use Rattle.http_log.specs.declared.forms.LogForm.{LogForm}
 use Rattle.http_messages.specs.declared.requests.Message.{Message}
 use Rattle.http_messages.specs.declared.requests.Message.TheVariants.{NoHead, Asks}
 use Rattle.http_messages.specs.declared.requests.Request.{Request}
@@ -43,3 +48,25 @@ is_post (Asks request) = is_post_of request
 abbrev pub ask_of : Message → Option (List ℕ × List ℕ)
 ask_of NoHead = None
 ask_of (Asks request) = if is_post_of request then both request.agent request.key else None
+
+-- the status of a page, which has it in its first line after `HTTP/1.1 `; `?` where there is none
+abbrev pub status_of : (page : List ℕ) → List ℕ
+status_of page = if nat_le 12 (length page) then slice_range page 9 12 else codes "?"
+
+-- the digits at the front of a text
+abbrev pub digits_of : List ℕ → List ℕ
+digits_of = before_first (λ byte. not (is_ascii_digit byte))
+
+-- what follows the first place at which a name stands in a text
+abbrev pub after_name : (name text : List ℕ) → List ℕ
+after_name name [] = []
+after_name name (byte ∷ rest) =
+    if bytes_eq (take (length name) (byte ∷ rest)) name then drop (length name) (byte ∷ rest) else after_name name rest
+
+-- the number of the refusal that a page reports, in digits: its body has it after this name
+abbrev pub refusal_of : (page : List ℕ) → List ℕ
+refusal_of page = digits_of (after_name (codes "\"refused\":") page)
+
+-- a log is written, and the agent and key of a message that asks for something are among these
+abbrev pub is_again : Option LogForm → List Pair → Message → Bool
+is_again form recent message = is_some form && option_map_or (is_among recent) (ask_of message) false

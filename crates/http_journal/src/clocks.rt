@@ -1,4 +1,6 @@
 //! What the clocks of the system show.
+ghost use Rattle.std.specs.Prelude.{◌≡◌};
+ghost use Rattle.http_journal.specs.Seen.{micros_between};
 
 use std::time::{Instant, SystemTime, UNIX_EPOCH};
 
@@ -9,7 +11,9 @@ pub(crate) fn millis_now(rt: &HostRuntime) -> Option<u64> {
 }
 
 /// How many microseconds lie between two times; 0 where the clock was not read.
-pub(crate) fn micros_between(from: Option<Instant>, to: Option<Instant>) -> u64 {
+pub(crate) fn micros_between(from: Option<Instant>, to: Option<Instant>) -> u64
+    ensures micros { result ≡ micros_between from to }
+{
     match (from, to) {
         (Some(from), Some(to)) => {
             u64::try_from(to.duration_since(from).as_micros()).unwrap_or(u64::MAX)

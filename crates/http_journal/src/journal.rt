@@ -1,11 +1,16 @@
 //! What is counted of connections and requests, and which lines of the log are written, and when.
-ghost use Rattle.std.specs.Prelude.{◌≡◌, ◌<◌, IfSome, IsSomeAnd, IsTrue, vec_len};
+ghost use Rattle.std.specs.Prelude.{◌≡◌, ◌≢◌, ◌<◌, ◌&&◌, ℕ, All, IfOk, IfSome, IsSomeAnd, IsTrue, None, Option, false, if◌then◌else◌, is_some, length, nat_lt, option_map, slice_get, vec_len};
 ghost use Rattle.std.specs.List.{list_all};
+ghost use Rattle.std.specs.Option.{option_copied};
+ghost use Rattle.std.specs.declared.time.Instant.{Instant};
 ghost use Rattle.std.specs.String.{string_bytes};
 ghost use Rattle.http_log.specs.Counted.{with_connection};
+ghost use Rattle.http_log.specs.Lines.{request_text};
 ghost use Rattle.http_log.specs.Shown.{is_printable};
 ghost use Rattle.http_log.specs.Times.{IsTimedLine};
-ghost use Rattle.http_journal.specs.Ends.{counted_end};
+ghost use Rattle.http_journal.specs.Ends.{counted_end, counted_ends, is_taken, IsNobody};
+ghost use Rattle.http_journal.specs.Requests.{is_again};
+ghost use Rattle.http_journal.specs.Seen.{counted_answer, counted_over, counted_turn, is_busy, micros_between, with_answer, with_page, with_part, with_rest, with_seat};
 
 use crate::clocks::{micros_between, millis_now};
 use crate::known::Known;
@@ -74,11 +79,12 @@ pub struct Journal<'a> {
 
 impl<'a> Journal<'a> {
     /// So many seats, at which nobody is. No log is written.
-    pub fn new(
-        rt: &'a HostRuntime,
-        alloc: Global,
-        count: usize,
-    ) -> Result<Journal<'a>, AllocError> {
+    pub fn new(rt: &'a HostRuntime, alloc: Global, count: usize) -> Result<Journal<'a>, AllocError>
+        ensures seats { IfOk result (λ journal. vec_len journal.seats ≡ count) }
+        ensures nobody { IfOk result (λ journal. All IsNobody journal.seats.items) }
+        ensures unlogged { IfOk result (λ journal. journal.form ≡ None) }
+        ensures counted { IfOk result (λ journal. journal.metrics.connections ≡ 0) }
+    {
         let mut seats = Vec::with_capacity(alloc, count)?;
         for _ in 0..count {
             seats.push(Known::new())?;
@@ -122,7 +128,11 @@ impl<'a> Journal<'a> {
     }
 
     /// A turn of a seat begins, at which a message, or part of one, waits to be answered, or does not. Nothing is written.
-    pub fn sees_received(&mut self, at: usize, has_part: bool) {
+    pub fn sees_received(&mut self, at: usize, has_part: bool)
+        ensures counted { self.new.metrics ≡ self.old.metrics }
+        ensures seat { self.new.seats.items
+            ≡ with_seat (with_part has_part) at self.old.seats.items }
+    {
         self.began = Instant::now(self.rt).ok();
         if let Some(known) = self.seats.get_mut(at) {
             known.has_part = has_part;
@@ -138,13 +148,18 @@ impl<'a> Journal<'a> {
         seen: Option<&Arrived>,
         page: &[u8],
         closes: bool,
-    ) -> Result<(), AllocError> {
+    ) -> Result<(), AllocError>
+        ensures counted { (now : Option Instant) × (self.new.metrics ≡ counted_turn standing
+            (slice_get self.old.seats.items at) (option_copied seen.entry) page.now
+            (micros_between self.old.began now) self.old.metrics) }
+    {
         let now = Instant::now(self.rt).ok();
         match standing {
             Standing::Over => self.sees_end(at, seen, now),
             Standing::Answered | Standing::Stopped => {
+                let line = self.answers(at, seen, status_in(page), page, now);
                 self.keep_page(at, page, closes);
-                let _ = self.answers(at, seen, status_in(page), page, now)?;
+                self.write(line?);
                 Ok(())
             }
             _ => {
@@ -155,36 +170,52 @@ impl<'a> Journal<'a> {
     }
 
     /// The connection of a seat ended in its turn: its peer ended it, or memory ran out for a page.
+    #[tactic(auto, using(crate::proofs::SeatLemmas::counted_over_at_end, crate::proofs::SeatLemmas::copied_is_some))]
     fn sees_end(
         &mut self,
         at: usize,
         seen: Option<&Arrived>,
         now: Option<Instant>,
-    ) -> Result<(), AllocError> {
-        let is_lost = self.answers(at, seen, b"lost", b"", now);
+    ) -> Result<(), AllocError>
+        ensures counted { self.new.metrics
+            ≡ counted_over (slice_get self.old.seats.items at) (option_copied seen.entry)
+            (micros_between self.old.began now) self.old.metrics }
+    {
         let why = match self.seats.get(at) {
             None => return Ok(()),
-            Some(known) => known.why(is_lost.unwrap_or(true)),
+            Some(known) => known.why(seen.is_some()),
         };
+        if let Ok(line) = self.answers(at, seen, b"lost", b"", now) {
+            self.write(line);
+        }
         self.ends(at, why)
     }
 
     /// This is left of the page of a seat after a turn in which no message was answered.
-    fn keep_rest(&mut self, at: usize, standing: Standing, page: &[u8], now: Option<Instant>) {
+    fn keep_rest(&mut self, at: usize, standing: Standing, page: &[u8], now: Option<Instant>)
+        ensures counted { self.new.metrics ≡ self.old.metrics }
+        ensures seat { self.new.seats.items
+            ≡ with_seat (with_rest (is_busy standing) (length page.now) now) at self.old.seats.items }
+    {
         if let Some(known) = self.seats.get_mut(at) {
-            known.goes_on(standing == Standing::Busy, page.len(), now);
+            known.goes_on(matches!(standing, Standing::Busy), page.len(), now);
         }
     }
 
     /// This is the page of a seat, after which the connection ends, or does not.
-    fn keep_page(&mut self, at: usize, page: &[u8], closes: bool) {
+    fn keep_page(&mut self, at: usize, page: &[u8], closes: bool)
+        ensures seat { self.new ≡ record self.old { seats = self.new.seats } }
+        ensures page { self.new.seats.items
+            ≡ with_seat (with_page (length page.now) closes) at self.old.seats.items }
+    {
         if let Some(known) = self.seats.get_mut(at) {
             known.unsent = page.len();
             known.closes = closes;
         }
     }
 
-    /// A message was answered with this status and this page at this time, or lost its page. Returns whether there was one.
+    /// A message was answered with this status and this page at this time, or lost its page. Returns its line, if there was one,
+    /// and a log is written.
     fn answers(
         &mut self,
         at: usize,
@@ -192,12 +223,23 @@ impl<'a> Journal<'a> {
         status: &[u8],
         page: &[u8],
         now: Option<Instant>,
-    ) -> Result<bool, AllocError> {
+    ) -> Result<Option<String>, AllocError>
+        ensures counted { self.new.metrics
+            ≡ counted_answer (slice_get self.old.seats.items at) (option_copied seen.entry) status.now
+            (micros_between self.old.began now) self.old.metrics }
+        ensures seat { self.new.seats.items
+            ≡ (if is_some (option_copied seen.entry) then with_seat with_answer at self.old.seats.items
+            else self.old.seats.items) }
+        ensures written { IfOk result (λ line. is_some line
+            ≡ (is_some self.old.form && is_some seen.entry && nat_lt at (vec_len self.old.seats))) }
+        ensures printable { IfOk result (λ line. IfSome line (λ text.
+            IsTrue (list_all is_printable (string_bytes text)))) }
+    {
         let Some(known) = self.seats.get_mut(at) else {
-            return Ok(false);
+            return Ok(None);
         };
         let Some(arrived) = seen else {
-            return Ok(false);
+            return Ok(None);
         };
         known.requests = known.requests.saturating_add(1);
         let (peer, millis) = (known.peer, known.millis_since_read(now));
@@ -212,13 +254,17 @@ impl<'a> Journal<'a> {
         } else {
             refusal_in(page)
         };
-        self.write_request(peer, &asked_by(arrived, status, refused, again, millis))?;
-        Ok(true)
+        self.line_of(peer, &asked_by(arrived, status, refused, again, millis))
     }
 
     /// Whether the page of a message that was accepted was a kept one: that of a request under a key, which was accepted before.
     /// Where no log is written, nothing is remembered.
-    fn is_again(&mut self, message: &Message) -> bool {
+    fn is_again(&mut self, message: &Message) -> bool
+        ensures kept { self.new ≡ record self.old { recent = self.new.recent } }
+        ensures again { IsTrue result
+            → IsTrue (is_again self.old.form self.old.recent message.now) }
+        ensures unlogged { self.old.form ≡ None → self.new.recent ≡ self.old.recent }
+    {
         match ask_of(message) {
             Some((agent, key)) if self.form.is_some() => {
                 self.recent.put(agent, key).unwrap_or(false)
@@ -232,6 +278,9 @@ impl<'a> Journal<'a> {
         ensures counted { self.new.metrics
             ≡ counted_end self.old.seats.items at why self.old.metrics }
         ensures seats { vec_len self.new.seats ≡ vec_len self.old.seats }
+        ensures gone { is_taken self.new.seats.items at ≡ false }
+        ensures others { (other : ℕ) → other ≢ at
+            → slice_get self.new.seats.items other ≡ slice_get self.old.seats.items other }
     {
         let Some(known) = self.seats.get_mut(at) else {
             return Ok(());
@@ -246,19 +295,27 @@ impl<'a> Journal<'a> {
     }
 
     /// All connections end.
-    pub fn ends_all(&mut self) {
+    pub fn ends_all(&mut self)
+        ensures counted { self.new.metrics
+            ≡ counted_ends (vec_len self.old.seats) self.old.seats.items self.old.metrics }
+        ensures gone { All IsNobody self.new.seats.items }
+    {
         for at in 0..self.seats.len() {
             let _ = self.ends(at, Why::Stopped);
         }
     }
 
-    /// Writes the line of a message of a peer, if a log is written.
-    fn write_request(&self, peer: Peer, asked: &Asked<'_>) -> Result<(), AllocError> {
-        if self.form.is_some() {
-            let line = request_line(self.alloc, peer, asked)?;
-            self.write(Some(line));
+    /// The line of a message of a peer, if a log is written. The only fault is out of memory.
+    fn line_of(&self, peer: Peer, asked: &Asked<'_>) -> Result<Option<String>, AllocError>
+        ensures line { IfOk result (λ line. option_map string_bytes line
+            ≡ option_map (λ form. request_text peer asked.now) self.now.form) }
+        ensures printable { IfOk result (λ line. IfSome line (λ text.
+            IsTrue (list_all is_printable (string_bytes text)))) }
+    {
+        if self.form.is_none() {
+            return Ok(None);
         }
-        Ok(())
+        Ok(Some(request_line(self.alloc, peer, asked)?))
     }
 
     /// Writes a line, if there is one, and a log is written.

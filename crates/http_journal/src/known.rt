@@ -1,5 +1,5 @@
 //! What the log knows of a seat.
-ghost use Rattle.std.specs.Prelude.{◌≡◌, IfOk, IfSome, IsTrue, false, option_map, true};
+ghost use Rattle.std.specs.Prelude.{◌≡◌, ◌/◌, IfOk, IfSome, IsTrue, false, option_map, true};
 ghost use Rattle.std.specs.List.{list_all};
 ghost use Rattle.std.specs.String.{string_bytes};
 ghost use Rattle.http_log.specs.Shown.{is_printable};
@@ -29,6 +29,7 @@ pub struct Known {
 
 impl Known {
     ghost use Rattle.http_journal.specs.Ends.{end_line, why_of};
+    ghost use Rattle.http_journal.specs.Seen.{micros_between, with_rest};
 
     /// Nobody is here.
     pub(crate) fn new() -> Known
@@ -62,7 +63,9 @@ impl Known {
 
     /// A turn ended at this time, after which so many bytes are left of its page. In one that was busy, and sent nothing, it was
     /// read.
-    pub(crate) fn goes_on(&mut self, is_busy: bool, unsent: usize, now: Option<Instant>) {
+    pub(crate) fn goes_on(&mut self, is_busy: bool, unsent: usize, now: Option<Instant>)
+        ensures rest { self.new ≡ with_rest is_busy unsent now self.old }
+    {
         if is_busy && unsent == self.unsent {
             self.read_at = now;
         }
@@ -70,7 +73,9 @@ impl Known {
     }
 
     /// How many milliseconds it is since it was read; 0 where the clock was not.
-    pub(crate) fn millis_since_read(&self, now: Option<Instant>) -> u64 {
+    pub(crate) fn millis_since_read(&self, now: Option<Instant>) -> u64
+        ensures millis { result ≡ micros_between self.now.read_at now / 1_000 }
+    {
         micros_between(self.read_at, now) / 1000
     }
 
@@ -79,7 +84,7 @@ impl Known {
         ensures line { IfOk result (λ line. option_map string_bytes line ≡ end_line self.old why) }
         ensures printable { IfOk result (λ line. IfSome line (λ text.
             IsTrue (list_all is_printable (string_bytes text)))) }
-        ensures gone { self.new.is_here ≡ false }
+        ensures gone { self.new ≡ record self.old { is_here = false } }
     {
         if !self.is_here {
             return Ok(None);

@@ -1,6 +1,7 @@
 //! What the line of a request says, from its message and its page.
-ghost use Rattle.std.specs.Prelude.{◌≡◌, [], unwrap_or};
-ghost use Rattle.http_journal.specs.Requests.{ask_of, both, is_post, is_post_of, method_by, method_of, text_of};
+ghost use Rattle.std.specs.Prelude.{◌≡◌, ◌<◌, [], length, not, position, unwrap_or, IfSome};
+ghost use Rattle.std.specs.Char.{is_ascii_digit};
+ghost use Rattle.http_journal.specs.Requests.{ask_of, both, digits_of, is_post, is_post_of, method_by, method_of, refusal_of, status_of, text_of};
 
 use commands::{Agent, Key};
 use http_log::Asked;
@@ -11,12 +12,16 @@ use http_ways::{Arrived, Layout};
 const REFUSED: &[u8] = b"\"refused\":";
 
 /// The status of a page, or `?` where there is none.
-pub(crate) fn status_in(page: &[u8]) -> &[u8] {
+pub(crate) fn status_in(page: &[u8]) -> &[u8]
+    ensures status { result.now ≡ status_of page.now }
+{
     page.get(9..12).unwrap_or(b"?")
 }
 
 /// The number of the refusal that a page reports, in digits, if it reports one: its body has it after its name.
-pub(crate) fn refusal_in(page: &[u8]) -> &[u8] {
+pub(crate) fn refusal_in(page: &[u8]) -> &[u8]
+    ensures refusal { result.now ≡ refusal_of page.now }
+{
     for at in 0..page.len() {
         if let Some(digits) = page[at..].strip_prefix(REFUSED) {
             return digits_in(digits);
@@ -26,11 +31,21 @@ pub(crate) fn refusal_in(page: &[u8]) -> &[u8] {
 }
 
 /// The digits at the front of a text.
-fn digits_in(text: &[u8]) -> &[u8] {
-    match text.iter().position(|byte| !byte.is_ascii_digit()) {
+fn digits_in(text: &[u8]) -> &[u8]
+    ensures digits { result.now ≡ digits_of text.now }
+{
+    match end_of_digits(text) {
         Some(end) => &text[..end],
         None => text,
     }
+}
+
+/// Where the digits at the front of a text end, if more follows.
+fn end_of_digits(text: &[u8]) -> Option<usize>
+    ensures end { result ≡ position (λ byte. not (is_ascii_digit byte)) text.now }
+    ensures within { IfSome result (λ end. end < length text.now) }
+{
+    text.iter().position(|byte| !byte.is_ascii_digit())
 }
 
 /// Under which agent and key a message asks for something to be carried out, if it does.

@@ -1,1 +1,2 @@
-mod TurnLemmas
+pub mod SeatLemmas
+pub mod TurnLemmas

@@ -1,11 +1,89 @@
--- A turn that is one of somebody. For next_turn.
+-- What follows from a turn, and who may come after it. For Sockets.
+use Rattle.std.proofs.Common.{◌≡◌, ◌≢◌, ◌∙◌, ◌<◌, ◌≤◌, ◌⊎◌, zero, suc, ℕ, Option, Some, None, OnErr, OnOk, Result, Ok, Err, arith, inl, inr, refl}
 use Rattle.http_live.specs.Doors.{EndsOnlyIf}
 use Rattle.http_live.specs.declared.serving.Turn.{Turn}
 use Rattle.http_live.specs.declared.serving.Turn.TheVariants.{Comes, Ready, Leaves, End}
+use Rattle.http_sockets.specs.declared.places.ReadEnd.{ReadEnd}
+use Rattle.http_sockets.specs.declared.places.WriteEnd.{WriteEnd}
+use Rattle.http_sockets.specs.declared.sockets.Sockets.{Sockets}
+use Rattle.http_sockets.specs.Counts.{IsFewer, IsNoMore, one_fewer}
+use Rattle.http_sockets.specs.Limits.{still_to_come}
+use Rattle.http_sockets.specs.Turns.{IsComing, IsFirst, IsSeated, IsUnseated}
 
--- it needs no reason
+-- a turn of somebody needs no reason that none comes
 pub some_turn : {R W : Type 0} (reason : Type 0) (turn : Turn R W) → EndsOnlyIf ⊥ turn → EndsOnlyIf reason turn
 some_turn reason (Comes at door way reader writer) some = tt
 some_turn reason (Ready at) some = tt
 some_turn reason (Leaves at) some = tt
 some_turn reason End some = absurd some
+
+-- who comes takes no turn of others
+pub first_of_coming : (turn : Turn ReadEnd WriteEnd) (old new : Sockets) → IsComing turn → IsFirst turn old new
+first_of_coming (Comes at door way reader writer) old new comes = tt
+first_of_coming (Ready at) old new comes = absurd comes
+first_of_coming (Leaves at) old new comes = absurd comes
+first_of_coming End old new comes = absurd comes
+
+positive : (n : ℕ) → ◌≢◌ {A = Option ℕ} (Some n) (Some 0) → 0 < n
+positive zero some = absurd (some refl)
+positive (suc n) some = omega arith
+
+-- where some may come, one fewer of no more than those is fewer
+pub fewer_of : (old mid new : Option ℕ) → IsNoMore old mid → mid ≢ Some 0 → new ≡ one_fewer mid → IsFewer old new
+fewer_of None None new one some fewer = fewer
+fewer_of None (Some m) new one some fewer = cc
+fewer_of (Some o) None new one some fewer = absurd one
+fewer_of (Some o) (Some m) new one some fewer = rw fewer (omega (arith, positive m some))
+
+-- and no more
+pub one_no_more : (count : Option ℕ) → IsNoMore count (one_fewer count)
+one_no_more None = refl
+one_no_more (Some n) = omega arith
+
+pub no_more_same : (count : Option ℕ) → IsNoMore count count
+no_more_same None = refl
+no_more_same (Some n) = omega arith
+
+no_more_of_none : (mid new : Option ℕ) → mid ≡ None → IsNoMore mid new → new ≡ None
+no_more_of_none None new none other = other
+no_more_of_none (Some m) new none other = cc
+
+no_more_both : (old mid new : Option ℕ) → IsNoMore old mid → IsNoMore mid new → IsNoMore old new
+no_more_both None mid new one other = no_more_of_none mid new one other
+no_more_both (Some o) None new one other = absurd one
+no_more_both (Some o) (Some m) None one other = absurd other
+no_more_both (Some o) (Some m) (Some n) one other = omega arith
+
+-- nobody took a seat, and nobody after that
+pub unseated_both : (old mid new : Sockets) → IsUnseated old mid → IsUnseated mid new → IsUnseated old new
+unseated_both old mid new one other = record {
+  seats = other.seats ∙ one.seats;
+  no_more = no_more_both (still_to_come old) (still_to_come mid) (still_to_come new) one.no_more other.no_more;
+  round = other.round ∙ one.round;
+  to_begin = other.to_begin ∙ one.to_begin;
+  tick = other.tick ∙ one.tick;
+}
+
+-- nobody took a seat, and then somebody did
+pub seated_after : (old mid new : Sockets) (turn : Turn ReadEnd WriteEnd) → IsUnseated old mid → IsSeated mid new turn
+    → IsSeated old new turn
+seated_after old mid new turn one other = record {
+  comes = other.comes;
+  seats = rw (one.tick, one.seats) at other.seats;
+  round = other.round ∙ one.round;
+  to_begin = other.to_begin ∙ one.to_begin;
+}
+
+pub unseated_same : (now : Sockets) → IsUnseated now now
+unseated_same now = record {
+  seats = refl;
+  no_more = no_more_same (still_to_come now);
+  round = refl;
+  to_begin = refl;
+  tick = refl;
+}
+
+-- one or the other, as it went
+pub either_of : {T E P Q : Type 0} (result : Result T E) → OnOk result P → OnErr result Q → Q ⊎ P
+either_of (Ok value) ok err = inr ok
+either_of (Err error) ok err = inl err

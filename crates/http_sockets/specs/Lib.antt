@@ -2,3 +2,9 @@ pub mod Doors
 pub mod Limits
 pub mod Ends
 pub mod Going
+pub mod Owed
+pub mod Seats
+pub mod Places
+pub mod Turns
+pub mod Listening
+pub mod Counts

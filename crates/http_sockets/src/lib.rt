@@ -10,6 +10,7 @@
 mod files;
 mod listeners;
 mod places;
+mod rounds;
 mod serving;
 mod sockets;
 

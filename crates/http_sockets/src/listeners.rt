@@ -1,8 +1,10 @@
 //! The listeners: a port of 127.0.0.1, and perhaps the path of a Unix socket.
+ghost use Rattle.http_sockets.specs.Listening.{IsPortHere};
+
 use crate::files::{listen_at, remove_socket};
-use crate::places::Socket;
+use crate::places::{Places, Socket};
 use mio::net::{TcpListener, UnixListener};
-use mio::{Interest, Registry, Token};
+use mio::{Events, Interest, Registry, Token};
 use std::alloc::Global;
 use std::io::{self, ErrorKind};
 use std::net::{IpAddr, Ipv4Addr, SocketAddr};
@@ -69,6 +71,9 @@ pub(crate) struct Listeners<'a> {
 }
 
 impl<'a> Listeners<'a> {
+    ghost use Rattle.http_sockets.specs.Places.{seats_of};
+    ghost use Rattle.http_sockets.specs.Seats.{AddWaiting};
+
     /// Listens on a port of 127.0.0.1, and on a path if there is one, which its owner alone may open.
     pub(crate) fn bind(
         rt: &HostRuntime,
@@ -103,6 +108,22 @@ impl<'a> Listeners<'a> {
     pub(crate) fn hear_all(&mut self) {
         self.hear(PORT);
         self.hear(PATH);
+    }
+
+    /// Takes in what the system reported: who may come, and which seats may go on.
+    #[tactic(auto, using(crate::proofs::SeatLemmas::waiting_same, crate::proofs::SeatLemmas::waiting_both))]
+    pub(crate) fn take_in(&mut self, events: &Events, places: &mut Places) -> io::Result<()>
+        ensures seats { AddWaiting (seats_of places.old) (seats_of places.new) }
+    {
+        for event in events.iter() {
+            let token = event.token().0;
+            if token < FIRST {
+                self.hear(token);
+            } else {
+                places.queue(token - FIRST)?;
+            }
+        }
+        Ok(())
     }
 
     /// Whether somebody may wait.
@@ -162,14 +183,20 @@ fn may_wait_after<T>(accepted: &io::Result<T>) -> bool {
     }
 }
 
+/// The address of a port of 127.0.0.1.
+fn address_of(port: u16) -> SocketAddr
+    ensures here { IsPortHere port result }
+{
+    SocketAddr::new(IpAddr::V4(Ipv4Addr::LOCALHOST), port)
+}
+
 /// Listens on a port of 127.0.0.1.
 fn bind_port(
     rt: &HostRuntime,
     registry: &Registry,
     port: u16,
 ) -> io::Result<Listener<TcpListener>> {
-    let address = SocketAddr::new(IpAddr::V4(Ipv4Addr::LOCALHOST), port);
-    let mut socket = TcpListener::bind(rt, address)?;
+    let mut socket = TcpListener::bind(rt, address_of(port))?;
     registry.register(&mut socket, Token(PORT), Interest::READABLE)?;
     Ok(Listener {
         socket,

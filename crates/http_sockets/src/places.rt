@@ -1,6 +1,10 @@
 //! The two ends of a connection over a socket, and what is known of each seat: its socket, what its peer owes, and since when.
 
-ghost use Rattle.std.specs.Prelude.{◌≡◌, IfOk};
+ghost use Rattle.std.specs.Prelude.{◌≡◌, ◌++◌, All, IfNone, IfOk, MatchOption, OnErr, OnOk, ◌↔◌, IsTrue, if◌then◌else◌, [], length, option_to_list, take, true, ◌<◌};
+ghost use Rattle.std.specs.Io.{ReadsAtMost, WritesAtMost};
+ghost use Rattle.std.specs.Io.KnownBytes.{Appends, Consumes, IsAtEnd, Keeps};
+ghost use Rattle.http_sockets.specs.Owed.{is_owed_anew, owed_after, shows_life};
+ghost use Rattle.http_sockets.specs.Seats.{HaveTurns};
 
 use desk_http::{Door, Site};
 use http_live::Standing;
@@ -11,6 +15,7 @@ use mio::{Interest, Registry, Token};
 use std::alloc::{AllocError, Global};
 use std::collections::VecDeque;
 use std::io::{self, Read, Write};
+use std::mem;
 use std::net::Shutdown;
 use std::rc::Rc;
 
@@ -39,20 +44,33 @@ struct Place {
     since: u64,
     /// When its peer last sent or took something, in ticks.
     heard: u64,
+    /// Whether it waits for its turn.
     is_queued: bool,
 }
 
-/// All seats.
+/// All seats, and whose turn comes.
 #[derive(Drop)]
 pub(crate) struct Places {
     places: Vec<Place>,
+    /// The seats that have a turn in this round, and those that have one in the next round.
+    round: VecDeque<usize>,
+    next: VecDeque<usize>,
+    ghost turns: { HaveTurns places.items round.items next.items },
 }
 
 impl Places {
     ghost use Rattle.http_sockets.specs.Ends.{are_free};
+    ghost use Rattle.http_sockets.specs.Places.{next_of, round_of, seats_of};
+    ghost use Rattle.http_sockets.specs.Seats.{AddWaiting, Changes, IsChosen, cleared, heard_so, is_free, overdue_from, queued, served, taken, why_overdue};
 
     /// So many seats, all free.
-    pub(crate) fn new(alloc: Global, count: usize) -> Result<Places, AllocError> {
+    #[tactic(auto, using(crate::proofs::SeatLemmas::turns_none))]
+    pub(crate) fn new(alloc: Global, count: usize) -> Result<Places, AllocError>
+        ensures count { IfOk result (λ places. length (seats_of places) ≡ count) }
+        ensures free { IfOk result (λ places. All (λ seat. is_free seat ≡ true) (seats_of places)) }
+    {
+        let round = VecDeque::with_capacity(alloc, count)?;
+        let next = VecDeque::with_capacity(alloc, count)?;
         let mut places = Vec::with_capacity(alloc, count)?;
         for _ in 0..count {
             places.push(Place {
@@ -63,11 +81,18 @@ impl Places {
                 is_queued: false,
             })?;
         }
-        Ok(Places { places })
+        Ok(Places {
+            places,
+            round,
+            next,
+        })
     }
 
     /// A free seat, or the one whose peer is silent for longest.
-    pub(crate) fn choose(&self) -> usize {
+    #[tactic(auto, using(crate::proofs::SeatLemmas::chosen_free, crate::proofs::SeatLemmas::chosen_of_all, crate::proofs::SeatLemmas::quiet_takes, crate::proofs::SeatLemmas::quiet_keeps))]
+    pub(crate) fn choose(&self) -> usize
+        ensures chosen { IsChosen (seats_of self.now) result }
+    {
         let (mut best, mut oldest) = (0, u64::MAX);
         for (at, place) in self.places.iter().enumerate() {
             if place.socket.is_none() {
@@ -88,7 +113,10 @@ impl Places {
     }
 
     /// A peer takes the seat at this tick.
-    pub(crate) fn take(&mut self, at: usize, socket: Rc<Socket>, tick: u64) {
+    pub(crate) fn take(&mut self, at: usize, socket: Rc<Socket>, tick: u64)
+        ensures taken { Changes (taken socket tick) at (seats_of self.old) (seats_of self.new) }
+        ensures round { round_of self.new ≡ round_of self.old }
+    {
         if let Some(place) = self.places.get_mut(at) {
             place.socket = Some(socket);
             place.owed = Owed::Nothing;
@@ -98,7 +126,9 @@ impl Places {
     }
 
     /// The seat is free.
-    pub(crate) fn clear(&mut self, at: usize) {
+    pub(crate) fn clear(&mut self, at: usize)
+        ensures cleared { Changes cleared at (seats_of self.old) (seats_of self.new) }
+    {
         if let Some(place) = self.places.get_mut(at) {
             place.socket = None;
             place.owed = Owed::Nothing;
@@ -106,27 +136,18 @@ impl Places {
     }
 
     /// What the connection of a seat waits for at this tick.
-    pub(crate) fn hear(&mut self, at: usize, standing: Standing, tick: u64) {
-        let Some(place) = self.places.get_mut(at) else {
-            return;
-        };
-        let owed = owed_after(place.owed, standing);
-        if owed == Owed::End && place.owed != Owed::End {
-            if let Some(socket) = &place.socket {
-                socket.end_writing();
-            }
+    pub(crate) fn hear(&mut self, at: usize, standing: Standing, tick: u64)
+        ensures heard { Changes (heard_so standing tick) at (seats_of self.old) (seats_of self.new) }
+    {
+        if let Some(place) = self.places.get_mut(at) {
+            place.hear(standing, tick);
         }
-        if owed != place.owed || standing == Standing::Answered {
-            place.since = tick;
-        }
-        if standing == Standing::Busy || standing == Standing::Answered {
-            place.heard = tick;
-        }
-        place.owed = owed;
     }
 
     /// Why a seat is ended whose peer has owed something for too long.
-    pub(crate) fn why_overdue(&self, at: usize) -> Why {
+    pub(crate) fn why_overdue(&self, at: usize) -> Why
+        ensures why { result ≡ why_overdue (seats_of self.now) at }
+    {
         match self.places.get(at).map(|place| place.owed) {
             Some(Owed::Message) => Why::LateRequest,
             Some(Owed::Page) => Why::LatePage,
@@ -134,23 +155,53 @@ impl Places {
         }
     }
 
-    /// Whether the seat is to be queued, which it then is: it is not queued yet.
-    pub(crate) fn queues(&mut self, at: usize) -> bool {
+    /// The seat has a turn in the next round, unless it has one already, or nobody has the seat.
+    #[tactic(auto, using(crate::proofs::SeatLemmas::waiting_same))]
+    pub(crate) fn queue(&mut self, at: usize) -> Result<(), AllocError>
+        ensures queued { OnOk result (Changes queued at (seats_of self.old) (seats_of self.new)) }
+        ensures err { OnErr result (seats_of self.new ≡ seats_of self.old) }
+        ensures waiting { AddWaiting (seats_of self.old) (seats_of self.new) }
+    {
         let Some(place) = self.places.get_mut(at) else {
-            return false;
+            return Ok(());
         };
-        let is_new = !place.is_queued && place.socket.is_some();
-        if is_new {
-            place.is_queued = true;
+        if place.is_queued || place.socket.is_none() {
+            return Ok(());
         }
-        is_new
+        self.next.push_back(at)?;
+        place.is_queued = true;
+        Ok(())
     }
 
-    /// The seat has its turn.
-    pub(crate) fn has_turn(&mut self, at: usize) {
+    /// The next seat of this round has its turn.
+    pub(crate) fn serve(&mut self) -> Option<usize>
+        ensures first { round_of self.old ≡ option_to_list result ++ round_of self.new }
+        ensures none { IfNone result (round_of self.old ≡ []) }
+        ensures seats { MatchOption result (seats_of self.new ≡ seats_of self.old)
+            (λ at. Changes served at (seats_of self.old) (seats_of self.new)) }
+    {
+        let at = self.round.pop_front()?;
         if let Some(place) = self.places.get_mut(at) {
             place.is_queued = false;
         }
+        Some(at)
+    }
+
+    /// The next round begins.
+    #[tactic(auto, using(crate::proofs::SeatLemmas::turns_swapped))]
+    pub(crate) fn begin_round(&mut self)
+        ensures seats { seats_of self.new ≡ seats_of self.old }
+        ensures round { round_of self.new ≡ next_of self.old }
+        ensures next { next_of self.new ≡ round_of self.old }
+    {
+        mem::swap(&mut self.round, &mut self.next);
+    }
+
+    /// Whether no seat has a turn in the next round.
+    pub(crate) fn is_idle(&self) -> bool
+        ensures idle { IsTrue result ↔ (next_of self.now ≡ []) }
+    {
+        self.next.is_empty()
     }
 
     /// Adds the seats whose peers have owed something for more than so many ticks.
@@ -159,9 +210,12 @@ impl Places {
         tick: u64,
         patience: u64,
         overdue: &mut VecDeque<usize>,
-    ) -> Result<(), AllocError> {
+    ) -> Result<(), AllocError>
+        ensures added { OnOk result
+            (overdue.new.items ≡ overdue.old.items ++ overdue_from tick patience 0 (seats_of self.now)) }
+    {
         for (at, place) in self.places.iter().enumerate() {
-            if place.socket.is_some() && place.is_overdue(tick, patience) {
+            if place.is_overdue(tick, patience) {
                 overdue.push_back(at)?;
             }
         }
@@ -170,8 +224,29 @@ impl Places {
 }
 
 impl Place {
-    /// Whether the peer owes something for too long at this tick.
-    fn is_overdue(&self, tick: u64, patience: u64) -> bool {
+    ghost use Rattle.http_sockets.specs.Seats.{heard_so, is_overdue};
+
+    /// What its connection waits for at this tick. After its closing page, nothing more is written.
+    fn hear(&mut self, standing: Standing, tick: u64)
+        ensures heard { self.new ≡ heard_so standing tick self.old }
+    {
+        if standing == Standing::Lingering && self.owed != Owed::End {
+            if let Some(socket) = &self.socket {
+                socket.end_writing();
+            }
+        }
+        self.since = later(is_owed_anew(self.owed, standing), self.since, tick);
+        self.heard = later(shows_life(standing), self.heard, tick);
+        self.owed = owed_after(self.owed, standing);
+    }
+
+    /// Whether there is a peer, which owes something for too long at this tick.
+    fn is_overdue(&self, tick: u64, patience: u64) -> bool
+        ensures overdue { result ≡ is_overdue tick patience self.now }
+    {
+        if self.socket.is_none() {
+            return false;
+        }
         let owes_long = tick.saturating_sub(self.since) > patience;
         let is_silent = tick.saturating_sub(self.heard) > LINGERING;
         match self.owed {
@@ -182,8 +257,17 @@ impl Place {
     }
 }
 
+/// This tick, or the one before.
+fn later(is_now: bool, before: u64, tick: u64) -> u64
+    ensures later { result ≡ (if is_now then tick else before) }
+{
+    if is_now { tick } else { before }
+}
+
 /// What a peer owes after a turn, by what it owed before. Its first byte begins a message.
-fn owed_after(before: Owed, standing: Standing) -> Owed {
+fn owed_after(before: Owed, standing: Standing) -> Owed
+    ensures owed { result ≡ owed_after before standing }
+{
     match standing {
         Standing::Between | Standing::Over => Owed::Nothing,
         Standing::Amid => Owed::Message,
@@ -192,6 +276,20 @@ fn owed_after(before: Owed, standing: Standing) -> Owed {
         Standing::Busy if before == Owed::Nothing => Owed::Message,
         Standing::Busy => before,
     }
+}
+
+/// Whether a peer owes from this turn on what it owes after it.
+fn is_owed_anew(before: Owed, standing: Standing) -> bool
+    ensures anew { result ≡ is_owed_anew before standing }
+{
+    standing == Standing::Answered || owed_after(before, standing) != before
+}
+
+/// Whether a turn that ended so shows that the peer sent or took something.
+fn shows_life(standing: Standing) -> bool
+    ensures life { result ≡ shows_life standing }
+{
+    standing == Standing::Busy || standing == Standing::Answered
 }
 
 /// A socket of a peer.
@@ -256,11 +354,11 @@ impl Read for ReadEnd {
         match &*self.0 {
             Socket::Port(stream) => {
                 let mut stream = stream;
-                stream.read(buffer)
+                read_from(&mut stream, buffer)
             }
             Socket::Path(stream) => {
                 let mut stream = stream;
-                stream.read(buffer)
+                read_from(&mut stream, buffer)
             }
         }
     }
@@ -271,11 +369,11 @@ impl Write for WriteEnd {
         match &*self.0 {
             Socket::Port(stream) => {
                 let mut stream = stream;
-                stream.write(bytes)
+                write_to(&mut stream, bytes)
             }
             Socket::Path(stream) => {
                 let mut stream = stream;
-                stream.write(bytes)
+                write_to(&mut stream, bytes)
             }
         }
     }
@@ -283,4 +381,26 @@ impl Write for WriteEnd {
     fn flush(&mut self) -> io::Result<()> {
         Ok(())
     }
+}
+
+/// Reads once. Of what the reader gives, nothing is lost.
+fn read_from<R: Read>(reader: &mut R, buffer: &mut [u8]) -> io::Result<usize>
+    ensures bound { ReadsAtMost result buffer.new }
+    ensures consumed { IfOk result (λ count.
+        Consumes (R.remaining reader.old) (R.remaining reader.new) (take count buffer.new)) }
+    ensures end { IfOk result (λ count.
+        count ≡ 0 → 0 < length buffer.new → IsAtEnd (R.remaining reader.new)) }
+    ensures err { OnErr result (Keeps (R.remaining reader.old) (R.remaining reader.new)) }
+{
+    reader.read(buffer)
+}
+
+/// Writes once. So many bytes as are told were taken.
+fn write_to<W: Write>(writer: &mut W, bytes: &[u8]) -> io::Result<usize>
+    ensures bound { WritesAtMost result bytes.now }
+    ensures appended { IfOk result (λ count.
+        Appends (W.contents writer.old) (W.contents writer.new) (take count bytes.now)) }
+    ensures err { OnErr result (Keeps (W.contents writer.old) (W.contents writer.new)) }
+{
+    writer.write(bytes)
 }

@@ -1,10 +1,13 @@
 //! Turns from the system: what epoll reports, and who comes and goes.
-ghost use Rattle.std.specs.Prelude.{◌≡◌, None, IfOk, IfSome, IsSome, IsTrue, OnErr, OnOk};
+ghost use Rattle.std.specs.Prelude.{◌≡◌, ◌≢◌, ◌-◌, ◌/◌, ◌<◌, ◌≤◌, ◌+◌, ◌↔◌, None, Some, IfOk, IfSome, IsSome, IsTrue, MatchOption, MatchResult, OnErr, OnOk, OnSome, option_map};
+ghost use Rattle.std.specs.Time.{system_time_nanos};
+ghost use Rattle.http_sockets.specs.Counts.{IsFewer, one_fewer};
 ghost use Rattle.http_sockets.specs.Doors.{IsAt, IsPair, IsReadBy, IsTurn};
 ghost use Rattle.http_sockets.specs.Ends.{IsOver};
 
 use crate::listeners::{Accepted, FIRST, Listeners};
 use crate::places::{Places, ReadEnd, Socket, WriteEnd, ends_of};
+use crate::rounds::{Rounds, turn_of_rounds};
 use crate::serving::Limits;
 use desk_http::{Door, Site};
 use http_journal::Journal;
@@ -16,7 +19,6 @@ use mio::{Events, Poll, Token};
 use std::alloc::{AllocError, Global};
 use std::collections::VecDeque;
 use std::io::{self, ErrorKind};
-use std::mem;
 use std::rc::Rc;
 use std::time::{Duration, Instant, SystemTime, UNIX_EPOCH};
 
@@ -58,11 +60,10 @@ pub struct Sockets<'a> {
     /// By which way requests are read.
     way: Way,
     places: Places,
-    /// The seats that go on in this round, and those of the next one.
-    round: VecDeque<usize>,
-    next: VecDeque<usize>,
     /// The seats that are ended.
     leaving: VecDeque<usize>,
+    /// How many rounds may still begin.
+    to_begin: u64,
     /// Whether the system has failed to report what happens.
     has_failed: bool,
     /// What is counted, and the log, if one is written.
@@ -71,9 +72,11 @@ pub struct Sockets<'a> {
 
 impl<'a> Sockets<'a> {
     ghost use Rattle.http_live.specs.Whole.{EndsOver};
-    ghost use Rattle.http_sockets.specs.Ends.{IsAtEnd, is_failed};
+    ghost use Rattle.http_sockets.specs.Ends.{HasWaited, HaveLeft, is_failed};
     ghost use Rattle.http_sockets.specs.Doors.{ComesAt, ComesBy, page_at_port, way_to_come};
     ghost use Rattle.http_sockets.specs.Limits.{KeepsLimits, patience_of, still_to_come};
+    ghost use Rattle.http_sockets.specs.Seats.{AddWaiting};
+    ghost use Rattle.http_sockets.specs.Turns.{EndsLate, IsSeated, IsUnseated, seats_in};
 
     /// Listens on a port of 127.0.0.1, and on a path if there is one, which its owner alone may open. Who comes is served
     /// within these limits.
@@ -93,8 +96,6 @@ impl<'a> Sockets<'a> {
         let poll = Poll::new(rt)?;
         let events = Events::with_capacity(alloc, EVENTS)?;
         let places = Places::new(alloc, SEATS)?;
-        let round = VecDeque::with_capacity(alloc, SEATS)?;
-        let next = VecDeque::with_capacity(alloc, SEATS)?;
         let leaving = VecDeque::with_capacity(alloc, SEATS)?;
         let journal = Journal::new(rt, alloc, SEATS)?;
         let clock = Instant::now(rt)?;
@@ -114,9 +115,8 @@ impl<'a> Sockets<'a> {
             page: None,
             way: Way::Profile,
             places,
-            round,
-            next,
             leaving,
+            to_begin: u64::MAX,
             has_failed: false,
             journal,
         })
@@ -130,11 +130,6 @@ impl<'a> Sockets<'a> {
         ensures limits { KeepsLimits self.old self.new }
     {
         self.journal.log(form);
-    }
-
-    /// Notes why the connection of a seat ended.
-    fn note_end(&mut self, at: usize, why: Why) {
-        let _ = self.journal.ends(at, why);
     }
 
     /// The port that is listened on: where 0 was asked for, the system chose it.
@@ -191,66 +186,69 @@ impl<'a> Sockets<'a> {
         sockets.listeners.end(rt);
     }
 
-    /// The next turn of this round.
-    fn turn_of_round(&mut self) -> Option<Turn<ReadEnd, WriteEnd>>
-        ensures turn { IfSome result IsTurn }
-    {
-        if let Some(at) = self.leaving.pop_front() {
-            let why = self.places.why_overdue(at);
-            self.note_end(at, why);
-            self.places.clear(at);
-            return Some(Turn::Leaves(at));
-        }
-        if let Some(turn) = self.welcome() {
-            return Some(turn);
-        }
-        let at = self.round.pop_front()?;
-        self.places.has_turn(at);
-        Some(Turn::Ready(at))
-    }
-
     /// Whether one more peer may take a seat in this round.
-    fn welcomes(&self) -> bool {
+    fn welcomes(&self) -> bool
+        ensures round { IsTrue result → self.now.welcomed < WELCOMES }
+        ensures limit { IsTrue result → still_to_come self.now ≢ Some 0 }
+    {
         self.welcomed < WELCOMES && self.to_come != Some(0) && self.listeners.may_wait()
     }
 
     /// The next peer takes a seat, if one waits.
+    #[tactic(auto, using(crate::proofs::TurnLemmas::unseated_same, crate::proofs::TurnLemmas::unseated_both, crate::proofs::TurnLemmas::seated_after, crate::proofs::TurnLemmas::fewer_of))]
     fn welcome(&mut self) -> Option<Turn<ReadEnd, WriteEnd>>
         ensures turn { IfSome result IsTurn }
+        ensures seated { MatchOption result (IsUnseated self.old self.new)
+            (IsSeated self.old self.new) }
+        ensures limit { OnSome result (IsFewer (still_to_come self.old) (still_to_come self.new)) }
     {
         for _ in 0..WELCOMES {
             if !self.welcomes() {
                 return None;
             }
-            self.welcomed = self.welcomed.saturating_add(1);
-            match self.listeners.accept() {
-                Accepted::Came(socket) => {
-                    self.count_one();
-                    let at = self.places.choose();
-                    // A peer that finds no memory is let go.
-                    if let Ok(turn) = self.seated(socket, at) {
-                        return Some(turn);
-                    }
-                }
-                Accepted::Lost => self.count_one(),
-                Accepted::Nobody => {}
+            if let Some(turn) = self.greet() {
+                return Some(turn);
             }
         }
         None
     }
 
-    /// One of the peers that may still come has come.
-    fn count_one(&mut self) {
-        self.to_come = self.to_come.map(|count| count.saturating_sub(1));
+    /// Who waits takes a seat. A peer that finds no memory is let go.
+    #[tactic(auto, using(crate::proofs::TurnLemmas::one_no_more, crate::proofs::TurnLemmas::no_more_same))]
+    fn greet(&mut self) -> Option<Turn<ReadEnd, WriteEnd>>
+        ensures turn { IfSome result IsTurn }
+        ensures seated { MatchOption result (IsUnseated self.old self.new)
+            (IsSeated self.old self.new) }
+        ensures limit { OnSome result
+            (still_to_come self.new ≡ one_fewer (still_to_come self.old)) }
+    {
+        self.welcomed = self.welcomed.saturating_add(1);
+        match self.listeners.accept() {
+            Accepted::Came(socket) => match self.seated(socket) {
+                Ok(turn) => Some(turn),
+                Err(_) => None,
+            },
+            Accepted::Lost => {
+                self.to_come = one_fewer(self.to_come);
+                None
+            }
+            Accepted::Nobody => None,
+        }
     }
 
-    /// A peer takes a seat, by the door of its socket, at the port by that with the page that is served now, if one is. It
-    /// is read by the way that is now.
-    fn seated(&mut self, socket: Socket, at: usize) -> io::Result<Turn<ReadEnd, WriteEnd>>
+    /// A peer takes the seat that is chosen, by the door of its socket, at the port by that with the page that is served now, if
+    /// one is. It is read by the way that is now. One peer fewer may come after it.
+    #[tactic(auto, using(crate::proofs::TurnLemmas::one_no_more))]
+    fn seated(&mut self, socket: Socket) -> io::Result<Turn<ReadEnd, WriteEnd>>
         ensures turn { IfOk result IsTurn }
         ensures now { IfOk result (ComesBy (way_to_come self.old)) }
         ensures page { IfOk result (ComesAt (page_at_port self.old)) }
+        ensures seated { IfOk result (IsSeated self.old self.new) }
+        ensures limit { still_to_come self.new ≡ one_fewer (still_to_come self.old) }
+        ensures err { OnErr result (IsUnseated self.old self.new) }
     {
+        self.to_come = one_fewer(self.to_come);
+        let at = self.places.choose();
         let mut socket = socket;
         socket.register(self.poll.registry(), Token(at.saturating_add(FIRST)))?;
         let socket = Rc::new(self.alloc, socket)?;
@@ -261,62 +259,73 @@ impl<'a> Sockets<'a> {
         Ok(Turn::Comes(at, door, self.way, reader, writer))
     }
 
-    /// Begins the next round: waits until a seat may go on or somebody comes, or a tick is over.
-    fn wait(&mut self) -> io::Result<()> {
-        self.welcomed = 0;
-        let is_idle = self.next.is_empty() && !self.welcomes();
+    /// Waits until a seat may go on or somebody comes, or a tick is over, and takes in what the system reports.
+    #[tactic(auto, using(crate::proofs::SeatLemmas::waiting_same, crate::proofs::SeatLemmas::waiting_both))]
+    fn hear_system(&mut self) -> io::Result<()>
+        ensures seats { AddWaiting (seats_in self.old) (seats_in self.new) }
+        ensures rounds { self.new.to_begin ≡ self.old.to_begin }
+    {
+        let is_idle = self.places.is_idle() && !self.welcomes();
         let most = Duration::from_millis(if is_idle { TICK } else { 0 });
         match self.poll.poll(&mut self.events, Some(most)) {
-            Err(error) if error.kind() == ErrorKind::Interrupted => {}
-            Err(error) => return Err(error),
-            Ok(()) => self.take_in()?,
+            Err(error) if error.kind() == ErrorKind::Interrupted => Ok(()),
+            Err(error) => Err(error),
+            Ok(()) => self.listeners.take_in(&self.events, &mut self.places),
         }
-        // The round before is over.
-        mem::swap(&mut self.round, &mut self.next);
+    }
+
+    /// Begins the next round, once the system has reported.
+    #[tactic(auto, using(crate::proofs::SeatLemmas::waiting_same, crate::proofs::SeatLemmas::waiting_both))]
+    fn begin_round(&mut self) -> io::Result<()>
+        ensures seats { AddWaiting (seats_in self.old) (seats_in self.new) }
+        ensures begun { OnOk result (self.new.to_begin < self.old.to_begin) }
+    {
+        let to_begin = self.to_begin.checked_sub(1);
+        self.to_begin = to_begin.ok_or(io::Error::from(ErrorKind::Other))?;
+        self.welcomed = 0;
+        self.hear_system()?;
+        self.places.begin_round();
         self.count_ticks()
     }
 
-    /// Takes in what the system reported: who may come, and which seats may go on.
-    fn take_in(&mut self) -> io::Result<()> {
-        for event in self.events.iter() {
-            let token = event.token().0;
-            if token < FIRST {
-                self.listeners.hear(token);
-            } else if self.places.queues(token - FIRST) {
-                self.next.push_back(token - FIRST)?;
-            }
-        }
-        Ok(())
-    }
-
     /// At each tick the listeners are asked again, and the seats whose peers owe something for too long are ended.
-    fn count_ticks(&mut self) -> io::Result<()> {
+    fn count_ticks(&mut self) -> io::Result<()>
+        ensures seats { seats_in self.new ≡ seats_in self.old }
+        ensures rounds { self.new.to_begin ≡ self.old.to_begin }
+        ensures late { OnOk result (EndsLate self.old self.new) }
+    {
         let now = Instant::now(self.rt)?;
         let passed = now.duration_since(self.clock).as_millis() / u128::from(TICK);
-        if passed > 0 {
-            let counted = passed.min(u128::from(MOST_TICKS)) as u64;
-            let whole = Duration::from_millis(counted.saturating_mul(TICK));
-            self.clock = match self.clock.checked_add(whole) {
-                Some(clock) if passed == u128::from(counted) => clock,
-                _ => now,
-            };
-            self.tick = self.tick.saturating_add(counted);
-            self.listeners.hear_all();
-            self.places
-                .add_overdue(self.tick, self.patience, &mut self.leaving)?;
+        if passed == 0 {
+            return Ok(());
         }
+        let counted = passed.min(u128::from(MOST_TICKS)) as u64;
+        let whole = Duration::from_millis(counted.saturating_mul(TICK));
+        self.clock = match self.clock.checked_add(whole) {
+            Some(clock) if passed == u128::from(counted) => clock,
+            _ => now,
+        };
+        self.tick = self.tick.saturating_add(counted);
+        self.listeners.hear_all();
+        self.places
+            .add_overdue(self.tick, self.patience, &mut self.leaving)?;
         Ok(())
     }
 
-    /// Whether no turn comes any more: all peers came, and have left; or the desk stops, and the time for that is over.
-    fn is_at_end(&self) -> bool
-        ensures over { IsTrue result → IsAtEnd self.now }
+    /// Whether the desk stops, and the time for the pages that wait is over.
+    fn has_waited(&self) -> bool
+        ensures waited { IsTrue result ↔ HasWaited self.now }
     {
-        if let Some(last) = self.last {
-            if self.tick >= last {
-                return true;
-            }
+        match self.last {
+            Some(last) => self.tick >= last,
+            None => false,
         }
+    }
+
+    /// Whether all peers that may come came, and have left.
+    fn have_left(&self) -> bool
+        ensures left { IsTrue result ↔ HaveLeft self.now }
+    {
         match self.to_come {
             Some(0) => self.places.are_free(),
             _ => false,
@@ -324,7 +333,62 @@ impl<'a> Sockets<'a> {
     }
 }
 
+impl Rounds for Sockets<'_> {
+    ghost use Rattle.http_sockets.specs.Ends.{IsAtEnd};
+    ghost use Rattle.http_sockets.specs.Seats.{AddWaiting};
+    ghost use Rattle.http_sockets.specs.Turns.{TurnTaken, seats_in};
+
+    type Turn = Turn<ReadEnd, WriteEnd>;
+
+    ghost is_turn = { IsTurn };
+
+    ghost is_over = { IsOver };
+
+    ghost to_begin = { λ sockets. sockets.to_begin };
+
+    #[tactic(auto, using(crate::proofs::TurnLemmas::first_of_coming))]
+    fn turn_of_round(&mut self) -> Option<Turn<ReadEnd, WriteEnd>>
+        ensures turn { IfSome result IsTurn }
+        ensures kept { self.new.to_begin ≤ self.old.to_begin }
+        ensures taken { TurnTaken self.old self.new result }
+    {
+        if let Some(at) = self.leaving.pop_front() {
+            let why = self.places.why_overdue(at);
+            let _ = self.journal.ends(at, why);
+            self.places.clear(at);
+            return Some(Turn::Leaves(at));
+        }
+        if let Some(turn) = self.welcome() {
+            return Some(turn);
+        }
+        let at = self.places.serve()?;
+        Some(Turn::Ready(at))
+    }
+
+    fn is_at_end(&self) -> bool
+        ensures over { IsTrue result → IsOver self.now }
+        ensures end { IsTrue result ↔ IsAtEnd self.now }
+    {
+        self.has_waited() || self.have_left()
+    }
+
+    #[tactic(auto, using(crate::proofs::SeatLemmas::waiting_same, crate::proofs::SeatLemmas::waiting_both))]
+    fn wait(&mut self) -> io::Result<()>
+        ensures begun { OnOk result (self.new.to_begin < self.old.to_begin) }
+        ensures err { OnErr result (IsOver self.new) }
+        ensures seats { AddWaiting (seats_in self.old) (seats_in self.new) }
+    {
+        let begun = self.begin_round();
+        self.has_failed = self.has_failed || begun.is_err();
+        begun
+    }
+}
+
 impl Turns for Sockets<'_> {
+    ghost use Rattle.http_sockets.specs.Limits.{still_to_come};
+    ghost use Rattle.http_sockets.specs.Seats.{AddWaiting};
+    ghost use Rattle.http_sockets.specs.Turns.{HearsSo, seats_in};
+
     type Reader = ReadEnd;
 
     type Writer = WriteEnd;
@@ -338,37 +402,31 @@ impl Turns for Sockets<'_> {
     ghost is_over = { IsOver };
 
     fn next_turn(&mut self) -> Turn<ReadEnd, WriteEnd> {
-        for _ in 0..u64::MAX {
-            if let Some(turn) = self.turn_of_round() {
-                return turn;
-            }
-            if self.is_at_end() {
-                return Turn::End;
-            }
-            if self.wait().is_err() {
-                self.has_failed = true;
-                return Turn::End;
-            }
+        match turn_of_rounds(self) {
+            Some(turn) => turn,
+            None => Turn::End,
         }
-        self.has_failed = true;
-        Turn::End
     }
 
     /// Each connection has a turn, in which its page may go out. After five seconds no turn comes.
-    fn stop(&mut self) {
+    #[tactic(auto, using(crate::proofs::SeatLemmas::waiting_same, crate::proofs::SeatLemmas::waiting_both))]
+    fn stop(&mut self)
+        ensures nobody { still_to_come self.new ≡ Some 0 }
+        ensures last { IfSome self.new.last (λ last. last ≤ self.old.tick + STOPPING) }
+        ensures ends { IsSome self.new.last }
+        ensures seats { AddWaiting (seats_in self.old) (seats_in self.new) }
+    {
         self.to_come = Some(0);
         self.last = Some(self.tick.saturating_add(STOPPING));
         for at in 0..SEATS {
-            if self.places.queues(at) {
-                let _ = self.next.push_back(at);
-            }
+            let _ = self.places.queue(at);
         }
     }
 
     fn second(&mut self) -> Option<u64> {
         match self.way {
             Way::Profile => None,
-            Way::Wide => second_now(self.rt),
+            Way::Wide => second_of(SystemTime::now(self.rt)),
         }
     }
 
@@ -391,27 +449,36 @@ impl Turns for Sockets<'_> {
         let _ = self.journal.sees_page(at, standing, seen, page, closes);
     }
 
-    fn hear(&mut self, at: usize, standing: Standing) {
+    fn hear(&mut self, at: usize, standing: Standing)
+        ensures heard { HearsSo standing self.old.tick at (seats_in self.old) (seats_in self.new) }
+    {
         self.places.hear(at, standing, self.tick);
-        if standing == Standing::Over {
-            // Where its end was seen, it is noted already.
-            self.note_end(at, Why::Stopped);
-        }
         match standing {
-            Standing::Over => self.places.clear(at),
+            Standing::Over => {
+                // Where its end was seen, it is noted already.
+                let _ = self.journal.ends(at, Why::Stopped);
+                self.places.clear(at);
+            }
             Standing::Busy | Standing::Answered => {
-                if self.places.queues(at) {
-                    let _ = self.next.push_back(at);
-                }
+                let _ = self.places.queue(at);
             }
             _ => {}
         }
     }
 }
 
-/// What the clock of the system shows, in seconds since 1970, if it can be read.
-fn second_now(rt: &HostRuntime) -> Option<u64> {
-    let now = SystemTime::now(rt).ok()?;
-    let since = now.duration_since(UNIX_EPOCH).ok()?;
+/// One peer fewer may come.
+fn one_fewer(to_come: Option<u16>) -> Option<u16>
+    ensures fewer { result ≡ one_fewer to_come }
+{
+    to_come.map(|count| count.saturating_sub(1))
+}
+
+/// The second since 1970 in which the clock of the system was read, if it was.
+fn second_of(now: io::Result<SystemTime>) -> Option<u64>
+    ensures second { MatchResult now
+        (λ time. result ≡ Some (system_time_nanos time / 1_000_000_000)) (λ _. result ≡ None) }
+{
+    let since = now.ok()?.duration_since(UNIX_EPOCH).ok()?;
     Some(since.as_secs())
 }

@@ -1,0 +1,6 @@
+-- The best of the seats so far, of which none is free.
+use Rattle.http_sockets.proofs.SeatLemmas.{QuietSoFar}
+use Rattle.http_sockets.proofs.places.Places.choose.Given as goal
+
+abbrev pub invariant-loop-at : goal.invariant-loop-at
+invariant-loop-at l = QuietSoFar l.place-items l.at l.best l.oldest
