@@ -1,4 +1,5 @@
-"""The man page and the completions of the program, all made from the help that it prints: manual.py PROGRAM man | bash | zsh | fish"""
+"""The man page and the completions of the program, all made from the help that it prints: manual.py PROGRAM man | bash | zsh | fish
+More than 200 lines: one help, in four forms."""
 import re
 import subprocess
 import sys

@@ -8,7 +8,6 @@ scripts/page_pictures.py [NAME ..]   makes all, or those of these names
 """
 import datetime
 import io
-import json
 import os
 import sys
 import tempfile
@@ -24,6 +23,7 @@ from selenium.webdriver.common.keys import Keys
 
 from page_driving import Browser, Desk, wait_until
 from page_network import Network
+from page_scenes import option, plan
 
 FIRST = datetime.date(2030, 6, 1)
 # products with the places of each night of June, by the day's number from 0
@@ -35,12 +35,7 @@ PRODUCTS = {
 
 
 def want(product, day, nights=1, count=2):
-    kind, supplier, code = product.split(",")
-    return {"kind": kind, "supplier": supplier, "product": code, "first": str(FIRST + datetime.timedelta(day)), "nights": nights, "count": count}
-
-
-def plan(steps, saves=(), tries=1):
-    return json.dumps({"steps": [{"options": step, "save": n in saves} for n, step in enumerate(steps, 1)], "tries": tries})
+    return option(*product.split(","), str(FIRST + datetime.timedelta(day)), nights, count)
 
 
 def trip(day, nights=3, count=2):
@@ -76,7 +71,7 @@ class Agency:
         return self.desk.ask("POST", path, agent, f"k{self.keys}", body)[1]
 
     def journey(self, agent, steps, moves, saves=()):
-        identity = self.post(agent, "/journeys", plan(steps, saves))["journey"]
+        identity = self.post(agent, "/journeys", plan(*steps, saves=saves, tries=1))["journey"]
         for _ in range(moves):
             self.post(agent, f"/journeys/{identity}/step")
         return identity
@@ -114,14 +109,14 @@ def take(camera, network):
     browser.one('.night[data-of="room FJORD SUITE"]')
     camera.keeps("stock")
     browser.click_on('[data-f="filter.table"]')
-    browser.types('[data-f="filter.places"]', Keys.CONTROL + "a" + Keys.NULL, "2", Keys.TAB)
+    browser.retypes('[data-f="filter.places"]', "2", Keys.TAB)
     for name, day in (("from", "2030-06-10"), ("to", "2030-06-13")):
         browser.gives(f'[data-f="filter.{name}"]', day)
     browser.shows("2 places free from Mon, 10 June 2030 to Thu, 13 June 2030", "#cals")
     browser.script("document.activeElement.blur()")
     camera.keeps("table", 1366, 520)
     browser.gives('[data-f="filter.from"]', "")
-    browser.types('[data-f="filter.places"]', Keys.CONTROL + "a" + Keys.NULL, "1", Keys.TAB)
+    browser.retypes('[data-f="filter.places"]', "1", Keys.TAB)
     browser.click_on('[data-f="filter.table"]')
     for night in ("2030-06-10", "2030-06-12"):
         browser.click_on(f'.night[data-of="room FJORD SUITE"][data-night="{night}"]')

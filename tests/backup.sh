@@ -1,6 +1,7 @@
 #!/usr/bin/env bash
 # Backups, by tools/backup: of a desk at work, at random moments; where the copy fails, takes too long or is ended by a signal;
 # of a file that no desk holds; and each thing that is refused. The desk goes on after each, and nothing half made is left.
+# More than 200 lines: most lines are a call and what it says.
 #
 # BACKUPS=200 DESK=.. tests/backup.sh    makes so many backups of a desk at work; SEED=N: at other moments
 . "$(dirname "${BASH_SOURCE[0]}")/helping.bash"

@@ -3,6 +3,7 @@ moments, some of them two at once. Each has the ledger of what was answered befo
 until its end, whole events all of them; the desk goes on with some of them as it should; and the desk that was stopped for
 them goes on answering. Two more backups are made while the desk goes on between the copies of its two files: they have to be
 refused or wrong, which is the check of this trial.
+More than 200 lines: a desk at work, its backups and what they hold are one trial.
 
 backups.py TOOL COUNT [SEED]    makes so many backups; says what it found, and ends with 1 where something is wrong
 """
@@ -14,7 +15,7 @@ import sys
 import threading
 import time
 
-from driving import PATIENCE, Client, Lines, Server, desk, request
+from driving import PATIENCE, Client, Lines, Server, desk, request, waits_for
 from ledger import is_settled, tables_of
 from scenes import BUS, FLIGHT, JSON_PLAN, PLANS, SEA, YARD
 from shown import Events, look, read_files
@@ -157,9 +158,8 @@ def back_up(call, work, names, env):
 def goes_on(work):
     """Whether the desk answers something more."""
     work.hurry()
-    before, deadline = work.answered, time.monotonic() + PATIENCE
-    while work.answered == before and not work.lost and time.monotonic() < deadline:
-        time.sleep(0.01)
+    before = work.answered
+    waits_for(lambda: work.answered > before or work.lost, PATIENCE)
     return work.answered > before
 
 

@@ -1,7 +1,6 @@
 #!/usr/bin/env bash
-# ./build proves each crate once those below it are proved, side by side where they do not wait for each other; it can be
-# stopped and goes on where it was; it says what is kept; ./desk then runs the program. Each command at the top may be called
-# through a link. In place of rt and python3 stand scripts.
+# ./build proves each crate once those below it are proved, side by side, can be stopped, and says what is kept; ./desk then runs the
+# program. Each command at the top may be called through a link. In place of rt and python3 stand scripts.
 . "$(dirname "${BASH_SOURCE[0]}")/helping.bash"
 top=$work/repo
 export FAKE=$work/fake

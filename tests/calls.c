@@ -12,7 +12,8 @@
    SIPS=N        one call on a socket reads or writes at most N bytes
 
    The name of each call that failed goes to the file "failed" in the program's folder. Calls on standard error neither
-   count nor fail: the program names its fault there. Needs the GNU C library. */
+   count nor fail: the program names its fault there. Needs the GNU C library.
+   More than 200 lines: each call is one function of the C library. */
 #define _GNU_SOURCE
 #include <dlfcn.h>
 #include <errno.h>

@@ -1,6 +1,7 @@
 """Damaged files. Bytes of a small database and of its log are changed, pages exchanged, lengths cut, runs of zeros put in,
 and files given that are none of the desk's. Every subcommand ends by itself, with its answer or a named fault. What it
 showed in spite of the damage is counted: the right rows, those of an older ledger, or wrong ones.
+More than 200 lines: the sorts of damage are one list.
 
 damage.py COUNT [SEED]    so many damages of each sort; COUNT=all: each byte, each pair of pages, each length
 """
@@ -8,27 +9,14 @@ import collections
 import sqlite3
 import sys
 
-from driving import Client, Lines, Server, desk, request
+from driving import Client, Server, desk, request
 from ledger import Ledger, report, tables_of
 from parts import IN_PART, PARTS, Deal, chances
 from scenes import FIRST, FLIGHT, JUNE, PLANS, SECOND
-from shown import lay, look, old_file, read_files
+from shown import lay, look, make_disk, old_file, read_files
 
 PAGE, SECTOR = 4096, 512
 DB, LOG = "trips.db", "trips.db-wal"
-
-
-def make_disk(*parts, kill=None):
-    """A disk on which these lists of lines were run, one after another, and these lines before a kill."""
-    lay({})
-    for lines in parts:
-        assert desk("run", f"cut/{DB}", lines="\n".join(lines) + "\n").status == 0
-    if kill:
-        open_desk = Lines(f"cut/{DB}")
-        for line in kill:
-            open_desk.ask(line)
-        open_desk.kill()
-    return read_files("cut")
 
 
 class Base:

@@ -5,5 +5,4 @@
 # DAMAGES=all DESK=.. tests/damage.sh    each byte, each pair of pages, each length; a number: so many of each sort
 . "$(dirname "${BASH_SOURCE[0]}")/hostile.bash"
 
-PATIENCE=${PATIENCE:-20} python3 "$tests/damage.py" "${DAMAGES:-150}" "${SEED:-1987}" || wrong=1
-finish
+PATIENCE=${PATIENCE:-20} python3 "$tests/damage.py" "${DAMAGES:-150}" "${SEED:-1987}"

@@ -1,5 +1,5 @@
 """Runs the commands of Markdown pages as printed, in order, all pages in one folder, and compares what they print with what
-the page prints: DESK FOLDER PAGE ..
+the page prints: DESK FOLDER PAGE .. More than 200 lines: pages are read, run and compared in one pass.
 
 A block that begins with ```console has commands, each after "$ ", its further lines after "> ", and its output below. What a
 command prints on standard output and standard error is compared line by line; a line feed at the end may be absent. A command

@@ -3,12 +3,7 @@
 # which commands are not run here. The README lists each page and each crate.
 . "$(dirname "${BASH_SOURCE[0]}")/helping.bash"
 
-for tool in python3 curl; do
-  if ! command -v "$tool" >/dev/null 2>&1; then
-    echo "docs.sh: skipped, there is no $tool" >&2
-    exit 0
-  fi
-done
+stands_on python3 curl
 top=$(dirname "$tests")
 mkdir pages rooms
 

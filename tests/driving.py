@@ -1,11 +1,14 @@
-"""Runs the desk with its words, its lines or its requests, for the scripts that try it beside hostile files."""
+"""Runs the desk with its words, its lines or its requests, for the scripts that try it beside hostile files.
+More than 200 lines: the one home of what these scripts share."""
 import itertools
+import json
 import os
 import re
 import resource
 import signal
 import socket
 import subprocess
+import threading
 import time
 
 from ports import free_port
@@ -19,6 +22,16 @@ NAMED_FAULTS = {
         (24, "Read"), (25, "Write"), (26, "File"), (27, "Net"),
     ]
 }
+
+
+def waits_for(is_so, within=30.0):
+    """Waits until this is so, for so many seconds at most; says whether it came to be so."""
+    until = time.monotonic() + within
+    while not is_so():
+        if time.monotonic() > until:
+            return False
+        time.sleep(0.02)
+    return True
 
 
 class Ended:
@@ -74,6 +87,14 @@ class Lines:
         self.process.stdin.close()
         self.process.stdout.close()
         self.process.wait()
+
+
+def killed_after(lines, file, env=None):
+    """The answers to these lines, after which the program is killed."""
+    run = Lines(file, env)
+    said = [run.ask(line) for line in lines]
+    run.kill()
+    return said
 
 
 class Server:
@@ -153,10 +174,7 @@ class Logged(Desk):
 
     def has(self, what, line, within=30):
         """A line is in the log, or soon comes."""
-        begun = time.monotonic()
-        while line not in self.log() and time.monotonic() - begun < within:
-            time.sleep(0.05)
-        same(what, True, line in self.log() or self.log())
+        same(what, True, waits_for(lambda: line in self.log(), within) or self.log())
 
     def tells_why(self, why, count=1, number="[0-9]+"):
         """At least so many connections have ended for this reason: those of this number, if one is given."""
@@ -193,12 +211,39 @@ wrong = []
 
 
 def same(what, expected, found):
-    if expected != found:
-        wrong.append(f"{what}\n  expected: {expected!r}\n  found:    {found!r}")
+    """Both are the same. Of what is long there is shown what stands where they part."""
+    if expected == found:
+        return
+    if type(expected) is type(found) in (str, bytes, list) and len(repr(expected)) > 3000:
+        at = next((n for n, pair in enumerate(zip(expected, found)) if pair[0] != pair[1]), min(len(expected), len(found)))
+        what, expected, found = f"{what}, from {at} on", expected[at : at + 120], found[at : at + 120]
+    wrong.append(f"{what}\n  expected: {expected!r:.3000}\n  found:    {found!r:.3000}")
 
 
 def holds(what, is_so):
     same(what, True, bool(is_so))
+
+
+def side_by_side(*calls):
+    """Makes these calls at the same time, each a function with its words."""
+    threads = [threading.Thread(target=guarded, args=call) for call in calls]
+    for thread in threads:
+        thread.start()
+    for thread in threads:
+        thread.join()
+
+
+def guarded(call, *words):
+    try:
+        call(*words)
+    except Exception as error:  # what a thread raises is said too
+        same(call.__name__, None, repr(error))
+
+
+def peak(process):
+    """The most memory that a process has taken, in kB."""
+    with open(f"/proc/{process.pid}/status", encoding="ascii") as lines:
+        return next(int(line.split()[1]) for line in lines if line.startswith("VmHWM"))
 
 
 def sockets_of(process):
@@ -215,9 +260,24 @@ def is_socket(path):
         return False
 
 
-def request(method, path, key="", body=b"", agent="ann"):
+def compact(value):
+    """A JSON value as the desk writes it."""
+    return json.dumps(value, sort_keys=True, separators=(",", ":"))
+
+
+def plan_of(*products, saves=(), tries=0, count=1):
+    """The body of a plan whose steps want a flight each, of one of these products, with save-points behind some steps."""
+    want = {"count": count, "first": "2030-06-01", "kind": "flight", "nights": 1, "supplier": "AL"}
+    steps = [{"options": [{**want, "product": one} for one in names], "save": n in saves} for n, names in enumerate(products, 1)]
+    return compact({"steps": steps, "tries": tries}).encode()
+
+
+PLAN = plan_of(["A1"])
+
+
+def request(method, path, key="", body=b"", agent="ann", host="d"):
     """The bytes of a request."""
-    fields = ["Host: d"] + [f"Desk-Agent: {agent}"] * bool(agent) + [f"Desk-Key: {key}"] * bool(key)
+    fields = [f"Host: {host}"] + [f"Desk-Agent: {agent}"] * bool(agent) + [f"Desk-Key: {key}"] * bool(key)
     fields += [f"Content-Length: {len(body)}"] * (method == "POST")
     return "\r\n".join([f"{method} {path} HTTP/1.1", *fields, "", ""]).encode() + body
 
@@ -282,6 +342,24 @@ def asked(place, message):
     page = client.ask(message)
     client.close()
     return page
+
+
+def talk(file, messages):
+    """The pages of these messages over one connection to a desk over a file, each sent once the page before it has come; and what
+    is wrong with how the desk ended."""
+    server = Server(file)
+    client = Client(server.port)
+    pages = [client.ask(message) for message in messages]
+    client.close()
+    ended = server.end()
+    return pages, "" if (ended.status, ended.out, ended.err) == (0, f"ready {server.port}\n", "") else str(ended)
+
+
+def parts_of(page):
+    """The status of a page, its media type, and its body."""
+    head, _, body = page.partition(b"\r\n\r\n")
+    media = [field[14:] for field in head.split(b"\r\n") if field.startswith(b"Content-Type: ")]
+    return int(head[9:12] or 0), b"".join(media).decode(), body
 
 
 def page_size(text):

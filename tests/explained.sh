@@ -1,7 +1,6 @@
 #!/usr/bin/env bash
-# Faults that are explained: after --explain, and where standard error is a terminal (waiting.py), a second line says why a fault came,
-# if that is known, and what to do. Without that a fault stays one line. An opening that recovered events says so there too. A file
-# that is no database of the desk is left as it was, without a log beside it.
+# Faults that are explained: after --explain, and where standard error is a terminal (waiting.py), a second line says why a fault
+# came, and what to do. An opening that recovered events says so. A file that is no database of the desk is left as it was.
 . "$(dirname "${BASH_SOURCE[0]}")/helping.bash"
 . "$tests/serving.bash"
 

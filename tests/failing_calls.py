@@ -1,6 +1,7 @@
 """Failing calls. Each call that a run of the desk makes on its files and streams fails, one at a time, with an error of the
 disk; then a second one after it, or all later ones; and then a call of the next opening. The run ends with its usual
 answers, or names a fault. What it leaves is the ledger of what was answered, or that with one whole event more.
+More than 200 lines: each kind of run has its own bounds.
 
 failing_calls.py CALLS.so MORE EACH [SEED [SCENE ..]]    after each failure so many second ones; of the calls only each
                                                          EACH-th, from one that chance chooses on; these scenes alone
@@ -10,10 +11,10 @@ import errno
 import os
 import sys
 
-from driving import Client, Lines, Server, desk, is_whole
+from driving import Client, Server, desk, is_whole, killed_after
 from parts import IN_PART, PARTS, Deal, chances
 from scenes import FIRST, JUNE, PLANS, SECOND, http_requests
-from shown import Events, Migration, Shown, lay, look, old_file, read_files
+from shown import Events, Migration, Shown, lay, look, make_disk, old_file, read_files
 
 ERRORS = (errno.EIO, errno.ENOSPC)
 FAILED = "failed"
@@ -234,22 +235,12 @@ class Trial:
             self.ends[f"{'pieces' if 'PIECES' in env else 'parts'}: {ended.fault() or ended.status}"] += 1
 
 
-def disks():
-    """The disks that scenes begin with: one that was killed in the midst, so that its log holds events, and one closed."""
-    lay({})
-    assert desk("run", "cut/trips.db", lines="\n".join(FIRST) + "\n").status == 0
-    closed = read_files("cut")
-    assert desk("recover", "cut/trips.db").status == 0
-    open_desk = Lines("cut/trips.db")
-    for line in SECOND[:5]:
-        open_desk.ask(line)
-    open_desk.kill()
-    return closed, read_files("cut")
-
-
 def scenes():
-    """Each scene, with what its disks may show."""
-    closed, killed = disks()
+    """Each scene, over a disk that was closed, or one that was killed in the midst."""
+    closed = make_disk(FIRST)
+    assert desk("recover", "cut/trips.db").status == 0
+    killed_after(SECOND[:5], "cut/trips.db")
+    killed = read_files("cut")
     with open("june.csv", "w", encoding="ascii") as file:
         file.write(JUNE)
     yield LineScene("a first run", {}, FIRST[:6] + ["step 1", "step 01", "step 2", "save 2", "step 2"])

@@ -2,7 +2,7 @@
 # ./check proves every crate but those of tests whose turn it is not, tries the mutants that have changed and those whose turn
 # it is, runs the scripts beside `rt ci` once the program stands, and fails where anything fails. Over the repository as it is,
 # nothing is without a turn for more than 30 landings on two processors. In place of `rt` and of scripts/mutants.py stand
-# scripts that note what they are given.
+# scripts that note what they are given. More than 200 lines: one repository is landed on, step by step.
 . "$(dirname "${BASH_SOURCE[0]}")/helping.bash"
 stands_on git
 top=$work/repo

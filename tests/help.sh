@@ -1,6 +1,7 @@
 #!/usr/bin/env bash
 # What help prints, and where; each of its examples works as it is printed. The man page and the completions say what help
 # says. What is installed is removed whole.
+# More than 200 lines: each help, completion and file that is installed is looked at once.
 . "$(dirname "${BASH_SOURCE[0]}")/helping.bash"
 . "$tests/serving.bash"
 top=$(dirname "$tests")

@@ -12,15 +12,27 @@ trap 'rm -rf "$work"' EXIT
 cd "$work" || exit 2
 wrong=0
 
+# skips WHY: the script ends, and says that it was skipped
+skips() {
+  echo "$(basename "$0"): skipped, $1" >&2
+  exit 0
+}
+
 # stands_on TOOL ..: the script is skipped where one of these is absent
 stands_on() {
   local tool
-  for tool in "$@"; do
-    command -v "$tool" >/dev/null && continue
-    echo "$(basename "$0"): skipped, there is no $tool" >&2
-    exit 0
-  done
+  for tool in "$@"; do command -v "$tool" >/dev/null || skips "there is no $tool"; done
 }
+
+# drives_browser: the script is skipped without headless Chromium and a Python that drives it, which is set to python
+drives_browser() {
+  . "$(dirname "$tests")/scripts/needs.bash"
+  has_browser || skips "there is no Chromium, or no Python that drives it"
+  export HOME=$work PYTHONDONTWRITEBYTECODE=1
+}
+
+# skips_trial: the script is skipped over a trial program
+skips_trial() { [[ $DESK != */out/trial/* ]] || skips "a trial program is too slow"; }
 
 # same WHAT EXPECTED FOUND
 same() {
@@ -53,6 +65,14 @@ leaves() {
 answers() { tells "$1" 0 "$3" "" run trips.db < <(printf '%b' "$2"); }
 
 sum() { if [ -f "$1" ]; then cksum <"$1"; fi; }
+
+# finds_nothing_wrong COMMAND ..: the command, which prints what went wrong, prints nothing and ends well; what else it says is in err
+finds_nothing_wrong() {
+  "$@" >out 2>err
+  same "the status" 0 "$?"
+  same "what went wrong" "" "$(cat out)"
+  [ "$wrong" -eq 0 ] || cat err >&2
+}
 
 # compiles NAME ..: makes NAME.so of each of these, to be loaded before the C library
 compiles() {

@@ -5,7 +5,5 @@ if [ -z "${tests-}" ]; then
   . "$(dirname "${BASH_SOURCE[0]}")/helping.bash"
 fi
 export PYTHONDONTWRITEBYTECODE=1
-if ! python3 -c 'import sqlite3, sys; sys.exit(sqlite3.sqlite_version_info < (3, 37))' 2>/dev/null; then
-  echo "$(basename "$0"): skipped, there is no Python with SQLite 3.37 or newer" >&2
-  exit 0
-fi
+python3 -c 'import sqlite3, sys; sys.exit(sqlite3.sqlite_version_info < (3, 37))' 2>/dev/null ||
+  skips "there is no Python with SQLite 3.37 or newer"

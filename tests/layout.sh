@@ -1,11 +1,13 @@
 #!/usr/bin/env bash
 # The shell's scripts are laid out as shfmt does it, shellcheck finds nothing in them, and pyflakes nothing in those of Python. What is
-# absent of the three is left out. words.py counts no more phrases, long sentences and long pages than its limits allow.
+# absent of the three is left out. One of more than 200 lines says why. words.py counts no more phrases, long sentences and long pages
+# than its limits allow. HEADLINE.md is what headline.py makes of the definitions, and the table in docs/TESTING.md of functions
+# without a clause is as scripts/unproved counts them.
 . "$(dirname "${BASH_SOURCE[0]}")/helping.bash"
 cd "$tests/.." || exit 2
 mapfile -t shell < <(grep -lE '^#!/usr/bin/env bash' build check desk soak bench .ci/run tools/* tests/*.sh scripts/* 2>/dev/null)
 shell+=(scripts/*.bash tests/*.bash tests/clients/*.bash)
-mapfile -t python < <(ls scripts/*.py scripts/*/*.py tests/*.py scripts/weight scripts/contracts)
+mapfile -t python < <(ls scripts/*.py scripts/*/*.py tests/*.py scripts/{weight,contracts,unproved})
 
 # finds_nothing TOOL WORD ..: this tool, with these words, says nothing
 finds_nothing() {
@@ -18,6 +20,11 @@ finds_nothing() {
 finds_nothing shfmt -i 2 -ci -l "${shell[@]}"
 finds_nothing shellcheck -f gcc "${shell[@]}"
 finds_nothing pyflakes3 "${python[@]}"
+while read -r file; do
+  [ "$(wc -l <"$file")" -le 200 ] || same "$file: why it is so long" yes "$(head -n 40 "$file" | grep -q 'More than 200 lines: ' && echo yes)"
+done < <(find check build desk soak bench scripts tests tools -type f ! -name '*.pyc' ! -name rows.txt)
+
+same "HEADLINE.md" "" "$(scripts/headline.py --check 2>&1)"
 
 # words.py finds what it counts
 copy=$work/copy
@@ -33,4 +40,38 @@ same "words.py on two phrases, a sentence and a page" "1: 3: 5: 306 lines" "$(se
 same "words.py on a decision" "docs/DECISIONS.md:2: not of the form: number, title, date, status" "$(tail -n 1 "$work/found")"
 same "words.py on the pages" "" "$(python3 tests/words.py >"$work/words" || python3 tests/words.py --list)"
 sed 's/^/layout.sh: /' "$work/words" >&2
+
+# unproved counts a function without an `ensures`, and one of a trait apart, and finds a row that says other than that
+mkdir -p "$copy/scripts" "$copy/crates/one/src"
+cp scripts/weight scripts/unproved "$copy/scripts"
+git init -q "$copy"
+echo 'one:' >"$copy/crates.txt"
+cat >"$copy/crates/one/src/lib.rt" <<'END'
+fn bare(
+    it: u8,
+) -> u8 {
+    it
+}
+
+fn proved() -> u8
+    ensures { result ≡ 1 }
+{
+    1
+}
+
+impl Drop for One {
+    fn drop(self) {
+        bare(1);
+    }
+}
+END
+printf '| `crates/one/src/lib.rt` | %s | %s |\n' 4 why >"$copy/docs/TESTING.md"
+same "unproved on three functions" \
+  "5 crates/one/src/lib.rt: bare 5 5 lines of functions without a clause, and 3 of those of traits" \
+  "$("$copy/scripts/unproved" | xargs)"
+same "unproved on a row with another number" "to go: 4 to come: 5" \
+  "$("$copy/scripts/unproved" --check | sed 's/|.*| \([0-9]\).*/\1/' | xargs)"
+printf '| `crates/one/src/lib.rt` | %s | %s |\n' 5 '' >"$copy/docs/TESTING.md"
+same "unproved on a row without a reason" "without a reason:" "$("$copy/scripts/unproved" --check | sed 's/ |.*//')"
+same "unproved on the page" "" "$(scripts/unproved --check)"
 finish

@@ -3,13 +3,10 @@ are cut off or displaced is looked at in live.py, where they are."""
 import calendar
 import os
 import re
-import threading
 import time
 
-from driving import LOG_HEAD, Client, Logged, asked, desk, request, same, wrong
+from driving import LOG_HEAD, PLAN, Client, Logged, asked, desk, request, same, side_by_side, wrong
 
-FLIGHT = b'{"count":1,"first":"2030-06-01","kind":"flight","nights":1,"product":"A1","supplier":"AL"}'
-PLAN = b'{"steps":[{"options":[' + FLIGHT + b'],"save":false}],"tries":0}'
 STOCK = request("GET", "/stock")
 TIME = re.compile(r"[0-9]{4}-[0-9]{2}-[0-9]{2}T[0-9]{2}:[0-9]{2}:[0-9]{2}\.[0-9]{3}Z ")
 
@@ -180,20 +177,5 @@ def silent():
     same("without a log: not a byte", 0, os.path.getsize(served.name))
 
 
-def guarded(call):
-    try:
-        call()
-    except Exception as error:  # what a thread raises is said too
-        same(call.__name__, None, repr(error))
-
-
-def main():
-    threads = [threading.Thread(target=guarded, args=(call,)) for call in (kinds, widely, timed, odd_bytes, broken, silent)]
-    for thread in threads:
-        thread.start()
-    for thread in threads:
-        thread.join()
-    print("\n".join(wrong))
-
-
-main()
+side_by_side((kinds,), (widely,), (timed,), (odd_bytes,), (broken,), (silent,))
+print("\n".join(wrong))

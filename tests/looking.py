@@ -8,13 +8,11 @@ import sys
 import threading
 import time
 
-from driving import DESK, PATIENCE, Client, asked, desk, request, same, wrong
-from looking_reports import HOUSE, ledger, parts_of, served_over, stops, target, unnamed
+from driving import DESK, PATIENCE, PLAN, Client, asked, desk, parts_of, request, same, waits_for, wrong
+from looking_reports import HOUSE, ledger, served_over, stops, target, unnamed
 from parts import IN_PART, Deal, chances
 
 LEDGERS = int(os.environ.get("LEDGERS", "40"))
-FLIGHT = b'{"count":1,"first":"2030-06-01","kind":"flight","nights":1,"product":"A1","supplier":"AL"}'
-PLAN = b'{"steps":[{"options":[' + FLIGHT + b'],"save":false}],"tries":0}'
 METRICS = unnamed("GET", "/metrics")
 UNKNOWN = (404, "application/json", b'{"name":"UnknownPath","refused":7}')
 BAD = (400, "application/json", b'{"name":"BadBody","refused":4}')
@@ -96,14 +94,10 @@ def no_reports():
 
 
 def numbers_read(monitor, wanted):
-    """What a monitor reads, once it has this number: the lines of the head, the body, and the numbers by their names."""
-    for _ in range(100):
-        head, _, body = monitor.ask(METRICS).decode().partition("\r\n\r\n")
-        numbers = dict(line.rsplit(" ", 1) for line in body.splitlines() if not line.startswith("#"))
-        if numbers.get(wanted[0]) == wanted[1]:
-            break
-        time.sleep(0.1)
-    return head.split("\r\n"), body, numbers
+    """What a monitor reads, once it has this line: the lines of the head, the body, and the numbers by their names."""
+    waits_for(lambda: f"\n{wanted}\n".encode() in monitor.ask(METRICS))
+    head, _, body = monitor.ask(METRICS).decode().partition("\r\n\r\n")
+    return head.split("\r\n"), body, dict(line.rsplit(" ", 1) for line in body.splitlines() if not line.startswith("#"))
 
 
 def monitored():
@@ -118,7 +112,7 @@ def monitored():
     cut.stream.sendall(request("GET", "/stock")[:9])
     time.sleep(0.3)
     cut.close()
-    head, body, numbers = numbers_read(monitor, ('desk_connections_ended_total{why="cut-off"}', "1"))
+    head, body, numbers = numbers_read(monitor, 'desk_connections_ended_total{why="cut-off"} 1')
     same("its head", ["HTTP/1.1 200 OK", "Content-Type: text/plain; version=0.0.4"], [head[0], head[2]])
     expected = {
         "desk_events_total": "1", "desk_journeys_total": "1", "desk_journeys_unfinished": "1", "desk_connections_open": "2",

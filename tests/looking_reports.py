@@ -3,8 +3,9 @@ the file at that moment, at the administrator's socket and by --at PATH."""
 import json
 import os
 
-from driving import Client, Desk, desk, lay, read_files, request, same
-from plain_texts import WORDS, Plan, Step, Want, cell_text, day_in, night_text, plan_value
+import soak_asks
+from driving import Client, Desk, desk, lay, parts_of, read_files, request, same
+from plain_texts import HEADING, WORDS, cell_text, day_in, night_text, plan_value
 
 ROUNDS, REPORTS = 2, 9
 SUBCOMMANDS = ("stock", "summary", "holders", "unfinished", "journeys", "history", "why")
@@ -19,40 +20,21 @@ ODD = (
 )
 
 
-class Office:
-    """Cells with few places, and plans over them."""
+class Office(soak_asks.Office):
+    """The office of the simulation over cells around the end of a month, with what it may ask of reports."""
 
-    def __init__(self, chance):
-        self.chance, self.names = chance, 0
-        self.products = [
-            (chance.randrange(4), chance.choice(("AL", "INN")), f"P{n}", NIGHT + chance.randrange(4), chance.randint(1, 6))
-            for n in range(chance.randint(2, 5))
-        ]
-        self.cells = [(*p[:3], p[3] + n) for p in self.products for n in range(p[4])]
-
-    def name(self):
-        self.names += 1
-        return f"n{self.names}"
-
-    def want(self):
-        kind, supplier, product, night, nights = self.chance.choice(self.products)
-        first = self.chance.randrange(nights)
-        stay = self.chance.randint(1, nights - first) if kind in (1, 3) else 1
-        return Want(kind, supplier, product, night + first, stay, self.chance.choice((1, 1, 2)))
-
-    def plan(self):
-        steps = [
-            Step(tuple(self.want() for _ in range(self.chance.randint(1, 2))), self.chance.random() < 0.3)
-            for _ in range(self.chance.randint(1, 5))
-        ]
-        steps[-1] = steps[-1]._replace(save=False)
-        return Plan(tuple(steps), self.chance.randrange(3))
+    def some_cells(self):
+        cells = []
+        for n in range(self.chance.randint(2, 5)):
+            kind, supplier, first = self.chance.randrange(4), self.chance.choice(("AL", "INN")), NIGHT + self.chance.randrange(4)
+            cells += [(kind, supplier, f"P{n}", first + k) for k in range(self.chance.randint(1, 6) if kind in (1, 3) else 1)]
+        return cells
 
     def batch(self):
         """An allotment file of all cells but a few."""
-        rows = [(*cell_text(cell).split("/")[1:], self.chance.randint(0, 4)) for cell in self.cells]
-        lines = [",".join(map(str, (WORDS[cell[0]], *row))) for cell, row in zip(self.cells, rows) if self.chance.random() < 0.9]
-        return "\n".join(["kind,supplier,product,night,places", *lines, ""]).encode() if lines else b""
+        cells = [cell for cell in self.cells if self.chance.random() < 0.9]
+        rows = [soak_asks.fields_of((cell_text(cell), self.chance.randint(0, 4))) for cell in cells]
+        return "".join(f"{','.join(row)}\n" for row in [HEADING, *rows]).encode() if rows else b""
 
     def asks(self, journeys):
         """Something that is asked of the desk: its path, its body, and by whom; the house by nobody."""
@@ -119,13 +101,6 @@ def unnamed(method, path, body=b""):
     return request(method, path, "", body, agent="")
 
 
-def parts_of(page):
-    """The status of a page, its media type, and its body."""
-    head, _, body = page.partition(b"\r\n\r\n")
-    media = [field[14:] for field in head.split(b"\r\n") if field.startswith(b"Content-Type: ")]
-    return int(head[9:12]), media[0].decode(), body
-
-
 def page_of(ended):
     """The page of a report that the command printed so."""
     if ended.status == 0:
@@ -184,10 +159,10 @@ def ledger(seed, chance, is_first):
     house, port = Client(HOUSE), Client(served.port)
     for _ in range(ROUNDS):
         if batch := office.batch():
-            house.ask(unnamed("POST", f"/batches/{office.name()}", batch))
+            house.ask(unnamed("POST", f"/batches/{office.name_of_own()}", batch))
         for _ in range(chance.randint(1, 25)):
             path, body, who = office.asks(journeys)
-            text = request("POST", path, office.name() if who else "", body, who)
+            text = request("POST", path, office.name_of_own() if who else "", body, who)
             page = (port if who else house).ask(text)
             journeys += path == "/journeys" and page.startswith(b"HTTP/1.1 200")
         count += compare(office, journeys, seed)

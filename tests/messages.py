@@ -18,10 +18,10 @@ import struct
 import sys
 import time
 
-from driving import DESK, Server, end_writing, opened, rest_of
+from driving import DESK, PLAN, Server, end_writing, opened, peak, rest_of
 from messages_rows import (
-    ANN, ASKING, BAD_HEAD, BEGIN, CACHE, GET, GO_ON, HIDDEN, HOST, NO_METHOD, PLAN, SETUP, SIZE, UNFINISHED, head_of, large_rows, long_rows,
-    page, plainly, request, rows_of,
+    ANN, ASKING, BAD_HEAD, BEGIN, CACHE, GET, GO_ON, HIDDEN, HOST, NO_METHOD, SETUP, SIZE, UNFINISHED, head_of, large_rows,
+    long_rows, page, plainly, request, rows_of,
 )
 
 DATE = re.compile(rb"Date: [A-Z][a-z]{2}, [0-3]\d [A-Z][a-z]{2} \d{4} [0-2]\d:[0-5]\d:[0-6]\d GMT\r\n")
@@ -35,11 +35,6 @@ class Desk:
         self.server = Server(f"{name}.db", None, words=words)
         self.wrong, self.sent = [], collections.Counter()
         self.rows, self.long, self.large = rows_of(self.is_wide), long_rows(self.is_wide), large_rows(self.is_wide)
-
-    def peak(self):
-        """The most memory that the desk has taken, in kB. A trial program keeps freed memory for a while."""
-        with open(f"/proc/{self.server.process.pid}/status", encoding="ascii") as lines:
-            return next(int(line.split()[1]) for line in lines if line.startswith("VmHWM"))
 
     def page(self, shown):
         return shown if self.is_wide else plainly(shown)
@@ -164,12 +159,13 @@ class Desk:
 
     def tries(self, each):
         """All rows; then begins byte by byte, each of which acts once, and one that is always cut off and never acts."""
-        before = self.peak()
+        before = peak(self.server.process)
         for message, shown in SETUP:
             self.whole({"the set-up": [(message, shown)]})
         self.whole(self.rows | self.long | self.large)
-        if self.peak() - before > 16384 and "/out/trial/" not in DESK:
-            self.wrong.append(f"{self.name}: more than 16 MB for one connection: {before} kB, then {self.peak()}")
+        # a trial program keeps freed memory for a while
+        if peak(self.server.process) - before > 16384 and "/out/trial/" not in DESK:
+            self.wrong.append(f"{self.name}: more than 16 MB for one connection: {before} kB, then {peak(self.server.process)}")
         self.byte_by_byte(self.rows | self.long)
         self.cut({**self.rows, "a begin that is never whole": [(HIDDEN, b"")]}, each)
         if self.is_wide:

@@ -3,9 +3,8 @@ framed, for each page of a refusal, and for what smuggling needs. message_tests 
 clients and proxies that send them. Journey 1 was begun by ann under k1, with this plan, and its step was taken under s1, which
 found no place; journey 2 was begun under a UUID. bob has no journey.
 """
+from driving import PLAN
 
-PLAN = (b'{"steps":[{"options":[{"count":1,"first":"2030-06-01","kind":"flight","nights":1,"product":"A1","supplier":"AL"}],'
-        b'"save":false}],"tries":0}')
 UUID = b"7d444840-9dc0-11d1-b245-5ffdce74fad2"
 CACHE = b"Cache-Control: no-store\r\nVary: Desk-Agent\r\n"
 GO_ON = b"HTTP/1.1 100 Continue\r\n\r\n"

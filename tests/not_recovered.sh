@@ -11,15 +11,11 @@ mkdir crates
 # is_refused FILE TEXT CHANGED: the program that ./check has just built does not compile, where this text in this file is
 # changed so that a desk is handed over that was not recovered
 is_refused() {
-  local said
+  local said text
   same "$1: the text is there" yes "$(grep -qF "$2" "$1" && echo yes)"
   cp "$1" kept
-  python3 - "$1" "$2" "$3" <<'EDIT'
-import sys
-path, old, new = sys.argv[1:]
-text = open(path, encoding="utf-8").read()
-open(path, "w", encoding="utf-8").write(text.replace(old, new))
-EDIT
+  text=$(<kept)
+  printf '%s\n' "${text//"$2"/"$3"}" >"$1"
   said=$(cd crates/desk && rt try 2>&1 </dev/null)
   same "$1: what the compiler says" 'error[mismatched-types]: expected `&mut Ready<_>`' \
     "$(grep -o 'error\[[a-z-]*\]: expected `&mut Ready<_>`' <<<"$said" | head -n 1)"

@@ -7,12 +7,9 @@
 # A day of an office behind nginx and one behind HAProxy: ten tabs of ten agents, with a backup, a kill and a restart in between. Nothing
 # is lost, doubled or stuck, and the ledger is what the tabs were shown. A day takes SECONDS_A_DAY: 300, in the gate 45.
 . "$(dirname "${BASH_SOURCE[0]}")/helping.bash"
-. "$(dirname "$tests")/scripts/needs.bash"
 
-if ! has_browser || ! command -v openssl >/dev/null 2>&1; then
-  echo "office.sh: skipped, there is no Chromium, no Python that drives it, or no openssl" >&2
-  exit 0
-fi
+stands_on openssl
+drives_browser
 PATH=$PATH:/usr/sbin
 proxies=()
 for proxy in haproxy nginx apache2 caddy; do
@@ -28,9 +25,6 @@ cat certificate key >desk.pem
 # where root starts nginx, another user reads the passwords
 chmod 755 "$work"
 : "${SECONDS_A_DAY:=$([ -n "${PART:-}" ] && echo 45 || echo 300)}"
-HOME=$work PYTHONDONTWRITEBYTECODE=1 "$python" "$tests/office.py" "$work" "$SECONDS_A_DAY" "${proxies[@]}" >out 2>err
-same "the status" 0 "$?"
-same "what went wrong" "" "$(cat out)"
-[ "$wrong" -eq 0 ] || cat err >&2
+finds_nothing_wrong "$python" "$tests/office.py" "$work" "$SECONDS_A_DAY" "${proxies[@]}"
 [ -z "$in_part" ] || echo "a day of $SECONDS_A_DAY seconds$in_part"
 finish

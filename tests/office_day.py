@@ -1,5 +1,6 @@
 """A day of an office: ten tabs of ten agents at one desk behind a proxy. A backup is made meanwhile, the desk is killed, and it is ended in
-order and started again; office_kept.py says what has to hold at the end."""
+order and started again; office_kept.py says what has to hold at the end.
+More than 200 lines: a third is what runs in the tabs."""
 import os
 import random
 import shutil

@@ -1,4 +1,5 @@
-"""Proxies before a desk with its page, by the recipes of OFFICE.md for an office, as printed but for ports, files and passwords."""
+"""Proxies before a desk with its page, by the recipes of OFFICE.md for an office, as printed but for ports, files and passwords.
+More than 200 lines: each proxy has each of its variants."""
 import base64
 import http.client
 import os

@@ -3,10 +3,7 @@
 . "$(dirname "${BASH_SOURCE[0]}")/helping.bash"
 . "$tests/serving.bash"
 
-if ! perl -MJSON::Validator -MYAML::PP -MHTTP::Tiny -e 1 2>/dev/null; then
-  echo "openapi.sh: skipped, there is no Perl with JSON::Validator and YAML::PP" >&2
-  exit 0
-fi
+perl -MJSON::Validator -MYAML::PP -MHTTP::Tiny -e 1 2>/dev/null || skips "there is no Perl with JSON::Validator and YAML::PP"
 described=$(cd "$tests/.." && pwd)/docs/openapi.yaml
 operations=$(grep -c '^      operationId:' "$described")
 serves "$operations"

@@ -6,10 +6,7 @@
 . "$tests/serving.bash"
 top=$(dirname "$tests")
 say() { printf 'package.sh: %s\n' "$*" >&2; }
-if [[ $DESK == */out/trial/* ]]; then
-  say "skipped, a trial program is too slow"
-  exit 0
-fi
+skips_trial
 stands_on dpkg-deb dpkg-shlibdeps strip curl
 for file in program needs install package; do . "$top/scripts/$file.bash"; done
 program=$DESK

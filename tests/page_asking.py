@@ -37,11 +37,7 @@ def by_booking_number(scene):
     browser, desk, network = scene.browser, scene.desk, scene.network
 
     def types_number(text):
-        browser.types('[data-f="booking"]', Keys.CONTROL + "a" + Keys.NULL, Keys.DELETE, text, Keys.TAB)
-
-    def found_by(text, *journeys):
-        browser.types('[data-f="list.text"]', Keys.CONTROL + "a" + Keys.NULL, Keys.DELETE, text)
-        comes(f"found by {text}", [f"Journey {n}" for n in journeys], lambda: browser.names("#list tbody a"))
+        browser.retypes('[data-f="booking"]', Keys.DELETE, text, Keys.TAB)
     browser.types("#line", "F/AL/A1/2030-06-01/1/1!0", Keys.TAB)
     types_number("A 1")
     scene.note("A booking number is 1 to 32 letters, digits and hyphens.")
@@ -69,16 +65,16 @@ def by_booking_number(scene):
         scene.begins(plan(TRANSFER), booking, agent=agent)
     browser.open(desk.url("#/journeys"))
     comes("three journeys", 3, lambda: len(browser.all("#list tbody tr")))
-    found_by("trip-a", 1)
-    found_by("Other-4")
+    scene.found_by("trip-a", 1)
+    scene.found_by("Other-4")
     browser.shows("No journey matches.", "#list")
     wait_until(lambda: ("GET", "/journeys/by-key/Other-4") in [one[:2] for one in network.paths], "the desk is asked")
-    found_by("30", 3, 1)
+    scene.found_by("30", 3, 1)
     browser.shows("booking 30", "#list")
     asked = [path for _, path, _ in network.paths if "/by-key/" in path]
     same("it is asked for what is not known alone, once", ["/journeys/by-key/30", "/journeys/by-key/Other-4"], sorted(set(asked)))
     same("once", 2, len(asked))
-    found_by("", 3, 2, 1)
+    scene.found_by("", 3, 2, 1)
     # a desk over another file has another journey of this number
     desk.kill()
     desk.file = f"{scene.folder}/other.db"

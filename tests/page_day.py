@@ -1,8 +1,7 @@
 """What an agent needs all day: what is held, what is free for a trip, what cannot be undone, messages, sheets, and a page that is silent
-while nothing happens."""
+while nothing happens. More than 200 lines: each scene stands by itself."""
 import collections
 import datetime
-import json
 import time
 
 from selenium.webdriver.common.keys import Keys
@@ -13,9 +12,7 @@ from page_scenes import FLIGHT, JUNE, LINE, SEA, TRANSFER, TWO, comes, option, p
 
 
 # the plan of LINE
-LINE_PLAN = json.dumps({"tries": 1, "steps": [
-    {"options": [FLIGHT], "save": True}, {"options": [SEA, option("room", "INN", "YARD", nights=2)], "save": False},
-    {"options": [TRANSFER], "save": False}]})
+LINE_PLAN = plan(FLIGHT, [SEA, option("room", "INN", "YARD", nights=2)], TRANSFER, saves=(1,), tries=1)
 
 
 # wants of a plan line, and how they are spoken of
@@ -60,9 +57,7 @@ def begin_in_view(scene):
     """Below a plan of 24 steps, wherever that is scrolled to, and with a chosen night, one sees and presses "Begin the journey"."""
     browser = scene.browser
     line = ";".join(["R/INN/YARD/2030-06-01/2/1|R/INN/SEA/2030-06-01/1/1*"] * 23 + ["F/AL/A1/2030-06-01/1/1"]) + "!3"
-    browser.open(scene.desk.url("#/plan"))
-    browser.types("#line", line, Keys.TAB)
-    comes("the steps", 24, lambda: len(browser.all(".step")))
+    scene.plans(line, 24)
     for choice in (False, True):
         for width, height in SIZES:
             browser.size(width, height)
@@ -96,8 +91,7 @@ def notes_cover_nothing(scene):
     """Three notes at once, beside a chosen night and without: nothing that can be pressed is below one, wherever it is scrolled to."""
     browser = scene.browser
     scene.begins(steps=1)
-    browser.open(scene.desk.url("#/plan"))
-    browser.types("#line", LINE, Keys.TAB)
+    scene.plans(LINE)
     scene.network.instead = (409, {"name": "Finished", "refused": 10})
     scene.shows_journey(1)
     browser.press("Do step 2", ".acts")
@@ -138,7 +132,7 @@ def notes_end(scene):
     ends("the step is removed", "Step 1")
     browser.types("#line", "F/AL", Keys.TAB)
     scene.note("A plan line ends with")
-    browser.types("#line", Keys.CONTROL + "a" + Keys.NULL, LINE, Keys.TAB)
+    browser.retypes("#line", LINE, Keys.TAB)
     comes("the steps", 3, lambda: len(browser.all(".step")))
     ends("the line is another", "A plan line")
     browser.press("Begin the journey")
@@ -247,15 +241,9 @@ def large_stock(scene):
 def by_what_is_held(scene):
     """Journeys are listed and found by what they hold, whatever was planned; the path names the option that is tried next."""
     browser, desk = scene.browser, scene.desk
-    two = json.dumps({"tries": 1, "steps": [
-        {"options": [FLIGHT], "save": True},
-        {"options": [SEA, option("room", "INN", "YARD")], "save": False}, {"options": [TRANSFER], "save": False}]})
+    two = plan(FLIGHT, [SEA, option("room", "INN", "YARD")], TRANSFER, saves=(1,), tries=1)
     for n, (body, steps) in enumerate(((two, 3), (plan(option("room", "INN", "SEA")), 1), (plan(SEA), 0), (two, 1)), 1):
         scene.begins(body, f"held-{n}", steps)
-
-    def found_by(text, *journeys):
-        browser.types('[data-f="list.text"]', Keys.CONTROL + "a" + Keys.NULL, text)
-        comes(f"found by {text}", [f"Journey {n}" for n in journeys], lambda: browser.names("#list tbody a"))
     scene.shows_journey(4)
     for item, word in (("T1.1", "SEA"), ("B1r", "YARD")):
         browser.shows(item, ".path")
@@ -268,15 +256,15 @@ def by_what_is_held(scene):
                      (3, "holds nothing; to come: 1 Jun 2030 · room INN SEA")):
         comes(f"journey {n}", words, lambda n=n: browser.script(
             "return document.querySelector(arguments[0]).closest('tr').querySelector('.plan')?.innerText", f'[data-f="to.{n}"]'))
-    found_by("sea", 2)
-    found_by("yard", 4, 1)
-    found_by("transfer")
+    scene.found_by("sea", 2)
+    scene.found_by("yard", 4, 1)
+    scene.found_by("transfer")
     desk.post("/journeys/1/step", "more")
     comes("found once it is held", ["Journey 1"], lambda: browser.names("#list tbody a"))
     desk.post("/journeys/4/abort/0", "back")
     desk.post("/journeys/4/step", "give")
-    found_by("room inn yard", 1)
-    found_by("flight", 4, 1)
+    scene.found_by("room inn yard", 1)
+    scene.found_by("flight", 4, 1)
 
 
 # what is no content of a sheet
@@ -288,8 +276,8 @@ def printed(scene):
     browser, today = scene.browser, datetime.date.today()
     agent = f"Agent ann, {today.day} {today:%B} {today.year}"
     scene.begins(LINE_PLAN, "printed", 2)
-    browser.types("#line", LINE, Keys.TAB)
-    comes("the steps", 3, lambda: len(browser.all(".step")))
+    scene.plans(LINE)
+    browser.open(scene.desk.url("#/stock"))
     scene.chooses("flight AL A1", JUNE[0])
     sheets = (
         ("stock", f"{agent}: June 2030", ("room INN YARD", "In each night", "of 4"), ("New journey", "My journeys")),
@@ -374,7 +362,7 @@ def as_table(scene):
     browser.keys(Keys.ARROW_DOWN, Keys.ARROW_LEFT, Keys.ENTER)
     browser.shows("room INN YARD, Sun, 9 Jun 2030, 1 night", "#bar")
     browser.keys(Keys.ESCAPE)
-    browser.types('[data-f="filter.places"]', Keys.CONTROL + "a" + Keys.NULL, "2", Keys.TAB)
+    browser.retypes('[data-f="filter.places"]', "2", Keys.TAB)
     browser.size(*SIZES[1])
     browser.script("document.querySelector('#cals').scrollTo(0, 0)")
     browser.gives('[data-f="filter.from"]', JUNE[9])

@@ -1,5 +1,5 @@
-"""A desk with its page, and headless Chromium: for the scripts that try the page and draw it."""
-import http.client
+"""A desk with its page, and headless Chromium: for the scripts that try the page and draw it.
+More than 200 lines: one window of the browser."""
 import json
 import os
 import shutil
@@ -16,7 +16,7 @@ from selenium.webdriver.common.action_chains import ActionChains
 from selenium.webdriver.common.keys import Keys
 from selenium.webdriver.support.ui import Select
 
-from driving import PATIENCE, Server
+from driving import PATIENCE, Server, asked, parts_of, request
 from ports import free_port
 
 SEEN = """const isSeen = one => one.checkVisibility({visibilityProperty: true});
@@ -27,12 +27,13 @@ CHROMIUM, DRIVER = shutil.which("chromium"), shutil.which("chromedriver")
 
 
 def wait_until(holds, what):
-    """Waits until this holds, and gives what it returned. What is waited for is a text, or a call that gives one."""
+    """Waits until this holds, and gives what it returned; what it looks for may be drawn anew meanwhile. What is waited for is a
+    text, or a call that gives one."""
     deadline = time.monotonic() + PATIENCE
     while True:
         try:
             found = holds()
-        except StaleElementReferenceException:
+        except (StaleElementReferenceException, ElementClickInterceptedException, ElementNotInteractableException):
             found = None
         if found:
             return found
@@ -55,15 +56,11 @@ class Desk(Server):
         if not self.said:
             raise RuntimeError(f"no desk at {self.port}")
 
-    def ask(self, method, path, agent="ann", key="", body="", host=None):
+    def ask(self, method, path, agent="ann", key="", body=""):
         """The status and the body of a page, of which JSON is read."""
-        line = http.client.HTTPConnection("127.0.0.1", self.port, timeout=PATIENCE)
-        fields = {"Desk-Agent": agent, **({"Desk-Key": key} if key else {}), **({"Host": host} if host else {})}
-        line.request(method, path, body if method == "POST" else None, fields)
-        page = line.getresponse()
-        text = page.read().decode()
-        line.close()
-        return page.status, json.loads(text) if page.getheader("Content-Type") == "application/json" else text
+        sent = request(method, path, key, body.encode(), agent, f"127.0.0.1:{self.port}")
+        status, media, text = parts_of(asked(self.port, sent))
+        return status, json.loads(text) if media == "application/json" else text.decode()
 
     def post(self, path, key, body="", agent="ann"):
         status, page = self.ask("POST", path, agent, key, body)
@@ -123,6 +120,12 @@ class Browser:
         """What is seen of these, in the order of the page."""
         return self.script(SEEN + "return seen(arguments[0])", css)
 
+    def new_window(self, kind="window"):
+        """Opens a further window, or tab, which has the focus then; gives the one before and this one."""
+        before = self.driver.current_window_handle
+        self.driver.switch_to.new_window(kind)
+        return before, self.driver.current_window_handle
+
     def one(self, css, what=""):
         return wait_until(lambda: next(iter(self.all(css)), None), what or css)
 
@@ -140,13 +143,10 @@ class Browser:
     def click(self, find):
         """Clicks what is found, once it can be clicked."""
         def done():
-            try:
-                one = find()
-                self.script("arguments[0].scrollIntoView({block: 'center'})", one)
-                one.click()
-                return True
-            except (StaleElementReferenceException, ElementClickInterceptedException):
-                return False
+            one = find()
+            self.script("arguments[0].scrollIntoView({block: 'center'})", one)
+            one.click()
+            return True
         wait_until(done, "a click")
 
     def click_on(self, css):
@@ -162,14 +162,12 @@ class Browser:
         self.click(lambda: self.named(name, within))
 
     def types(self, css, *keys):
-        """Types keys to a field, which may be drawn anew meanwhile."""
-        def done():
-            try:
-                self.one(css).send_keys(*keys)
-                return True
-            except (StaleElementReferenceException, ElementNotInteractableException):
-                return False
-        wait_until(done, "a field to type to")
+        """Types keys to a field."""
+        wait_until(lambda: self.one(css).send_keys(*keys) is None, "a field to type to")
+
+    def retypes(self, css, *keys):
+        """Types keys to a field in place of what it has."""
+        self.types(css, Keys.CONTROL + "a" + Keys.NULL, *keys)
 
     def gives(self, css, value):
         """Gives a whole value to a field, as a browser does whose own window chose a day."""
@@ -179,13 +177,7 @@ class Browser:
 
     def picks(self, css, value):
         """Picks a value from a list."""
-        def done():
-            try:
-                Select(self.one(css)).select_by_value(value)
-                return True
-            except StaleElementReferenceException:
-                return False
-        wait_until(done, f"{value!r} in a list")
+        wait_until(lambda: Select(self.one(css)).select_by_value(value) is None, f"{value!r} in a list")
 
     def keys(self, *keys):
         """Types keys to whatever has the focus."""
@@ -209,7 +201,7 @@ class Browser:
     def works_as(self, url, agent):
         """Opens the page, and names the agent of this window."""
         self.open(url)
-        self.types("#agent", Keys.CONTROL + "a" + Keys.NULL, agent, Keys.ENTER)
+        self.retypes("#agent", agent, Keys.ENTER)
         self.is_up_to_date()
 
     def is_up_to_date(self):

@@ -114,7 +114,7 @@ def silent_ahead(scene):
     browser.open(scene.desk.url("stock"))
     same("a page without an agent", {"name": "NoAgent", "refused": 2}, json.loads(browser.script("return document.body.innerText")))
     silent, other = Client(scene.desk.port), Client(scene.desk.port)
-    asks = request("GET", "/stock").replace(b"Host: d", f"Host: 127.0.0.1:{scene.desk.port}".encode())
+    asks = request("GET", "/stock", host=f"127.0.0.1:{scene.desk.port}")
     connections = lambda: sockets_of(scene.desk.process) - 1
     for count in (12, 1):
         pages = at_once(f"{count} requests", lambda count=count: browser.driver.execute_async_script(ASKS, count))

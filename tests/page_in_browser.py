@@ -1,4 +1,5 @@
 """Runs the scenes of the page in headless Chromium; prints those that went wrong. With names, only those scenes.
+More than 200 lines: most lines are the table of spoiled pages.
 
 Then each of SPOILED is put into the page on its way to the browser, one at a time, and the scene has to find it."""
 import os

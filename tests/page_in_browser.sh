@@ -3,16 +3,8 @@
 # want the last place, foreign pages, the rules by which everybody can use it, and views that hold much. Each of some spoiled pages
 # is found by a scene. With words, only those scenes.
 . "$(dirname "${BASH_SOURCE[0]}")/helping.bash"
-. "$(dirname "$tests")/scripts/needs.bash"
 
-if ! has_browser; then
-  echo "page_in_browser.sh: skipped, there is no Chromium, or no Python that drives it" >&2
-  exit 0
-fi
-
-HOME=$work PYTHONDONTWRITEBYTECODE=1 "$python" "$tests/page_in_browser.py" "$@" >out 2>err
-same "the status" 0 "$?"
-same "what went wrong" "" "$(cat out)"
-[ "$wrong" -eq 0 ] || cat err >&2
+drives_browser
+finds_nothing_wrong "$python" "$tests/page_in_browser.py" "$@"
 [ -z "$in_part" ] || tail -n 1 err
 finish

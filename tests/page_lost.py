@@ -3,13 +3,10 @@ import datetime
 import signal
 import time
 
-from selenium.webdriver.common.keys import Keys
-
 from page_driving import wait_until
 from page_rules import look_at
-from page_scenes import FLIGHT, TRANSFER, TWO, comes, option, plan, same
+from page_scenes import FLIGHT, SHORT_LINE, TRANSFER, TWO, comes, option, plan, same
 
-LINE = "F/AL/A1/2030-06-01/1/1*;T/BUS/X/2030-06-01/1/1!0"
 WAITS = "1 request will be retried, and takes effect once"
 
 # what becomes of the request, and what happens before it is retried
@@ -42,9 +39,7 @@ def between(scene, what, events):
         time.sleep(0.5)
         scene.desk.start()
     if "window" in events:
-        first = driver.current_window_handle
-        driver.switch_to.new_window("window")
-        second = driver.current_window_handle
+        first, second = browser.new_window()
         driver.switch_to.window(first)
         driver.close()
         driver.switch_to.window(second)
@@ -71,8 +66,7 @@ def nothing_twice(scene, rows=BETWEEN):
     begun = 0
     for n, (mode, events) in enumerate(rows):
         what = f"{mode}, {events}"
-        browser.open(scene.desk.url("#/plan"))
-        browser.types("#line", LINE, Keys.TAB)
+        scene.plans(SHORT_LINE)
         before = click_is_lost(scene, what, "Begin the journey", mode, "#plan")
         between(scene, what, events)
         begun += 1
@@ -140,8 +134,7 @@ def after_restart(scene):
 def hang_and_kill(scene):
     """The desk is stopped, a button is pressed, the desk is killed and started again; then what was asked for is done."""
     browser = scene.browser
-    browser.open(scene.desk.url("#/plan"))
-    browser.types("#line", LINE, Keys.TAB)
+    scene.plans(SHORT_LINE)
     browser.named("Begin the journey")
     scene.desk.process.send_signal(signal.SIGSTOP)
     browser.press("Begin the journey")

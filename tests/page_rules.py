@@ -1,5 +1,5 @@
 """The rules by which everybody can use the page, in light and dark, from 360 to 1,920 pixels, in whichever language; and views that
-hold much.
+hold much. More than 200 lines: the rules are one list.
 
 1. Each control, picture, table and region has a name; two controls of a kind in one view do not share one, but for nights.
 2. One heading of the first level; no level is left out; each id once; the page has a language, and each view a title.
@@ -87,8 +87,7 @@ def views(scene):
     yield "a night that may become an option"
     browser.open(desk.url("#/plan"))
     yield "a plan of one step"
-    browser.types("#line", Keys.CONTROL + "a" + Keys.NULL, LINE, Keys.TAB)
-    comes("three steps", 3, lambda: len(browser.all(".step")))
+    scene.plans(LINE)
     scene.network.instead = (400, {"cause": "night", "name": "BadPlan", "refused": 5, "step": 2})
     browser.press_at("begin")
     browser.one(".step.isbad")
@@ -166,9 +165,7 @@ def comes_to_all(browser, what):
 
 def focus_order(scene):
     browser = scene.browser
-    browser.open(scene.desk.url("#/plan"))
-    browser.types("#line", LINE, Keys.TAB)
-    comes("three steps", 3, lambda: len(browser.all(".step")))
+    scene.plans(LINE)
     browser.picks('[data-f="filter.kind"]', "room")
     comes("rooms", 2, lambda: len(browser.all(".cal")))
     for width in (1280, 360):

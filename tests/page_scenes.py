@@ -1,4 +1,5 @@
-"""What agents do at the page, as scenes over a new desk: each tells what went wrong by an AssertionError."""
+"""What agents do at the page, as scenes over a new desk: each tells what went wrong by an AssertionError.
+More than 200 lines: the scenes that all others are built like, with the harness."""
 import json
 
 from selenium.webdriver.common.keys import Keys
@@ -8,6 +9,7 @@ from page_network import Network, json_page
 
 JUNE = [f"2030-06-{day:02}" for day in range(1, 31)]
 LINE = "F/AL/A1/2030-06-01/1/1*;R/INN/SEA/2030-06-01/2/1|R/INN/YARD/2030-06-01/2/1;T/BUS/X/2030-06-01/1/1!1"
+SHORT_LINE = "F/AL/A1/2030-06-01/1/1*;T/BUS/X/2030-06-01/1/1!0"
 START = "Turn back to the start"
 
 
@@ -34,8 +36,9 @@ def option(kind, supplier, product, first="2030-06-01", nights=1, count=1):
 
 
 def plan(*steps, saves=(), tries=0):
-    """The body of a plan of these options, one a step, with save-points after these steps."""
-    return json.dumps({"steps": [{"options": [one], "save": n in saves} for n, one in enumerate(steps, 1)], "tries": tries})
+    """The body of a plan of these steps, each an option or a list of some, with save-points after these steps."""
+    options = [one if isinstance(one, list) else [one] for one in steps]
+    return json.dumps({"steps": [{"options": one, "save": n in saves} for n, one in enumerate(options, 1)], "tries": tries})
 
 
 FLIGHT, TRANSFER = option("flight", "AL", "A1"), option("transfer", "BUS", "X")
@@ -118,6 +121,17 @@ class Scene:
         for n in range(steps):
             self.desk.post(f"/journeys/{identity}/step", f"{key}-{n}", "", agent)
         return identity
+
+    def plans(self, line, steps=0):
+        """Opens the new journey, and puts it together by a plan line of so many steps."""
+        self.browser.open(self.desk.url("#/plan"))
+        self.browser.retypes("#line", line, Keys.TAB)
+        comes("the steps", steps or line.count(";") + 1, lambda: len(self.browser.all(".step")))
+
+    def found_by(self, text, *journeys):
+        """The list, searched by this text, has these journeys."""
+        self.browser.retypes('[data-f="list.text"]', Keys.DELETE, text)
+        comes(f"found by {text}", [f"Journey {n}" for n in journeys], lambda: self.browser.names("#list tbody a"))
 
     def shows_journey(self, identity):
         self.browser.open(self.desk.url(f"#/journeys/{identity}"))
@@ -411,9 +425,7 @@ def asked_twice(scene):
 def last_place(scene):
     """Two agents in two windows want the last place: one has it, the other is told, and both see that it is gone."""
     browser, driver = scene.browser, scene.browser.driver
-    windows = [driver.current_window_handle]
-    driver.switch_to.new_window("window")
-    windows.append(driver.current_window_handle)
+    windows = browser.new_window()
     browser.works_as(scene.desk.url("#/who"), "bob")
     for at, agent in enumerate(("ann", "bob")):
         driver.switch_to.window(windows[at])

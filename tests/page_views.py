@@ -37,7 +37,7 @@ def draft_is_changed(scene):
         ("F/AL/A1/2030-02-29/1/1!0", "night"), ("F/AL/A1/2030-06-01/2/1!0", "too many nights"),
         ("F/AL/A1/2030-06-01/1/1", "tries"), ("F/AL/A1/2030-06-01/1/1*!0", "save-point"),
     ):
-        browser.types("#line", Keys.CONTROL + "a" + Keys.NULL, bad, Keys.TAB)
+        browser.retypes("#line", bad, Keys.TAB)
         scene.note(words)
     browser.press("Clear the new journey")
     browser.click_on("#sure-yes")
@@ -52,12 +52,11 @@ def titles(scene):
 def not_while_hidden(scene):
     """News come every few seconds, and none are asked for while another tab hides the page."""
     browser, driver = scene.browser, scene.browser.driver
-    first = driver.current_window_handle
     asked = lambda: len(scene.network.paths)
     before = asked()
     wait_until(lambda: asked() > before + 1, "news")
     browser.script("document.addEventListener('visibilitychange', () => document.title = `hidden ${document.hidden}`)")
-    driver.switch_to.new_window("tab")
+    first, _ = browser.new_window("tab")
     wait_until(lambda: "hidden true" in titles(scene), "the page is hidden")
     time.sleep(3)  # what was asked for before may come a while later
     before = asked()

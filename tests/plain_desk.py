@@ -1,5 +1,6 @@
 """The desk as a slow, plain program. It keeps its events and the kept replies, and reads all else off them, by the rules
 of docs/DEFINITIONS.md and docs/FORMATS.md. It shares no code with the desk.
+More than 200 lines: the rules of the desk stand in one place.
 
 A request is a tuple: ("load", name, rows), ("begin", plan line), ("step", id), ("abort", id, p), ("stop", id), or
 ("save", id). A row is a cell's text and its places. A reply is ("loaded", name, rows), ("begun", id),

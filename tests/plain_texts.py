@@ -1,4 +1,5 @@
-"""Plans, cells and allotment files as their texts say them, by docs/FORMATS.md; each refused by its first fault."""
+"""Plans, cells and allotment files as their texts say them, by docs/FORMATS.md; each refused by its first fault.
+More than 200 lines: each text is read and written in one place."""
 import datetime
 import functools
 import re
@@ -7,7 +8,7 @@ from typing import NamedTuple
 EPOCH = datetime.date(1970, 1, 1)
 LETTERS, WORDS = "FRTC", ("flight", "room", "transfer", "cover")
 MOST_NIGHTS = (1, 30, 1, 60)
-CODE, NAME, AGENT = re.compile("[A-Z0-9]{1,8}"), re.compile("[a-z0-9-]{1,24}"), re.compile("[a-z0-9]{1,16}")
+CODE, NAME = re.compile("[A-Z0-9]{1,8}"), re.compile("[a-z0-9-]{1,24}")
 LAST = (datetime.date(2099, 12, 31) - EPOCH).days
 HEADING = ["kind", "supplier", "product", "night", "places"]
 

@@ -1,6 +1,6 @@
 """Power cuts. The calls that runs of the desk make on their files are noted, and after each of them the power may be cut.
 Every disk that a cut may leave is opened again: it shows the ledger of what was answered, or that with the event that was
-under way, and the desk goes on with it.
+under way, and the desk goes on with it. More than 200 lines: records, cuts and what they leave are one trial.
 
 power_cuts.py CALLS.so DISKS [SEED]    tries about so many disks; says what it found, and ends with 1 where a disk is wrong
 """
@@ -10,7 +10,7 @@ import shutil
 import sys
 
 from disks import Disk, Part, notes_in
-from driving import Client, Lines, Server, desk, is_whole, page_size
+from driving import Client, Server, desk, is_whole, killed_after, page_size
 from parts import IN_PART, PARTS, Deal, chances
 from scenes import BUS, FIRST, FLIGHT, JUNE, LARGE, PLANS, SECOND, http_requests
 from shown import Events, Migration, Shown, lay, look, old_file, read_files
@@ -46,12 +46,10 @@ class Record:
 
     def run(self, lines, kill=False):
         def drive(env):
-            if not kill:
-                said = desk("run", self.path(), lines="\n".join(lines) + "\n", env=env).out.splitlines()
+            if kill:
+                said = killed_after(lines, self.path(), env)
             else:
-                open_desk = Lines(self.path(), env)
-                said = [open_desk.ask(line) for line in lines]
-                open_desk.kill()
+                said = desk("run", self.path(), lines="\n".join(lines) + "\n", env=env).out.splitlines()
             assert len(said) == len(lines), said
             return [int(not line.startswith("refused")) for line in said]
 

@@ -2,6 +2,7 @@
 # The reports of a file as it is, each in its formats: no journey is taken on, and a file that is absent is not made. The layout
 # of each report, what a filter shows, and which words are refused, is proved, and tried by the crates' tests (report_tests,
 # line_tests); here each report and each filter is printed once by the program.
+# More than 200 lines: most lines are what the reports print.
 . "$(dirname "${BASH_SOURCE[0]}")/helping.bash"
 
 # shows: the blocks of standard input: "$ " and the words of a call, the lines that it prints, and where it does not end with 0, "! "

@@ -1,20 +1,22 @@
 """Worked rows: what the desk is asked and has to answer, written by hand in rows.txt, through the program. A row of lines is
 run over HTTP too, each line as the request of the same meaning, and each page as the answer says it.
+More than 200 lines: the forms of a row are read and run in one place.
 
 rows.py ROWS.txt [WORD]    the rows whose names have this word; prints how many rows and runs there were
 """
+import itertools
 import json
 import os
 import re
 import sqlite3
 import sys
 
-from driving import Client, Server, desk
-from rows_pages import SHORT, Wrong, expect, message, page, page_of, plan_value, request_of
+from driving import desk, request, talk
+from rows_pages import page, page_of, plan_value, request_of
 
-
-# The text of the rows.
-
+DAY = "2030-06-01"
+SHORT = {"$A1": f"F/AL/A1/{DAY}", "$X": f"T/BUS/X/{DAY}", "$RM": f"R/INN/DBL/{DAY}"}
+SHORT.update({f"$P{n}": f"F/AL/P{n}/{DAY}/1/1" for n in range(1, 7)})
 ITEMS = "FROM (SELECT * FROM entry2 ORDER BY num) WHERE journey ="
 # Short forms of statements.
 STATEMENTS = {
@@ -25,6 +27,18 @@ STATEMENTS = {
     "$taken": "SELECT place, opt FROM (SELECT * FROM step WHERE taken = 1 ORDER BY place, opt) WHERE journey =",
     "$marks": "SELECT journey, pos FROM mark ORDER BY journey, pos",
 }
+
+
+class Wrong(Exception):
+    """The desk is not as the row says."""
+
+
+def expect(what, expected, found):
+    if expected != found:
+        raise Wrong(f"{what}\n  expected: {expected!r}\n  found:    {found!r}")
+
+
+# The text of the rows.
 
 
 def long(text):
@@ -67,6 +81,8 @@ def pair(line):
     asked, _, answer = line.partition(" => ")
     return ("" if asked == "(empty)" else asked), answer
 
+
+KEYS = itertools.count(1)
 
 # The parts of a row.
 
@@ -122,26 +138,24 @@ def is_sound():
 
 def http(lines):
     """Requests over one connection."""
-    server = Server("trips.db")
-    client = Client(server.port)
-    try:
-        for line in lines:
-            asked, answer = pair(line)
-            first, *fields = re.split(r" (?=(?:key|as|body|file|plan) )", asked)
-            told = dict(field.split(" ", 1) for field in fields)
-            sent = message(*first.split(" "), told.get("as", "ann"), told.get("key", ""), body_of(told))
-            status, size, body = answer.split(" ", 2)
-            found = client.ask(sent)
-            if size == "+":
-                expect(asked, True, found.startswith(b"HTTP/1.1 200 OK\r\n") and f"\n{body}\n".encode() in found)
-                continue
-            body = body.replace("\\n", "\n")
-            expect(f"{asked}: the length", int(size), len(body))
-            expect(asked, page(int(status), body, "GET" if status == "405" else ""), found)
-    finally:
-        client.close()
-        ended = server.end()
-    expect("the end", (f"ready {server.port}\n", "", 0), (ended.out, ended.err, ended.status))
+    asked = [pair(line) for line in lines]
+    pages, wrong = talk("trips.db", [message(line) for line, _ in asked])
+    for (line, answer), found in zip(asked, pages):
+        status, size, body = answer.split(" ", 2)
+        if size == "+":
+            expect(line, True, found.startswith(b"HTTP/1.1 200 OK\r\n") and f"\n{body}\n".encode() in found)
+            continue
+        body = body.replace("\\n", "\n")
+        expect(f"{line}: the length", int(size), len(body))
+        expect(line, page(int(status), body, *["Allow: GET"] * (status == "405")), found)
+    expect("the end", "", wrong)
+
+
+def message(line):
+    """The request of a line, which may have a key, an agent and a body."""
+    first, *fields = re.split(r" (?=(?:key|as|body|file|plan) )", line)
+    told = dict(field.split(" ", 1) for field in fields)
+    return request(*first.split(" "), told.get("key", ""), body_of(told), told.get("as", "ann"))
 
 
 def body_of(told):
@@ -154,26 +168,15 @@ def body_of(told):
     return told.get("body", "").replace("\\n", "\n").encode()
 
 
-class Twin:
+def run_over_http(lines):
     """The lines of a row as requests of the agent `desk`, whose journeys are those of the house too."""
-
-    def __init__(self):
-        self.keys = 0
-
-    def run(self, lines):
-        server = Server("trips.db")
-        client = Client(server.port)
-        try:
-            for line in lines:
-                asked, answer = pair(line)
-                self.keys += 1
-                target, body = request_of(asked)
-                sent = message("POST", target, "desk", f"k{self.keys}", body.encode())
-                expect(f"{asked[:200]}, over HTTP", page_of(answer), client.ask(sent))
-        finally:
-            client.close()
-            ended = server.end()
-        expect("the end", (f"ready {server.port}\n", "", 0), (ended.out, ended.err, ended.status))
+    asked = [pair(line) for line in lines]
+    targets = [request_of(line) for line, _ in asked]
+    sent = [request("POST", target, f"k{next(KEYS)}", body.encode(), "desk") for target, body in targets]
+    pages, wrong = talk("trips.db", sent)
+    for (line, answer), found in zip(asked, pages):
+        expect(f"{line[:200]}, over HTTP", page_of(answer), found)
+    expect("the end", "", wrong)
 
 
 def has_twin(parts):
@@ -215,7 +218,7 @@ def main():
         if word not in name:
             continue
         rows += 1
-        for kind, as_lines in (("", run), (", over HTTP", Twin().run if has_twin(parts) else None)):
+        for kind, as_lines in (("", run), (", over HTTP", run_over_http if has_twin(parts) else None)):
             if as_lines is None:
                 continue
             count += 1

@@ -1,7 +1,7 @@
 """What the desk shows of the files that a cut, a failed call or damage left, and whether it goes on with them as it should."""
 import os
 
-from driving import Client, Server, desk, lay, read_files
+from driving import desk, killed_after, lay, read_files, talk
 from ledger import Ledger, is_settled, make_file, report, statements_of, tables_of
 from scenes import OLD_EVENTS, ON
 
@@ -86,13 +86,9 @@ class Events:
         again = [(sent, page) for sent, page in self.pages if self.ledger.kept.get(key_of(sent), count + 1) <= count]
         if not again:
             return ""
-        server = Server("cut/trips.db")
-        client = Client(server.port)
-        pages = [client.ask(sent) for sent, _ in again]
-        client.close()
-        ended = server.end()
-        if ended.status != 0 or pages != [page for _, page in again]:
-            return f"retried under their keys: {pages}, {ended}"
+        pages, wrong = talk("cut/trips.db", [sent for sent, _ in again])
+        if wrong or pages != [page for _, page in again]:
+            return f"retried under their keys: {pages}, {wrong}"
         return "" if tables_of("cut/trips.db") == tables else "a retried request acted again"
 
 
@@ -115,6 +111,15 @@ class Migration:
         if not done.out.startswith(expected[0]) or done.err or done.status != expected[1]:
             return f"migrate: {done}"
         return "" if tables_of("cut/trips.db") == self.states[1] else "what migration made of it"
+
+
+def make_disk(lines, kill=()):
+    """A disk on which these lines were run, and then those before a kill, so that its log holds events."""
+    lay({})
+    assert desk("run", "cut/trips.db", lines="\n".join(lines) + "\n").status == 0
+    if kill:
+        killed_after(kill, "cut/trips.db")
+    return read_files("cut")
 
 
 def old_file(files):

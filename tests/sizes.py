@@ -3,29 +3,16 @@
 No clause says that memory suffices, so a body that gives up beyond some size has to be seen here. Each answer is computed
 from the rules alone.
 """
-import json
 import os
 import sys
 
-from driving import Client, Server, desk, request
+from driving import compact, desk, parts_of, plan_of, request, same, talk, wrong
 
 DAY = "2030-06-01"
 MOST_PLACES, MOST_STEPS, MOST_OPTIONS, MOST_TRIES, MOST_COUNT = 100_000, 24, 8, 9, 50
 MOST_ROWS, MOST_BODY, PAGE = 2_000, 262_144, 4_096
 COLUMNS = "kind,supplier,product,night,places\n"
 HEADING = "kind     supplier product  night       allot   held   free\n"
-wrong = 0
-
-
-def same(what, expected, found):
-    """Both texts, or lists, are the same; what is shown begins where they part."""
-    global wrong
-    if expected != found:
-        parts = (n for n, pair in enumerate(zip(expected, found)) if pair[0] != pair[1])
-        at = next(parts, min(len(expected), len(found)))
-        print(f"sizes.sh: {what}\n  expected: {len(expected)} long, from {at} on {expected[at:at + 120]!r:.300}\n"
-              f"  found:    {len(found)} long, from {at} on {found[at:at + 120]!r:.300}", file=sys.stderr)
-        wrong += 1
 
 
 def says(what, expected, *words, lines=""):
@@ -57,20 +44,6 @@ def options(*products):
 
 def steps(journey, items):
     return [(f"step {journey}", f"journey {journey} {item}") for item in items]
-
-
-def compact(value):
-    return json.dumps(value, separators=(",", ":"), sort_keys=True)
-
-
-def plan_of(products, saves, tries):
-    """The plan in JSON whose steps want one of these products each, with save-points behind some steps."""
-    steps = []
-    for number, names in enumerate(products, 1):
-        wants = [{"count": MOST_COUNT, "first": DAY, "kind": "flight", "nights": 1, "product": name, "supplier": "AL"}
-                 for name in names]
-        steps.append({"options": wants, "save": number in saves})
-    return compact({"steps": steps, "tries": tries})
 
 
 def largest_plan():
@@ -105,10 +78,9 @@ def largest_plan():
     lines = [stock_line("A1", MOST_PLACES, MOST_COUNT), *[stock_line(product, 0, 0) for product in full],
              stock_line("P8", MOST_PLACES, held)]
     says("the stock", f"{HEADING}{''.join(lines)}cells {MOST_OPTIONS + 1}\n", "stock", "trips.db")
-    sent = plan_of([["A1", *full], *[[*full, "P8"]] * last], (1, last), MOST_TRIES)
-    pages = asked("the largest plan in JSON", "trips.db", [
-        request("POST", "/journeys", "k", sent.encode()), request("GET", "/journeys/5/plan"),
-    ])
+    sent = plan_of(["A1", *full], *[[*full, "P8"]] * last, saves=(1, last), tries=MOST_TRIES, count=MOST_COUNT)
+    requests = [request("POST", "/journeys", "k", sent), request("GET", "/journeys/5/plan")]
+    pages = asked("the largest plan in JSON", "trips.db", requests)
     same("the largest plan in JSON", [page(journey=5), (200, sent)], pages)
 
 
@@ -143,36 +115,25 @@ def all_cells():
     stock = f"{HEADING}{''.join(lines)}cells {len(lines)}\n"
     says("the stock of 20,000 cells", stock, "stock", "cells.db")
     pages = asked("the page of 20,000 cells", "cells.db", [request("GET", "/stock")] * 2)
-    same("the page of 20,000 cells: is above 1 MiB", "yes", "yes" if len(stock) > 1 << 20 else "no")
-    same("the page of 20,000 cells", [(200, stock)] * 2, pages)
+    same("the page of 20,000 cells: is above 1 MiB", True, len(stock) > 1 << 20)
+    same("the page of 20,000 cells", [(200, stock.encode())] * 2, pages)
 
 
 def asked(what, file, requests):
-    """The pages of these requests over one connection, each its status and body; a request is sent once the page before it
-    has come."""
-    server = Server(file)
-    client = Client(server.port)
-    pages = [status_and_body(client.ask(one)) for one in requests]
-    client.close()
-    ended = server.end()
-    same(f"{what}: the end", f"status 0, ready {server.port}\n", f"status {ended.status}, {ended.out}{ended.err}")
-    return pages
-
-
-def status_and_body(text):
-    """Of a page; None where none has come."""
-    head, end, body = text.partition(b"\r\n\r\n")
-    return (int(head.split(b" ")[1]), body.decode()) if end else None
+    """The pages of these requests over one connection, each its status and body."""
+    pages, fault = talk(file, requests)
+    same(f"{what}: the end", "", fault)
+    return [(status, body) for status, _, body in map(parts_of, pages)]
 
 
 def page(**members):
-    return 200, compact(members)
+    return 200, compact(members).encode()
 
 
 def one_connection():
     """A thousand requests over one connection: 300 journeys of one agent, each begun, done a step and asked for again."""
     count = 300
-    plan = plan_of([["A1"], ["A1"]], (), 0).encode()
+    plan = plan_of(["A1"], ["A1"], count=MOST_COUNT)
     answers("places for many journeys", "many.db", [set_places("A1", MOST_PLACES)])
     requests, pages = [], []
     for n in range(1, count + 1):
@@ -184,7 +145,7 @@ def one_connection():
         pages.append(page(history=["T1.1"], journey=n, pos=1, state="run"))
     requests.append(request("GET", "/unfinished"))
     pages.append(page(unfinished=[{"journey": n, "pos": 1, "state": "run"} for n in range(1, count + 1)]))
-    same("a thousand requests: how many", "1000", str(len(requests)))
+    same("a thousand requests: how many", 1000, len(requests))
     same("a thousand requests over one connection", pages, asked("a thousand requests", "many.db", requests))
     lines = "".join(f"{n:12} {'ann':16} run 1\n" for n in range(1, count + 1))
     says("300 unfinished journeys", f"{lines}unfinished {count}\n", "unfinished", "many.db")
@@ -198,12 +159,12 @@ def large_inputs():
         rows += [("x" * 99, "refused 4 BadBody")] * 999 + [(f"begin F/AL/A1/{DAY}/1/1!0", f"journey {n} begun")]
     answers("a hundred thousand lines", "lines.db", rows)
     body = COLUMNS.encode().ljust(MOST_BODY, b"\n")
-    refused = compact({"cause": "empty", "name": "BadCsv", "refused": 6, "row": 0})
+    refused = compact({"cause": "empty", "name": "BadCsv", "refused": 6, "row": 0}).encode()
     pages = asked("the largest bodies", "lines.db", [request("POST", "/batches/b", f"k{n}", body) for n in range(48)])
     same("the largest bodies", [(400, refused)] * 48, pages)
 
 
 for scene in (largest_plan, all_places, all_cells, one_connection, large_inputs):
     scene()
-print(f"sizes.sh: {wrong} wrong")
-sys.exit(wrong != 0)
+print(f"sizes.sh: {len(wrong)} wrong")
+sys.exit("\n".join(wrong) or 0)

@@ -3,5 +3,4 @@
 [ -w /dev/shm ] && in_memory=/dev/shm
 . "$(dirname "${BASH_SOURCE[0]}")/helping.bash"
 
-python3 "$tests/sizes.py" || wrong=1
-finish
+python3 "$tests/sizes.py"

@@ -1,5 +1,6 @@
 """A seeded simulation of the desk in use: agents, the house, kills, calls that fail, power cuts and reopenings, over
 the program itself. Every answer and every file is compared with a plain desk (plain_desk.py).
+More than 200 lines: lives are planned, told, left out and repeated as one script of lives.
 
 About COUNT commands are answered, which SEED decides. The last line says how many files went wrong, and the status is 1
 if any did. LIBRARIES, which ./soak gives, is the folder with calls.so and refuse.so.
@@ -12,7 +13,6 @@ import os
 import random
 import shutil
 import signal
-import subprocess
 import sys
 import tempfile
 import time
@@ -325,15 +325,6 @@ def without(script, parts, at):
     return copy
 
 
-def is_slow(folder):
-    """Whether the program takes as long to open a file as a trial program does."""
-    def opening():
-        began = time.monotonic()
-        subprocess.run([DESK, "recover", f"{folder}/slow.db"], capture_output=True, check=False)
-        return time.monotonic() - began
-    return all(opening() > 0.5 for _ in range(5))
-
-
 def words_of():
     layout = argparse.RawDescriptionHelpFormatter
     words = argparse.ArgumentParser(prog="./soak", description=__doc__, formatter_class=layout)
@@ -347,7 +338,7 @@ def words_of():
     words.add_argument("--keep", metavar="FOLDER", default=".", help="where scripts of failures go")
     words.add_argument("--minutes", metavar="N", type=float, default=math.inf, help="it ends with the file at which so many "
                        "minutes have gone, if that comes first")
-    words.add_argument("--trial", action="store_true", help="a slow program too; --looks is 0.2 then")
+    words.add_argument("--trial", action="store_true", help="a trial program too; --looks is 0.2 then")
     words.add_argument("--looks", metavar="SHARE", type=float, help="after so many of the lives the reports of a "
                        "copy are compared too: 1 is each, 0.1 every tenth; the rows always are")
     found = words.parse_args()
@@ -364,11 +355,11 @@ def main():
     words = words_of()
     words.libraries, words.keep = os.path.abspath(words.libraries), os.path.abspath(words.keep)
     signal.signal(signal.SIGTERM, lambda *_: sys.exit(143))
+    if not words.trial and "/out/trial/" in DESK:
+        print("soak.py: this is a trial program, which is slow; --trial takes it", file=sys.stderr)
+        sys.exit(2)
     folder = tempfile.mkdtemp(prefix="soak-", dir="/dev/shm" if os.access("/dev/shm", os.W_OK) else None)
     try:
-        if not words.trial and is_slow(folder):
-            print("soak.py: the program is slow, as a trial program is; --trial takes it", file=sys.stderr)
-            sys.exit(2)
         soak = Soak(words, folder)
         if words.repeat:
             with open(words.repeat, encoding="ascii") as file:

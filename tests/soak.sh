@@ -6,10 +6,7 @@
 # COUNT=N SEED=N DESK=.. tests/soak.sh    so many commands of this seed, where the gate takes 2,000
 . "$(dirname "${BASH_SOURCE[0]}")/helping.bash"
 . "$tests/hostile.bash"
-if [[ $DESK == */out/trial/* ]]; then
-  echo "soak.sh: skipped, a trial program is too slow" >&2
-  exit 0
-fi
+skips_trial
 
 compiles calls refuse
 

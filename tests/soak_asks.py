@@ -1,4 +1,5 @@
 """What the house and the agents of a simulated office ask of the desk, by chance.
+More than 200 lines: all forms of what is asked, good and bad, are made by one office.
 
 A saying is a dictionary that JSON can hold: `text`, its bytes as Latin-1; `means`, which is one of
 ["ask", agent, key, text, request], ["show", agent, what], ["refused", number, step, row, cause, allow]; and where it is

@@ -1,5 +1,5 @@
 """The file that lives through a script of lives. After each life its rows, and the reports on copies of it, are those
-of a desk that may stand there by then."""
+of a desk that may stand there by then. More than 200 lines: one file is looked at, cut and spoiled in one place."""
 import os
 import random
 import shutil

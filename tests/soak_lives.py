@@ -1,4 +1,5 @@
 """One life of the program, as a script says: what is said to it, each answer compared with the desks that may stand.
+More than 200 lines: a life may be lived in each of the ways above.
 
 A life is a dictionary that JSON can hold:
 
@@ -12,6 +13,7 @@ A life is a dictionary that JSON can hold:
   cut            the calls are noted; from 0 on the number for chance by which the power is cut afterwards
   spoil          how the file is spoiled afterwards
 """
+import contextlib
 import os
 import select
 import signal
@@ -57,7 +59,11 @@ class Life:
         self.process.send_signal(signal.SIGKILL)
 
     def ended(self):
-        """Waits for the end: the rest of the output, and whether the end was orderly."""
+        """Waits for the end, once the input has ended: the rest of the output, standard error and the status."""
+        if self.process.stdin:
+            with contextlib.suppress(BrokenPipeError):
+                self.process.stdin.close()
+            self.process.stdin = None
         try:
             out, err = self.process.communicate(timeout=PATIENCE)
         except subprocess.TimeoutExpired:
@@ -113,11 +119,6 @@ class Life:
 
     def finish(self, out):
         """The last answers, and the end."""
-        try:
-            self.process.stdin.close()
-        except BrokenPipeError:
-            pass
-        self.process.stdin = None
         rest, err, status = self.ended()
         out.read, out.rest = (lambda: b""), out.rest + rest
         is_whole = False
@@ -154,8 +155,6 @@ class Life:
             self.kill()
         elif end == "" and self.may_break:
             self.use_up(port)
-        self.process.stdin.close()
-        self.process.stdin = None
         out, err, status = self.ended()
         if out:
             raise Wrong(f"after it was ready it said {out!r}")
@@ -259,10 +258,7 @@ class Life:
     def told(self, *words):
         """The output of a call with words, with how it ended."""
         self.start(*words)
-        self.process.stdin.close()
-        self.process.stdin = None
-        out, err, status = self.ended()
-        return out, err, status
+        return self.ended()
 
     def recover(self):
         out, err, status = self.told("recover", "trips.db")

@@ -14,7 +14,7 @@ import threading
 import time
 import tty
 
-from driving import DESK, same, wrong
+from driving import DESK, same, waits_for, wrong
 
 LINES = [f"set b{n} F/AL/A{n}/2030-06-01 9\n" for n in range(1, 9)]
 ANSWERS = "".join(f"loaded b{n} 1\n" for n in range(1, 9))
@@ -42,19 +42,11 @@ def take_all(stream, pieces):
         pieces.append(piece.decode())
 
 
-def has_lines(pieces, count):
-    """Waits until these pieces have so many lines, for half a minute."""
-    begun = time.monotonic()
-    while "".join(pieces).count("\n") < count and time.monotonic() - begun < 30:
-        time.sleep(0.02)
-
-
 def is_taken_in(stream):
-    """Waits until nothing is left in this pipe, for half a minute: a desk that is slow reads it later."""
-    left, begun = array.array("i", [1]), time.monotonic()
-    while left[0] and time.monotonic() - begun < 30:
-        time.sleep(0.02)
-        fcntl.ioctl(stream, termios.FIONREAD, left)
+    """Whether nothing is left in this pipe."""
+    left = array.array("i", [1])
+    fcntl.ioctl(stream, termios.FIONREAD, left)
+    return left[0] == 0
 
 
 def run(words, lines, pause, at_terminal=("err",)):
@@ -76,13 +68,14 @@ def run(words, lines, pause, at_terminal=("err",)):
             desk.stdin.write(line.encode())
             desk.stdin.flush()
             if pause:
-                is_taken_in(desk.stdin)
+                # a desk that is slow reads it later
+                waits_for(lambda: is_taken_in(desk.stdin))
         else:
             os.write(outer, line.encode())
     if desk.stdin:
         desk.stdin.close()
     else:
-        has_lines(output, len(lines))
+        waits_for(lambda: "".join(output).count("\n") >= len(lines))
         time.sleep(0.5)
         desk.kill()
     status = desk.wait()

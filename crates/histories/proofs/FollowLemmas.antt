@@ -1,4 +1,4 @@
--- How a world goes on with one opening, from how the desk came up and what it answered. For the jobs and the sessions.
+-- How a world goes on with one opening, from how the desk came up and what it answered. For the jobs.
 use Rattle.std.proofs.Common.{ℕ, List, Option, sym, subst}
 use Rattle.sqlite.specs.Tree.{Trees}
 use Rattle.sqlite.specs.Store.{Ghosts}

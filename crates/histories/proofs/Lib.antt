@@ -4,4 +4,3 @@ pub mod StageLemmas
 pub mod OpeningLemmas
 pub mod FollowLemmas
 pub mod FileLemmas
-pub mod ChainLemmas

@@ -1,4 +1,4 @@
--- Where a stage of a session leaves the desk. For the stages.
+-- Where a stage of an opening leaves the desk. For the jobs.
 use Rattle.std.proofs.Common.{◌⊎◌, ℕ, List, [], ◌∷◌, ◌++◌, Bool, true, false, refl, sym, subst, ◌∙◌, arith, append-nil, inl, inr, Option, None, Some, IfSome}
 use Rattle.std.specs.Io.KnownBytes.{Appends}
 use Rattle.std.proofs.KnownBytes.{Appends-nil}
@@ -19,13 +19,12 @@ use Rattle.protocols.specs.declared.faults.ServeFault.{ServeFault}
 use Rattle.desk_lines.specs.Lines.{lines}
 use Rattle.desk_lines.specs.Serving as of_lines
 use Rattle.desk_lines.specs.Worlds as by_line
-use Rattle.desk_http.specs.Worlds as by_message
 use Rattle.http_conversations.specs.Exchanges.{Exchange}
 use Rattle.http_live.specs.Worlds as by_exchange
-use Rattle.histories.specs.Openings.{Input, Lines, Messages, Connections, AsksFor, IsAnsweredBy}
+use Rattle.histories.specs.Openings.{Input, Lines, Connections, AsksFor, IsAnsweredBy}
 use Rattle.histories.specs.Chains.{StandsAs}
 use Rattle.histories.specs.Stages.{HasRecovered, LeavesRecovering, Answering, LeavesAnswering}
-use Rattle.histories.proofs.TellingLemmas.{Tells, lines_tell_all, lines_tell, messages_come, messages_tell_all, messages_tell, done_next, done_but_last, exchanges_told}
+use Rattle.histories.proofs.TellingLemmas.{Tells, lines_tell_all, lines_tell, done_next, done_but_last, exchanges_told}
 
 -- Asks that were carried out.
 
@@ -139,13 +138,6 @@ module _ (x : Scene) (w : List Moment) (IsThere : State → Type 0) (stays : (s 
       all_answered (Lines bytes) (by_line.asks_in (lines bytes))
       (lines bytes, [], sym (append-nil (lines bytes)), refl) ends (lines_tell_all x (after start w) bytes count all)
 
-  pub messages_answered : (bytes : List ℕ) (count : ℕ) → by_message.EndsWithMessages x w bytes count
-      → Answering x.held x.holds w (Messages bytes) IsThere
-  messages_answered bytes count e =
-      all_answered (Messages bytes) (by_message.asks_in e.all.messages)
-      (e.all.messages, e.all.rest, e.all.answered.begins, refl) e.ends
-      (messages_tell_all x (after start w) bytes count e.all)
-
 -- the same of lines that are known
 pub lines_answered_if_known : (x : Scene) (known : Option (List ℕ)) (count : ℕ) (stood IsThere : State → Type 0)
     → ((s : State) → x.stands s → IsThere s)
@@ -181,19 +173,6 @@ pub not_asked : (held : Option (List ℕ)) (stands : State → Type 0) (w : List
 not_asked held stands w finds input come none here means db may =
     unasked held held stands w input [] (StandsAs db) come none here (Appends-nil held) (means db may)
 
-pub no_messages_asked : (held : Option (List ℕ)) (stands : State → Type 0) (w : List Moment) (finds : Trees → Type 0)
-    (bytes : List ℕ) → StandsAtEnd stands w → ((db : Trees) → finds db → StandsAs db (after start w))
-    → LeavesAnswering finds held held w (Messages bytes)
-no_messages_asked held stands w finds bytes =
-    not_asked held stands w finds (Messages bytes) ([], bytes, refl, refl)
-    ([], bytes, [], record { begins = refl; are = refl }, refl, refl)
-
-pub no_connections_asked : (held : Option (List ℕ)) (stands : State → Type 0) (w : List Moment) (finds : Trees → Type 0)
-    → StandsAtEnd stands w → ((db : Trees) → finds db → StandsAs db (after start w))
-    → LeavesAnswering finds held held w (Connections [])
-no_connections_asked held stands w finds =
-    not_asked held stands w finds (Connections []) ([], refl, refl) ([], refl, refl, refl)
-
 -- a fault came
 module _ (x : Scene) (c : Connected) (clean : HasCleanDisk c) (told : (s t : State) → x.leaves s t → MayLeave c s t)
     (w : List Moment) (bytes : List ℕ) where
@@ -210,26 +189,6 @@ module _ (x : Scene) (c : Connected) (clean : HasCleanDisk c) (told : (s t : Sta
         answers = record {
           asks = by_line.asks_in (lines bytes);
           come = (lines bytes, [], sym (append-nil (lines bytes)), refl);
-          goes = record { progress = e.among.progress; was_kept = l.was_kept; goes = refl };
-          is_told = tells.is_told;
-        };
-        world = l.world;
-        there = l.stands;
-      }
-
-  pub stopped_at_message : (fault : ServeFault) → by_message.EndsAmongMessages x w bytes fault
-      → LeavesAnswering c.may_leave x.held x.holds w (Messages bytes)
-  stopped_at_message fault e db may =
-      let l = left_among c x.leaves clean told x.stands w _ _ e.among db may in
-      let tells = messages_tell x (after start w) bytes e.some.rest fault e.some.messages e.next e.some.pages
-      e.among.progress.answered e.some.answered e.comes e.some.leaves e.carried_out in
-      record {
-        told = tells.told;
-        wrote = tells.wrote;
-        end = crashed w e.among.progress l.was_kept;
-        answers = record {
-          asks = by_message.asks_in (e.some.messages ++ e.next);
-          come = messages_come (after start w) bytes e.some.rest e.some.messages e.next e.some.answered.begins e.comes;
           goes = record { progress = e.among.progress; was_kept = l.was_kept; goes = refl };
           is_told = tells.is_told;
         };
@@ -287,6 +246,25 @@ module _ (c : Connected) (leaves : State → State → Type 0) (clean : HasClean
         };
         world = l.world;
         there = l.stands;
+      }
+
+  -- all were carried out, and what stands for the end is there
+  pub exchanges_answered : (IsThere : State → Type 0) → ((s : State) → stands s → IsThere s) → (exchanges : List Exchange)
+      → by_exchange.EndsWithExchanges stands leaves w exchanges → Answering held held w (Connections exchanges) IsThere
+  exchanges_answered IsThere stays exchanges e =
+      let asks = by_exchange.asks_of e.messages in
+      record {
+        told = [];
+        wrote = Appends-nil held;
+        end = continued w asks [];
+        answers = record {
+          asks = asks;
+          come = (e.messages, e.done, refl);
+          goes = record { progress = all_done asks e.ends.limits; was_kept = false; goes = refl };
+          is_told = exchanges_told (after start w) exchanges e.messages asks e.done refl;
+        };
+        world = e.ends.ends.world;
+        there = stays (after start (continued w asks [])) e.ends.ends.stands_there;
       }
 
   pub exchanges_served : (failed : Bool) (exchanges : List Exchange)

@@ -1,6 +1,5 @@
--- What was written are answers to asks that were carried out. For the answers over lines and messages.
+-- What was written are answers to asks that were carried out. For the answers to lines and exchanges.
 use Rattle.std.proofs.Common.{◌≡◌, ℕ, List, [], ◌∷◌, ◌++◌, length, take, drop, refl, sym, ap, subst, ◌∙◌, append_assoc, append-nil, inl, inr, Option, None}
-use Rattle.std.specs.List.{concat}
 use Rattle.std.specs.Io.KnownBytes.{Appends}
 use Rattle.std.proofs.lemmas.List.{take-append-drop}
 use Rattle.ledger.specs.Answer.{State}
@@ -11,17 +10,11 @@ use Rattle.protocols.specs.declared.faults.ServeFault.TheVariants.{Memory, Store
 use Rattle.desk_lines.specs.Lines.{lines, answer_line, answer_lines, state_after_lines, meaning_in, written}
 use Rattle.desk_lines.specs.Serving as of_lines
 use Rattle.desk_lines.specs.Worlds as by_line
-use Rattle.http_messages.specs.Messages.{Message, BeginsWith, BeginsWithAll}
-use Rattle.http_messages.proofs.MessageLemmas.{one_message}
-use Rattle.desk_http.specs.Pages.{IsPage, command_in, state_after, state_after_all}
-use Rattle.desk_http.specs.Serving as of_messages
-use Rattle.desk_http.specs.declared.doors.Door.TheVariants.{Port}
-use Rattle.desk_http.specs.Worlds as by_message
-use Rattle.desk_http.proofs.ServeLemmas.{begins_more, pages_more, concat_more}
+use Rattle.desk_http.specs.Pages.{command_in, state_after}
 use Rattle.http_ways.specs.Ways.{Said, Says}
 use Rattle.http_conversations.specs.Exchanges.{Exchange}
 use Rattle.http_live.specs.Worlds.{AreDone, HasPage, Heard, asks_of}
-use Rattle.histories.specs.Openings.{Input, Lines, Messages, Connections, AsksFor, IsTold}
+use Rattle.histories.specs.Openings.{Input, Lines, Connections, IsTold}
 
 -- these bytes were written, and are answers to asks that were carried out
 pub record Tells (held holds : Option (List ℕ)) (s : State) (input : Input) (carried_out : Asks) : Type 0 where
@@ -133,105 +126,6 @@ lines_tell x s bytes Memory answered (line ∷ later) carried parts left done =
     ]
 lines_tell x s bytes Store answered later carried parts left done =
     just x s bytes answered later carried [] parts left.0 (no_others carried _ done)
-
--- Messages.
-
-messages-append : (ms ns : List Message)
-    → by_message.asks_in (ms ++ ns) ≡ by_message.asks_in ms ++ by_message.asks_in ns
-messages-append [] ns = refl
-messages-append (m ∷ ms) ns =
-    ap (λ l. by_message.asks_by (command_in Port m) ++ l) (messages-append ms ns)
-    ∙ sym (append_assoc (by_message.asks_by (command_in Port m)) (by_message.asks_in ms) (by_message.asks_in ns))
-
--- what messages ask for, and the next one, if there is one
-pub messages_come : (s : State) (bytes rest : List ℕ) (ms next : List Message) → BeginsWithAll bytes ms rest
-    → by_message.ComesNext rest next → AsksFor s (Messages bytes) (by_message.asks_in (ms ++ next))
-messages_come s bytes rest ms [] begins comes = (ms, rest, begins, ap by_message.asks_in (append-nil ms))
-messages_come s bytes rest ms (m ∷ []) begins comes =
-    (ms ++ m ∷ [], comes.0, begins_more bytes rest comes.0 ms m begins comes.1, refl)
-messages_come s bytes rest ms (m ∷ n ∷ later) begins comes = absurd comes
-
--- the pages of the first messages
-pages_told : (s : State) (bytes : List ℕ) (ms : List Message) (rest : List ℕ) (pages : List (List ℕ))
-    (told unsent : List ℕ) (carried others : Asks) → of_messages.Answered s bytes ms rest pages
-    → concat pages ≡ told ++ unsent → carried ≡ by_message.asks_in ms ++ others
-    → IsTold s (Messages bytes) carried told
-pages_told s bytes ms rest pages told unsent carried others answered sent done = record {
-  answered = by_message.asks_in ms;
-  others = others;
-  done = done;
-  answers = concat pages;
-  are = (ms, rest, pages, answered, refl, refl);
-  unsent = unsent;
-  sent = sent;
-}
-
-pub messages_tell_all : (x : Scene) (s : State) (bytes : List ℕ) (count : ℕ)
-    (all : of_messages.ServesAll x s bytes count)
-    → Tells x.held x.holds s (Messages bytes) (by_message.asks_in all.messages)
-messages_tell_all x s bytes count all = record {
-  told = concat all.pages;
-  wrote = all.sent;
-  is_told = pages_told s bytes all.messages all.rest all.pages (concat all.pages) [] (by_message.asks_in all.messages) []
-      all.answered (sym (append-nil (concat all.pages))) (no_others _ _ refl);
-}
-
-module _ (x : Scene) (s : State) (bytes rest : List ℕ) (ms : List Message) (pages : List (List ℕ))
-    (answered : of_messages.Answered s bytes ms rest pages) where
-  -- just these pages were written
-  just_pages : (carried others : Asks) → Appends x.held x.holds (concat pages)
-      → carried ≡ by_message.asks_in ms ++ others → Tells x.held x.holds s (Messages bytes) carried
-  just_pages carried others wrote done = record {
-    told = concat pages;
-    wrote = wrote;
-    is_told = pages_told s bytes ms rest pages (concat pages) [] carried others answered
-        (sym (append-nil (concat pages))) done;
-  }
-
-  -- and a prefix of the next one
-  part_of_page : (m : Message) (after page : List ℕ) (part : ℕ) (carried : Asks) → BeginsWith rest m after
-      → IsPage Port (state_after_all s ms) m page → Appends x.held x.holds (concat pages ++ take part page)
-      → carried ≡ by_message.asks_in (ms ++ m ∷ []) → Tells x.held x.holds s (Messages bytes) carried
-  part_of_page m after page part carried next is wrote done = record {
-    told = concat pages ++ take part page;
-    wrote = wrote;
-    is_told = pages_told s bytes (ms ++ m ∷ []) after (pages ++ page ∷ []) (concat pages ++ take part page)
-        (drop part page) carried []
-        (record {
-          begins = begins_more bytes rest after ms m answered.begins next;
-          are = pages_more s ms m pages page answered.are is;
-        })
-        (concat_more pages page ∙ cut (concat pages) page part) (no_others carried _ done);
-  }
-
-  -- the next message, of which there is one
-  write_cut : (next : List Message) (carried : Asks) → by_message.ComesNext rest next
-      → of_messages.ForNext rest (of_messages.IsCut x (state_after_all s ms) pages)
-      → length next ≡ 1 → carried ≡ by_message.asks_in (ms ++ next) → Tells x.held x.holds s (Messages bytes) carried
-  write_cut [] carried comes left one done = cc
-  write_cut (m ∷ []) carried comes left one done =
-      let same = (one_message rest left.0 m left.1 comes.0 left.2 comes.1).0 in
-      let is_cut = left.3 in
-      part_of_page left.0 left.1 is_cut.0 is_cut.1 carried left.2 is_cut.2 is_cut.3
-      (done ∙ ap (λ n. by_message.asks_in (ms ++ n ∷ [])) (sym same))
-  write_cut (m ∷ n ∷ later) carried comes left one done = absurd comes
-
-pub messages_tell : (x : Scene) (s : State) (bytes rest : List ℕ) (fault : ServeFault) (ms next : List Message)
-    (pages : List (List ℕ)) (carried : Asks) → of_messages.Answered s bytes ms rest pages
-    → by_message.ComesNext rest next → of_messages.Leaves fault x (state_after_all s ms) pages rest
-    → by_message.IsCarriedOut fault ms next carried → Tells x.held x.holds s (Messages bytes) carried
-messages_tell x s bytes rest Read ms next pages carried answered comes left done =
-    just_pages x s bytes rest ms pages answered carried [] left.0 (no_others carried _ done)
-messages_tell x s bytes rest Write ms next pages carried answered comes left done =
-    write_cut x s bytes rest ms pages answered next carried comes left done.0 done.1
-messages_tell x s bytes rest Memory ms next pages carried answered comes left done =
-    elim done [
-      | inl same ↦ just_pages x s bytes rest ms pages answered carried [] left.0 (no_others carried _ same)
-      | inr more ↦ just_pages x s bytes rest ms pages answered carried (by_message.asks_in next) left.0
-          (more ∙ messages-append ms next)
-    ]
-messages_tell x s bytes rest Store ms next pages carried answered comes left done =
-    just_pages x s bytes rest ms pages answered carried [] left.0 (no_others carried _ done)
 
 -- Exchanges.
 

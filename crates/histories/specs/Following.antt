@@ -1,5 +1,5 @@
 -- How the worlds of a connection go on with one opening: what may be found after it, and what the connection stands for.
-use Rattle.std.specs.Prelude.{ℕ, List, [], ◌∷◌, Option}
+use Rattle.std.specs.Prelude.{ℕ, List, Option}
 use Rattle.sqlite.specs.Tree.{Trees}
 use Rattle.sqlite.specs.Store.{Ghosts}
 use Rattle.sqlite.specs.Held.{Held, state}
@@ -44,7 +44,7 @@ module _ {S : Type 0} (g : Ghosts S) (old new : Held S) where
   module _ (held holds : Option (List ℕ)) (input : Input) where
     -- whatever may be found after one opening over the input stands for the end of the world that goes on with it
     abbrev pub LeavesOpened : Type 0
-    LeavesOpened = OfEachWorld g old (LeadsEach (state g new).may_leave held holds (input ∷ []))
+    LeavesOpened = OfEachWorld g old (LeadsEach (state g new).may_leave held holds input)
 
     -- and so does the connection itself
     abbrev pub StandsOpened : Type 0

@@ -1,6 +1,5 @@
 -- What one opening of the store adds to a world: the desk is reopened and recovers, and then answers what comes to it.
 use Rattle.std.specs.Prelude.{◌≡◌, ◌⊎◌, ⊤, ℕ, List, [], ◌∷◌, ◌++◌, None, Result, Ok, Err}
-use Rattle.std.specs.List.{concat}
 use Rattle.commands.specs.BatchData.{Batched}
 use Rattle.commands.specs.Request as request
 use Rattle.commands.specs.Texts.{reply_line}
@@ -17,18 +16,13 @@ use Rattle.recovery.specs.Worlds.{orders_of}
 use Rattle.protocols.specs.Scenes.{ended}
 use Rattle.desk_lines.specs.Lines.{lines, answer_lines, written}
 use Rattle.desk_lines.specs.Worlds as by_line
-use Rattle.http_messages.specs.Messages.{Message, BeginsWithAll}
-use Rattle.desk_http.specs.Serving.{Answered}
-use Rattle.desk_http.specs.Worlds as by_message
 use Rattle.http_conversations.specs.Exchanges.{Exchange}
 use Rattle.http_live.specs.Worlds.{AreDone, Heard, asks_of}
 
--- What comes to a desk that was opened: the bytes of lines, or those of the messages of a connection, or the exchanges
--- with many connections, in the order in which their messages were carried out; or an allotment file, under the name of a
--- batch; or nothing, where the desk only recovers.
+-- What comes to a desk that was opened: the bytes of lines, or the exchanges with many connections, in the order in which their
+-- messages were carried out; or an allotment file, under the name of a batch; or nothing, where the desk only recovers.
 pub data Input : Type 0 where
   Lines : (bytes : List ℕ) → Input
-  Messages : (bytes : List ℕ) → Input
   Connections : (exchanges : List Exchange) → Input
   File : (name : List ℕ) → (bytes : List ℕ) → Input
   Nothing : Input
@@ -46,28 +40,21 @@ asks_of_file (Err wrong) = []
 abbrev pub load_reply : State → Batched → List ℕ
 load_reply s batch = ended (reply_line (outcome s None (request.Load batch.name batch.rows)).reply)
 
--- from this state on the first lines, or the first messages, of an input ask for these; or those messages of exchanges
--- that were carried out
+-- from this state on the first lines of an input ask for these, or those messages of exchanges that were carried out
 abbrev pub AsksFor : State → Input → Asks → Type 0
 AsksFor s (Lines bytes) asks =
     (first later : List (List ℕ)) × (lines bytes ≡ first ++ later) × (asks ≡ by_line.asks_in first)
-AsksFor s (Messages bytes) asks =
-    (first : List Message) × (rest : List ℕ) × BeginsWithAll bytes first rest × (asks ≡ by_message.asks_in first)
 AsksFor s (Connections exchanges) asks =
     (carried_out : List Heard) × AreDone s exchanges carried_out × (asks ≡ asks_of carried_out)
 AsksFor s (File name bytes) asks = asks ≡ asks_of_file (batch_of name bytes)
 AsksFor s Nothing asks = asks ≡ []
 
--- The first lines, or the first messages, of an input ask for these, and these bytes answer them in this state. The pages
--- of exchanges answer their messages in the states in which these were carried out, and no bytes go to the writer. The line of
--- the reply answers a file.
+-- The first lines of an input ask for these, and these bytes answer them in this state. The pages of exchanges answer their messages
+-- in the states in which these were carried out, and no bytes go to the writer. The line of the reply answers a file.
 abbrev pub IsAnsweredBy : State → Input → Asks → List ℕ → Type 0
 IsAnsweredBy s (Lines bytes) asks answers =
     (first later : List (List ℕ)) × (lines bytes ≡ first ++ later) × (asks ≡ by_line.asks_in first)
     × (answers ≡ written (answer_lines s first))
-IsAnsweredBy s (Messages bytes) asks answers =
-    (first : List Message) × (rest : List ℕ) × (pages : List (List ℕ)) × Answered s bytes first rest pages
-    × (asks ≡ by_message.asks_in first) × (answers ≡ concat pages)
 IsAnsweredBy s (Connections exchanges) asks answers =
     (carried_out : List Heard) × AreDone s exchanges carried_out × (asks ≡ asks_of carried_out)
     × (answers ≡ [])
@@ -102,7 +89,6 @@ recovered w events = continued (reopened w) (orders_of events) []
 -- no message of a connection was answered
 abbrev pub IsUnserved : Input → Type 0
 IsUnserved (Lines bytes) = ⊤
-IsUnserved (Messages bytes) = ⊤
 IsUnserved (Connections exchanges) = exchanges ≡ []
 IsUnserved (File name bytes) = ⊤
 IsUnserved Nothing = ⊤

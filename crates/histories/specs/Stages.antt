@@ -1,5 +1,5 @@
--- Where each stage of a session leaves the desk.
-use Rattle.std.specs.Prelude.{ℕ, List, Option, [], ◌∷◌}
+-- Where each stage of an opening leaves the desk.
+use Rattle.std.specs.Prelude.{ℕ, List, Option, []}
 use Rattle.std.specs.Io.KnownBytes.{Appends}
 use Rattle.sqlite.specs.Tree.{Trees}
 use Rattle.sqlite.specs.State.{State as Connected}
@@ -13,7 +13,7 @@ use Rattle.recovery.specs.Recovers.{IsRecovery}
 use Rattle.recovery.specs.Worlds.{orders_of}
 use Rattle.sql_model.specs.Keeping.{StoodFor}
 use Rattle.histories.specs.Openings.{Input, Answers}
-use Rattle.histories.specs.Worlds.{GoesOnBy}
+use Rattle.histories.specs.Worlds.{Reopens}
 use Rattle.histories.specs.Chains.{StandsAs}
 
 -- the connection stood for this state, in tables of some version
@@ -58,11 +58,5 @@ LeavesAnswering finds held holds w input =
 pub record HasOpened (held holds : Option (List ℕ)) (w : List Moment) (input : Input) (IsThere : State → Type 0)
     : Type 0 where
   pub end : List Moment
-  pub goes : GoesOnBy held holds (input ∷ []) w end
+  pub goes : Reopens held holds input w end
   pub there : IsThere (after start end)
-
--- the connection was opened over one of what might be found, and stood for what that stands for
-pub record ComesUp (old new : Connected) : Type 0 where
-  pub before : Trees
-  pub found : old.may_leave before
-  pub stood : (s : State) → StandsAs before s → Stood new s

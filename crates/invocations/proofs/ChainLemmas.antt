@@ -5,6 +5,7 @@ use Rattle.sqlite_wal.specs.Recovery.{Image}
 use Rattle.ledger.specs.World.{Moment, IsWorld}
 use Rattle.invocations.specs.Invocations.{GoesOnInAll, Invocation, Invocations, StandsIn}
 use Rattle.invocations.specs.Headline.{Headline, IsEndOf}
+use Rattle.invocations.specs.Promises.{IsKeptPromise}
 
 -- by all of them, to an end for which the last image stands
 record Reached (its : List Invocation) (w : List Moment) (last : Image) : Type 0 where
@@ -27,8 +28,14 @@ reached (it ∷ later) first last w world stands ran =
       stands = rest.stands;
     } in r))
 
-pub headline : Headline
-headline its first last none ran =
+pub headline : ((w : List Moment) → IsWorld w → IsKeptPromise w) → Headline
+headline promises its first last none ran =
     ∥∥₁_map (reached its first last [] tt (inr (none, refl)) ran) (λ all.
     let r : IsEndOf its last =
-    record { end = all.end; goes = all.goes; stands = all.stands; world = all.world } in r)
+    record {
+      end = all.end;
+      goes = all.goes;
+      stands = all.stands;
+      world = all.world;
+      promise = promises all.end all.world;
+    } in r)

@@ -28,7 +28,7 @@ use Rattle.histories.specs.Chains.{StandsAs}
 use Rattle.histories.specs.Following.{EachMayReopen, LeavesOpened, StandsStill}
 use Rattle.histories.specs.Openings.{Input, IsUnserved}
 use Rattle.histories.specs.Stages.{Stood}
-use Rattle.histories.specs.Worlds.{GoesOnBy}
+use Rattle.histories.specs.Worlds.{Reopens}
 use Rattle.histories.proofs.FollowLemmas.{stands_found}
 use Rattle.histories.proofs.StageLemmas.{goes_nowhere}
 use Rattle.openings.specs.Connections.{RepresentsIn, StillRepresents}
@@ -77,22 +77,17 @@ ran_still first rest held holds same sound tell image may w world stands =
 
 module _ (law : EachMayReopen) where
   goes_late : (held : Option (List ℕ)) (input : Input) (w : List Moment) → IsUnserved input → IsWorld w
-      → GoesOnBy held held (input ∷ []) w (reopened w)
+      → Reopens held held input w (reopened w)
   goes_late held input w unserved world = record {
-    visits = record { input = input; told = [] } ∷ [];
-    over = refl;
+    told = [];
     wrote = Appends-nil held;
-    goes = (
-      reopened w,
-      inl (record {
-        events = (law w world).one.events;
-        is = (law w world).one.is;
-        goes = goes_nowhere (reopened w) (orders_of (law w world).one.events);
-        unserved = unserved;
-        silent = refl;
-      }),
-      refl,
-    );
+    goes = inl (record {
+      events = (law w world).one.events;
+      is = (law w world).one.is;
+      goes = goes_nowhere (reopened w) (orders_of (law w world).one.events);
+      unserved = unserved;
+      silent = refl;
+    });
     world = (law w world).again.world;
   }
 

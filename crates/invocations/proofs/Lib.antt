@@ -1,3 +1,4 @@
+mod PromiseLemmas
 mod ChainLemmas
 pub mod ComposeLemmas
 mod TaskLemmas

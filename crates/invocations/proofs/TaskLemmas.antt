@@ -14,7 +14,7 @@ use Rattle.program_ends.specs.declared.ends.End.{End}
 use Rattle.desk_files.specs.Images.{Closes, LeavesAsFound, OpensOver}
 use Rattle.desk_files.specs.declared.closing.Left.{Left}
 use Rattle.histories.specs.Following.{EachMayReopen, StandsStill}
-use Rattle.histories.specs.Openings.{File, Input, Lines, Nothing}
+use Rattle.histories.specs.Openings.{Connections, File, Input, Lines, Nothing}
 use Rattle.desk_jobs.specs.Following.{Follows}
 use Rattle.desk_jobs.specs.Jobs.{Leaves}
 use Rattle.desk_jobs.proofs.FollowLemmas.{lines_unserved}
@@ -22,22 +22,24 @@ use Rattle.program_jobs.specs.Jobs.{KeepsDesk}
 use Rattle.program_jobs.specs.Loads.{Loads}
 use Rattle.program_jobs.specs.Outcomes.{HasEnded, end_of}
 use Rattle.program_jobs.specs.Streams.{IsUntouched, Streams}
-use Rattle.program_jobs.specs.Tasks.{CountsRecovery, Does, Runs}
+use Rattle.program_jobs.specs.Tasks.{CountsRecovery, Does, HasServed, Runs}
+use Rattle.http_conversations.specs.Exchanges.{Exchange}
 use Rattle.program_jobs.specs.declared.outcomes.Outcome.{Outcome}
 use Rattle.program_jobs.specs.declared.outcomes.Outcome.TheVariants as outcome
 use Rattle.program_jobs.specs.declared.tasks.Source.{Source}
 use Rattle.program_jobs.specs.declared.tasks.Task.{Task}
 use Rattle.program_jobs.specs.declared.tasks.Task.TheVariants as task
 use Rattle.invocations.specs.Invocations.{asked, unasked, RanTo}
-use Rattle.invocations.specs.Tasks.{RanBytes, RanTask}
+use Rattle.invocations.specs.Tasks.{RanBytes, RanExchanges, RanTask}
 use Rattle.invocations.proofs.ComposeLemmas.{follows_ran, late_ran, ran_over, ran_still, shown_over, still_over}
 
 module _ {D : Type 0} {g : disk.Ghosts D} (law : EachMayReopen) (first : Image) (rest : Left D g)
-    (files : List ℕ → Option (List ℕ)) where
+    (files : List ℕ → Option (List ℕ)) (Came : End → List Exchange → Type 0) where
   -- over a file that could not be opened nothing was done
   pub unopened_ran : LeavesAsFound first rest → (t : Streams) (work : Task)
-      → RanTask first rest files (record t { holds = t.held }) work
+      → RanTask first rest files Came (record t { holds = t.held }) work
   unopened_ran same t task.Run = late_ran law first rest t.held (option_map Lines t.input) (lines_unserved t.input) same
+  unopened_ran same t (task.Serve port) = inl (late_ran law first rest t.held (Some Nothing) tt same)
   unopened_ran same t task.Recover = late_ran law first rest t.held (Some Nothing) tt same
   unopened_ran same t (task.Load source batch) = inl (late_ran law first rest t.held (Some Nothing) tt same)
   unopened_ran same t (task.Report report) = ran_still first rest t.held t.held same
@@ -62,7 +64,7 @@ module _ {D : Type 0} {g : disk.Ghosts D} (law : EachMayReopen) (first : Image) 
 
     load_ran : (source : Source) (name : List ℕ) (o : Outcome)
         → HasEnded cause_of_load (Loads over_files old new t files source name) o
-        → RanTo (asked Nothing t.held t.holds) first rest ⊎ RanBytes first rest files t source name
+        → RanTo (asked Nothing t.held t.holds) first rest ⊎ RanBytes first rest files Came t source name
     load_ran source name (outcome.Ended ended) has = elim has.1.either [
       | inl nothing ↦ inl (asked_ran Nothing t.held t.holds ended.end nothing.follows)
       | inr loaded ↦ inr (record {
@@ -73,6 +75,20 @@ module _ {D : Type 0} {g : disk.Ghosts D} (law : EachMayReopen) (first : Image) 
     ]
     load_ran source name outcome.Shown has = absurd has
     load_ran source name (outcome.Counted c) has = absurd has
+
+    serve_ran : (port : ℕ) (o : Outcome) → HasServed over_files old new t files Came port o
+        → RanTo (asked Nothing t.held t.held) first rest ⊎ RanExchanges first rest files Came t
+    serve_ran port (outcome.Ended ended) has = elim has.0.either [
+      | inl nobody ↦ inl (asked_ran Nothing t.held t.held ended.end (nobody.goes t.held))
+      | inr guests ↦ inr (record {
+        end = ended.end;
+        exchanges = guests.exchanges;
+        came = guests.came;
+        ran = asked_ran (Connections guests.exchanges) t.held t.held ended.end (guests.goes t.held);
+      })
+    ]
+    serve_ran port outcome.Shown has = absurd has
+    serve_ran port (outcome.Counted c) has = absurd has
 
     recover_ran : (o : Outcome) → CountsRecovery over_files old new o → IsUntouched t
         → RanTo (asked Nothing t.held t.holds) first rest
@@ -90,7 +106,8 @@ module _ {D : Type 0} {g : disk.Ghosts D} (law : EachMayReopen) (first : Image) 
         ran_over first old openings opens new rest (unasked t.held t.holds) leaves.sound
         (λ clean. shown_over over_files old new t.held t.holds law clean (keeps.same clean)) closes
 
-    pub task_ran : (work : Task) (o : Outcome) → Does over_files old new t files work o → RanTask first rest files t work
+    pub task_ran : (work : Task) (o : Outcome) → Does over_files old new t files Came work o → RanTask first rest files Came t work
+    task_ran (task.Serve port) o does = serve_ran port o does
     task_ran task.Run o does = run_ran o does
     task_ran task.Recover o does = recover_ran o does.0 does.1
     task_ran (task.Load source batch) o does = load_ran source (string_bytes batch) o does

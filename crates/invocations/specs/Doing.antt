@@ -3,7 +3,9 @@ use Rattle.std.specs.Prelude.{◌⊎◌, ℕ, List, Option}
 use Rattle.sqlite.specs.Store.{Ghosts}
 use Rattle.sqlite.specs.Held.{Held}
 use Rattle.program_ends.specs.Ends.{EndsBadly, EndsJob}
+use Rattle.http_conversations.specs.Exchanges.{Exchange}
 use Rattle.program_ends.specs.declared.ended.Ended.{Ended}
+use Rattle.program_ends.specs.declared.ends.End.{End}
 use Rattle.program_jobs.specs.Outcomes.{Closes}
 use Rattle.program_jobs.specs.Streams.{IsUntouched, Streams}
 use Rattle.program_jobs.specs.Tasks.{Does}
@@ -15,14 +17,15 @@ pub record IsUnopened (t : Streams) (ended : Ended) : Type 0 where
   pub bad : EndsBadly ended.end
   pub untouched : IsUntouched t
 
-module _ {S : Type 0} (g : Ghosts S) (files : List ℕ → Option (List ℕ)) (work : Task) (t : Streams) (ended : Ended) where
+module _ {S : Type 0} (g : Ghosts S) (files : List ℕ → Option (List ℕ)) (Came : End → List Exchange → Type 0) (work : Task)
+    (t : Streams) (ended : Ended) where
   -- the task was done over a connection, which was then closed
   pub record DidOver : Type 0 where
     pub old : Held S
     pub new : Held S
     pub outcome : Outcome
     pub written : Option (List ℕ)
-    pub does : Does g old new (record t { holds = written }) files work outcome
+    pub does : Does g old new (record t { holds = written }) files Came work outcome
     pub closed : Ended
     pub ends : EndsJob closed.end
     pub closes : Closes outcome closed written t.holds ended

@@ -3,13 +3,15 @@ use Rattle.std.specs.Prelude.{◌≡◌, List, []}
 use Rattle.sqlite_wal.specs.Recovery.{Image}
 use Rattle.ledger.specs.World.{Moment, IsWorld}
 use Rattle.invocations.specs.Invocations.{GoesOnInAll, Invocation, Invocations, StandsIn}
+use Rattle.invocations.specs.Promises.{IsKeptPromise}
 
--- the image stands for the end of one execution of them all, in order
+-- the image stands for the end of one execution of them all, in order, whose ledger is as it is promised
 pub record IsEndOf (its : List Invocation) (image : Image) : Type 0 where
   pub end : List Moment
   pub goes : GoesOnInAll its [] end
   pub stands : StandsIn image end
   pub world : IsWorld end
+  pub promise : IsKeptPromise end
 
 -- whatever the invocations, if the file was absent at first, or had no byte
 abbrev pub Headline : Type 0

@@ -14,7 +14,7 @@ use Rattle.desk_files.specs.declared.closing.Left.{Left}
 use Rattle.histories.specs.Chains.{StandsAs}
 use Rattle.histories.specs.Following.{OfEachWorld}
 use Rattle.histories.specs.Openings.{Input}
-use Rattle.histories.specs.Worlds.{GoesOnBy}
+use Rattle.histories.specs.Worlds.{Reopens}
 
 -- What came to an invocation, and the bytes of its output before and after. With no input it only showed the desk, or changed how its
 -- tables are kept.
@@ -32,7 +32,7 @@ unasked held holds = record { input = None; held = held; holds = holds }
 
 -- the execution w goes on to v: by one opening over the input; with no input it stands still
 abbrev pub GoesOnIn : Invocation → List Moment → List Moment → Type 0
-GoesOnIn it w v = MatchOption it.input (v ≡ w) (λ input. GoesOnBy it.held it.holds (input ∷ []) w v)
+GoesOnIn it w v = MatchOption it.input (v ≡ w) (λ input. Reopens it.held it.holds input w v)
 
 -- the image holds a database that stands for the end of the execution; or the file is absent or has no byte, and the desk is new
 abbrev pub StandsIn : Image → List Moment → Type 0

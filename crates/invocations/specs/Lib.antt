@@ -1,3 +1,4 @@
+pub mod Promises
 pub mod Doing
 pub mod Invocations
 pub mod Tasks

@@ -6,12 +6,14 @@ ghost use Rattle.sqlite_wal.specs.Files.{image_at};
 ghost use Rattle.desk_files.specs.Images.{LeavesAsFound, OpensOver};
 ghost use Rattle.desk_sql.specs.Calls.{Idle};
 ghost use Rattle.program_ends.specs.Ends.{EndsBadly};
+ghost use Rattle.program_jobs.specs.Serving.{CameFrom};
 ghost use Rattle.program_jobs.specs.Streams.{streams};
 ghost use Rattle.invocations.specs.Doing.{Did};
 ghost use Rattle.invocations.specs.Tasks.{RanOver};
 
 use desk_files::{ConnectionFrom, Left, NewLog, close_from, connect_from, connect_there_from};
 use histories::reopenings;
+use http_live::Turns;
 use program_ends::{End, Ended};
 use program_jobs::{Environment, Task, do_job};
 use sql_model::openings;
@@ -34,10 +36,14 @@ pub fn do_over_file<S: Start, E: Environment, R: Read, O: Write, N: Write>(
     out: &mut O,
     notes: &mut N,
 ) -> (Ended, Left<FileFrom<S>>)
-    ensures did { Did ⟦<FileStore<FileFrom<S>> as Store>⟧ (E.bytes_of environment.old) task.now
+    ensures did { Did ⟦<FileStore<FileFrom<S>> as Store>⟧ (E.bytes_of environment.old)
+        (CameFrom ⟦<<E::Guests as Turns>::Reader as Read>⟧
+        ⟦<<E::Guests as Turns>::Writer as Write>⟧ ⟦<E::Guests as Turns>⟧ E.has_failed) task.now
         (streams (R.remaining reader.old) (R.remaining reader.new) (O.contents out.old)
         (O.contents out.new) (N.contents notes.old) (N.contents notes.new)) result.0 }
     ensures ran { RanOver (image_at S.Start) result.1 (E.bytes_of environment.old)
+        (CameFrom ⟦<<E::Guests as Turns>::Reader as Read>⟧
+        ⟦<<E::Guests as Turns>::Writer as Write>⟧ ⟦<E::Guests as Turns>⟧ E.has_failed)
         (streams (R.remaining reader.old) (R.remaining reader.new) (O.contents out.old)
         (O.contents out.new) (N.contents notes.old) (N.contents notes.new)) task.now }
 {
@@ -67,7 +73,9 @@ fn open_for<S: Start>(
     ensures left { IfErr result (λ failed. LeavesAsFound (image_at S.Start) failed.1) }
 {
     match task {
-        Task::Run | Task::Recover | Task::Load { .. } => connect_from(rt, file, start),
+        Task::Run | Task::Serve { .. } | Task::Recover | Task::Load { .. } => {
+            connect_from(rt, file, start)
+        }
         Task::Report(_) | Task::Migrate | Task::Index => connect_there_from(rt, file, start),
     }
 }

@@ -5,11 +5,15 @@ ghost use Rattle.std.specs.Prelude.{[], ◌∷◌};
 ghost use Rattle.invocations.specs.Examples.{absent, report};
 ghost use Rattle.invocations.specs.Headline.{Headline, IsEndOf};
 
+use crate::laws::promises;
+
 /// After any number of invocations over a file that was absent or had no byte, with crashes at any time, what the files
-/// hold stands for the end of one execution of them all, in order. So its ledger keeps what is promised of each execution.
+/// hold stands for the end of one execution of them all, in order, whose ledger is as it is promised.
 pub fn any_invocations()
     ensures headline { Headline }
-{}
+{
+    promises();
+}
 
 /// The law, used on two reports over an absent file.
 ///

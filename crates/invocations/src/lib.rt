@@ -11,6 +11,8 @@
 
 mod files;
 mod headline;
+mod laws;
 
 pub use files::do_over_file;
 pub use headline::{any_invocations, two_reports_over_an_absent_file};
+pub use laws::{promises, session_that_crashes_keeps_it};

@@ -2,6 +2,7 @@ pub mod ReportLemmas
 pub mod EndLemmas
 pub mod ShowLemmas
 pub mod LoadLemmas
+pub mod ServeLemmas
 pub mod BlockLemmas
 pub mod ShownLemmas
 pub mod OutcomeLemmas

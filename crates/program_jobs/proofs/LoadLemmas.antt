@@ -41,17 +41,19 @@ fails_after_load g old new b made (Ok batch) recovers fails =
     fails_after g old new (λ (read : Result Batched CsvFault). asks_of_file read) b made (Some (Ok batch)) recovers fails
 fails_after_load g old new b made (Err wrong) recovers fails = absurd fails
 
+-- the recovery was noted
+pub recovery_noted : {S : Type 0} (g : Ghosts S) (old new : Held S) (b : TableBook S g) (made : ℕ) → Readies g old b made
+    → (HasCleanDisk (state g new) → HasCleanDisk (state g b.conn)) → (noted after : Option (List ℕ)) → NotesEvents made noted after
+    → NotesRun g old new noted after
+recovery_noted g old new b made ready back noted after events = record {
+  noted = λ clean s was. note_of_recovery noted after s made (ready.recovered (back clean) s was) events.either;
+  may = events.some;
+}
+
 module _ (law : EachMayReopen) {S : Type 0} (g : Ghosts S) (old new : Held S) (files : List ℕ → Option (List ℕ)) (from : Source)
     (name : List ℕ) (input rest held holds noted notes : Option (List ℕ)) (end : End) where
-  -- the recovery was noted
   module _ (b : TableBook S g) (made : ℕ) (ready : Readies g old b made) (back : HasCleanDisk (state g new) → HasCleanDisk (state g b.conn))
     where
-      recovery_noted : (after : Option (List ℕ)) → NotesEvents made noted after → NotesRun g old new noted after
-      recovery_noted after events = record {
-        noted = λ clean s was. note_of_recovery noted after s made (ready.recovered (back clean) s was) events.either;
-        may = events.some;
-      }
-
       -- the load of a desk that was recovered
       pub loads_ready : (between : Option (List ℕ)) → NotesEvents made noted between
           → LoadsReady g b new (streams input rest held holds between notes) files from name end
@@ -68,7 +70,7 @@ module _ (law : EachMayReopen) {S : Type 0} (g : Ghosts S) (old new : Held S) (f
             });
             follows = follows_up g b new (Some Nothing) held holds law old (λ clean. ready.world (back clean)) end nothing.follows;
             bad = subst EndsBadly (sym nothing.unread.ends) tt;
-            notes = subst (NotesRun g old new noted) (sym nothing.unnoted) (recovery_noted between events);
+            notes = subst (NotesRun g old new noted) (sym nothing.unnoted) (recovery_noted g old new b made ready back noted between events);
           })
           | inr bytes ↦ inr (record {
             bytes = bytes.bytes;
@@ -85,7 +87,7 @@ module _ (law : EachMayReopen) {S : Type 0} (g : Ghosts S) (old new : Held S) (f
             reason = λ clean why. fails_after_load g old new b made (batch_of name bytes.bytes) (ready.may_act (back clean)) (bytes.loads.reason clean why);
             ends = bytes.ends;
             between = between;
-            recovered = recovery_noted between events;
+            recovered = recovery_noted g old new b made ready back noted between events;
             field = bytes.noted;
           })
         ];

@@ -18,7 +18,8 @@ use Rattle.program_ends.specs.declared.ends.End.TheVariants as finish
 use Rattle.program_jobs.specs.Loads.{Loads}
 use Rattle.program_jobs.specs.Outcomes.{HasEnded, end_of}
 use Rattle.program_jobs.specs.Streams.{Streams}
-use Rattle.program_jobs.specs.Tasks.{CountsRecovery, Does, HasIndexed, HasMigrated, HasRecovered, Runs}
+use Rattle.program_jobs.specs.Tasks.{CountsRecovery, Does, HasIndexed, HasMigrated, HasRecovered, HasServed, Runs}
+use Rattle.http_conversations.specs.Exchanges.{Exchange}
 use Rattle.program_jobs.specs.declared.outcomes.Count.TheVariants as count
 use Rattle.program_jobs.specs.declared.outcomes.Outcome.{Outcome}
 use Rattle.program_jobs.specs.declared.outcomes.Outcome.TheVariants as outcome
@@ -73,7 +74,7 @@ module _ {S : Type 0} (g : Ghosts S) (old new : Held S) where
   indexed_job outcome.Shown has = absurd has
   indexed_job (outcome.Counted c) has = tt
 
-  module _ (t : Streams) (files : List ℕ → Option (List ℕ)) where
+  module _ (t : Streams) (files : List ℕ → Option (List ℕ)) (Came : End → List Exchange → Type 0) where
     loads_job : (from : Source) (name : List ℕ) (e : End) → Loads g old new t files from name e → EndsJob e
     loads_job from name e loads = elim loads.either [
       | inl nothing ↦ bad_job e nothing.bad
@@ -86,8 +87,17 @@ module _ {S : Type 0} (g : Ghosts S) (old new : Held S) where
     of_ended cause So job outcome.Shown has = absurd has
     of_ended cause So job (outcome.Counted c) has = absurd has
 
+    serves_job : (port : ℕ) (o : Outcome) → HasServed g old new t files Came port o → EndsJob (end_of o)
+    serves_job port (outcome.Ended ended) has = elim has.0.either [
+      | inl nobody ↦ bad_job ended.end nobody.bad
+      | inr guests ↦ guests.job
+    ]
+    serves_job port outcome.Shown has = absurd has
+    serves_job port (outcome.Counted c) has = absurd has
+
     -- what a job does, whatever its task, it ends as a job
-    pub does_job : (work : Task) (o : Outcome) → Does g old new t files work o → EndsJob (end_of o)
+    pub does_job : (work : Task) (o : Outcome) → Does g old new t files Came work o → EndsJob (end_of o)
+    does_job (task.Serve port) o does = serves_job port o does
     does_job task.Run o does = of_ended cause_of_end (Runs g old new t) (λ e runs. runs.ends.job) o does
     does_job task.Recover o does = recovered_job o does.0.counted
     does_job (task.Load from batch) o does =

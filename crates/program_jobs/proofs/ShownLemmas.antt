@@ -63,13 +63,6 @@ module _ (before after held holds : Option (List ℕ)) where
     shown_some (Some text) (finish.Fault f) told = (tt, record { whole = tt; front = some text told.1.front })
     shown_some (Some text) (finish.Usage usage) told = (tt, record { whole = tt; front = some text told.1.front })
 
--- the end of a report whose output failed
-pub ends_some : (So : Refusal → Type 0) (e : End) → EndsReport So e → EndsReport So (end_of_both e (finish.Fault fault.Write))
-ends_some So finish.Done ends = record { refused = tt; fault = tt; job = tt }
-ends_some So (finish.Refused why) ends = ends
-ends_some So (finish.Fault f) ends = ends
-ends_some So (finish.Usage text) ends = ends
-
 -- A report was written by the reference `name` to a writer that was as `held`. `between` are the blocks after the report, and `now` after they
 -- were passed on; what the writer is at last is `there`.
 module _ {W : Type 0} (contents : W → Option (List ℕ)) (name : ℕ) (begun : List ℕ) (held there : W) (between now : Blocks W) (none : begun ≡ [])

@@ -3,6 +3,7 @@ pub mod Jobs
 pub mod Loads
 pub mod Outcomes
 pub mod Reporting
+pub mod Serving
 pub mod Sources
 pub mod Streams
 pub mod Tasks

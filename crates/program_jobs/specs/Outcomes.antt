@@ -28,6 +28,11 @@ end_of (outcome.Ended ended) = ended.end
 end_of outcome.Shown = finish.Done
 end_of (outcome.Counted c) = finish.Done
 
+-- the same; but where all was done, the end that is given
+abbrev pub end_or : Outcome → End → End
+end_or (outcome.Ended ended) given = ended.end
+end_or _ given = given
+
 -- the job ended so, with the cause of that end
 abbrev pub HasEnded : (End → Option Cause) → (End → Type 0) → Outcome → Type 0
 HasEnded cause So (outcome.Ended ended) = (ended.cause ≡ cause ended.end) × So ended.end

@@ -8,13 +8,13 @@ use Rattle.program_jobs.specs.declared.tasks.Source.{Source}
 use Rattle.program_jobs.specs.declared.tasks.Source.TheVariants as source
 
 -- these are the bytes that were there, where that is known, or the first so many of them
-abbrev pub AreFrontOf : ℕ → Option (List ℕ) → List ℕ → Type 0
-AreFrontOf most there bytes = IfSome there (λ all. bytes ≡ take most all)
+abbrev pub ArePrefixOf : ℕ → Option (List ℕ) → List ℕ → Type 0
+ArePrefixOf most there bytes = IfSome there (λ all. bytes ≡ take most all)
 
 -- these are the bytes of the input or of the file of that name, of each at most one more than an allotment file may have
 abbrev pub AreReadFrom : (List ℕ → Option (List ℕ)) → Option (List ℕ) → Source → List ℕ → Type 0
-AreReadFrom files input source.Input bytes = AreFrontOf (most_bytes + 1) input bytes
-AreReadFrom files input (source.File name) bytes = AreFrontOf (most_bytes + 1) (files (string_bytes name)) bytes
+AreReadFrom files input source.Input bytes = ArePrefixOf (most_bytes + 1) input bytes
+AreReadFrom files input (source.File name) bytes = ArePrefixOf (most_bytes + 1) (files (string_bytes name)) bytes
 
 -- memory ran out, or the input failed
 abbrev pub IsFaultOfInput : ProgramFault → Type 0

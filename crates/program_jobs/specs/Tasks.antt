@@ -8,6 +8,7 @@ use Rattle.sqlite.specs.State.{HasCleanDisk}
 use Rattle.desk_sql.specs.declared.versions.Version.{Version}
 use Rattle.ledger.specs.Answer.{State}
 use Rattle.recovery.specs.Recovers.{Recovers}
+use Rattle.http_conversations.specs.Exchanges.{Exchange}
 use Rattle.migrate.specs.Indexing.{HasIndex}
 use Rattle.migrate.specs.Outcomes.{Migrates}
 use Rattle.histories.specs.Following.{StandsStill}
@@ -24,6 +25,7 @@ use Rattle.program_jobs.specs.Jobs.{EndsReport, KeepsDesk, RefusesToShow}
 use Rattle.program_jobs.specs.Loads.{Loads}
 use Rattle.program_jobs.specs.Outcomes.{HasEnded, IsReported, end_of}
 use Rattle.program_jobs.specs.Reporting.{Reports}
+use Rattle.program_jobs.specs.Serving.{Serves}
 use Rattle.program_jobs.specs.Streams.{IsOnlyWritten, IsUntouched, Streams}
 use Rattle.program_jobs.specs.declared.outcomes.Count.TheVariants as count
 use Rattle.program_jobs.specs.declared.outcomes.Outcome.{Outcome}
@@ -83,11 +85,19 @@ module _ {S : Type 0} (g : Ghosts S) (old new : Held S) where
       pub shown : IsReported o
       pub only : IsOnlyWritten t
 
-    -- what a job does, by its task
-    abbrev pub Does : (List ℕ → Option (List ℕ)) → Task → Outcome → Type 0
-    Does files task.Run o = HasEnded cause_of_end Runs o
-    Does files task.Recover o = CountsRecovery o × IsUntouched t
-    Does files (task.Load source batch) o = HasEnded cause_of_load (Loads g old new t files source (string_bytes batch)) o
-    Does files (task.Report report) o = Shows report o
-    Does files task.Migrate o = CountsMigration o × IsUntouched t
-    Does files task.Index o = CountsIndex o × IsUntouched t
+    module _ (files : List ℕ → Option (List ℕ)) (Came : End → List Exchange → Type 0) where
+      -- a desk that serves ended so, and reads nothing
+      abbrev pub HasServed : ℕ → Outcome → Type 0
+      HasServed port (outcome.Ended ended) =
+          Serves g Came port old new t.held t.holds t.noted t.notes ended × (t.rest ≡ t.input)
+      HasServed port _ = ⊥
+
+      -- what a job does, by its task
+      abbrev pub Does : Task → Outcome → Type 0
+      Does task.Run o = HasEnded cause_of_end Runs o
+      Does (task.Serve port) o = HasServed port o
+      Does task.Recover o = CountsRecovery o × IsUntouched t
+      Does (task.Load source batch) o = HasEnded cause_of_load (Loads g old new t files source (string_bytes batch)) o
+      Does (task.Report report) o = Shows report o
+      Does task.Migrate o = CountsMigration o × IsUntouched t
+      Does task.Index o = CountsIndex o × IsUntouched t

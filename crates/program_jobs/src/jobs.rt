@@ -1,15 +1,18 @@
 //! The one job over a connection, whatever its task.
 ghost use Rattle.desk_sql.specs.Calls.{Idle};
 ghost use Rattle.desk_jobs.specs.Jobs.{Leaves};
+ghost use Rattle.program_jobs.specs.Serving.{CameFrom};
 ghost use Rattle.program_jobs.specs.Streams.{streams};
 ghost use Rattle.program_jobs.specs.Tasks.{Does, CountsIndex, CountsMigration, CountsRecovery};
 
 use crate::environment::Environment;
 use crate::loading::load_from;
 use crate::outcomes::{Count, Outcome};
+use crate::serving::serve_over;
 use crate::showing::show_over;
 use crate::tasks::Task;
 use desk_jobs::{index_over, migrate_over, recover_over, run_over};
+use http_live::Turns;
 use program_ends::Ended;
 use sqlite::{Alter, Connection};
 use std::alloc::Global;
@@ -31,13 +34,19 @@ pub fn do_job<S: Alter + Drop, E: Environment, R: Read, O: Write, N: Write>(
     ensures does { Does S.Store conn result.0
         (streams (R.remaining reader.old) (R.remaining reader.new) (O.contents out.old)
         (O.contents out.new) (N.contents notes.old) (N.contents notes.new))
-        (E.bytes_of environment.old) task.now result.1 }
+        (E.bytes_of environment.old) (CameFrom ⟦<<E::Guests as Turns>::Reader as Read>⟧
+        ⟦<<E::Guests as Turns>::Writer as Write>⟧ ⟦<E::Guests as Turns>⟧ E.has_failed)
+        task.now result.1 }
     ensures leaves { Leaves S.Store conn result.0 }
 {
     match task {
         Task::Run => {
             let (conn, end) = run_over(alloc, conn, reader, out, notes);
             (conn, Outcome::Ended(Ended::from(end)))
+        }
+        Task::Serve { port } => {
+            let (conn, ended) = serve_over(alloc, conn, *port, environment, out, notes);
+            (conn, Outcome::Ended(ended))
         }
         Task::Recover => recover(alloc, conn),
         Task::Load { source, batch } => {

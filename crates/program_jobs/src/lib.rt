@@ -2,7 +2,8 @@
 //! of the desk to the end of the job.
 //!
 //! A job takes a connection that is in no transaction and has no limit of steps, and returns it so, to be closed, with its
-//! `Outcome`. What a job needs beside the store and its streams is asked of an `Environment`: the bytes of an allotment file.
+//! `Outcome`. What a job needs beside the store and its streams is asked of an `Environment`: the bytes of an allotment file, and
+//! who comes to a desk that serves.
 //! `Outcome::report` is the end of the job once its connection is closed.
 //!
 //! A report recovers nothing and writes nothing to the store: the connection represents what it represented. It is written in
@@ -18,6 +19,7 @@ mod jobs;
 mod loading;
 mod outcomes;
 mod reporting;
+mod serving;
 mod showing;
 mod tasks;
 

@@ -3,7 +3,7 @@ ghost use Rattle.std.specs.Prelude.{◌≢◌, ◌≡◌, IfErr, IfOk};
 ghost use Rattle.desk_sql.specs.Calls.{Idle};
 ghost use Rattle.desk_jobs.specs.Jobs.{Leaves, LeavesDesk};
 ghost use Rattle.program_jobs.specs.Loads.{Loads, LoadsReady};
-ghost use Rattle.program_jobs.specs.Sources.{AreFrontOf, AreReadFrom, IsFaultOfInput, IsFaultOfSource};
+ghost use Rattle.program_jobs.specs.Sources.{ArePrefixOf, AreReadFrom, IsFaultOfInput, IsFaultOfSource};
 ghost use Rattle.program_jobs.specs.Streams.{streams};
 
 use crate::environment::Environment;
@@ -100,7 +100,7 @@ fn read_source<E: Environment, R: Read>(
 /// The bytes of the reader, at most one more than an allotment file may have.
 fn read_input<R: Read>(alloc: Global, reader: &mut R) -> Result<Vec<u8>, ProgramFault>
     ensures bytes { IfOk result (λ bytes.
-        AreFrontOf MOST_READ (R.remaining reader.old) bytes.items) }
+        ArePrefixOf MOST_READ (R.remaining reader.old) bytes.items) }
     ensures fault { IfErr result IsFaultOfInput }
 {
     let mut bytes = Vec::new(alloc);

@@ -4,7 +4,7 @@ ghost use Rattle.std.specs.Io.KnownBytes.{Appends};
 ghost use Rattle.streams.specs.Written.{WroteFront};
 ghost use Rattle.program_ends.specs.Ends.{EndsJob, IfDone};
 ghost use Rattle.desk_jobs.specs.Ends.{EndsWriting};
-ghost use Rattle.program_jobs.specs.Outcomes.{Closes, IsReported, count_line, end_of};
+ghost use Rattle.program_jobs.specs.Outcomes.{Closes, IsReported, count_line, end_of, end_or};
 
 use desk_jobs::{Recovered, tell_indexed, tell_migrated};
 use migrate::{Indexed, Migrated};
@@ -66,7 +66,9 @@ impl Outcome {
     }
 
     /// The end of the job before its connection is closed, by which that is closed; where all was done, the end that is given.
-    pub fn end_or<'a>(&'a self, done: &'a End) -> &'a End {
+    pub fn end_or<'a>(&'a self, done: &'a End) -> &'a End
+        ensures end { result.now ≡ end_or self.now done.now }
+    {
         match self {
             Outcome::Ended(job) => &job.end,
             Outcome::Shown | Outcome::Counted(_) => done,

@@ -16,6 +16,8 @@ pub enum Source {
 pub enum Task {
     /// Recover the desk, and answer the lines of the input.
     Run,
+    /// Recover the desk, and serve who comes to this port.
+    Serve { port: u16 },
     /// Recover the desk.
     Recover,
     /// Recover the desk, and load an allotment file as a batch of this name.

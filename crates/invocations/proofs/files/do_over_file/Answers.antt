@@ -13,7 +13,7 @@ returns-in-Err-clause-ran g c =
     record {
       written = held;
       ran = unopened_ran c.reopenings.ensures.reopens (image_at g.S.Start) c.in-Err.failed.1
-          (g.E.Environment.bytes_of c.args.environment.now) c.in-Err.ensures.left (streams input input held held noted noted)
+          (g.E.Environment.bytes_of c.args.environment.now) _ c.in-Err.ensures.left (streams input input held held noted noted)
           c.args.task.now;
     }
 
@@ -33,7 +33,7 @@ pub returns-clause-ran : goal.returns-clause-ran
 returns-clause-ran g c = record {
   written = g.O.Write.contents c.do_job-conn.new.out;
   ran = task_ran c.reopenings.ensures.reopens (image_at g.S.Start) c.close_from-closed.result.1
-      (g.E.Environment.bytes_of c.args.environment.now) c.in-Ok.opened.0 c.do_job-conn.result.0 c.openings.ensures.stands
+      (g.E.Environment.bytes_of c.args.environment.now) _ c.in-Ok.opened.0 c.do_job-conn.result.0 c.openings.ensures.stands
       c.in-Ok.ensures.opened c.do_job-conn.ensures.leaves c.close_from-closed.ensures.closes
       (streams (g.R.Read.remaining c.args.reader.now) (g.R.Read.remaining c.do_job-conn.new.reader)
       (g.O.Write.contents c.args.out.now) (g.O.Write.contents c.do_job-conn.new.out)

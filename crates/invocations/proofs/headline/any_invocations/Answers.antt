@@ -3,4 +3,4 @@ use Rattle.invocations.proofs.ChainLemmas.{headline}
 use Rattle.invocations.proofs.headline.any_invocations.Goals as goal
 
 pub returns : goal.returns
-returns c = record { headline = headline }
+returns c = record { headline = headline c.promises.ensures.kept }

@@ -19,6 +19,9 @@ returns-in-Run-clause-does g c =
     (ended_from cause_of_end (Runs g.S.Store c.args.conn c.run_over-conn.result.0 t) c.run_over-conn.result.1 c.from.result c.from.ensures
     (record { answers = ran.answers; read = ran.read; notes = ran.notes; follows = ran.follows; ends = ran.ends }))
 
+pub returns-in-Serve-clause-does : goal.returns-in-Serve-clause-does
+returns-in-Serve-clause-does g c = rw c.in-Serve.is (c.serve_over-conn.ensures.serves, refl)
+
 pub returns-in-Recover-clause-does : goal.returns-in-Recover-clause-does
 returns-in-Recover-clause-does g c =
     rw c.in-Recover.is (c.recover.ensures.counts, record { only = record { unread = refl; unnoted = refl }; unwritten = refl })

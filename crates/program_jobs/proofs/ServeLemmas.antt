@@ -1,0 +1,216 @@
+-- What serving comes to, from how its desk came up and who was served. For `serving`.
+use Rattle.std.proofs.Common.{◌≡◌, ◌∙◌, refl, ap, sym, subst, inl, inr, ℕ, List, [], Bool, true, false, map, get_or, Option, Some, Result, Ok, Err, IfOk}
+use Rattle.std.specs.Io.KnownBytes.{Appends}
+use Rattle.std.specs.declared.io.traits.Read as Read
+use Rattle.std.specs.declared.io.traits.Write as Write
+use Rattle.std.proofs.KnownBytes.{Appends-nil}
+use Rattle.streams.specs.Written.{WroteFront}
+use Rattle.streams.proofs.ByteLemmas.{keeps_same}
+use Rattle.sqlite.specs.Store.{Ghosts}
+use Rattle.sqlite.specs.Held.{Held, state}
+use Rattle.sqlite.specs.State.{State as Connected, HasCleanDisk}
+use Rattle.commands.specs.declared.replies.Fault.{Fault}
+use Rattle.commands.specs.declared.replies.Fault.TheVariants as fault
+use Rattle.desk_sql.specs.declared.versions.Version.TheVariants.{Two}
+use Rattle.ledger.specs.Answer.{State}
+use Rattle.ledger.specs.World.{Moment}
+use Rattle.saga_core.specs.Worlds.{StandsAtEnd}
+use Rattle.sql_model.specs.Keeping.{MayLeave, StoodFor}
+use Rattle.http_conversations.specs.Exchanges.{Exchange}
+use Rattle.http_conversations.specs.Leading.{has_broken}
+use Rattle.http_live.specs.Merging.{exchange_of}
+use Rattle.http_live.specs.Seats.{connections_at}
+use Rattle.http_live.specs.declared.seats.Seat.{Seat}
+use Rattle.http_live.specs.Whole.{EndsOver, GoOnByTurns}
+use Rattle.http_live.specs.Worlds as by_exchange
+use Rattle.http_live.specs.declared.serving.Ending.{Ending}
+use Rattle.http_live.specs.declared.serving.Ending.TheVariants.{NoTurn, Stopped, Spent}
+use Rattle.http_live.specs.declared.serving.Turns as Turns
+use Rattle.histories.specs.Following.{EachMayReopen}
+use Rattle.histories.specs.Openings.{Connections, Nothing}
+use Rattle.histories.specs.Stages.{Stood}
+use Rattle.histories.proofs.StageLemmas.{either, exchanges_answered, exchanges_served, not_asked}
+use Rattle.program_ends.specs.Ends.{EndsBadly, EndsJob}
+use Rattle.program_ends.specs.declared.ended.Ended.{Ended}
+use Rattle.program_ends.specs.declared.ends.End.{End}
+use Rattle.program_ends.specs.declared.ends.End.TheVariants as finish
+use Rattle.program_ends.specs.declared.faults.ProgramFault.TheVariants as program
+use Rattle.tables.specs.BookTerms.{LeavesBook, StandsBook}
+use Rattle.tables.specs.Making.{LetsGo}
+use Rattle.tables.specs.declared.books.TableBook.{TableBook}
+use Rattle.desk_jobs.specs.Following.{FollowsDesk}
+use Rattle.desk_jobs.specs.Jobs.{NotReady, Readies}
+use Rattle.desk_jobs.specs.Notes.{NotesEvents}
+use Rattle.desk_jobs.proofs.FollowLemmas.{follows_not_up, follows_up, leaves_follows, stands_follows}
+use Rattle.program_jobs.specs.Serving.{AreSentTheirPages, CameFrom, IsFrom, IsUnheard, IsUnserved, Serves, ServesDesk, end_of_serving, ready_line}
+use Rattle.program_jobs.proofs.LoadLemmas.{recovery_noted}
+
+-- where nobody could come, not all was done
+unserved_bad : (e : End) → IsUnserved e → EndsBadly e
+unserved_bad finish.Done is = absurd is
+unserved_bad (finish.Refused why) is = absurd is
+unserved_bad (finish.Fault f) is = tt
+unserved_bad (finish.Usage text) is = absurd is
+
+-- who cannot be listened for cannot come
+pub unheard_unserved : (e : End) → IsUnheard e → IsUnserved e
+unheard_unserved finish.Done is = absurd is
+unheard_unserved (finish.Refused why) is = absurd is
+unheard_unserved (finish.Fault program.Memory) is = tt
+unheard_unserved (finish.Fault program.Net) is = tt
+unheard_unserved (finish.Fault program.Store) is = absurd is
+unheard_unserved (finish.Fault program.Write) is = absurd is
+unheard_unserved (finish.Fault program.Read) is = absurd is
+unheard_unserved (finish.Fault program.File) is = absurd is
+unheard_unserved (finish.Fault program.OpeningStore) is = absurd is
+unheard_unserved (finish.Fault program.OpeningMemory) is = absurd is
+unheard_unserved (finish.Usage text) is = absurd is
+
+-- where the store failed, not all was done
+broken_bad : (failed : Bool) (served : Result Ending Fault) → has_broken served ≡ true → EndsBadly (end_of_serving failed served)
+broken_bad failed (Ok ending) is = cc
+broken_bad failed (Err fault.Memory) is = cc
+broken_bad failed (Err fault.Store) is = tt
+
+-- serving ends as a job
+serving_job : (failed : Bool) (served : Result Ending Fault) → EndsJob (end_of_serving failed served)
+serving_job true (Ok NoTurn) = tt
+serving_job true (Ok Stopped) = tt
+serving_job false (Ok NoTurn) = tt
+serving_job false (Ok Stopped) = tt
+serving_job failed (Ok Spent) = tt
+serving_job failed (Err fault.Memory) = tt
+serving_job failed (Err fault.Store) = tt
+
+-- a crash leaves just what the connection stands for
+pub stood_leaves : (c : Connected) (s : State) → StoodFor Two c s → MayLeave c s s
+stood_leaves c s stood clean db may = inl ((stood clean).leaves db may)
+
+-- what each connection was sent is known of every connection
+sent_their_pages : {R W : Type 0} {r : Read.Ghosts R} {w : Write.Ghosts W} (seats : List (Seat R W r w)) → AreSentTheirPages seats
+sent_their_pages seats j e inside k f there =
+    let c = get_or (connections_at (get_or seats j e)) k f in record { pages = c.conversation.served; ends = c.faithful }
+
+module _ {S : Type 0} (g : Ghosts S) (b : TableBook S g) (new : Held S) where
+  -- nobody could come
+  pub nobody_served : (Came : End → List Exchange → Type 0) (port : ℕ) (held holds : Option (List ℕ)) (ended : Ended)
+      → IsUnserved ended.end → WroteFront held holds (ready_line port)
+      → (HasCleanDisk (state g new) → (s : State) → StandsBook g b s → MayLeave (state g new) s s)
+      → ServesDesk g Came port b new held holds ended
+  nobody_served Came port held holds ended why told left =
+      let bad = unserved_bad ended.end why in
+      inl (record {
+        why = why;
+        bad = bad;
+        told = told;
+        goes = λ any. leaves_follows g b new (Some Nothing) any any ended.end bad (λ clean w here.
+            not_asked any (StandsBook g b) w (state g new).may_leave Nothing refl (refl, refl) here (λ db may.
+            elim (either (state g new) _ _ clean (left clean _ here.stands_there) db may) [
+              | inl m ↦ m
+              | inr m ↦ m
+            ]));
+      })
+
+  -- the exchanges of guests, over a book that was let go after them
+  module _ (last : TableBook S g) (gone : LetsGo g last new) (held : Option (List ℕ)) (exchanges : List Exchange) (e : End) where
+    follows_exchanges : (broken : Bool) → (broken ≡ true → EndsBadly e)
+        → (HasCleanDisk (state g new) → (w : List Moment) → StandsAtEnd (StandsBook g b) w
+        → by_exchange.GoesOnBy broken (StandsBook g last) (LeavesBook g last) w exchanges)
+        → FollowsDesk g b new (Some (Connections exchanges)) held held e
+    follows_exchanges false bad goes =
+        stands_follows g b new (Some (Connections exchanges)) held held e (λ clean w here.
+        exchanges_answered (state g new) (LeavesBook g last) clean gone.left (StandsBook g last) w held (Stood (state g new))
+        (λ s stands. (Two, gone.found s stands)) exchanges (goes clean w here))
+    follows_exchanges true bad goes =
+        leaves_follows g b new (Some (Connections exchanges)) held held e (bad refl) (λ clean w here.
+        exchanges_served (state g new) (LeavesBook g last) clean gone.left (StandsBook g last) w held true exchanges (goes clean w here))
+
+  pub guests_served : {T R W : Type 0} (r : Read.Ghosts R) (w : Write.Ghosts W) (t : Turns.Ghosts T R W) (has_failed : T → Bool)
+      (port : ℕ) (held holds : Option (List ℕ)) (first last : TableBook S g) (guests : T) (served : Result Ending Fault) (failed : Bool)
+      (e : End) (ended : Ended)
+      → (HasCleanDisk (state g first.conn) → (s : State) → StandsBook g b s → StandsBook g first s)
+      → (HasCleanDisk (state g last.conn) → HasCleanDisk (state g first.conn))
+      → GoOnByTurns r w t.is_at t.is_by t.is_pair (HasCleanDisk (state g last.conn)) (StandsBook g first) (StandsBook g last)
+      (LeavesBook g last) served
+      → IfOk served (EndsOver (t.is_over guests)) → Appends held holds (ready_line port) → LetsGo g last new
+      → failed ≡ has_failed guests → e ≡ end_of_serving failed served → IsFrom e ended
+      → ServesDesk g (CameFrom r w t has_failed) port b new held holds ended
+  guests_served r w t has_failed port held holds first last guests served failed e ended stays back on over told gone same ends from =
+      let worlds = on.goes_on.worlds in
+      let end = end_of_serving (has_failed guests) served in
+      let is : IsFrom end ended = subst (λ x. IsFrom x ended) (ends ∙ ap (λ f. end_of_serving f served) same) from in
+      subst (ServesDesk g (CameFrom r w t has_failed) port b new held holds) (sym is)
+      (inr (record {
+        exchanges = map exchange_of worlds.merged;
+        came = record {
+          seats = on.seats;
+          doors = on.doors;
+          ways = on.ways;
+          pairs = on.pairs;
+          peers = sent_their_pages on.seats;
+          before = on.before;
+          none = on.none;
+          merged = worlds.merged;
+          is_merged = worlds.is_merged;
+          are = refl;
+          ending = served;
+          stopped = on.goes_on.stopped;
+          stops_as = on.goes_on.stops_as;
+          stopping = worlds.stopping;
+          guests = guests;
+          over = over;
+          ends = refl;
+        };
+        told = told;
+        goes = λ any. follows_exchanges last gone any (map exchange_of worlds.merged) end (has_broken served)
+            (broken_bad (has_failed guests) served) (λ clean w here.
+            worlds.worlds (gone.sound clean) w (record {
+              world = here.world;
+              whole = here.whole;
+              stands_there = stays (back (gone.sound clean)) _ here.stands_there;
+            }));
+        job = serving_job (has_failed guests) served;
+        cause = refl;
+      }))
+
+-- the desk that serves was recovered
+pub serves_up : EachMayReopen → {S : Type 0} (g : Ghosts S) (Came : End → List Exchange → Type 0) (port : ℕ) (old new : Held S)
+    (held holds noted notes : Option (List ℕ)) (ended : Ended) (b : TableBook S g) (made : ℕ) → Readies g old b made
+    → (HasCleanDisk (state g new) → HasCleanDisk (state g b.conn)) → NotesEvents made noted notes
+    → ServesDesk g Came port b new held holds ended → Serves g Came port old new held holds noted notes ended
+serves_up law g Came port old new held holds noted notes ended b made ready back events did = record {
+  either = elim did [
+    | inl nobody ↦ inl (record {
+      why = inr nobody.why;
+      bad = nobody.bad;
+      told = nobody.told;
+      goes = λ any. follows_up g b new (Some Nothing) any any law old (λ clean. ready.world (back clean)) ended.end (nobody.goes any);
+    })
+    | inr guests ↦ inr (record {
+      exchanges = guests.exchanges;
+      came = guests.came;
+      told = guests.told;
+      goes = λ any. follows_up g b new (Some (Connections guests.exchanges)) any any law old (λ clean. ready.world (back clean)) ended.end
+          (guests.goes any);
+      job = guests.job;
+      cause = guests.cause;
+    })
+  ];
+  note = recovery_noted g old new b made ready back noted notes events;
+}
+
+-- it was not
+pub serves_not_ready : EachMayReopen → {S : Type 0} (g : Ghosts S) (Came : End → List Exchange → Type 0) (port : ℕ) (old new : Held S)
+    (held noted : Option (List ℕ)) (end : End) (ended : Ended) → IsFrom end ended → NotReady g old new end
+    → Serves g Came port old new held held noted noted ended
+serves_not_ready law g Came port old new held noted end ended is failed =
+    subst (Serves g Came port old new held held noted noted) (sym is)
+    (record {
+      either = inl (record {
+        why = inl failed;
+        bad = failed.bad;
+        told = (0, Appends-nil held);
+        goes = λ any. follows_not_up g old new (Some Nothing) any end law failed.left failed.bad tt;
+      });
+      note = record { noted = λ clean s was. inl (keeps_same noted); may = inl (keeps_same noted) };
+    })

@@ -1,2 +1,0 @@
-mod restarts;
-mod stops;

@@ -1,3 +1,0 @@
-pub mod PromiseLemmas
-pub mod AccountLemmas
-pub mod ChainLemmas

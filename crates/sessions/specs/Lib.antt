@@ -1,3 +1,0 @@
-pub mod Promises
-pub mod Accounts
-pub mod Chains

@@ -1,3 +1,0 @@
-pub mod Schemas
-pub mod Restarts
-pub mod Examples
