@@ -1,3 +1,4 @@
+pub mod Errors
 pub mod Explaining
 pub mod Subcommands
 pub mod Timing

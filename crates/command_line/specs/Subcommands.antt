@@ -57,6 +57,11 @@ subcommand_in word =
     else if bytes_eq word (codes "index") then Some Index
     else None
 
+-- the subcommand that `help` asks about, where these are all the words
+abbrev pub helped_in : List Text → Option Subcommand
+helped_in (help ∷ name ∷ []) = if bytes_eq help (codes "help") then subcommand_in name else None
+helped_in words = None
+
 -- a required value
 abbrev pub needed : Text → Rule
 needed id = record (new_rule id) { action = Some Set; required = true }

@@ -7,6 +7,7 @@ ghost use Rattle.filters.specs.JourneyFilters.{state_named};
 ghost use Rattle.command_line.specs.Filters.{agent_named, asks_for_cells, cell_asked, code_named, has_bad_cells, has_bad_journeys, journey_asked, phases_in, spelled, unfinished_in, unfinished_named, unfinished_state, HasCells, HasJourneys};
 ghost use Rattle.command_line.specs.Jobs.{has_socket, IsUsage};
 
+use crate::errors::{no_option, no_value, no_value_of};
 use crate::jobs::JobFault;
 use crate::subcommands::Subcommand;
 use allotment::{Cell, Code, Kind, Night};
@@ -270,35 +271,5 @@ fn unfinished_state(state: JourneyState) -> Option<Phases>
         JourneyState::Back => Some(Phases::Only(JourneyState::Back)),
         JourneyState::Ended => None,
         JourneyState::Undone => None,
-    }
-}
-
-/// The error of a value that is not what is allowed. It names the option with its value.
-fn no_value(alloc: Global, word: &str, option: &str, allowed: &str) -> JobFault {
-    let text = format!(in alloc;
-        "error: invalid value '{word}' for '{option}': not {allowed}\n\nFor more information, try '--help'.\n"
-    );
-    match text {
-        Ok(text) => JobFault::Usage(text),
-        Err(_) => JobFault::Memory,
-    }
-}
-
-/// The error of an option beside a value with which it cannot be used.
-fn no_option(alloc: Global, option: &str, value: &str) -> JobFault {
-    let text = format!(in alloc;
-        "error: the argument '{option}' cannot be used with '{value}'\n\nFor more information, try '--help'.\n"
-    );
-    match text {
-        Ok(text) => JobFault::Usage(text),
-        Err(_) => JobFault::Memory,
-    }
-}
-
-/// The same for an option and the name of its value.
-fn no_value_of(alloc: Global, word: &str, option: &str, id: &str, allowed: &str) -> JobFault {
-    match format!(in alloc; "{option} <{id}>") {
-        Ok(option) => no_value(alloc, word, option.as_str(), allowed),
-        Err(_) => JobFault::Memory,
     }
 }

@@ -200,8 +200,5 @@ fn with_note(alloc: Global, fault: JobFault) -> JobFault
     if !text.as_str().starts_with("error: ") {
         return JobFault::Usage(text);
     }
-    match format!(in alloc; "{text}With '--at <PATH>' the report reads no <FILE>.\n") {
-        Ok(text) => JobFault::Usage(text),
-        Err(_) => JobFault::Memory,
-    }
+    JobFault::of_text(format!(in alloc; "{text}With '--at <PATH>' the report reads no <FILE>.\n"))
 }

@@ -124,6 +124,22 @@ pub enum JobFault {
     Memory,
 }
 
+impl JobFault {
+    ghost use Rattle.std.specs.Prelude.{◌≡◌, IfErr, IfOk};
+    ghost use Rattle.command_line.specs.declared.jobs.JobFault.TheVariants.{Usage, Memory};
+
+    /// The fault with this text, if there was memory for it.
+    pub(crate) fn of_text(text: Result<String, AllocError>) -> JobFault
+        ensures usage { IfOk text (λ shown. result ≡ Usage shown) }
+        ensures memory { IfErr text (λ _. result ≡ Memory) }
+    {
+        match text {
+            Ok(text) => JobFault::Usage(text),
+            Err(_) => JobFault::Memory,
+        }
+    }
+}
+
 impl From<AllocError> for JobFault {
     ghost from_gives = { λ _ fault. fault ≡ Memory };
 

@@ -8,6 +8,7 @@
 mod asked;
 mod asking;
 mod calls;
+mod errors;
 mod help;
 mod job_values;
 mod jobs;

@@ -1,5 +1,5 @@
 //! The subcommands of the program: their words, and the values that each of them reads.
-ghost use Rattle.std.specs.Prelude.{◌≡◌, [], ◌∷◌, false, map, codes, All, IfOk, IfSome};
+ghost use Rattle.std.specs.Prelude.{◌≡◌, [], ◌∷◌, ◌++◌, false, map, codes, All, IfOk, IfSome};
 ghost use Rattle.clap.specs.Words.{app_of, args_of, groups_of};
 ghost use Rattle.command_line.specs.Subcommands.{app_for, bare_app, has_globals, is_report, name_of, needed, needed_for, negates_needs, rule_said, rules_for, subcommand_in, Requires};
 
@@ -90,7 +90,9 @@ impl Subcommand {
     }
 
     /// The words that call the subcommand, as the usage shows them.
-    fn called<'a>(self) -> &'a str {
+    fn called<'a>(self) -> &'a str
+        ensures called { result.now ≡ codes "desk " ++ name_of self }
+    {
         match self {
             Subcommand::Run => "desk run",
             Subcommand::Serve => "desk serve",

@@ -5,11 +5,17 @@ ghost use Rattle.allotment.specs.Texts.{number_from};
 ghost use Rattle.command_line.specs.Jobs.{IsUsage};
 ghost use Rattle.command_line.specs.Values.{format_named, format_of, is_malformed, is_set, log_in, number_named, text_format_in, values_read};
 
+use crate::errors::{no_number, no_value};
 use crate::jobs::{JobFault, LogForm};
 use clap::ArgMatches;
 use commands::number_between;
 use reports::Format;
 use std::alloc::{AllocError, Global};
+
+/// The option of a format, and what is allowed of it beside the calendar.
+const FORMAT: &str = "--format <FORMAT>";
+
+const CALENDAR: &str = "text, which the calendar is";
 
 /// The value of this name. The precondition says that there is one.
 pub(crate) fn value_of(alloc: Global, matches: &ArgMatches, id: &str) -> Result<String, AllocError>
@@ -105,18 +111,7 @@ fn number_in(alloc: Global, word: &str, id: &str, option: &str, most: u16) -> Re
 {
     match number_between(word, 1, usize::from(most)) {
         Some(number) => Ok(number as u16),
-        None => Err(no_number(alloc, word, id, option, most)),
-    }
-}
-
-/// The error of a value that is no number from 1 to `most`.
-fn no_number(alloc: Global, word: &str, id: &str, option: &str, most: u16) -> JobFault {
-    let text = format!(in alloc;
-        "error: invalid value '{word}' for '{option} <{id}>': not a number from 1 to {most}\n\nFor more information, try '--help'.\n"
-    );
-    match text {
-        Ok(text) => JobFault::Usage(text),
-        Err(_) => JobFault::Memory,
+        None => Err(no_number(alloc, word, option, id, most)),
     }
 }
 
@@ -140,8 +135,8 @@ pub(crate) fn text_in(alloc: Global, matches: &ArgMatches) -> Result<(), JobFaul
 {
     match format_in(alloc, matches)? {
         Format::Text => Ok(()),
-        Format::Json => Err(no_calendar(alloc, "json")),
-        Format::Csv => Err(no_calendar(alloc, "csv")),
+        Format::Json => Err(no_value(alloc, "json", FORMAT, CALENDAR)),
+        Format::Csv => Err(no_value(alloc, "csv", FORMAT, CALENDAR)),
     }
 }
 
@@ -154,28 +149,6 @@ fn format_named(alloc: Global, word: &str) -> Result<Format, JobFault>
         "text" => Ok(Format::Text),
         "json" => Ok(Format::Json),
         "csv" => Ok(Format::Csv),
-        _ => Err(no_format(alloc, word)),
-    }
-}
-
-/// The error of a format that the calendar has not.
-fn no_calendar(alloc: Global, word: &str) -> JobFault {
-    let text = format!(in alloc;
-        "error: invalid value '{word}' for '--format <FORMAT>': not text, which the calendar is\n\nFor more information, try '--help'.\n"
-    );
-    match text {
-        Ok(text) => JobFault::Usage(text),
-        Err(_) => JobFault::Memory,
-    }
-}
-
-/// The error of a word that names no format.
-fn no_format(alloc: Global, word: &str) -> JobFault {
-    let text = format!(in alloc;
-        "error: invalid value '{word}' for '--format <FORMAT>': not text, json or csv\n\nFor more information, try '--help'.\n"
-    );
-    match text {
-        Ok(text) => JobFault::Usage(text),
-        Err(_) => JobFault::Memory,
+        _ => Err(no_value(alloc, word, FORMAT, "text, json or csv")),
     }
 }

@@ -7,7 +7,7 @@ ghost use Rattle.std.specs.String.{string_bytes};
 ghost use Rattle.clap.specs.Words.{first_value, found_of, kind_of, matches_of, rows_of};
 ghost use Rattle.command_line.specs.Explaining.{ShowsText, usage_with_place};
 ghost use Rattle.command_line.specs.Jobs.{are_refused, names_version, refuses, IsJob, IsJobOf, IsText, IsUsage};
-ghost use Rattle.command_line.specs.Subcommands.{app_for, is_refused_by, needed_for};
+ghost use Rattle.command_line.specs.Subcommands.{app_for, helped_in, is_refused_by, needed_for};
 
 use crate::asked::no_socket_in;
 use crate::job_values::job_in;
@@ -148,7 +148,9 @@ fn explaining<'a>(alloc: Global) -> Arg<'a> {
 }
 
 /// The subcommand that `help` asks about, if its name is the last word.
-fn helped(words: &[String]) -> Option<Subcommand> {
+fn helped(words: &[String]) -> Option<Subcommand>
+    ensures helped { result ≡ helped_in (map string_bytes words.now) }
+{
     match words {
         [help, name] if help.as_str() == "help" => Subcommand::named(name.as_str()),
         _ => None,
@@ -156,7 +158,9 @@ fn helped(words: &[String]) -> Option<Subcommand> {
 }
 
 /// The long help of a subcommand. The words of the call are `desk` and the subcommand's name.
-fn help_text(alloc: Global, subcommand: Subcommand) -> Result<JobFault, AllocError> {
+fn help_text(alloc: Global, subcommand: Subcommand) -> Result<JobFault, AllocError>
+    ensures usage { IfOk result IsText }
+{
     let mut command = subcommand.command(alloc)?;
     Ok(JobFault::Usage(command.render_long_help()?))
 }
@@ -167,9 +171,6 @@ fn fault_of(alloc: Global, error: &Error) -> JobFault
 {
     match error.kind() {
         ErrorKind::OutOfMemory => JobFault::Memory,
-        _ => match error.to_string(alloc) {
-            Ok(text) => JobFault::Usage(text),
-            Err(_) => JobFault::Memory,
-        },
+        _ => JobFault::of_text(error.to_string(alloc)),
     }
 }
