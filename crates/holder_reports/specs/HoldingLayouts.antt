@@ -7,7 +7,8 @@ use Rattle.commands.specs.Texts.{sentence}
 use Rattle.filters.specs.JourneyFilters.{state_word}
 use Rattle.serde_json.specs.Data.{Data}
 use Rattle.reports.specs.Columns.{left, right, line}
-use Rattle.reports.specs.Objects.{json, json_line, counts, says}
+use Rattle.reports.specs.Objects.{json_line}
+use Rattle.json_members.specs.Objects.{json, counts, says}
 use Rattle.reports.specs.Records.{csv_line}
 use Rattle.reports.specs.declared.formats.Format.{Format}
 use Rattle.reports.specs.declared.formats.Format.TheVariants.{Text, Json, Csv}

@@ -4,7 +4,8 @@ use Rattle.std.specs.List.{flat_map}
 use Rattle.serde_json.specs.Data.{Data}
 use Rattle.reports.specs.Columns.{right, line}
 use Rattle.reports.specs.Formats.{last_line}
-use Rattle.reports.specs.Objects.{json, json_line, counts}
+use Rattle.reports.specs.Objects.{json_line}
+use Rattle.json_members.specs.Objects.{json, counts}
 use Rattle.reports.specs.Records.{csv_line}
 use Rattle.reports.specs.declared.formats.Format.{Format}
 use Rattle.reports.specs.declared.formats.Format.TheVariants.{Text, Json, Csv}

@@ -15,9 +15,8 @@ use crate::writing::Laid;
 use allotment::Cell;
 use csv::ByteRecord;
 use filters::JourneyState;
-use reports::{
-    Format, csv_line, json_line, night_text, put_field, put_number, put_text, put_whole,
-};
+use json_members::{put_text, put_whole};
+use reports::{Format, csv_line, json_line, night_text, put_field, put_number};
 use serde_json::{Map, Value};
 use std::alloc::{AllocError, Global};
 

@@ -1,11 +1,11 @@
 -- A seat of which something changed, and the others.
-use Rattle.std.proofs.Common.{◌≡◌, ◌≢◌, ◌<◌, ◌∙◌, Bor, ℕ, zero, suc, Bool, true, false, List, [], ◌∷◌, All, ap, arith, codes, if◌then◌else◌, is_some, length, refl, slice_get, slice_set, Option, Some, None}
+use Rattle.std.proofs.Common.{◌≡◌, ◌<◌, ◌∙◌, Bor, ℕ, zero, suc, Bool, true, false, List, [], ◌∷◌, ap, arith, codes, if◌then◌else◌, is_some, length, refl, slice_get, slice_set, Option, Some, None}
 use Rattle.std.proofs.lemmas.Option.{slice_get_within}
 use Rattle.std.specs.Option.{option_copied, option_map_or}
 use Rattle.http_log.specs.declared.counting.Metrics.{Metrics}
 use Rattle.http_log.specs.declared.endings.Why.{Why}
 use Rattle.http_ways.specs.declared.ways.Arrived.{Arrived}
-use Rattle.http_journal.specs.Ends.{counted_end, is_taken, why_of, IsNobody}
+use Rattle.http_journal.specs.Ends.{counted_end, is_taken, why_of}
 use Rattle.http_journal.specs.Seen.{counted_answer, counted_over, with_answer, with_seat}
 use Rattle.http_journal.specs.declared.known.Known.{Known}
 
@@ -14,21 +14,6 @@ pub slice_get-set_same : {X : Type 0} (xs : List X) (at : ℕ) (x : X) → at < 
 slice_get-set_same [] at x within = absurd (omega arith)
 slice_get-set_same (y ∷ xs) zero x within = refl
 slice_get-set_same (y ∷ xs) (suc at) x within = slice_get-set_same xs at x (omega arith)
-
--- and each other place is as it was
-pub slice_get-set_other : {X : Type 0} (xs : List X) (at other : ℕ) (x : X) → other ≢ at
-    → slice_get (slice_set xs at x) other ≡ slice_get xs other
-slice_get-set_other [] at other x apart = refl
-slice_get-set_other (y ∷ xs) zero zero x apart = absurd (apart refl)
-slice_get-set_other (y ∷ xs) zero (suc other) x apart = refl
-slice_get-set_other (y ∷ xs) (suc at) zero x apart = refl
-slice_get-set_other (y ∷ xs) (suc at) (suc other) x apart = slice_get-set_other xs at other x (λ same. apart (ap suc same))
-
--- nobody is at any of the seats
-pub nobody_at_all : (seats : List Known) → ((at : ℕ) → is_taken seats at ≡ false) → All IsNobody seats
-nobody_at_all [] none k d within = absurd (omega arith)
-nobody_at_all (known ∷ seats) none zero d within = none zero
-nobody_at_all (known ∷ seats) none (suc k) d within = nobody_at_all seats (λ at. none (suc at)) k d (omega arith)
 
 -- whoever is at a seat is there after an answer too
 pub is_taken-with_answer : (seats : List Known) (at : ℕ) → is_taken (with_seat with_answer at seats) at ≡ is_taken seats at

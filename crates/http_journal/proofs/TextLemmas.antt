@@ -17,13 +17,6 @@ after_name-missed name text at within missed = rw add-one (next name text at wit
     next name (byte ∷ text) zero within missed = rw missed refl
     next name (byte ∷ text) (suc at) within missed = next name text at (omega arith) missed
 
--- where it is, what follows it is what follows it there
-pub after_name-found : (name text : List ℕ) (at : ℕ) → at < length text → bytes_eq (take (length name) (drop at text)) name ≡ true
-    → after_name name (drop at text) ≡ drop (length name) (drop at text)
-after_name-found name [] at within found = absurd (omega arith)
-after_name-found name (byte ∷ text) zero within found = rw found refl
-after_name-found name (byte ∷ text) (suc at) within found = after_name-found name text at (omega arith) found
-
 -- the first place that passes is where what stands before it ends
 pub before_first-found : (p : ℕ → Bool) (xs : List ℕ) (end : ℕ) → position p xs ≡ Some end → take end xs ≡ before_first p xs
 before_first-found p xs end found =

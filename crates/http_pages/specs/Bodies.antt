@@ -1,15 +1,15 @@
 -- The bodies of pages as JSON values. The members of an object stand in the order of their names.
 use Rattle.std.specs.Prelude.{ℕ, List, [], ◌∷◌, ◌++◌, map, codes, Option, option_map, option_to_list}
-use Rattle.serde_json.specs.Data.{Data, number, unsigned, string, array, object, Members, no_members, member}
+use Rattle.serde_json.specs.Data.{Data, string, array}
 use Rattle.serde_json.specs.View.{items_of}
-use Rattle.commands.specs.Texts.{item_text, phase_word, told}
+use Rattle.commands.specs.Texts.{item_text, told}
 use Rattle.commands.specs.declared.items.Cursor.{Cursor}
 use Rattle.commands.specs.declared.items.Item.{Item}
 use Rattle.commands.specs.declared.items.Phase.{Phase}
-use Rattle.commands.specs.declared.items.Phase.TheVariants.{Run, Back, Ended, Undone}
 use Rattle.commands.specs.declared.replies.Refusal.{Refusal}
 use Rattle.commands.specs.declared.replies.Reply.{Reply}
 use Rattle.commands.specs.declared.replies.Reply.TheVariants.{Loaded, Begun, Moved, Refused}
+use Rattle.json_members.specs.Objects.{Named, json, standing_members, whole}
 use Rattle.saga_core.specs.declared.records.Brief.{Brief}
 use Rattle.saga_core.specs.declared.records.Counts.{Counts}
 use Rattle.http_pages.specs.declared.bodies.Owners.{Owners}
@@ -17,45 +17,15 @@ use Rattle.http_pages.specs.declared.bodies.Owners.TheVariants.{Hidden, Shown}
 
 -- Values.
 
--- a member of an object: its name and its value
-abbrev pub Named : Type 0
-Named = List ℕ × Data
-
--- these members
-abbrev pub members : List Named → Members
-members [] = no_members
-members (m ∷ later) = member m.0 m.1 (members later)
-
--- the object with these members
-abbrev pub json : List Named → Data
-json ms = object (members ms)
-
 -- the list of these values
 abbrev pub list : List Data → Data
 list ds = array (items_of ds)
-
--- a whole number from 0 on
-abbrev pub whole : ℕ → Data
-whole n = number (unsigned n)
 
 -- a member, if it has a value
 abbrev pub maybe : List ℕ → Option Data → List Named
 maybe name value = option_to_list (option_map (λ d. (name, d)) value)
 
 -- Journeys.
-
--- the position to which a journey goes back, if it does
-abbrev pub target_member : Phase → List Named
-target_member Run = []
-target_member (Back target) = (codes "target", whole target) ∷ []
-target_member Ended = []
-target_member Undone = []
-
--- where a journey is: its number, its position, what it is doing, and its target if it goes back
-abbrev pub standing_members : ℕ → ℕ → Phase → List Named
-standing_members id pos phase =
-    (codes "journey", whole id) ∷ (codes "pos", whole pos)
-    ∷ (codes "state", string (phase_word phase)) ∷ target_member phase
 
 -- an item
 abbrev pub item_data : Item → Data

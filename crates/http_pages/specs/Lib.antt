@@ -4,6 +4,5 @@ pub mod RouteExamples
 pub mod Admitting
 pub mod Statuses
 pub mod Bodies
-pub mod Members
 pub mod Pages
 pub mod PageExamples

@@ -5,8 +5,8 @@ ghost use Rattle.serde_json.specs.View.{view};
 ghost use Rattle.plan.specs.PlanData.{plan_data, step_data, want_data};
 ghost use Rattle.plan.specs.PlanModel.{StepPlan, numbered, step_count};
 
-use crate::values::{put_text, put_whole};
 use allotment::Want;
+use json_members::{put_text, put_whole};
 use plan::Plan;
 use serde_json::{Map, Value, put};
 use std::alloc::{AllocError, Global};

@@ -1,14 +1,14 @@
 //! Replies, refusals and journeys as JSON values.
 ghost use Rattle.std.specs.Prelude.{◌≡◌, IfOk, OnOk, map};
-ghost use Rattle.serde_json.specs.Data.{string, object, no_members, put};
+ghost use Rattle.serde_json.specs.Data.{object, no_members};
 ghost use Rattle.serde_json.specs.View.{view, members_view};
-ghost use Rattle.http_pages.specs.Bodies.{item_data, moved_data, refusal_data, reply_data, list, whole};
+ghost use Rattle.http_pages.specs.Bodies.{item_data, moved_data, refusal_data, reply_data, list};
 ghost use Rattle.http_pages.specs.Bodies.{journey_data, brief_data, mine_data, unfinished_data};
 ghost use Rattle.http_pages.specs.Bodies.{agent_data, begun_data, health_data, loaded_data, stopping_data};
-ghost use Rattle.http_pages.specs.Members.{with_standing};
 
 use crate::bodies::Owners;
 use commands::{Agent, Cursor, Item, Phase, Refusal, Reply};
+use json_members::{put_standing, put_text, put_whole};
 use plan::BadPlan;
 use saga_core::{Brief, Counts};
 use serde_json::{Map, Value, json, put};
@@ -209,51 +209,4 @@ fn item_value(alloc: Global, item: &Item) -> Result<Value, AllocError>
     ensures value { IfOk result (λ value. view value ≡ item_data item.now) }
 {
     Ok(Value::String(item.text(alloc)?))
-}
-
-/// Inserts where a journey is: its number, its position, what it is doing, and its target if it goes back.
-fn put_standing(
-    alloc: Global,
-    members: &mut Map<String, Value>,
-    id: u64,
-    pos: usize,
-    phase: Phase,
-) -> Result<(), AllocError>
-    ensures standing { OnOk result
-        (members_view members.new.entries
-        ≡ with_standing id pos phase (members_view members.old.entries)) }
-{
-    put_whole(alloc, members, "journey", id)?;
-    put_whole(alloc, members, "pos", pos as u64)?;
-    put_text(alloc, members, "state", phase.word())?;
-    match phase {
-        Phase::Back(target) => put_whole(alloc, members, "target", target as u64),
-        _ => Ok(()),
-    }
-}
-
-/// Inserts a member that is a whole number.
-pub fn put_whole(
-    alloc: Global,
-    members: &mut Map<String, Value>,
-    name: &str,
-    number: u64,
-) -> Result<(), AllocError>
-    ensures whole { OnOk result (members_view members.new.entries
-        ≡ put name.now (whole number) (members_view members.old.entries)) }
-{
-    put(members, alloc, name, Value::from(number))
-}
-
-/// Inserts a member that is a text.
-pub fn put_text(
-    alloc: Global,
-    members: &mut Map<String, Value>,
-    name: &str,
-    text: &str,
-) -> Result<(), AllocError>
-    ensures text { OnOk result (members_view members.new.entries
-        ≡ put name.now (string text.now) (members_view members.old.entries)) }
-{
-    put(members, alloc, name, Value::try_from_str(alloc, text)?)
 }

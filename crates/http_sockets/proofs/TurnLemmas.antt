@@ -1,5 +1,5 @@
 -- What follows from a turn, and who may come after it. For Sockets.
-use Rattle.std.proofs.Common.{◌≡◌, ◌≢◌, ◌∙◌, ◌<◌, ◌≤◌, ◌⊎◌, zero, suc, ℕ, Option, Some, None, OnErr, OnOk, Result, Ok, Err, arith, inl, inr, refl}
+use Rattle.std.proofs.Common.{◌≡◌, ◌≢◌, ◌∙◌, ◌<◌, zero, suc, ℕ, Option, Some, None, arith, refl}
 use Rattle.http_live.specs.Doors.{EndsOnlyIf}
 use Rattle.http_live.specs.declared.serving.Turn.{Turn}
 use Rattle.http_live.specs.declared.serving.Turn.TheVariants.{Comes, Ready, Leaves, End}
@@ -82,8 +82,3 @@ unseated_same now = record {
   to_begin = refl;
   tick = refl;
 }
-
--- one or the other, as it went
-pub either_of : {T E P Q : Type 0} (result : Result T E) → OnOk result P → OnErr result Q → Q ⊎ P
-either_of (Ok value) ok err = inr ok
-either_of (Err error) ok err = inl err

@@ -3,4 +3,5 @@ mod ends;
 mod fakes;
 mod forms;
 mod jobs;
+mod refused_words;
 mod runs;

@@ -10,7 +10,8 @@ ghost use Rattle.month_reports.specs.Summaries.{month_text, product_columns, sum
 use crate::sums::{MOST_NIGHTS, Sums, sums_of};
 use allotment::{Cell, Held, Night};
 use csv::ByteRecord;
-use reports::{Format, csv_line, json_line, put_field, put_number, put_text, put_whole};
+use json_members::{put_text, put_whole};
+use reports::{Format, csv_line, json_line, put_field, put_number};
 use serde_json::{Map, Value};
 use std::alloc::{AllocError, Global};
 

@@ -1,11 +1,11 @@
 -- The object of an outlook contains no floats, so its compact text is known. For why_body.
-use Rattle.std.proofs.Common.{refl, ◌≡◌, ℕ, false, List, [], ◌∷◌, ◌++◌, map, codes, Option, Some, None}
+use Rattle.std.proofs.Common.{refl, ◌≡◌, ℕ, false, List, [], ◌∷◌, ◌++◌, map, Option, Some, None}
 use Rattle.serde_json.specs.View.{items_of}
 use Rattle.serde_json.specs.Written.{has_float, items_have_float, members_have_float}
 use Rattle.commands.specs.declared.items.Phase.{Phase}
 use Rattle.commands.specs.declared.items.Phase.TheVariants.{Run, Back, Ended, Undone}
-use Rattle.reports.specs.Objects.{Named, members, says, target_member}
-use Rattle.outlooks.specs.Layouts.{free_data, next_member, want_member, why_data}
+use Rattle.json_members.specs.Objects.{Named, members, target_member}
+use Rattle.outlooks.specs.Layouts.{free_data, want_member, why_data}
 use Rattle.outlooks.specs.declared.nights.FreeNight.{FreeNight}
 use Rattle.outlooks.specs.declared.steps.NextStep.{NextStep}
 use Rattle.outlooks.specs.declared.steps.Outlook.{Outlook}

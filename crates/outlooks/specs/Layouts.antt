@@ -11,7 +11,8 @@ use Rattle.ledger.specs.Ledger.{Event, Journey}
 use Rattle.saga_core.specs.declared.records.Brief.{Brief}
 use Rattle.reports.specs.Columns.{line}
 use Rattle.reports.specs.Layouts.{history_ending}
-use Rattle.reports.specs.Objects.{Named, json, json_line, counts, says, journey_data, target_member}
+use Rattle.reports.specs.Objects.{json_line, journey_data}
+use Rattle.json_members.specs.Objects.{Named, json, counts, says, target_member}
 use Rattle.reports.specs.Records.{csv_line, journey_names, journey_fields}
 use Rattle.reports.specs.declared.formats.Format.{Format}
 use Rattle.reports.specs.declared.formats.Format.TheVariants.{Text, Json, Csv}

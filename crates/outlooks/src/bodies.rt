@@ -11,7 +11,8 @@ ghost use Rattle.outlooks.specs.declared.nights.FreeNight.{FreeNight};
 use crate::lines::step_word;
 use crate::nights::FreeNight;
 use crate::steps::{NextStep, Outlook};
-use reports::{night_text, put_standing, put_text};
+use json_members::{put_standing, put_text};
+use reports::night_text;
 use saga_core::Brief;
 use serde_json::{Map, Value, json, put};
 use std::alloc::{AllocError, Global};
@@ -55,7 +56,13 @@ fn put_brief(
         ≡ with_brief brief.now (members_view members.old.entries)) }
 {
     put_text(alloc, members, "agent", brief.agent.as_str())?;
-    put_standing(alloc, members, brief.id, &brief.cursor)
+    put_standing(
+        alloc,
+        members,
+        brief.id,
+        brief.cursor.pos,
+        brief.cursor.phase,
+    )
 }
 
 /// Inserts the item of the next step, and its want; nothing if there is none.

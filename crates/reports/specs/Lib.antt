@@ -1,7 +1,6 @@
 pub mod Columns
 pub mod Layouts
 pub mod Objects
-pub mod Members
 pub mod Records
 pub mod Writing
 pub mod Formats

@@ -2,13 +2,14 @@
 ghost use Rattle.std.specs.Prelude.{◌≡◌, [], ◌∷◌, false, codes, IfOk, string_bytes};
 ghost use Rattle.serde_json.specs.View.{view};
 ghost use Rattle.serde_json.specs.Written.{has_float};
-ghost use Rattle.reports.specs.Objects.{json, counts, says, json_line, cell_data, journey_data, begin_data, item_data, state_data};
+ghost use Rattle.reports.specs.Objects.{json_line, cell_data, journey_data, begin_data, item_data, state_data};
+ghost use Rattle.json_members.specs.Objects.{json, counts, says};
 
 use crate::columns::night_digits;
-use crate::members::{put_standing, put_text, put_whole};
 use crate::pieces::{put_count, put_piece};
 use allotment::{Cell, Held};
 use commands::{Cursor, Item};
+use json_members::{put_standing, put_text, put_whole};
 use saga_core::{Brief, Record};
 use serde_json::{Map, Value};
 use std::alloc::{AllocError, Global};
@@ -88,7 +89,13 @@ fn journey_value(alloc: Global, brief: &Brief) -> Result<Value, AllocError>
 {
     let mut members = Map::new(alloc);
     put_text(alloc, &mut members, "agent", brief.agent.as_str())?;
-    put_standing(alloc, &mut members, brief.id, &brief.cursor)?;
+    put_standing(
+        alloc,
+        &mut members,
+        brief.id,
+        brief.cursor.pos,
+        brief.cursor.phase,
+    )?;
     Ok(Value::Object(members))
 }
 
@@ -97,7 +104,7 @@ fn state_value(alloc: Global, id: u64, cursor: &Cursor) -> Result<Value, AllocEr
     ensures value { IfOk result (λ value. view value ≡ state_data id cursor.now) }
 {
     let mut members = Map::new(alloc);
-    put_standing(alloc, &mut members, id, cursor)?;
+    put_standing(alloc, &mut members, id, cursor.pos, cursor.phase)?;
     Ok(Value::Object(members))
 }
 

@@ -1,10 +1,13 @@
-//! The members of JSON objects, inserted one after another.
-ghost use Rattle.std.specs.Prelude.{◌≡◌, OnOk};
-ghost use Rattle.serde_json.specs.Data.{number, put, string, unsigned};
-ghost use Rattle.serde_json.specs.View.{members_view};
-ghost use Rattle.reports.specs.Members.{with_standing};
+//! The members of JSON objects, inserted one after another: texts, whole numbers, and where a journey is.
+#![tactic(auto)]
 
-use commands::{Cursor, Phase};
+ghost use Rattle.std.specs.Prelude.{◌≡◌, OnOk};
+ghost use Rattle.serde_json.specs.Data.{put, string};
+ghost use Rattle.serde_json.specs.View.{members_view};
+ghost use Rattle.json_members.specs.Members.{with_standing};
+ghost use Rattle.json_members.specs.Objects.{whole};
+
+use commands::Phase;
 use serde_json::{Map, Value, put};
 use std::alloc::{AllocError, Global};
 
@@ -26,12 +29,12 @@ pub fn put_whole(
     alloc: Global,
     members: &mut Map<String, Value>,
     name: &str,
-    whole: u64,
+    number: u64,
 ) -> Result<(), AllocError>
     ensures whole { OnOk result (members_view members.new.entries
-        ≡ put name.now (number (unsigned whole)) (members_view members.old.entries)) }
+        ≡ put name.now (whole number) (members_view members.old.entries)) }
 {
-    put(members, alloc, name, Value::from(whole))
+    put(members, alloc, name, Value::from(number))
 }
 
 /// Inserts where a journey is: its number, its position, what it is doing, and its target if it goes back.
@@ -39,15 +42,16 @@ pub fn put_standing(
     alloc: Global,
     members: &mut Map<String, Value>,
     id: u64,
-    cursor: &Cursor,
+    pos: usize,
+    phase: Phase,
 ) -> Result<(), AllocError>
     ensures standing { OnOk result (members_view members.new.entries
-        ≡ with_standing id cursor.now (members_view members.old.entries)) }
+        ≡ with_standing id pos phase (members_view members.old.entries)) }
 {
     put_whole(alloc, members, "journey", id)?;
-    put_whole(alloc, members, "pos", cursor.pos as u64)?;
-    put_text(alloc, members, "state", cursor.phase.word())?;
-    match cursor.phase {
+    put_whole(alloc, members, "pos", pos as u64)?;
+    put_text(alloc, members, "state", phase.word())?;
+    match phase {
         Phase::Back(target) => put_whole(alloc, members, "target", target as u64),
         _ => Ok(()),
     }

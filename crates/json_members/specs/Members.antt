@@ -1,10 +1,10 @@
 -- The members of an object, inserted one after another. For the values that are built so.
 use Rattle.std.specs.Prelude.{ℕ, codes}
-use Rattle.serde_json.specs.Data.{string, Members, put}
+use Rattle.serde_json.specs.Data.{Members, put, string}
 use Rattle.commands.specs.Texts.{phase_word}
 use Rattle.commands.specs.declared.items.Phase.{Phase}
 use Rattle.commands.specs.declared.items.Phase.TheVariants.{Run, Back, Ended, Undone}
-use Rattle.http_pages.specs.Bodies.{whole}
+use Rattle.json_members.specs.Objects.{whole}
 
 -- members with the position to which a journey goes back, if it does
 abbrev pub with_target : Phase → Members → Members
@@ -13,7 +13,7 @@ with_target (Back target) ms = put (codes "target") (whole target) ms
 with_target Ended ms = ms
 with_target Undone ms = ms
 
--- members with where a journey is
+-- members with where the journey of this number is
 abbrev pub with_standing : ℕ → ℕ → Phase → Members → Members
 with_standing id pos phase ms =
     with_target phase (put (codes "state") (string (phase_word phase))
