@@ -16,7 +16,12 @@ export FAKE=$work/fake
 cat >"$FAKE/rt" <<'RT'
 #!/usr/bin/env bash
 if [ "$1" = version ]; then cat "$FAKE/version"; exit; fi
-if [ "$1" = fmt ]; then [ ! -e src/lib.rt ] || sed -i 's/  */ /g' src/lib.rt; exit; fi
+if [ "$1" = fmt ]; then
+  [ ! -e "$FAKE/slow" ] || { echo >"$FAKE/laid" && sleep 1; }
+  [ ! -e src/lib.rt ] || sed -i 's/  */ /g' src/lib.rt
+  [ ! -e src/unread.rt ] || { echo "$PWD/src/unread.rt: it does not parse" && exit 1; }
+  exit
+fi
 [ "$1" = ci ] && [ -d .git ] || exit 2
 echo "${RT_JOBS:-none}" >"$FAKE/jobs"
 find . -type f | sort >"$FAKE/files"
@@ -170,6 +175,24 @@ gate 1
 says "a source that is not laid out" "rt fmt lays out crates/low/src/lib.rt differently"
 same "a source that is not laid out: nothing is tried" absent "$([ -e "$FAKE/crates" ] || echo absent)"
 git checkout -q crates/low
+
+# the layout of all crates, also of those whose turn it is not, and alone
+gate 0 --layout
+same "the layout" "check: the sources of 8 crates are laid out as rt fmt does it" "$(cat "$work/said")"
+for name in low_tests high_tests bench; do
+  echo "one  two" >crates/$name/src/lib.rt
+  for words in "" --layout; do
+    gate 1 ${words:+"$words"}
+    same "./check $words: what is not laid out" "crates/$name/src/lib.rt" "$(sed -n 's/^check: rt fmt lays out \(.*\) differently$/\1/p' "$work/said")"
+  done
+  same "the layout stays as it is" "one  two" "$(cat crates/$name/src/lib.rt)"
+  git checkout -q crates
+done
+echo "two" >crates/high/src/unread.rt
+gate 1 --layout
+says "a source that rt fmt cannot read" "check: rt fmt fails in crates/high: crates/high/src/unread.rt: it does not parse"
+rm crates/high/src/unread.rt
+
 # changed WHAT CRATES: what was changed since the last commit changes these crates; then it is as before
 changed() {
   gate 0 --since HEAD
@@ -245,17 +268,21 @@ gate 0
 says "a script runs while rt does" "3 passed, 0 failed, 1 skipped"
 rm tests/ends.sh
 
-# ends_gate WHAT FILE: a gate that is ended once this file has something leaves nothing
+# ends_gate WHAT FILE [WORD ..]: a gate that is ended once this file has something leaves nothing
+mkdir "$work/rooms"
 ends_gate() {
   local check
   rm -f "$2"
-  ./check >"$work/said" 2>&1 &
+  TMPDIR=$work/rooms ./check "${@:3}" >"$work/said" 2>&1 &
   check=$!
   comes 20 test -s "$2"
   ends_by TERM "$check"
   same "$1: the status" 143 $?
-  same "$1: what is left" "gate.lock" "$(ls out)"
+  same "$1: what is left" "gate.lock" "$(ls out && ls "$work/rooms")"
 }
+touch "$FAKE/slow"
+ends_gate "a look at the layout that is ended" "$FAKE/laid" --layout
+rm "$FAKE/slow"
 touch "$FAKE/hold"
 ends_gate "a gate that is ended" "$FAKE/crates"
 rm "$FAKE/hold"

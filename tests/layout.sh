@@ -1,8 +1,8 @@
 #!/usr/bin/env bash
-# The shell's scripts are laid out as shfmt does it, shellcheck finds nothing in them, and pyflakes nothing in those of Python. What is
-# absent of the three is left out. One of more than 200 lines says why. words.py counts no more phrases, long sentences and long pages
-# than its limits allow. HEADLINE.md is what headline.py makes of the definitions, and the table in docs/TESTING.md of functions
-# without a clause is as scripts/unproved counts them.
+# The sources of all crates are laid out as `rt fmt` does it. The shell's scripts are laid out as shfmt does it, shellcheck finds nothing
+# in them, and pyflakes nothing in those of Python. What is absent of the three is left out. One of more than 200 lines says why. words.py
+# counts no more phrases, long sentences and long pages than its limits allow. HEADLINE.md is what headline.py makes of the definitions,
+# and the table in docs/TESTING.md of functions without a clause is as scripts/unproved counts them.
 . "$(dirname "${BASH_SOURCE[0]}")/helping.bash"
 cd "$tests/.." || exit 2
 mapfile -t shell < <(grep -lE '^#!/usr/bin/env bash' build check desk soak bench .ci/run tools/* tests/*.sh scripts/* 2>/dev/null)
@@ -17,6 +17,7 @@ finds_nothing() {
   fi
   same "$1" "" "$("$@" 2>&1 | head -n 40)"
 }
+said=$(./check --layout 2>&1) || same "./check --layout" "status 0" "status $?: $said"
 finds_nothing shfmt -i 2 -ci -l "${shell[@]}"
 finds_nothing shellcheck -f gcc "${shell[@]}"
 finds_nothing pyflakes3 "${python[@]}"

@@ -1,6 +1,6 @@
 """The gate: proves all that it chooses by `rt ci`, tries mutants and runs the scripts beside it, and counts what passed.
 
-python3 scripts/gate LANES [--since REVISION | --all | --quick | --turns | --landing]
+python3 scripts/gate LANES [--since REVISION | --all | --quick | --layout | --turns | --landing]
 
 LANES is the number of checks side by side, 0 for as many as fit. docs/GATE.md says what is chosen. Exit status: 0 all has passed, 1 something failed,
 2 wrong words, or another gate runs here.
@@ -12,7 +12,7 @@ import sys
 import time
 from pathlib import Path
 
-from alone import Busy, alone
+from alone import Busy, alone, ends_by_signals
 from changes import Unknown, revision_of
 from choice import everything, first_look, of_landing
 from landings import add_landing, this_landing
@@ -25,7 +25,7 @@ from telling import tell_choice, tell_first_look, tell_minutes, tell_turns
 TOP = Path(__file__).resolve().parents[2]
 # For how many seconds a processor is idle before a task fills it.
 PAUSE = 3
-USAGE = "usage: ./check [--since REVISION | --all | --quick | --turns | --landing]"
+USAGE = "usage: ./check [--since REVISION | --all | --quick | --layout | --turns | --landing]"
 
 
 def say(text):
@@ -50,12 +50,9 @@ class Gate:
         proving = self.lanes - 1 if choice.over_trial and self.lanes > 2 else self.lanes
         minutes = reckoned(tasks, self.lanes, proving)
         say(f"this takes about {minutes:.0f} minutes, with {self.lanes} checks side by side")
-        make_copy(self.tables, choice.crates, self.copy)
-        odd = wrongly_laid_out(self.tables, choice.crates, self.copy, self.lanes)
-        for file in odd:
-            say(f"rt fmt lays out {file} differently")
-        if odd:
+        if not is_laid_out(self.tables, self.lanes):
             return False
+        make_copy(self.tables, choice.crates, self.copy)
         self.heard.mkdir(exist_ok=True)
         self.proving = Proving(self.copy, proving)
         self.fillers = Fillers([it for it in tasks if it.fills], self.heard, self.lanes)
@@ -112,6 +109,16 @@ class Gate:
         shutil.rmtree(self.heard, ignore_errors=True)
 
 
+def is_laid_out(tables, lanes):
+    """Returns whether the sources of all crates are laid out as `rt fmt` does it, and names those that are not."""
+    odd = wrongly_laid_out(tables, lanes)
+    for found in odd:
+        say(found)
+    if odd:
+        say("lay out the sources of a crate by 'rt fmt' in its folder")
+    return not odd
+
+
 def choose(tables, lanes, words):
     """Returns what a run with these words tries."""
     if words == ["--all"]:
@@ -129,6 +136,12 @@ def choose(tables, lanes, words):
 def main(words):
     lanes, words = int(words[0]) or lanes_now(), words[1:]
     tables = Tables(TOP)
+    if words == ["--layout"]:
+        ends_by_signals()
+        if not is_laid_out(tables, lanes):
+            return 1
+        say(f"the sources of {len(tables.uses)} crates are laid out as rt fmt does it")
+        return 0
     if words == ["--turns"]:
         return tell_turns(tables, lanes, this_landing(TOP, say)[0], say)
     if words == ["--landing"]:

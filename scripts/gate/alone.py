@@ -6,6 +6,9 @@ import signal
 import sys
 
 
+SIGNALS = (signal.SIGHUP, signal.SIGINT, signal.SIGTERM)
+
+
 class Busy(Exception):
     """Another run has the lock."""
 
@@ -21,17 +24,22 @@ def locked(path):
         yield
 
 
-@contextlib.contextmanager
-def alone(path, interrupted=lambda: None):
-    """The same, in a folder that is made if needed; from then on a signal ends the run with the status of a shell. An interrupt is told first."""
+def ends_by_signals(interrupted=lambda: None):
+    """From now on a signal ends the run in order, with the status of a shell. An interrupt is told first."""
 
     def stop(number, _frame):
         if number == signal.SIGINT:
             interrupted()
         sys.exit(128 + number)
 
+    for number in SIGNALS:
+        signal.signal(number, stop)
+
+
+@contextlib.contextmanager
+def alone(path, interrupted=lambda: None):
+    """Has the lock of this file, in a folder that is made if needed, or raises Busy; from then on a signal ends the run in order."""
     path.parent.mkdir(exist_ok=True)
     with locked(path):
-        for number in (signal.SIGHUP, signal.SIGINT, signal.SIGTERM):
-            signal.signal(number, stop)
+        ends_by_signals(interrupted)
         yield

@@ -4,6 +4,7 @@ import os
 import re
 import shutil
 import subprocess
+import tempfile
 import threading
 import time
 from concurrent.futures import ThreadPoolExecutor
@@ -28,17 +29,22 @@ def make_copy(tables, crates, copy):
     (copy / "crates.txt").write_text("".join(lines), encoding="utf-8")
 
 
-def wrongly_laid_out(tables, crates, copy, lanes):
-    """Returns the sources that `rt fmt` lays out differently; it changes them in the copy. `rt ci` finds the same, late."""
+def wrongly_laid_out(tables, lanes):
+    """Returns, in words, which sources of all crates `rt fmt` lays out differently, as it does in a copy. `rt ci` finds those of the crates
+    that it proves, late."""
+    with tempfile.TemporaryDirectory(prefix="layout-") as room, ThreadPoolExecutor(lanes) as pool:
+        copy = Path(room, "copy")
+        make_copy(tables, [*tables.uses], copy)
+        return [found for each in pool.map(lambda name: laid_out_otherwise(tables, copy, name), tables.uses) for found in each]
 
-    def lay_out(name):
-        ran = subprocess.run(["rt", "fmt"], cwd=copy / "crates" / name, capture_output=True, text=True, check=False)
-        files = [it for it in (copy / "crates" / name).rglob("*") if it.suffix in (".rt", ".antt")]
-        odd = [it.relative_to(copy).as_posix() for it in files if it.read_bytes() != (tables.top / it.relative_to(copy)).read_bytes()]
-        return odd or ([f"crates/{name} ({ran.stdout}{ran.stderr})"] if ran.returncode else [])
 
-    with ThreadPoolExecutor(lanes) as pool:
-        return [file for files in pool.map(lay_out, crates) for file in files]
+def laid_out_otherwise(tables, copy, name):
+    """Returns, in words, which sources of a crate `rt fmt` has changed in the copy, or what it said where it failed."""
+    ran = subprocess.run(["rt", "fmt"], cwd=copy / "crates" / name, capture_output=True, text=True, check=False)
+    files = [it.relative_to(copy) for it in sorted((copy / "crates" / name).rglob("*")) if it.suffix in (".rt", ".antt")]
+    odd = [f"rt fmt lays out {it.as_posix()} differently" for it in files if (copy / it).read_bytes() != (tables.top / it).read_bytes()]
+    failed = f"rt fmt fails in crates/{name}: {ran.stdout}{ran.stderr}".replace(f"{copy}/", "").strip()
+    return odd + ([failed] if ran.returncode else [])
 
 
 class Proving:
