@@ -291,6 +291,20 @@ ends_gate "a gate that is ended amid scripts" "$FAKE/script"
 same "a gate that is ended amid scripts: the script" gone "$(kill -0 "$(cat "$FAKE/script")" 2>/dev/null || echo gone)"
 git checkout -q tests
 
+# a signal that comes while a process begins ends the run afterwards
+python3 -B - >begins 2>&1 <<'PY'
+import signal, sys
+sys.path.insert(0, "scripts/gate")
+from alone import ends_by_signals, undisturbed
+ends_by_signals()
+with undisturbed():
+    signal.raise_signal(signal.SIGTERM)
+    print("begun")
+print("not ended")
+PY
+same "a signal while a process begins" "143 begun" "$? $(cat begins)"
+rm begins
+
 # what fails
 gate 2 --since nowhere
 gate 2 --most

@@ -12,7 +12,7 @@ import sys
 import time
 from pathlib import Path
 
-from alone import Busy, alone, ends_by_signals
+from alone import Busy, alone, ends_by_signals, undisturbed
 from changes import Unknown, revision_of
 from choice import everything, first_look, of_landing
 from landings import add_landing, this_landing
@@ -54,7 +54,8 @@ class Gate:
             return False
         make_copy(self.tables, choice.crates, self.copy)
         self.heard.mkdir(exist_ok=True)
-        self.proving = Proving(self.copy, proving)
+        with undisturbed():
+            self.proving = Proving(self.copy, proving)
         self.fillers = Fillers([it for it in tasks if it.fills], self.heard, self.lanes)
         self.wait()
         tell_minutes(self.proving.minutes(), say)

@@ -37,6 +37,20 @@ def ends_by_signals(interrupted=lambda: None):
 
 
 @contextlib.contextmanager
+def undisturbed():
+    """Has a signal that comes meanwhile act afterwards, so that a process which begins here is known before the run ends."""
+    came = []
+    were = {number: signal.signal(number, lambda number, _frame: came.append(number)) for number in SIGNALS}
+    try:
+        yield
+    finally:
+        for number, was in were.items():
+            signal.signal(number, was)
+        for number in came:
+            signal.raise_signal(number)
+
+
+@contextlib.contextmanager
 def alone(path, interrupted=lambda: None):
     """Has the lock of this file, in a folder that is made if needed, or raises Busy; from then on a signal ends the run in order."""
     path.parent.mkdir(exist_ok=True)

@@ -9,7 +9,7 @@ import sys
 import time
 from pathlib import Path
 
-from alone import Busy, alone, locked
+from alone import Busy, alone, locked, undisturbed
 from lanes import Task, chains, lanes_now, reckoned
 from rooms import KEPT, Rooms
 from tables import Tables
@@ -76,7 +76,8 @@ class Build:
         with open(room / "said", "w", encoding="utf-8") as said:
             words = ["setpriv", "--pdeathsig", "TERM", "rt", "run" if name == "desk" else "lib", "--jobs", str(jobs)]
             how = {"cwd": room / "crates" / name, "stdin": subprocess.DEVNULL, "stdout": said, "stderr": subprocess.STDOUT}
-            self.running[name] = subprocess.Popen(words, **how), jobs, time.monotonic()
+            with undisturbed():
+                self.running[name] = subprocess.Popen(words, **how), jobs, time.monotonic()
         self.waiting.remove(name)
         say(self.so_far())
 

@@ -7,6 +7,8 @@ import subprocess
 import time
 from dataclasses import dataclass, field
 
+from alone import undisturbed
+
 # The memory in kB that must be free before a task that proves begins: the mutants of some crates take as much.
 MEMORY = 9_000_000
 
@@ -99,8 +101,9 @@ class Fillers:
         heard = open(self.folder / "-".join(map(str, task.name)).replace("/", "_"), "w+", encoding="utf-8", errors="replace")
         how = {"stdin": subprocess.DEVNULL, "stdout": heard, "stderr": subprocess.STDOUT, "process_group": 0}
         nice = ["nice", "-n", "10"] if task.proves else []
-        process = subprocess.Popen([*nice, *task.words], env={**os.environ, **task.environment}, **how)
-        self.running[task] = process, heard, time.monotonic()
+        with undisturbed():
+            process = subprocess.Popen([*nice, *task.words], env={**os.environ, **task.environment}, **how)
+            self.running[task] = process, heard, time.monotonic()
 
     def _take_in(self, task):
         process, heard, began = self.running.pop(task)
