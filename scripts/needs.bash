@@ -65,8 +65,15 @@ stop_on_absent() {
 # need_toolchain: ends with 127 where the command rt is absent, and has what rt itself needs installed
 need_toolchain() {
   if ! command -v rt >/dev/null 2>&1; then
-    say "the command 'rt' of the Rattle toolchain is not on the PATH. Install the toolchain, add the folder of 'rt' to PATH, and run this again."
+    say "the command 'rt' of the Rattle toolchain is not on the PATH. Ask whoever gave you the repository for the toolchain," \
+      "add the folder of 'rt' to PATH, and run this again. docs/RUNNING.md says which version, and what else is needed"
     exit 127
   fi
   need python3 python3
+}
+
+# tell_toolchain: says so where the toolchain is not the one by which all was proved. For scripts that have set top
+tell_toolchain() {
+  grep -qsF "$(rt version)" "$top/docs/RUNNING.md" ||
+    say "this toolchain is '$(rt version)', and docs/RUNNING.md names the one by which all was proved: a proof may fail with another"
 }

@@ -97,6 +97,8 @@ case $(order) in
   "begins low ends low begins right begins left ends "*" begins desk ends desk ") ;;
   *) same "the order" "low, then left and right side by side, then desk" "$(order)" ;;
 esac
+says "a build by another toolchain" "this toolchain is 'kit 1', and docs/RUNNING.md names the one by which all was proved"
+echo 'kit 1' >docs/RUNNING.md
 says "a build" "proving 4 crates, 2 side by side"
 says "a build" "crate 4 of 4"
 says "a build" "the program is crates/desk/out/desk"

@@ -22,6 +22,9 @@ if [ "$1" = fmt ]; then
   [ ! -e src/unread.rt ] || { echo "$PWD/src/unread.rt: it does not parse" && exit 1; }
   exit
 fi
+if [ "$1" = try ]; then
+  mkdir "$TMPDIR/made" && printf tried >"$TMPDIR/made/program" && exec cat "$7"
+fi
 [ "$1" = ci ] && [ -d .git ] || exit 2
 echo "${RT_JOBS:-none}" >"$FAKE/jobs"
 find . -type f | sort >"$FAKE/files"
@@ -323,6 +326,25 @@ gate 1
 says "a script that fails" "check: tests/bad.sh FAILED"
 says "a script that fails" "2 passed, 1 failed, 1 skipped"
 rm tests/bad.sh
+
+# a first look: the core with its tests, and the short scripts over a trial program
+echo 'saga_core: low' >>crates.txt
+mkdir -p crates/saga_core/src
+echo '[ "$(cat "$DESK")" = tried ]' >tests/good.sh
+left="7 crates, 40 mutants, 1 scripts"
+gate 0 --quick
+says "a first look, at its start" "proved, with their tests: low saga_core; tried: 0 mutants"
+says "a first look, at its start" "run over a trial program, compiled without proofs: good.sh lacks.sh"
+says "a first look, at its start" "left out: $left"
+says "a first look" "1 passed, 0 failed, 1 skipped"
+same "a first look: the last line" "check: proved, with their tests: low saga_core. Only run, over a program without proofs: 1 scripts. Left out: $left. \
+./check is the gate" "$(tail -n 1 "$work/said")"
+same "a first look: what was proved" "low saga_core" "$(proved)"
+touch "$FAKE/fails"
+gate 1 --quick
+says "a first look that fails" "check: NOT proved: what rt says above. Only run"
+rm "$FAKE/fails"
+git checkout -q crates.txt tests
 
 # the repository as it is: on one to eight processors everything has its turn, on two within 30 landings
 python3 -B - "$tests/.." >turns 2>&1 <<'PY'

@@ -1,9 +1,9 @@
 """The gate: proves all that it chooses by `rt ci`, tries mutants and runs the scripts beside it, and counts what passed.
 
-python3 scripts/gate LANES [--since REVISION | --all | --quick | --layout | --turns | --landing]
+python3 scripts/gate LANES [WORD ..]
 
-LANES is the number of checks side by side, 0 for as many as fit. docs/GATE.md says what is chosen. Exit status: 0 all has passed, 1 something failed,
-2 wrong words, or another gate runs here.
+LANES is the number of checks side by side, 0 for as many as fit; USAGE has the words. docs/GATE.md says what is chosen. Exit status: 0 all
+has passed, 1 something failed, 2 wrong words, or another gate runs here.
 """
 
 import os
@@ -20,12 +20,20 @@ from lanes import Fillers, end_group, lanes_now, reckoned
 from proving import Proving, make_copy, wrongly_laid_out
 from tables import Tables
 from tasks import Results, all_tasks
-from telling import tell_choice, tell_first_look, tell_minutes, tell_turns
+from telling import tell_choice, tell_first_look, tell_fixed, tell_minutes, tell_turns
 
 TOP = Path(__file__).resolve().parents[2]
 # For how many seconds a processor is idle before a task fills it.
 PAUSE = 3
-USAGE = "usage: ./check [--since REVISION | --all | --quick | --layout | --turns | --landing]"
+USAGE = """usage: ./check [WORDS]
+  ./check                    the gate: all proofs and scripts, and of tests and mutants what has changed and whose turn it is
+  ./check --since REVISION   the same, as if what stands in this revision had landed
+  ./check --quick            a first look: the core proved, with tests, and the short scripts over a trial program
+  ./check --all              everything
+  ./check --layout           names the sources that `rt fmt` lays out differently, in seconds; nothing is proved
+  ./check --turns            says at which landing each crate has its turn
+  ./check --landing          adds the line of a landing to docs/landings.tsv
+docs/RUNNING.md says how long each takes"""
 
 
 def say(text):
@@ -60,10 +68,10 @@ class Gate:
         self.wait()
         tell_minutes(self.proving.minutes(), say)
         say(f"this took {(time.time() - self.began) / 60:.0f} minutes, and was reckoned {minutes:.0f}")
-        passed = self.results.tell(self.fillers.waiting)
+        is_proved, passed = self.proving.status() == 0, self.results.tell(self.fillers.waiting)
         if choice.over_trial:
-            tell_first_look(self.tables, choice, self.results, say)
-        return self.proving.status() == 0 and passed
+            tell_first_look(self.tables, choice, is_proved, self.results, say)
+        return is_proved and passed
 
     def wait(self):
         """Waits until all has ended, and begins what fills the processors that `rt ci` leaves free."""
@@ -122,10 +130,10 @@ def is_laid_out(tables, lanes):
 
 def choose(tables, lanes, words):
     """Returns what a run with these words tries."""
-    if words == ["--all"]:
-        return everything(tables)
-    if words == ["--quick"]:
-        return first_look(tables)
+    if words in (["--all"], ["--quick"]):
+        choice = everything(tables) if words == ["--all"] else first_look(tables)
+        tell_fixed(tables, choice, say)
+        return choice
     number, since = this_landing(TOP, say)
     if words:
         since = revision_of(TOP, words[1])

@@ -141,8 +141,9 @@ class Results:
         """Says what all came to, and returns whether everything passed."""
         for task in not_begun:
             self.say(f"{' '.join(task.name)} could not begin")
-        told = f"mutants: {self.rejected} rejected"
-        self.say(told + (f", FAILED: {' '.join(self.failed_mutants)}" if self.failed_mutants else ""))
+        if self.rejected or self.failed_mutants:
+            told = f"mutants: {self.rejected} rejected"
+            self.say(told + (f", FAILED: {' '.join(self.failed_mutants)}" if self.failed_mutants else ""))
         if self.left_out:
             self.say(f"scripts left out until their turn: {' '.join(self.left_out)}")
         print(f"{len(self.passed)} passed, {len(self.failed)} failed, {len(self.skipped)} skipped", flush=True)

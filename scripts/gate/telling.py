@@ -45,10 +45,24 @@ def tell_minutes(minutes, say):
     say("minutes by the clock: " + ", ".join(f"{name} {kind} {taken}" for name, kind, taken in told))
 
 
-def tell_first_look(tables, choice, results, say):
+def tell_fixed(tables, choice, say):
+    """Says what a run tries whose choice does not depend on changes and turns."""
+    mutants = sum(map(len, choice.mutants.values()))
+    program = "a trial program, compiled without proofs" if choice.over_trial else "the program"
+    say(f"proved, with their tests: {' '.join(choice.crates) or 'no crate'}; tried: {mutants} mutants")
+    say(f"run over {program}: {' '.join(choice.scripts) or 'no script'}")
+    say(f"left out: {not_tried(tables, choice)}")
+
+
+def not_tried(tables, choice):
+    """Returns the words for how much a choice leaves out."""
+    crates, scripts = len(tables.uses) - len(choice.crates), len(tables.scripts) - len(choice.scripts)
+    mutants = sum(map(len, tables.mutants.values())) - sum(map(len, choice.mutants.values()))
+    return f"{crates} crates, {mutants} mutants, {scripts} scripts"
+
+
+def tell_first_look(tables, choice, is_proved, results, say):
     """Says what a first look has proved, and what only ran."""
+    proved = f"proved, with their tests: {' '.join(choice.crates)}" if is_proved else "NOT proved: what rt says above"
     ran = len(results.passed) + len(results.failed)
-    say(
-        f"proved, where nothing failed: {' '.join(choice.crates)}, with their tests. Only run, over a program without proofs: {ran} scripts. "
-        f"Not tried: {len(tables.uses) - len(choice.crates)} crates, all mutants, {len(tables.scripts) - len(choice.scripts)} scripts. ./check is the gate"
-    )
+    say(f"{proved}. Only run, over a program without proofs: {ran} scripts. Left out: {not_tried(tables, choice)}. ./check is the gate")
