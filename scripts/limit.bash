@@ -17,43 +17,27 @@ fail() {
   exit 1
 }
 
-# one_line PATTERN FILE ..: the file and the number of the one line that has it; fails where there is none, or another
-one_line() {
-  local found
-  found=$(grep -nE "$@" /dev/null | cut -d: -f1,2)
-  [ "$(grep -c . <<<"$found")" -eq 1 ] || return 1
-  printf '%s\n' "$found"
-}
-
-# replace FILE:LINE VALUE: puts this value where the line has its last number
+# replace WHAT PATTERN FILE ..: puts the value where the one line that has this pattern has its last number
 replace() {
-  sed -i -E "${1##*:}s/[0-9][0-9_]*([^0-9]*)\$/$2\1/" "${1%:*}"
-  say "${1%:*}: $(sed -n "${1##*:}p" "${1%:*}")"
-}
-
-# take_kept: what rt has kept of each crate goes along
-take_kept() {
-  local kept
-  for kept in "$top"/crates/*/out/{incremental,rlib}; do
-    [ -d "$kept" ] || continue
-    mkdir -p "$copy/${kept#"$top"/}" && cp -a --reflink=auto "$kept/." "$copy/${kept#"$top"/}" || return
-  done
+  local found
+  found=$(grep -nE "$2" "${@:3}" | cut -d: -f1,2)
+  [ "$(grep -c . <<<"$found")" -eq 1 ] || fail "no $1, or more than one"
+  sed -i -E "${found#*:}s/[0-9][0-9_]*([^0-9]*)\$/$value\1/" "${found%:*}"
+  say "$found: $(sed -n "${found#*:}p" "${found%:*}")"
 }
 
 [[ $#:${1-}:${2-} =~ ^2:[a-z_]+:[0-9]+$ ]] || {
   echo "usage: scripts/limit.bash NAME VALUE" >&2
   exit 2
 }
-rm -rf "$copy"
-mkdir -p "$copy/.git" && tar -C "$top" --exclude=./.git --exclude=out -cf - . | tar -C "$copy" -xf - || exit 2
+name=$1 value=$2
 trap 'rm -rf "$copy"' EXIT
 trap 'exit 130' INT
 trap 'exit 143' TERM
-take_kept || exit 2
-cd "$copy" || exit 2
-definition=$(one_line "^$1 = [0-9]+\$" crates/*/specs/Limits.antt) || fail "no limit, or more than one, is defined as $1"
-code=$(one_line "const ${1^^}: [a-z0-9]+ = [0-9_]+;\$" crates/*/src/limits.rt) || fail "no constant, or more than one, is ${1^^}"
-replace "$definition" "$2"
-replace "$code" "$2"
-./build || fail "not every crate is proved with $1 = $2"
-say "every crate that the program stands on is proved with $1 = $2"
+# what rt has kept of each crate goes along
+rm -rf "$copy"
+mkdir -p "$copy/.git" && cp -a --reflink=auto "$top"/{build,crates,crates.txt,docs,HANDLES,scripts} "$copy" && cd "$copy" || exit 2
+replace "limit is defined as $name" "^$name = [0-9]+\$" crates/*/specs/Limits.antt
+replace "constant is ${name^^}" "const ${name^^}: [a-z0-9]+ = [0-9_]+;\$" crates/*/src/limits.rt
+./build || fail "not every crate is proved with $name = $value"
+say "every crate that the program stands on is proved with $name = $value"

@@ -63,13 +63,10 @@ for name in low left right desk aside; do
   echo one >crates/$name/src/lib.rt
 done
 
-# builds STATUS WORDS ..: ./build with these words ends so; what it says goes to said
+# builds STATUS WORDS .. [-- TEXT ..]: ./build with these words ends so, and says these texts
 builds() {
-  local expected=$1
-  shift
   : >"$FAKE/log"
-  ./build "$@" >"$work/said" 2>&1
-  same "./build $*: the status" "$expected" $?
+  runs "$1" ./build "${@:2}"
 }
 
 # order: what the fake rt noted, side by side in the order of names
@@ -90,18 +87,15 @@ begins_build() {
 mkdir -p crates/desk/out/trial
 touch crates/desk/out/trial/lock crates/desk/out/trial/desk-0
 touch "$FAKE/meet"
-builds 0
+builds 0 -- "this toolchain is 'kit 1', and docs/RUNNING.md names the one by which all was proved" \
+  "proving 4 crates, 2 side by side" "crate 4 of 4" "the program is crates/desk/out/desk"
+echo 'kit 1' >docs/RUNNING.md
 rm "$FAKE/meet"
 case $(order) in
   "begins low ends low begins left begins right ends "*" begins desk ends desk ") ;;
   "begins low ends low begins right begins left ends "*" begins desk ends desk ") ;;
   *) same "the order" "low, then left and right side by side, then desk" "$(order)" ;;
 esac
-says "a build by another toolchain" "this toolchain is 'kit 1', and docs/RUNNING.md names the one by which all was proved"
-echo 'kit 1' >docs/RUNNING.md
-says "a build" "proving 4 crates, 2 side by side"
-says "a build" "crate 4 of 4"
-says "a build" "the program is crates/desk/out/desk"
 same "what is kept" "desk" "$(find crates -path '*/out/*' -type f -printf '%f\n')"
 same "the program" "proved run x.db" "$(./desk run x.db 2>"$work/err")"
 same "the program: standard error" "" "$(cat "$work/err")"
@@ -134,7 +128,7 @@ mkdir -p crates/bench
 cp "$tests"/../crates/bench/*.bash crates/bench
 linked build 0 "build: the program is crates/desk/out/desk, $(du -shc crates/desk/out/desk | tail -n 1 | cut -f 1), and no source is newer"
 linked check 0 "python3 -B scripts/gate 0 --turns" --turns
-linked soak 0 "python3 $top/tests/soak.py . --help" --help
+linked soak 0 "python3 $top/tests/soak.py --help" --help
 linked bench 2 "bench: no such measure: nothing" nothing
 rm -r crates/bench
 
@@ -174,8 +168,7 @@ same "a build that went on keeps the program alone" "desk" "$(find crates -path 
 
 # all is kept for who works on it, and stays
 touch crates/low/src/lib.rt
-builds 0 --keep
-says "a build that keeps all" "rm -r crates/*/out/incremental crates/*/out/rlib"
+builds 0 --keep -- "rm -r crates/*/out/incremental crates/*/out/rlib"
 same "a build that keeps all" 4 "$(find crates -name stamp | wc -l)"
 touch crates/low/src/lib.rt
 builds 0
@@ -183,9 +176,7 @@ same "what was kept before stays" 4 "$(find crates -name stamp | wc -l)"
 
 # a source that is not proved; one that changes meanwhile; one of a crate that the program does not stand on
 echo wrong >crates/right/src/lib.rt
-builds 1
-says "a source that is not proved" "src/lib.rt:1:1: error: wrong"
-says "a source that is not proved" "right is not proved"
+builds 1 -- "src/lib.rt:1:1: error: wrong" "right is not proved"
 echo one >crates/right/src/lib.rt
 begins_build
 touch crates/low/src/lib.rt

@@ -7,7 +7,7 @@ if [ -w /dev/shm ]; then in_memory=/dev/shm; fi
 . "$tests/serving.bash"
 clients=$tests/clients
 . "$clients/proxies.bash"
-export PYTHONDONTWRITEBYTECODE=1 NODE_NO_WARNINGS=1
+export NODE_NO_WARNINGS=1
 
 # The commands of the clients that are here, by name; absent: the names of clients and proxies that are not.
 declare -A command_of=()

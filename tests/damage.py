@@ -198,9 +198,7 @@ def main():
     for text in trial.examples:
         print(f"  {text}")
     print(f"{trial.runs} runs, {len(trial.wrong)} that did not end as they should{IN_PART}")
-    for text in trial.wrong[:10]:
-        print(f"damage.py: {text}", file=sys.stderr)
-    sys.exit(1 if trial.wrong else 0)
+    sys.exit("\n".join(f"damage.py: {text}" for text in trial.wrong[:10]) or 0)
 
 
 main()

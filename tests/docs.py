@@ -17,8 +17,8 @@ import socket
 import subprocess
 import sys
 import tempfile
-import time
 
+from driving import waits_for
 from ports import free_port
 
 # commands that are not run here, by how they begin, and why
@@ -185,19 +185,12 @@ class Shell:
             self.background.append(said[1])
         elif command.ends_background() and self.background:
             # a process that a proxy has started may listen for longer than the proxy itself
-            wait_until(lambda: not os.path.exists(f"/proc/{self.background[-1]}") and not (command.tool and accepts(ports[1])))
+            waits_for(lambda: not os.path.exists(f"/proc/{self.background[-1]}") and not (command.tool and accepts(ports[1])), SECONDS)
         return output
 
     def end(self):
         os.killpg(self.bash.pid, signal.SIGKILL)
         self.bash.wait()
-
-
-def wait_until(holds):
-    """Waits until it holds, for some time."""
-    deadline = time.monotonic() + SECONDS
-    while not holds() and time.monotonic() < deadline:
-        time.sleep(0.02)
 
 
 def lines_in(path):
@@ -239,10 +232,10 @@ def run_commands(desk, folder, commands):
         for command in commands:
             output = shell.run(command, ports)
             if command.is_background():
-                wait_until(lambda: len(lines_in(output)) >= len(command.printed))
+                waits_for(lambda: len(lines_in(output)) >= len(command.printed), SECONDS)
                 background.append((command, output))
                 if command.tool:
-                    wait_until(lambda: accepts(ports[1]))
+                    waits_for(lambda: accepts(ports[1]), SECONDS)
             compare(command, lines_in(output), ports)
         for command, output in background:
             compare(command, lines_in(output), ports)

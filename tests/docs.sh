@@ -4,7 +4,6 @@
 . "$(dirname "${BASH_SOURCE[0]}")/helping.bash"
 
 stands_on python3 curl
-top=$(dirname "$tests")
 mkdir pages rooms
 
 # refuses_page WHAT WHY TEXT: a page with this text fails, for this reason

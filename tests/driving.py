@@ -265,11 +265,19 @@ def compact(value):
     return json.dumps(value, sort_keys=True, separators=(",", ":"))
 
 
-def plan_of(*products, saves=(), tries=0, count=1):
-    """The body of a plan whose steps want a flight each, of one of these products, with save-points behind some steps."""
-    want = {"count": count, "first": "2030-06-01", "kind": "flight", "nights": 1, "supplier": "AL"}
-    steps = [{"options": [{**want, "product": one} for one in names], "save": n in saves} for n, names in enumerate(products, 1)]
-    return compact({"steps": steps, "tries": tries}).encode()
+def option(kind, supplier, product, first="2030-06-01", nights=1, count=1):
+    return {"kind": kind, "supplier": supplier, "product": product, "first": first, "nights": nights, "count": count}
+
+
+def plan(*steps, saves=(), tries=0):
+    """The body of a plan of these steps, each an option or a list of some, with save-points after these steps."""
+    options = [one if isinstance(one, list) else [one] for one in steps]
+    return compact({"steps": [{"options": one, "save": n in saves} for n, one in enumerate(options, 1)], "tries": tries})
+
+
+def plan_of(*products, count=1, **more):
+    """The bytes of a plan whose steps want a flight each, of one of these products."""
+    return plan(*([option("flight", "AL", one, count=count) for one in names] for names in products), **more).encode()
 
 
 PLAN = plan_of(["A1"])
@@ -329,7 +337,8 @@ class Client:
                 self.rest += piece
         except OSError:
             pass
-        page, self.rest = self.rest[: page_size(self.rest)], self.rest[page_size(self.rest) :]
+        size = page_size(self.rest)
+        page, self.rest = self.rest[:size], self.rest[size:]
         return page
 
     def close(self):
@@ -363,19 +372,12 @@ def parts_of(page):
 
 
 def page_size(text):
-    """How many bytes the first page of these has, all of them where it is not whole."""
+    """How many bytes the page has that begins these, as its head says; more than there are where that is not whole."""
     head, end, _ = text.partition(b"\r\n\r\n")
-    for field in head.split(b"\r\n") if end else []:
-        name, _, value = field.partition(b":")
-        if name.lower() == b"content-length":
-            return min(len(text), len(head) + 4 + int(value))
-    return len(text)
+    size = re.search(rb"\r\ncontent-length: *(\d+)", head, re.IGNORECASE)
+    return len(head + end) + int(size[1]) if end and size else len(text) + 1
 
 
 def is_whole(text):
     """Whether a whole page begins these bytes."""
-    head, end, rest = text.partition(b"\r\n\r\n")
-    if not end:
-        return False
-    sizes = [int(f.partition(b":")[2]) for f in head.split(b"\r\n") if f.lower().startswith(b"content-length:")]
-    return bool(sizes) and len(rest) >= sizes[0]
+    return page_size(text) <= len(text)

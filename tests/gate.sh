@@ -98,13 +98,10 @@ commit() {
 # land N BEFORE: the landing of this number has its line
 land() { printf '%s\t2026-01-02\t%s\n' "$1" "$2" >>docs/landings.tsv; }
 
-# gate STATUS WORDS ..: ./check with these words ends so; what it says goes to said
+# gate STATUS WORDS .. [-- TEXT ..]: ./check with these words ends so, and says these texts
 gate() {
-  local expected=$1
-  shift
   rm -f "$FAKE"/{mutants,crates,files,jobs}
-  ./check "$@" >"$work/said" 2>&1
-  same "./check $*: the status" "$expected" $?
+  runs "$1" ./check "${@:2}"
 }
 
 # tried: of each crate how many mutants were tried
@@ -122,15 +119,10 @@ land 8 "$landed"
 commit 1
 
 # nothing has changed: all crates but those of tests, and by turns some of these and some mutants
-gate 0
+gate 0 -- "landing 8, compared with $landed: sources changed in no crate" "a round of mutants takes 30 landings" \
+  "left out until their turn:" "long: 2/3" "good: whole" "2 passed, 0 failed, 1 skipped"
 same "the processors" 2 "$(cat "$FAKE/jobs")"
-says "landing 8" "landing 8, compared with $landed: sources changed in no crate"
 same "the crates of the program are proved" "low mid high other desk" "$(proved | sed 's/ [a-z]*_tests//g; s/ bench//')"
-says "the scripts" "2 passed, 0 failed, 1 skipped"
-says "a part of a long script" "long: 2/3"
-says "a short script" "good: whole"
-says "what is left out" "left out until their turn:"
-says "the turns" "a round of mutants takes 30 landings"
 same "no mutant stands in the copy" "" "$(grep '\.edit$' "$FAKE/files")"
 find . -type f ! -path './*/out/*' ! -path './out/*' ! -path './.git/*' ! -name '*.edit' ! -name '*.pyc' | sort >"$work/files"
 left=$(sed -n 's/.*left out until their turn: //p' "$work/said" | tr -d ',' | tr ' ' '\n' | grep -E '^(bench|[a-z]+_tests)$')
@@ -139,43 +131,33 @@ same "nothing of the run is left" "gate.lock" "$(ls out)"
 
 # the next landing takes the next part
 land 9 "$landed"
-gate 0
-says "the next landing" "landing 9, compared with $landed"
-says "a script whose turn it is not" "scripts left out until their turn: long.sh"
-says "a script whose turn it is not" "1 passed, 0 failed, 1 skipped"
+gate 0 -- "landing 9, compared with $landed" "scripts left out until their turn: long.sh" "1 passed, 0 failed, 1 skipped"
 commit 1
 
 touch "$FAKE/accepts"
 gate 1 --all
 rm "$FAKE/accepts"
-gate 0 --all
+gate 0 --all -- "long: whole"
 same "all that there are" "desk 8, high 8, low 8, mid 8, other 8" "$(tried)"
 same "every crate" "low mid high other desk low_tests high_tests bench" "$(proved)"
-says "a script in the whole run" "long: whole"
 echo changed >crates/high/mutants/8.edit
-gate 0 --all
+gate 0 --all -- "mutants: 40 rejected"
 same "a whole run goes on: what has changed since" "high 8" "$(tried)"
-says "a whole run goes on" "mutants: 40 rejected"
 git checkout -q crates
 rm -r out/tried
 
 # what has changed comes first
 echo two >crates/mid/src/lib.rt
-gate 0
-says "a file that is not committed" "sources changed in mid"
+gate 0 -- "sources changed in mid"
 same "a file that is not committed: the crate, and those above it" "desk 8, high 8, mid 8" "$(tried | tr ',' '\n' | grep -E 'mid|high|desk' | sed 's/^ //' | paste -sd, | sed 's/,/, /g')"
 same "its tests" yes "$(proved | grep -q high_tests && echo yes)"
 commit 1
-gate 0
-says "a file that is committed" "sources changed in mid"
-gate 0 --since HEAD
-says "since the last commit" "sources changed in no crate"
-gate 0 --since HEAD~1
-says "since the one before" "sources changed in mid"
+gate 0 -- "sources changed in mid"
+gate 0 --since HEAD -- "sources changed in no crate"
+gate 0 --since HEAD~1 -- "sources changed in mid"
 
 echo "one  two" >crates/low/src/lib.rt
-gate 1
-says "a source that is not laid out" "rt fmt lays out crates/low/src/lib.rt differently"
+gate 1 -- "rt fmt lays out crates/low/src/lib.rt differently"
 same "a source that is not laid out: nothing is tried" absent "$([ -e "$FAKE/crates" ] || echo absent)"
 git checkout -q crates/low
 
@@ -192,27 +174,25 @@ for name in low_tests high_tests bench; do
   git checkout -q crates
 done
 echo "two" >crates/high/src/unread.rt
-gate 1 --layout
-says "a source that rt fmt cannot read" "check: rt fmt fails in crates/high: crates/high/src/unread.rt: it does not parse"
+gate 1 --layout -- "check: rt fmt fails in crates/high: crates/high/src/unread.rt: it does not parse"
 rm crates/high/src/unread.rt
 
-# changed WHAT CRATES: what was changed since the last commit changes these crates; then it is as before
+# changed CRATES: what was changed since the last commit changes these crates; then it is as before
 changed() {
-  gate 0 --since HEAD
-  says "$1" "sources changed in $2"
+  gate 0 --since HEAD -- "sources changed in $1"
   git reset -q --hard
   git clean -q -d -f crates
   echo "kit 1" >"$FAKE/version"
 }
 mkdir crates/other/proofs
 echo new >crates/other/proofs/New.antt
-changed "a new file" other
+changed other # a new file
 git rm -q -f crates/high/src/lib.rt
-changed "a file that is gone" high
+changed high # a file that is gone
 sed -i 's/^high:.*/high: mid other/' crates.txt
-changed "a crate that stands on another" high
+changed high # a crate that stands on another
 echo "kit 2" >"$FAKE/version"
-changed "another toolchain" "low mid high other desk low_tests high_tests bench"
+changed "low mid high other desk low_tests high_tests bench" # another toolchain
 
 # choose LANES SINCE: which mutants a landing tries that has no turn of any, where each takes so long that there is room for few
 choose() {
@@ -241,34 +221,27 @@ git checkout -q crates docs
 sed -i '/2026-01-02/d' docs/landings.tsv
 land 9 "$landed"
 commit 20
-gate 0
-says "no line" "has no line for this landing"
-says "no line" "landing 10, compared with $(git rev-parse --short=8 HEAD)"
-./check --landing >"$work/said" 2>&1
-says "a line is added" "landing 10 stands in docs/landings.tsv now"
+gate 0 -- "has no line for this landing" "landing 10, compared with $(git rev-parse --short=8 HEAD)"
+gate 0 --landing -- "landing 10 stands in docs/landings.tsv now"
 same "the line" "$(printf '10\t%s\t%s' "$(date +%F)" "$(git rev-parse --short=8 HEAD)")" "$(tail -n 1 docs/landings.tsv)"
-./check --landing >"$work/said" 2>&1
-says "a line is added once" "landing 10 stands in docs/landings.tsv"
+gate 0 --landing -- "landing 10 stands in docs/landings.tsv"
 same "a line is added once" 1 "$(grep -c '^10' docs/landings.tsv)"
 commit 1
 
 # a line that names a commit which history lacks: every crate counts as changed
 sed -i '/2026-01-02/d' docs/landings.tsv
 land 11 0123abcd
-gate 0
-says "history is short" "landing 11, compared with 0123abcd: sources changed in low mid high other desk low_tests high_tests bench"
+gate 0 -- "landing 11, compared with 0123abcd: sources changed in low mid high other desk low_tests high_tests bench"
 git checkout -q docs
 
 # scripts run beside rt once the program stands, the longest first; each of these two waits for the other
 waits='touch "$FAKE/$(basename "$0")"; for _ in {1..100}; do [ ! -e "$FAKE/${OTHER[$(basename "$0")]}" ] || exit 0; sleep 0.1; done; exit 1'
 printf 'declare -A OTHER=([left.sh]=right.sh [right.sh]=left.sh)\n%s\n' "$waits" | tee tests/left.sh >tests/right.sh
-RT_JOBS=3 gate 0
-says "scripts side by side" "4 passed, 0 failed, 1 skipped"
+RT_JOBS=3 gate 0 -- "4 passed, 0 failed, 1 skipped"
 rm tests/left.sh tests/right.sh
 touch "$FAKE/linger"
 echo 'rm "$FAKE/linger"' >tests/ends.sh
-gate 0
-says "a script runs while rt does" "3 passed, 0 failed, 1 skipped"
+gate 0 -- "3 passed, 0 failed, 1 skipped"
 rm tests/ends.sh
 
 # ends_gate WHAT FILE [WORD ..]: a gate that is ended once this file has something leaves nothing
@@ -317,14 +290,11 @@ gate 1
 rm "$FAKE/fails"
 touch "$FAKE/accepts"
 echo changed >crates/low/must-fail/1.edit
-gate 1
-says "a mutant that is accepted" "mutants: 0 rejected, FAILED:"
+gate 1 -- "mutants: 0 rejected, FAILED:"
 rm "$FAKE/accepts"
 git checkout -q crates
 echo 'exit 1' >tests/bad.sh
-gate 1
-says "a script that fails" "check: tests/bad.sh FAILED"
-says "a script that fails" "2 passed, 1 failed, 1 skipped"
+gate 1 -- "check: tests/bad.sh FAILED" "2 passed, 1 failed, 1 skipped"
 rm tests/bad.sh
 
 # a first look: the core with its tests, and the short scripts over a trial program
@@ -332,17 +302,13 @@ echo 'saga_core: low' >>crates.txt
 mkdir -p crates/saga_core/src
 echo '[ "$(cat "$DESK")" = tried ]' >tests/good.sh
 left="7 crates, 40 mutants, 1 scripts"
-gate 0 --quick
-says "a first look, at its start" "proved, with their tests: low saga_core; tried: 0 mutants"
-says "a first look, at its start" "run over a trial program, compiled without proofs: good.sh lacks.sh"
-says "a first look, at its start" "left out: $left"
-says "a first look" "1 passed, 0 failed, 1 skipped"
+gate 0 --quick -- "proved, with their tests: low saga_core; tried: 0 mutants" \
+  "run over a trial program, compiled without proofs: good.sh lacks.sh" "left out: $left" "1 passed, 0 failed, 1 skipped"
 same "a first look: the last line" "check: proved, with their tests: low saga_core. Only run, over a program without proofs: 1 scripts. Left out: $left. \
 ./check is the gate" "$(tail -n 1 "$work/said")"
 same "a first look: what was proved" "low saga_core" "$(proved)"
 touch "$FAKE/fails"
-gate 1 --quick
-says "a first look that fails" "check: NOT proved: what rt says above. Only run"
+gate 1 --quick -- "check: NOT proved: what rt says above. Only run"
 rm "$FAKE/fails"
 git checkout -q crates.txt tests
 

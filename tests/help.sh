@@ -4,7 +4,6 @@
 # More than 200 lines: each help, completion and file that is installed is looked at once.
 . "$(dirname "${BASH_SOURCE[0]}")/helping.bash"
 . "$tests/serving.bash"
-top=$(dirname "$tests")
 program=$DESK
 say() { printf 'help.sh: %s\n' "$*" >&2; }
 
@@ -24,12 +23,9 @@ commands="run serve recover load stock summary holders unfinished journeys histo
 
 # helps WHAT WORDS: the program prints a help on standard error, into the file err, and ends with 2
 helps() {
-  local what=$1 status
-  shift
-  "$DESK" "$@" </dev/null >out 2>err
-  status=$?
-  same "$what: standard output" "" "$(cat out)"
-  same "$what: the status" 2 "$status"
+  "$DESK" "${@:2}" </dev/null >out 2>err
+  same "$1: the status" 2 $?
+  same "$1: standard output" "" "$(cat out)"
 }
 
 # has WHAT LINE: the help in the file err has this line
@@ -65,14 +61,7 @@ done
 
 # the version, which is that of the newest numbered heading of CHANGES.md
 newest=$(sed -n 's/^## \([0-9][0-9]*\.[0-9][0-9]*\.[0-9][0-9]*\).*/\1/p' "$top/CHANGES.md" | sed -n 1p)
-for words in --version -V "--version run x.db"; do
-  same "$words" "desk $newest" "$("$DESK" $words 2>err </dev/null)"
-  same "$words: the status" 0 "$(
-    "$DESK" $words >/dev/null 2>&1
-    echo $?
-  )"
-  same "$words: standard error" "" "$(cat err)"
-done
+for words in --version -V "--version run x.db"; do tells "$words" 0 "desk $newest" "" $words </dev/null; done
 "$DESK" --version >/dev/full 2>err
 same "a version that cannot be written: the status" 1 $?
 same "a version that cannot be written" "fault 25 Write" "$(cat err)"
@@ -118,10 +107,7 @@ shown_by() {
     case $line in
       '$ '*'&')
         eval "${line#\$ }" >>printed 2>/dev/null
-        for _ in {1..500}; do
-          [ -s printed ] && break
-          sleep 0.02
-        done
+        comes 10 test -s printed
         ;;
       '$ '*)
         eval "${line#\$ }" >>printed 2>/dev/null

@@ -2,11 +2,13 @@
 # is the file system in memory that has this folder.
 set -u
 : "${DESK:?the program to drive}"
+export PYTHONDONTWRITEBYTECODE=1
 
 # in_part: what the last line of a script ends with, which the gate calls with PART=K/N (parts.py): nothing where it does all
 in_part=${PART:+, part ${PART/\// of }}
 
 tests=$(cd "$(dirname "${BASH_SOURCE[0]}")" && pwd)
+top=$(dirname "$tests")
 work=$(mktemp -d ${in_memory:+-p "$in_memory"})
 trap 'rm -rf "$work"' EXIT
 cd "$work" || exit 2
@@ -26,9 +28,9 @@ stands_on() {
 
 # drives_browser: the script is skipped without headless Chromium and a Python that drives it, which is set to python
 drives_browser() {
-  . "$(dirname "$tests")/scripts/needs.bash"
+  . "$top/scripts/needs.bash"
   has_browser || skips "there is no Chromium, or no Python that drives it"
-  export HOME=$work PYTHONDONTWRITEBYTECODE=1
+  export HOME=$work
 }
 
 # skips_trial: the script is skipped over a trial program
@@ -42,15 +44,30 @@ same() {
   fi
 }
 
+# comes_to WHAT STATUS ERR COMMAND ..: the command ends so, with this on standard error; what it prints is in the file printed
+comes_to() {
+  "${@:4}" >"$work/printed" 2>"$work/err"
+  same "$1: the status" "$2" $?
+  same "$1: standard error" "$3" "$(cat "$work/err")"
+}
+
 # tells WHAT STATUS OUT ERR WORD ..: the program, called by these words with this standard input, tells this and ends so
 tells() {
-  local what=$1 expected=$2 out=$3 err=$4 found status
-  shift 4
-  found=$("$DESK" "$@" 2>"$work/err")
-  status=$?
-  same "$what: the answer" "$out" "$found"
-  same "$what: standard error" "$err" "$(cat "$work/err")"
-  same "$what: the status" "$expected" "$status"
+  comes_to "$1" "$2" "$4" "$DESK" "${@:5}"
+  same "$1: the answer" "$3" "$(cat "$work/printed")"
+}
+
+# runs STATUS COMMAND .. [-- TEXT ..]: the command ends with this status; all that it says is in the file said, these texts among it
+runs() {
+  local expected=$1 command=()
+  shift
+  while [ $# -gt 0 ] && [ "$1" != -- ]; do
+    command+=("$1")
+    shift
+  done
+  "${command[@]}" >"$work/said" 2>&1
+  same "${command[*]}: the status" "$expected" $?
+  for text in "${@:2}"; do says "${command[*]}" "$text"; done
 }
 
 # leaves WHAT STATUS OUT ERR WORD FILE [WORD ..]: the same, and the file keeps its bytes

@@ -4,6 +4,5 @@ if [ -z "${tests-}" ]; then
   [ -w /dev/shm ] && in_memory=/dev/shm
   . "$(dirname "${BASH_SOURCE[0]}")/helping.bash"
 fi
-export PYTHONDONTWRITEBYTECODE=1
 python3 -c 'import sqlite3, sys; sys.exit(sqlite3.sqlite_version_info < (3, 37))' 2>/dev/null ||
   skips "there is no Python with SQLite 3.37 or newer"

@@ -2,12 +2,12 @@
 # The sources of all crates are laid out as `rt fmt` does it. The shell's scripts are laid out as shfmt does it, shellcheck finds nothing
 # in them, and pyflakes nothing in those of Python. What is absent of the three is left out. One of more than 200 lines says why. words.py
 # counts no more phrases, long sentences and long pages than its limits allow. HEADLINE.md is what headline.py makes of the definitions,
-# and the table in docs/TESTING.md of functions without a clause is as scripts/unproved counts them.
+# and the table in docs/TESTING.md of functions without a clause is as scripts/unproved.py counts them.
 . "$(dirname "${BASH_SOURCE[0]}")/helping.bash"
-cd "$tests/.." || exit 2
+cd "$top" || exit 2
 mapfile -t shell < <(grep -lE '^#!/usr/bin/env bash' build check desk soak bench .ci/run tools/* tests/*.sh scripts/* 2>/dev/null)
 shell+=(scripts/*.bash tests/*.bash tests/clients/*.bash)
-mapfile -t python < <(ls scripts/*.py scripts/*/*.py tests/*.py scripts/{weight,contracts,unproved})
+python=(scripts/*.py scripts/*/*.py tests/*.py)
 
 # finds_nothing TOOL WORD ..: this tool, with these words, says nothing
 finds_nothing() {
@@ -44,7 +44,7 @@ sed 's/^/layout.sh: /' "$work/words" >&2
 
 # unproved counts a function without an `ensures`, and one of a trait apart, and finds a row that says other than that
 mkdir -p "$copy/scripts" "$copy/crates/one/src"
-cp scripts/weight scripts/unproved "$copy/scripts"
+cp scripts/weight.py scripts/unproved.py "$copy/scripts"
 git init -q "$copy"
 echo 'one:' >"$copy/crates.txt"
 cat >"$copy/crates/one/src/lib.rt" <<'END'
@@ -69,10 +69,10 @@ END
 printf '| `crates/one/src/lib.rt` | %s | %s |\n' 4 why >"$copy/docs/TESTING.md"
 same "unproved on three functions" \
   "5 crates/one/src/lib.rt: bare 5 5 lines of functions without a clause, and 3 of those of traits" \
-  "$("$copy/scripts/unproved" | xargs)"
+  "$("$copy/scripts/unproved.py" | xargs)"
 same "unproved on a row with another number" "to go: 4 to come: 5" \
-  "$("$copy/scripts/unproved" --check | sed 's/|.*| \([0-9]\).*/\1/' | xargs)"
+  "$("$copy/scripts/unproved.py" --check | sed 's/|.*| \([0-9]\).*/\1/' | xargs)"
 printf '| `crates/one/src/lib.rt` | %s | %s |\n' 5 '' >"$copy/docs/TESTING.md"
-same "unproved on a row without a reason" "without a reason:" "$("$copy/scripts/unproved" --check | sed 's/ |.*//')"
-same "unproved on the page" "" "$(scripts/unproved --check)"
+same "unproved on a row without a reason" "without a reason:" "$("$copy/scripts/unproved.py" --check | sed 's/ |.*//')"
+same "unproved on the page" "" "$(scripts/unproved.py --check)"
 finish

@@ -3,6 +3,7 @@
 The events stand in the tables themselves, under their numbers. This module reads them with Python's own SQLite, has the plain desk
 take them one after another, and so has the tables after each prefix.
 """
+import contextlib
 import sqlite3
 
 from plain_desk import CODES, PHASES, Desk, item_text, state_text
@@ -13,23 +14,15 @@ TABLES = ("meta", "stock", "batch", "journey", "step", "entry", "entry2", "mark"
 
 def tables_of(path):
     """The rows of each table of a file that was closed in order, sorted; None where it has no tables."""
-    connection = sqlite3.connect(f"file:{path}?immutable=1", uri=True)
-    try:
+    with contextlib.closing(sqlite3.connect(f"file:{path}?immutable=1", uri=True)) as connection:
         names = {row[0] for row in connection.execute("SELECT name FROM sqlite_schema WHERE type = 'table'")}
-        if not names:
-            return None
-        return {name: sorted(connection.execute(f"SELECT * FROM {name}")) for name in TABLES if name in names}
-    finally:
-        connection.close()
+        return {name: sorted(connection.execute(f"SELECT * FROM {name}")) for name in TABLES if name in names} if names else None
 
 
 def statements_of(path):
     """The statements that made the tables and the index of a file."""
-    connection = sqlite3.connect(f"file:{path}?immutable=1", uri=True)
-    try:
+    with contextlib.closing(sqlite3.connect(f"file:{path}?immutable=1", uri=True)) as connection:
         return [row[0] for row in connection.execute("SELECT sql FROM sqlite_schema WHERE sql IS NOT NULL")]
-    finally:
-        connection.close()
 
 
 def fill(connection, tables):

@@ -2,7 +2,6 @@
 # The log of a desk that serves: logged.py says what is written when.
 . "$(dirname "${BASH_SOURCE[0]}")/helping.bash"
 
-python3 "$tests/logged.py" >out 2>err
-same "the status" 0 "$?"
-same "what went wrong" "" "$(cat out err)"
+comes_to "the log" 0 "" python3 "$tests/logged.py"
+same "what went wrong" "" "$(cat printed)"
 finish

@@ -141,10 +141,7 @@ def main():
     for seed in deal.mine(range(LEDGERS)):
         count += ledger(seed, chances(f"house reports {seed}")[0], seed == 0)
     print(f"looking.sh: {count} reports compared{IN_PART}")
-    for line in wrong:
-        print(f"looking.sh: {line}", file=sys.stderr)
-    return 1 if wrong else 0
+    sys.exit("\n".join(f"looking.sh: {line}" for line in wrong) or 0)
 
 
-if __name__ == "__main__":
-    sys.exit(main())
+main()

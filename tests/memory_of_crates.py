@@ -155,9 +155,7 @@ def main():
     passed, named, _, kept = trial.ends.values()
     print(f"{runs} allocations refused to tests, of which {passed} passed still, and {named} named the fault; "
           f"{kept} to commands, loads and recovery{IN_PART}")
-    for text in wrong:
-        print(f"memory_of_crates.sh: {text}", file=sys.stderr)
-    sys.exit(1 if wrong else 0)
+    sys.exit("\n".join(f"memory_of_crates.sh: {text}" for text in wrong) or 0)
 
 
 main()

@@ -4,7 +4,7 @@
 . "$tests/serving.bash"
 
 perl -MJSON::Validator -MYAML::PP -MHTTP::Tiny -e 1 2>/dev/null || skips "there is no Perl with JSON::Validator and YAML::PP"
-described=$(cd "$tests/.." && pwd)/docs/openapi.yaml
+described=$top/docs/openapi.yaml
 operations=$(grep -c '^      operationId:' "$described")
 serves "$operations"
 same "the examples" "$operations answered as described" "$(perl "$tests/openapi.pl" "$described" "$port" 2>&1)"

@@ -4,18 +4,14 @@
 # the desk has, over both doors.
 . "$(dirname "${BASH_SOURCE[0]}")/helping.bash"
 . "$tests/serving.bash"
-top=$(cd "$tests/.." && pwd)
 shown=$top/web/desk.html
 
 # allowed TAG: the hash of what stands in the one element of this tag, as a policy has it
 allowed() {
   python3 - "$shown" "$1" <<'END'
-import base64, hashlib, sys
-text = open(sys.argv[1], 'rb').read()
-opened, closed = b'<' + sys.argv[2].encode() + b'>', b'</' + sys.argv[2].encode() + b'>'
-assert text.count(opened) == text.count(closed) == 1
-inside = text.split(opened)[1].split(closed)[0]
-print("'sha256-" + base64.b64encode(hashlib.sha256(inside).digest()).decode() + "'")
+import base64, hashlib, re, sys
+[inside] = re.findall("<{0}>(.*?)</{0}>".format(sys.argv[2]).encode(), open(sys.argv[1], 'rb').read(), re.S)
+print(f"'sha256-{base64.b64encode(hashlib.sha256(inside).digest()).decode()}'")
 END
 }
 

@@ -1,9 +1,8 @@
 """What agents do at the page, as scenes over a new desk: each tells what went wrong by an AssertionError.
 More than 200 lines: the scenes that all others are built like, with the harness."""
-import json
-
 from selenium.webdriver.common.keys import Keys
 
+from driving import option, plan
 from page_driving import Browser, Desk, wait_until
 from page_network import Network, json_page
 
@@ -29,16 +28,6 @@ def comes(what, expected, find):
         wait_until(holds, what)
     except AssertionError:
         same(what, expected, found[0])
-
-
-def option(kind, supplier, product, first="2030-06-01", nights=1, count=1):
-    return {"kind": kind, "supplier": supplier, "product": product, "first": first, "nights": nights, "count": count}
-
-
-def plan(*steps, saves=(), tries=0):
-    """The body of a plan of these steps, each an option or a list of some, with save-points after these steps."""
-    options = [one if isinstance(one, list) else [one] for one in steps]
-    return json.dumps({"steps": [{"options": one, "save": n in saves} for n, one in enumerate(options, 1)], "tries": tries})
 
 
 FLIGHT, TRANSFER = option("flight", "AL", "A1"), option("transfer", "BUS", "X")

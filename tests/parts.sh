@@ -2,7 +2,7 @@
 # The parts of long scripts: with PART=K/N, K from 1 to N, each case is done once, and each part has its share. A part of
 # another form is refused.
 . "$(dirname "${BASH_SOURCE[0]}")/helping.bash"
-export PYTHONDONTWRITEBYTECODE=1 PYTHONPATH=$tests
+export PYTHONPATH=$tests
 unset PART TESTED
 
 # all parts of one to six, over two lists of 25 cases and over numbers without end, of which those up to 100 are looked at; and what

@@ -4,15 +4,9 @@
 . "$(dirname "${BASH_SOURCE[0]}")/helping.bash"
 
 stands_on python3
-top=$(dirname "$tests")
 
-# ends WHAT STATUS ERR WORD ..: the script of the folder copy, called with these words, ends so, with this on standard error;
-# what it prints is in out
-ends() {
-  python3 copy/scripts/pictures.py "${@:4}" >out 2>err
-  same "$1: the status" "$2" $?
-  same "$1: standard error" "$3" "$(cat err)"
-}
+# ends WHAT STATUS ERR WORD ..: the script of the folder copy, called with these words, ends so, with this on standard error
+ends() { comes_to "$1" "$2" "$3" python3 copy/scripts/pictures.py "${@:4}"; }
 
 # is_whole FILE: it is well-formed, has a title and a description, needs nothing else, and is below 24 KB
 is_whole() {
@@ -58,7 +52,7 @@ ends "wrong words" 2 "usage: scripts/pictures.py [--check | --history ITEMS]" --
 
 # histories
 ends "a word that is no item" 2 "pictures.py: T0.1 is no item" --history "T1.1 T0.1"
-same "a word that is no item: the picture" "" "$(cat out)"
+same "a word that is no item: the picture" "" "$(cat printed)"
 ends "a step that is left out" 2 "pictures.py: T3.1 cannot come where the journey is at 1" --history "T1.1 T3.1"
 ends "a step on the way back" 2 "pictures.py: T3.1 cannot come where the journey goes back at 2" --history "T1.1 T2.1 B0a T3.1"
 
@@ -70,15 +64,15 @@ fi
 cp "$top/docs/pictures/phases.txt" copy/docs/pictures
 printf 'one_more: desk\n' >>copy/crates.txt
 ends "drawn anew" 0 ""
-same "what was drawn anew" docs/pictures/crates.svg "$(cat out)"
+same "what was drawn anew" docs/pictures/crates.svg "$(cat printed)"
 ends "the pictures, drawn anew" 0 "" --check
 is_whole copy/docs/pictures/crates.svg
 
 # draws WHAT ITEMS WORDS: the picture of these items says these words of them
 draws() {
   ends "$1" 0 "" --history "$2"
-  is_whole out
-  same "$1: in words" "$3" "$(sed -n 's|^<desc[^>]*>\(.*\)</desc>$|\1|p' out)"
+  is_whole printed
+  same "$1: in words" "$3" "$(sed -n 's|^<desc[^>]*>\(.*\)</desc>$|\1|p' printed)"
 }
 
 draws "down to a save-point and up by another option" "T1.1 T2.1 S2 T3.1 B2r C3.1 T3.2" \

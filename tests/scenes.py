@@ -1,5 +1,5 @@
 """What the desk is asked in the scripts that try it beside hostile files: lines, allotment files and requests."""
-from driving import request
+from driving import option, plan, request
 
 DAY = "2030-06-01"
 FLIGHT, SEA, YARD, BUS = f"F/AL/A1/{DAY}", f"R/INN/SEA/{DAY}", f"R/INN/YARD/{DAY}", f"T/BUS/X/{DAY}"
@@ -17,11 +17,7 @@ SECOND = [f"begin {PLANS[2]}", "step 4", f"begin {PLANS[1]}", "step 5", "step 4"
 ROWS = "kind,supplier,product,night,places\n"
 JUNE = ROWS + "flight,AL,A2,2030-06-01,10\nroom,INN,SEA,2030-06-02,4\n"
 LARGE = ROWS + "".join(f"cover,CO,P{n},2030-07-01,{n}\n" for n in range(1, 1501))
-JSON_PLAN = (
-    b'{"steps":[{"options":[{"count":1,"first":"2030-06-01","kind":"flight","nights":1,"product":"A1",'
-    b'"supplier":"AL"}],"save":true},{"options":[{"count":1,"first":"2030-06-01","kind":"transfer","nights":1,'
-    b'"product":"X","supplier":"BUS"}],"save":false}],"tries":1}'
-)
+JSON_PLAN = plan(option("flight", "AL", "A1"), option("transfer", "BUS", "X"), saves=(1,), tries=1).encode()
 OLD_EVENTS = 9
 ON = f"begin {PLANS[1]}\n"
 

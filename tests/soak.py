@@ -3,7 +3,7 @@ the program itself. Every answer and every file is compared with a plain desk (p
 More than 200 lines: lives are planned, told, left out and repeated as one script of lives.
 
 About COUNT commands are answered, which SEED decides. The last line says how many files went wrong, and the status is 1
-if any did. LIBRARIES, which ./soak gives, is the folder with calls.so and refuse.so.
+if any did.
 """
 import argparse
 import collections
@@ -13,6 +13,7 @@ import os
 import random
 import shutil
 import signal
+import subprocess
 import sys
 import tempfile
 import time
@@ -181,7 +182,7 @@ class Soak:
     def place(self, count, name="file"):
         share, has_syncs = self.words.looks, self.words.spoil != "no-syncs"
         chance = random.Random(1)
-        return Place(f"{self.folder}/{name}", self.words.libraries, count, chance, share, self.words.blind, has_syncs)
+        return Place(f"{self.folder}/{name}", self.folder, count, chance, share, self.words.blind, has_syncs)
 
     def run(self):
         number = self.words.file or 1
@@ -328,7 +329,6 @@ def without(script, parts, at):
 def words_of():
     layout = argparse.RawDescriptionHelpFormatter
     words = argparse.ArgumentParser(prog="./soak", description=__doc__, formatter_class=layout)
-    words.add_argument("libraries", help=argparse.SUPPRESS)
     words.add_argument("seed", nargs="?", metavar="SEED", help="any word or number")
     words.add_argument("count", nargs="?", metavar="COUNT", type=int, help="about how many commands")
     words.add_argument("--file", metavar="N", type=int, help="only the N-th file of this seed")
@@ -353,13 +353,17 @@ def words_of():
 
 def main():
     words = words_of()
-    words.libraries, words.keep = os.path.abspath(words.libraries), os.path.abspath(words.keep)
-    signal.signal(signal.SIGTERM, lambda *_: sys.exit(143))
+    words.keep = os.path.abspath(words.keep)
+    for number in (signal.SIGHUP, signal.SIGINT, signal.SIGTERM):
+        signal.signal(number, lambda number, _: sys.exit(128 + number))
     if not words.trial and "/out/trial/" in DESK:
         print("soak.py: this is a trial program, which is slow; --trial takes it", file=sys.stderr)
         sys.exit(2)
     folder = tempfile.mkdtemp(prefix="soak-", dir="/dev/shm" if os.access("/dev/shm", os.W_OK) else None)
     try:
+        for name in ("calls", "refuse"):
+            source = os.path.join(os.path.dirname(os.path.abspath(__file__)), f"{name}.c")
+            subprocess.run(["cc", "-O1", "-shared", "-fPIC", "-o", f"{folder}/{name}.so", source, "-ldl"], check=True)
         soak = Soak(words, folder)
         if words.repeat:
             with open(words.repeat, encoding="ascii") as file:

@@ -8,10 +8,8 @@
 . "$tests/hostile.bash"
 skips_trial
 
-compiles calls refuse
-
 # soaks SEED COUNT WORD ..: runs the simulation
-soaks() { python3 "$tests/soak.py" . "$@"; }
+soaks() { python3 "$tests/soak.py" "$@"; }
 
 # count_of WORD: the number before this word of the summary, or after it
 count_of() { grep -o "$1 [0-9]*" said | head -n 1 | grep -o '[0-9]*$'; }

@@ -1,5 +1,6 @@
 """The file that lives through a script of lives. After each life its rows, and the reports on copies of it, are those
 of a desk that may stand there by then. More than 200 lines: one file is looked at, cut and spoiled in one place."""
+import contextlib
 import os
 import random
 import shutil
@@ -22,16 +23,14 @@ def rows_in(path):
     yet, as a first opening that was cut off may leave it."""
     if not os.path.exists(path):
         return None
-    connection = sqlite3.connect(path)
-    try:
-        names = [row[0] for row in connection.execute("SELECT name FROM sqlite_schema WHERE type = 'table'")]
-        return {name: sorted(connection.execute(f"SELECT * FROM {name}")) for name in names} or None
-    except sqlite3.DatabaseError as error:
-        if str(error) == NO_DATABASE:
-            return None
-        raise Wrong(f"Python's SQLite: {error}") from error
-    finally:
-        connection.close()
+    with contextlib.closing(sqlite3.connect(path)) as connection:
+        try:
+            names = [row[0] for row in connection.execute("SELECT name FROM sqlite_schema WHERE type = 'table'")]
+            return {name: sorted(connection.execute(f"SELECT * FROM {name}")) for name in names} or None
+        except sqlite3.DatabaseError as error:
+            if str(error) == NO_DATABASE:
+                return None
+            raise Wrong(f"Python's SQLite: {error}") from error
 
 
 def difference(found, expected):

@@ -5,13 +5,6 @@
 line="begin F/AL/A1/2030-06-01/1/1!0"
 mkdir folder
 
-# ends_with WHAT STATUS ERR COMMAND ..: the command has this status, and this on standard error
-ends_with() {
-  "${@:4}" 2>err
-  same "$1: the status" "$2" $?
-  same "$1: standard error" "$3" "$(cat err)"
-}
-
 from_folder() { "$DESK" run trips.db <folder; }
 from_nowhere() { "$DESK" run trips.db <&-; }
 to_full() { printf '%s\n%s\n' "$line" "$line" | "$DESK" run trips.db >/dev/full; }
@@ -24,15 +17,15 @@ to_leaver() {
   return "${PIPESTATUS[0]}"
 }
 
-ends_with "a folder as the input" 1 "fault 24 Read" from_folder
-ends_with "no input" 1 "fault 24 Read" from_nowhere
+comes_to "a folder as the input" 1 "fault 24 Read" from_folder
+comes_to "no input" 1 "fault 24 Read" from_nowhere
 same "nothing was begun" "1|2|0|0" "$(rows 'SELECT * FROM meta')"
-ends_with "a full output" 1 "fault 25 Write" to_full
+comes_to "a full output" 1 "fault 25 Write" to_full
 answers "the line whose answer was lost is done, and no later one" "$line\n" "journey 2 begun"
-ends_with "no output" 1 "fault 25 Write" to_nowhere
+comes_to "no output" 1 "fault 25 Write" to_nowhere
 answers "the same again" "$line\n" "journey 4 begun"
 answers "no line feed at the end" "$line" "journey 5 begun"
-ends_with "a reader that goes away" 1 "fault 25 Write" to_leaver
+comes_to "a reader that goes away" 1 "fault 25 Write" to_leaver
 same "a reader that goes away: its answer" "journey 6 begun" "$(cat first)"
 same "the file is sound" "ok" "$(rows 'PRAGMA integrity_check')"
 finish

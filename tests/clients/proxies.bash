@@ -14,22 +14,14 @@ new_origin() {
   origins[$1]=http://127.0.0.1:$at
 }
 
-# awaits PROXY: the proxy accepts connections at $at
-awaits() {
-  local n
-  for ((n = 0; n < 500; n++)); do
-    if (exec 3<>"/dev/tcp/127.0.0.1/$at") 2>/dev/null; then return 0; fi
-    kill -0 "${proxies[-1]}" 2>/dev/null || break
-    sleep 0.02
-  done
-  same "$1 begins" yes "no: $(tail -n 3 "$1/said")"
-}
+# accepts: whether the proxy accepts connections at $at, or has ended
+accepts() { (exec 3<>"/dev/tcp/127.0.0.1/$at") || ! kill -0 "${proxies[-1]}"; }
 
 # starts PROXY COMMAND ..: runs a proxy, and waits until it accepts connections
 starts() {
   "${@:2}" >"$1/said" 2>&1 </dev/null &
   proxies+=($!)
-  awaits "$1"
+  comes 10 accepts && kill -0 "${proxies[-1]}" 2>/dev/null || same "$1 begins" yes "no: $(tail -n 3 "$1/said")"
 }
 
 # ends_proxies: ends those that run

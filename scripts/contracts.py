@@ -1,22 +1,18 @@
 #!/usr/bin/env python3
 """Compares the contracts of the public functions with those of an earlier revision, name by name.
 
-    scripts/contracts REVISION
+    scripts/contracts.py REVISION
 
 It prints each public function whose clauses are not the same texts: those that are gone, and those that came. That a clause which
 is gone is said by a record that came, a reader sees; docs/CHANGES_OF_CRATES.md names the records.
 """
 
-import importlib.machinery
-import importlib.util
 import re
 import sys
-from pathlib import Path
 
 sys.dont_write_bytecode = True
-loader = importlib.machinery.SourceFileLoader("weight", str(Path(__file__).resolve().with_name("weight")))
-weight = importlib.util.module_from_spec(importlib.util.spec_from_loader("weight", loader))
-loader.exec_module(weight)
+import weight  # noqa: E402
+
 OWNER = re.compile(r"^(?:pub )?(?:impl|trait)\b.*?(\w+)(?:<[^{]*)?(?: \{|$)")
 CLAUSE = re.compile(r"(requires|ensures)(?: (\w+))? \{((?:[^{}]|\{[^{}]*\})*)\}")
 

@@ -1,24 +1,20 @@
 #!/usr/bin/env python3
 """Lists the functions that have no `ensures`, file by file with their lines, and keeps the table of them in docs/TESTING.md.
 
-    scripts/unproved [REVISION]    each file with its functions, and the totals; of a REVISION of git in place of the files here
-    scripts/unproved --table       the table for the page, with the reasons that stand there
-    scripts/unproved --check       names each row that is not as counted, or gives no reason, and fails if there is one
+    scripts/unproved.py [REVISION]    each file with its functions, and the totals; of a REVISION of git in place of the files here
+    scripts/unproved.py --table       the table for the page, with the reasons that stand there
+    scripts/unproved.py --check       names each row that is not as counted, or gives no reason, and fails if there is one
 
 A function of an `impl TRAIT for ..` has the contract of its trait, so it is counted apart. Crates of tests are left out, and what
 only they and `bench` stand on.
 """
 
-import importlib.machinery
-import importlib.util
 import re
 import sys
-from pathlib import Path
 
 sys.dont_write_bytecode = True
-loader = importlib.machinery.SourceFileLoader("weight", str(Path(__file__).resolve().with_name("weight")))
-weight = importlib.util.module_from_spec(importlib.util.spec_from_loader("weight", loader))
-loader.exec_module(weight)
+import weight  # noqa: E402
+
 PAGE = weight.TOP / "docs/TESTING.md"
 ROW = re.compile(r"\| `(crates/[\w/]+\.rt)` \| [\d,]+ \| (.*) \|$")
 HEAD = re.compile(r"( *)(?:pub(?:\(\w+\))? )?(?:const )?fn (\w+)")

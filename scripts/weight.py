@@ -2,7 +2,7 @@
 """Counts what the house weighs: of each crate its clauses, lines of sources, definitions and proofs, and in the last lines what a
 reader meets that is long, and the lemmas that nothing names.
 
-    scripts/weight [REVISION]
+    scripts/weight.py [REVISION]
 
 A REVISION of git is counted in place of the files that stand here, so that two can be compared.
 """
