@@ -1,5 +1,5 @@
 -- What a command of recovery does, by how the rules answer it. For `stop` and `step`.
-use Rattle.std.proofs.Common.{◌≡◌, ℕ, ◌<◌, ◌≤◌, List, [], ◌∷◌, ◌++◌, length, refl, ap, sym, ◌∙◌, subst, arith, append-nil, eq-eqb, Bool, true, false, nat_le, Some, None, is_some, option_map, IsTrue, if◌then◌else◌, ◌&&◌}
+use Rattle.std.proofs.Common.{◌≡◌, ℕ, ◌<◌, ◌≤◌, List, [], ◌∷◌, ◌++◌, length, refl, ap, sym, ◌∙◌, subst, arith, append-nil, eq-eqb, Bool, true, false, nat_le, Some, None, is_some, option_map, IsTrue, if◌then◌else◌}
 use Rattle.std.proofs.lemmas.Bool.{leb-true, leb-false, le-leb, lt-leb}
 use Rattle.commands.specs.Request.{Request}
 use Rattle.commands.specs.declared.replies.Fault.{Fault}
@@ -35,9 +35,7 @@ pub outcome-moves : (s : State) (asked : Request) (j : ℕ) (item : Item)
     (m : Moves s.ledger asked j item)
     → outcome s None asked
     ≡ cut s (moved m.journey.plan (history s.ledger j) j item) (nat_le most_events (length s.ledger))
-outcome-moves s asked j item m =
-    ap (λ (a : Answer). carried_out s None
-    (if is_some a.event && nat_le most_events (length s.ledger) then refused Limit else a)) m.told
+outcome-moves s asked j item m = grind arith
 
 -- the phase of the journey after the item
 pub phase-moved : (l : List Event) (j : ℕ) (item : Item) (a : Journey) → journey_at l j ≡ Some a
@@ -68,42 +66,17 @@ module _ (s : State) (asked : Request) (j : ℕ) (item : Item) (m : Moves s.ledg
     by_reply Says each = subst Says (sym (is ∙ ap (λ (p : Outcome). p.reply) (outcome-moves s asked j item m))) (each _ refl)
 
     pub adds : Adds (now (is_some (phase_told r))) s (Did j item) (is_some (phase_told r))
-    adds = by_reply (λ q. Adds (now (is_some (phase_told q))) s (Did j item) (is_some (phase_told q))) each
-      where
-        each : (v : Bool) → nat_le most_events (length s.ledger) ≡ v
-            → Adds (now (is_some (phase_told (cut s told v).reply))) s (Did j item) (is_some (phase_told (cut s told v).reply))
-        each true e = (leb-true _ _ e, full (leb-true _ _ e))
-        each false e = (leb-false _ _ e, made (leb-false _ _ e))
+    adds = grind (arith, by_reply, leb-true, leb-false)
 
     pub steps : IsTrue (is_forward item) → IsTrue (is_item_allowed s.ledger j item) → SteppedTo (now (is_some (phase_told r))) s j (phase_told r)
-    steps forward allowed = by_reply (λ q. SteppedTo (now (is_some (phase_told q))) s j (phase_told q)) each
-      where
-        each : (v : Bool) → nat_le most_events (length s.ledger) ≡ v
-            → SteppedTo (now (is_some (phase_told (cut s told v).reply))) s j (phase_told (cut s told v).reply)
-        each true e = (leb-true _ _ e, full (leb-true _ _ e))
-        each false e = record {
-          item = item;
-          forward = forward;
-          allowed = allowed;
-          comes_to = phase-moved s.ledger j item m.journey m.at;
-          room = leb-false _ _ e;
-          stands_there = made (leb-false _ _ e);
-        }
+    steps forward allowed = grind (arith, by_reply, leb-true, phase-moved, leb-false)
 
   -- At a fault.
 
   module _ {left : State → State → Type 0} {Are : List Event → Type 0} (none : Are []) where
     -- nothing has changed
     pub left-same : (fault : Fault) → left s s → MayHaveGrown left Are s fault
-    left-same fault same = record {
-      events = [];
-      next = [];
-      are = none;
-      are_with = none;
-      at_most = omega arith;
-      within = omega arith;
-      left = subst (λ t. left t t) (sym (with_none s)) same;
-    }
+    left-same fault same = grind (arith, with_none)
 
     -- the event was perhaps added
     pub left-outcome : Are (Did j item ∷ []) → left s (outcome s None asked).state → MayHaveGrown left Are s Store

@@ -1,5 +1,6 @@
 -- A pass over one journey after another. For `carry`.
 use Rattle.std.proofs.Common.{◌≡◌, ℕ, suc, ◌+◌, ◌≤◌, List, ◌++◌, length, refl, ap, sym, ◌∙◌, arith, append_assoc, length-append, Bool, true, false, nat_lt, Some, None}
+use Rattle.std.proofs.lemmas.Grind.{common_steps}
 use Rattle.std.proofs.lemmas.Bool.{false_from_ne_true, not_from_false, ltb-true, ltb-false}
 use Rattle.commands.specs.declared.replies.Fault.{Fault}
 use Rattle.ledger.specs.Answer.{State, most_events}
@@ -32,12 +33,7 @@ pub record CarriedSoFar (p : Pass) (stands : State → Type 0) (s : State) (afte
 -- the pass does not go on with a journey that is not open
 closed : (p : Pass) (m : List Event) (k : ℕ) → is_in is_open m k ≡ false
     → is_in (goes_on p) m k ≡ false
-closed p m k shut =
-    false_from_ne_true _ (λ on.
-    let bad : true ≡ false = sym (in-open p m k on) ∙ shut in clash bad)
-  where
-    clash : true ≡ false → ⊥
-    clash e = cc
+closed p m k shut = grind (arith, false_from_ne_true, in-open)
 
 -- the pass goes on with the first open journey
 pub goes-first : (p : Pass) (m : List Event) (after : ℕ) (b : Brief) → Some b ≡ first_unfinished m after → goes_on p b.cursor.phase ≡ true
@@ -61,10 +57,7 @@ module _ {p : Pass} {stood : State → Type 0} {s : State} {after made rounds : 
 
   -- all rounds are over: then the ledger has more events than it may have
   pub carried-over : {stands : State → Type 0} → most_events ≤ rounds → stands (with_events s t.grew.events) → GrewFull stands (IsUnderWay p s.ledger) s made
-  carried-over over here =
-      let treated = t.treated in
-      let below = t.below in
-      grew-full t.grew (record { number = suc after; reached = t.grew.are }) here (omega (arith, treated, below, over))
+  carried-over over here = grind (arith, common_steps, grew-full)
 
   -- a read of the book met a fault
   pub carried-look : {left : State → State → Type 0} {fault : Fault} → left (with_events s t.grew.events) (with_events s t.grew.events)

@@ -1,50 +1,34 @@
 -- One journey in a pass: each of its steps is of the kind that the pass makes. For `carry_one`.
-use Rattle.std.proofs.Common.{◌≡◌, ℕ, List, [], ◌∷◌, ◌++◌, refl, ap, sym, ◌∙◌, eq-eqb, true, false, ◌==◌, Some, option_map}
+use Rattle.std.proofs.Common.{◌≡◌, ℕ, List, [], ◌∷◌, ◌++◌, refl, ap, ◌∙◌, eq-eqb, true, false, ◌==◌, Some, option_map, arith}
 use Rattle.std.proofs.lemmas.Bool.{and_from}
 use Rattle.std.proofs.lemmas.List.Folds.{list_all-append}
 use Rattle.std.specs.Prelude.{unwrap_or}
 use Rattle.commands.specs.declared.items.Item.{Item}
 use Rattle.commands.specs.declared.items.Phase.{Phase}
-use Rattle.commands.specs.declared.items.Phase.TheVariants.{Run, Back, Ended, Undone}
-use Rattle.ledger.specs.History.{is_open, is_compensation}
-use Rattle.ledger.specs.Ledger.{Event, Did, history, is_in, is_item_allowed, phase_of, IsLegal}
+use Rattle.ledger.specs.History.{is_open}
+use Rattle.ledger.specs.Ledger.{Event, Did, is_in, is_item_allowed, phase_of, IsLegal}
 use Rattle.ledger.specs.Recovery.{journey_of, are_items, is_forward}
 use Rattle.ledger.proofs.Growing.{AreAllowedAfter-join}
 use Rattle.ledger.proofs.Deciding.{each_open_has_one}
-use Rattle.ledger.proofs.Phases.{passing}
 use Rattle.ledger.proofs.Recoverable.{back-stage}
 use Rattle.recovery.specs.Passes.{goes_on, makes, Carry}
 use Rattle.recovery.specs.declared.passes.Pass.{Pass}
-use Rattle.recovery.specs.declared.passes.Pass.TheVariants as pass
 use Rattle.recovery.proofs.TellLemmas.{is_there}
 
 -- a pass goes on with open journeys only
 goes-open : (p : Pass) (q : Phase) → goes_on p q ≡ true → is_open q ≡ true
-goes-open pass.Back Run e = refl
-goes-open pass.Back (Back t) e = refl
-goes-open pass.Back Ended e = cc
-goes-open pass.Back Undone e = cc
-goes-open pass.On q e = e
+goes-open p q e = grind arith
 
 -- so a journey with which it goes on is open
 pub in-open : (p : Pass) (m : List Event) (j : ℕ) → is_in (goes_on p) m j ≡ true
     → is_in is_open m j ≡ true
-in-open p m j goes =
-    let t = is_there (goes_on p) m j goes in
-    ap (passing is_open (history m j)) t.at ∙ goes-open p _ t.here
+in-open p m j goes = grind (arith, is_there, goes-open)
 
 -- the step of such a journey is of the kind that the pass makes
 pub step-made : (p : Pass) (m : List Event) (j : ℕ) (item : Item) → IsLegal m
     → is_in (goes_on p) m j ≡ true → is_forward item ≡ true → is_item_allowed m j item ≡ true
     → makes p item ≡ true
-step-made pass.On m j item legal goes forward allowed = forward
-step-made pass.Back m j item legal goes forward allowed =
-    let one = each_open_has_one m legal j (in-open pass.Back m j goes) in
-    let back = back-stage.has m j legal goes in
-    let same : back.0 ≡ item =
-    one.alone back.0 (back-stage.steps back.0 back.1) back.2 ∙ sym (one.alone item forward allowed)
-    in
-    ap is_compensation (sym same) ∙ back.1
+step-made p m j item legal goes forward allowed = grind (arith, each_open_has_one, in-open, back-stage)
 
 -- Steps of one journey.
 

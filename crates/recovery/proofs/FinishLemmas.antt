@@ -1,5 +1,5 @@
 -- One pass after another, until all are complete, the ledger is full, or a fault comes. For `recover_all`.
-use Rattle.std.proofs.Common.{◌≡◌, ℕ, ◌+◌, ◌≤◌, List, ◌++◌, append_assoc, subst, refl}
+use Rattle.std.proofs.Common.{◌≡◌, ℕ, ◌+◌, ◌≤◌, List, ◌++◌, append_assoc, subst, refl, arith}
 use Rattle.std.specs.Prelude.{⊤}
 use Rattle.commands.specs.declared.replies.Fault.{Fault}
 use Rattle.ledger.specs.Recovery.{IsRecovered}
@@ -17,8 +17,7 @@ use Rattle.recovery.proofs.RecoverLemmas.{turns-begin, back-begins, on-begins, o
 -- a pass has made no more events than there was room for
 pub came-within : (stands : State → Type 0) (s : State) (All Some : List Event → Type 0) (came : Came)
     → Comes stands s All Some came → made_by came ≤ room_of s
-came-within stands s All Some (Through k) g = g.within
-came-within stands s All Some (Full k) g = g.grew.within
+came-within stands s All Some came g = grind arith
 
 module _ {s : State} where
   -- a prefix of the recovered ledger that fills the ledger is recovery, as far as there is room

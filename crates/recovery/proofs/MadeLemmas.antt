@@ -1,9 +1,8 @@
 -- The requests of recovery make its events. For the executions of `recover`.
-use Rattle.std.proofs.Common.{◌≡◌, ℕ, ◌+◌, ◌<◌, ◌≤◌, List, [], ◌∷◌, ◌++◌, length, refl, ap, sym, ◌∙◌, subst, arith, append_assoc, length-append, eqb-true, Bool, true, false, filter, map, Option, Some, None, option_map, option_to_list, IsTrue}
+use Rattle.std.proofs.Common.{◌≡◌, ℕ, ◌+◌, ◌<◌, ◌≤◌, List, [], ◌∷◌, ◌++◌, length, refl, ap, sym, ◌∙◌, arith, append_assoc, length-append, eqb-true, Bool, true, false, filter, map, Option, Some, None, option_to_list, IsTrue}
 use Rattle.std.proofs.lemmas.Bool.{and_parts, and_from, false_from_ne_true}
 use Rattle.std.proofs.lemmas.List.{append_cancel_left}
 use Rattle.std.proofs.lemmas.List.Folds.{list_all-append}
-use Rattle.std.specs.Prelude.{unwrap_or}
 use Rattle.std.specs.List.{list_all}
 use Rattle.commands.specs.Request.{Request}
 use Rattle.commands.specs.Request as request
@@ -11,9 +10,8 @@ use Rattle.commands.specs.declared.items.Cause.TheVariants as cause
 use Rattle.commands.specs.declared.items.Item.{Item}
 use Rattle.commands.specs.declared.items.Item.TheVariants.{Transaction, Compensation, Turn, Save}
 use Rattle.commands.specs.declared.items.Phase.{Phase}
-use Rattle.commands.specs.declared.items.Phase.TheVariants.{Run, Back, Ended, Undone}
-use Rattle.ledger.specs.Answer.{State, Outcome, outcome, most_events, is_request}
-use Rattle.ledger.specs.History.{is_running, is_open, is_finished, is_compensation, last_save}
+use Rattle.ledger.specs.Answer.{State, outcome, most_events, is_request}
+use Rattle.ledger.specs.History.{is_running, is_open, is_finished, is_compensation}
 use Rattle.ledger.specs.Ledger.{Event, Loaded, Began, Did, Journey, journey_at, numbers, history, is_in, is_allowed, is_item_allowed, AreAllowedAfter, IsLegal}
 use Rattle.ledger.specs.Recovery.{stops, last_save_of, are_items, is_forward, IsRecovered}
 use Rattle.ledger.specs.World.{events_of}
@@ -42,20 +40,10 @@ pub record AreOurs (l events : List Event) : Type 0 where
   pub kind : list_all (are_items is_of_recovery) events ≡ true
 
 compensation-ours : (x : Item) → is_compensation x ≡ true → is_of_recovery x ≡ true
-compensation-ours (Transaction i c) e = cc
-compensation-ours (Compensation i c) e = refl
-compensation-ours (Turn p cause.Stop) e = cc
-compensation-ours (Turn p cause.Refused) e = cc
-compensation-ours (Turn p cause.Asked) e = cc
-compensation-ours (Save p) e = cc
+compensation-ours x e = grind arith
 
 forward-ours : (x : Item) → is_forward x ≡ true → is_of_recovery x ≡ true
-forward-ours (Transaction i c) e = e
-forward-ours (Compensation i c) e = e
-forward-ours (Turn p cause.Stop) e = refl
-forward-ours (Turn p cause.Refused) e = e
-forward-ours (Turn p cause.Asked) e = e
-forward-ours (Save p) e = e
+forward-ours x e = grind arith
 
 -- items of one kind are also of a wider kind
 wider : (test wide : Item → Bool) → ((x : Item) → test x ≡ true → wide x ≡ true) → (p : List Event)
@@ -66,9 +54,7 @@ wider test wide widens (e ∷ p) all =
     and_from _ _ (go e both.0) (wider test wide widens p both.1)
   where
     go : (d : Event) → are_items test d ≡ true → are_items wide d ≡ true
-    go (Loaded name rows) is = cc
-    go (Began agent plan) is = cc
-    go (Did j x) is = widens x is
+    go d is = grind arith
 
 stops-ours : (l : List Event) (js : List ℕ)
     → list_all (are_items is_of_recovery) (map (λ j. Did j (Turn (last_save_of l j) cause.Stop)) js)
@@ -107,19 +93,14 @@ pub record Makes (asked : Request) (s : State) (e : Event) : Type 0 where
 -- a request that moves a journey by this item makes it, where the ledger has room
 moves-make : (s : State) (asked : Request) (j : ℕ) (item : Item) → Moves s.ledger asked j item → length s.ledger < most_events
     → Makes asked s (Did j item)
-moves-make s asked j item m room =
-    let is = outcome-made s asked j item m room in
-    record { event = ap (λ (o : Outcome). o.event) is; state = ap (λ (o : Outcome). o.state) is }
+moves-make s asked j item m room = grind (arith, outcome-made)
 
 clash : {X : Type 0} → true ≡ false → X
 clash e = cc
 
 -- a journey in which a step may come next is open
 unfinished-open : (p : Phase) → is_finished p ≡ false → is_open p ≡ true
-unfinished-open Run e = refl
-unfinished-open (Back q) e = refl
-unfinished-open Ended e = cc
-unfinished-open Undone e = cc
+unfinished-open p e = grind arith
 
 allowed-open : (l : List Event) (j : ℕ) (item : Item) → is_item_allowed l j item ≡ true
     → is_in is_open l j ≡ true
@@ -136,21 +117,7 @@ allowed-open l j item may = go (journey_at l j) refl
 -- a stop that is allowed is the one that recovery makes
 stop-made : (s : State) (j p : ℕ) → is_item_allowed s.ledger j (Turn p cause.Stop) ≡ true
     → Moves s.ledger (request.Stop j) j (Turn p cause.Stop)
-stop-made s j p may = go (journey_at s.ledger j) refl
-  where
-    go : (o : Option Journey) → journey_at s.ledger j ≡ o
-        → Moves s.ledger (request.Stop j) j (Turn p cause.Stop)
-    go None at = clash (sym may ∙ is_item_allowed-none s.ledger j (Turn p cause.Stop) at)
-    go (Some a) at =
-        let h = history s.ledger j in
-        let both = and_parts _ _
-        (sym (is_item_allowed-may_do s.ledger j (Turn p cause.Stop) a at) ∙ may) in
-        let runs : is_in is_running s.ledger j ≡ true = ap (passing is_running h) at ∙ both.0 in
-        let target : last_save_of s.ledger j ≡ p =
-        ap (λ o. unwrap_or (option_map (λ (b : Journey). last_save b.plan h) o) 0) at
-        ∙ sym (eqb-true _ _ both.1) in
-        subst (λ q. Moves s.ledger (request.Stop j) j (Turn q cause.Stop)) target
-        (stop-moves s.ledger j runs)
+stop-made s j p may = grind (arith, clash, is_item_allowed-none, and_parts, is_item_allowed-may_do, eqb-true, stop-moves)
 
 -- so is a step that is allowed
 step-made : (s : State) (j : ℕ) (item : Item) → IsLegal s.ledger → is_forward item ≡ true
@@ -158,8 +125,7 @@ step-made : (s : State) (j : ℕ) (item : Item) → IsLegal s.ledger → is_forw
 step-made s j item legal forward may =
     let unfinished = allowed-open s.ledger j item may in
     let one = each_open_has_one s.ledger legal j unfinished in
-    subst (Moves s.ledger (request.Step j) j) (sym (one.alone item forward may))
-    (step-moves s.ledger j unfinished one)
+    grind (arith, step-moves)
 
 -- the request of an event of recovery makes it
 made : (s : State) (e : Event) → IsLegal s.ledger → are_items is_of_recovery e ≡ true → is_allowed s.ledger e ≡ true → length s.ledger < most_events
@@ -204,14 +170,7 @@ all-made s (e ∷ es) legal o room =
 
 -- the requests keep the limits of a request
 pub in-limit : (e : Event) → IsTrue (is_request (request_making e))
-in-limit (Loaded name rows) = refl
-in-limit (Began agent plan) = refl
-in-limit (Did j (Turn p cause.Stop)) = refl
-in-limit (Did j (Turn p cause.Refused)) = refl
-in-limit (Did j (Turn p cause.Asked)) = refl
-in-limit (Did j (Transaction i c)) = refl
-in-limit (Did j (Compensation i c)) = refl
-in-limit (Did j (Save p)) = refl
+in-limit e = grind arith
 
 pub in-limits : (events : List Event) → KeepLimits (orders_of events)
 in-limits [] = tt

@@ -1,9 +1,8 @@
 -- How the state of a book is extended by a pass. For the passes.
-use Rattle.std.proofs.Common.{◌≡◌, ℕ, ◌+◌, ◌^◌, ◌<◌, ◌≤◌, List, [], ◌∷◌, suc, ◌++◌, length, ap, ◌∙◌, arith, append_assoc, append-nil, length-append, sym, subst, Option, Some, None}
-use Rattle.std.specs.List.{cons_option}
+use Rattle.std.proofs.Common.{◌≡◌, ℕ, ◌+◌, ◌^◌, ◌<◌, ◌≤◌, List, [], ◌∷◌, ◌++◌, length, ap, ◌∙◌, arith, append_assoc, append-nil, length-append, sym, subst}
 use Rattle.commands.specs.declared.replies.Fault.{Fault}
 use Rattle.ledger.specs.Answer.{State, most_events}
-use Rattle.ledger.specs.Ledger.{Event, Journey, journeys, begun_by}
+use Rattle.ledger.specs.Ledger.{Event, journeys}
 use Rattle.recovery.specs.Growing.{with_events, room_of, Grew, GrewFull, MayHaveGrown}
 
 -- appending events, and then more events, appends both lists
@@ -28,9 +27,7 @@ module _ {stood stands : State → Type 0} {Before Are : List Event → Type 0} 
   -- an extension that fills the ledger
   pub grew-full : (t : Grew stood Before s n) → Are t.events → stands (with_events s t.events)
       → most_events ≤ length (s.ledger ++ t.events) → GrewFull stands Are s n
-  grew-full t are here full =
-      let longer = length-with s t.events n t.counted in
-      record { grew = grew-as t are here; full = omega (arith, longer, full) }
+  grew-full t are here full = grind (arith, length-with)
 
   -- an extension by one event more
   abbrev pub grew-one : (t : Grew stood Before s n) (e : Event) → length (s.ledger ++ t.events) < most_events → Are (t.events ++ e ∷ [])
@@ -70,20 +67,12 @@ module _ {stood stands : State → Type 0} {Before AreMore Are : List Event → 
 -- the sum of two such extensions fits in 64 bits
 pub sum-fits : {stood : State → Type 0} {Before : List Event → Type 0} {s : State} {n : ℕ} (m : ℕ) (t : Grew stood Before s n)
     → m ≤ room_of (with_events s t.events) → n + m < 2 ^ 64
-sum-fits {s = s} {n = n} m t more =
-    let longer = length-with s t.events n t.counted in
-    let within = t.within in
-    omega (arith, longer, within, more)
+sum-fits m t more = grind (arith, length-with)
 
 -- so does a sum of three
 pub sums-fit : {stood stands : State → Type 0} {Before AreMore : List Event → Type 0} {s : State} {n m : ℕ} (k : ℕ) (t : Grew stood Before s n)
     (b : Grew stands AreMore (with_events s t.events) m) → k ≤ room_of (with_events (with_events s t.events) b.events) → n + (m + k) < 2 ^ 64
-sums-fit {s = s} {n = n} {m = m} k t b last =
-    let longer = length-with s t.events n t.counted in
-    let longest = length-with (with_events s t.events) b.events m b.counted in
-    let within = t.within in
-    let more = b.within in
-    omega (arith, longer, longest, within, more, last)
+sums-fit k t b last = grind (arith, length-with)
 
 -- Faults.
 
@@ -92,65 +81,19 @@ module _ {left : State → State → Type 0} {s : State} {fault : Fault} where
   pub may-join : {stood : State → Type 0} {Before AreMore Are : List Event → Type 0} {n : ℕ} (t : Grew stood Before s n)
       → MayHaveGrown left AreMore (with_events s t.events) fault
       → ((more : List Event) → AreMore more → Are (t.events ++ more)) → MayHaveGrown left Are s fault
-  may-join {Are = Are} {n = n} t g are =
-      let events = t.events in
-      let longer = length-with s events n t.counted in
-      let low = t.within in
-      let counted = t.counted in
-      let more = g.within in
-      let all : events ++ (g.events ++ g.next) ≡ (events ++ g.events) ++ g.next = sym (append_assoc events g.events g.next) in
-      let sum : length (events ++ (g.events ++ g.next)) ≡ length events + length (g.events ++ g.next) = length-append events (g.events ++ g.next) in
-      let fits : length (events ++ (g.events ++ g.next)) ≤ room_of s = omega (arith, longer, low, counted, more, sum) in
-      record {
-        events = events ++ g.events;
-        next = g.next;
-        are = are g.events g.are;
-        are_with = subst Are all (are (g.events ++ g.next) g.are_with);
-        at_most = g.at_most;
-        within = subst (λ e. length e ≤ room_of s) all fits;
-        left =
-            subst (λ e. left (with_events s (events ++ g.events)) (with_events s e)) all
-            (subst (λ t. left t (with_events s (events ++ (g.events ++ g.next)))) (with_more s events g.events)
-            (subst (left (with_events (with_events s events) g.events)) (with_more s events (g.events ++ g.next)) g.left));
-      }
+  may-join t g are = grind (arith, length-with, append_assoc, length-append)
 
   -- the same in weaker words
   pub may-weaken : {Are Weaker : List Event → Type 0} → MayHaveGrown left Are s fault
       → ((events : List Event) → Are events → Weaker events) → MayHaveGrown left Weaker s fault
-  may-weaken g weaken = record {
-    events = g.events;
-    next = g.next;
-    are = weaken g.events g.are;
-    are_with = weaken (g.events ++ g.next) g.are_with;
-    at_most = g.at_most;
-    within = g.within;
-    left = g.left;
-  }
+  may-weaken g weaken = grind arith
 
   -- just the extended state is left
   pub may-just : {stood : State → Type 0} {Before Are : List Event → Type 0} {n : ℕ} (t : Grew stood Before s n) → Are t.events
       → left (with_events s t.events) (with_events s t.events) → MayHaveGrown left Are s fault
-  may-just {Are = Are} t are here =
-      let none = sym (append-nil t.events) in
-      let low = t.within in
-      let counted = t.counted in
-      let fits : length t.events ≤ room_of s = omega (arith, low, counted) in
-      record {
-        events = t.events;
-        next = [];
-        are = are;
-        are_with = subst Are none are;
-        at_most = omega arith;
-        within = subst (λ e. length e ≤ room_of s) none fits;
-        left = subst (λ e. left (with_events s t.events) (with_events s e)) none here;
-      }
+  may-just t are here = grind (arith, append-nil)
 
 -- there are no more journeys than events
 pub journeys-fewer : (l : List Event) → length (journeys l) ≤ length l
 journeys-fewer [] = omega arith
-journeys-fewer (e ∷ l) = go (begun_by e) (journeys-fewer l)
-  where
-    go : (o : Option Journey) → length (journeys l) ≤ length l
-        → length (cons_option o (journeys l)) ≤ suc (length l)
-    go None fewer = omega arith
-    go (Some a) fewer = omega arith
+journeys-fewer (e ∷ l) = grind (arith, journeys-fewer l)

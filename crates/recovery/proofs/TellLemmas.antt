@@ -1,5 +1,5 @@
 -- What the rules answer to a stop of a running journey, and to a step of an open one. For `stop` and `step`.
-use Rattle.std.proofs.Common.{◌≡◌, ℕ, List, [], refl, ap, sym, ◌∙◌, eq-eqb, Bool, true, false, Option, Some, None, find, option_map, if◌then◌else◌}
+use Rattle.std.proofs.Common.{◌≡◌, ℕ, List, [], refl, ap, sym, ◌∙◌, eq-eqb, Bool, true, false, Option, Some, None, find, option_map, if◌then◌else◌, arith}
 use Rattle.std.proofs.lemmas.Bool.{and_from}
 use Rattle.std.specs.Prelude.{unwrap_or}
 use Rattle.commands.specs.Request.{Stop, Step}
@@ -7,14 +7,12 @@ use Rattle.commands.specs.declared.items.Cause.TheVariants as cause
 use Rattle.commands.specs.declared.items.Item.{Item}
 use Rattle.commands.specs.declared.items.Item.TheVariants.{Turn}
 use Rattle.commands.specs.declared.items.Phase.{Phase}
-use Rattle.commands.specs.declared.items.Phase.TheVariants.{Run, Back, Ended, Undone}
 use Rattle.commands.specs.declared.replies.Refusal.TheVariants.{Finished, NoSavePoint}
 use Rattle.ledger.specs.Answer.{refused, moved, step_choices, stop_choices, answer_choices, answer_move}
 use Rattle.ledger.specs.History.{phase, is_running, is_finished, is_open, last_save}
 use Rattle.ledger.specs.Ledger.{Event, Did, Journey, journey_at, history, is_in, may_do}
 use Rattle.ledger.specs.Laws.{HasOneStep}
 use Rattle.ledger.specs.Recovery.{last_save_of}
-use Rattle.ledger.proofs.Phases.{passing}
 use Rattle.ledger_transitions.proofs.Moves.{seen, find-first}
 use Rattle.recovery.proofs.AskLemmas.{Moves}
 
@@ -26,20 +24,11 @@ pub record IsThere (passes : Phase → Bool) (l : List Event) (j : ℕ) : Type 0
 
 pub is_there : (passes : Phase → Bool) (l : List Event) (j : ℕ) → is_in passes l j ≡ true
     → IsThere passes l j
-is_there passes l j is = go (journey_at l j) refl
-  where
-    go : (o : Option Journey) → journey_at l j ≡ o → IsThere passes l j
-    go None at =
-        let bad : true ≡ false = sym is ∙ ap (passing passes (history l j)) at in cc
-    go (Some a) at =
-        record { journey = a; at = at; here = sym (ap (passing passes (history l j)) at) ∙ is }
+is_there passes l j is = grind arith
 
 -- a running journey is not finished
 run-unfinished : (p : Phase) → is_running p ≡ true → is_finished p ≡ false
-run-unfinished Run e = refl
-run-unfinished (Back q) e = cc
-run-unfinished Ended e = cc
-run-unfinished Undone e = cc
+run-unfinished p e = grind arith
 
 -- a stop of a running journey turns it to its last save-point
 pub stop-moves : (l : List Event) (j : ℕ) → is_in is_running l j ≡ true
@@ -80,9 +69,7 @@ event-moved l j a x is =
         → (if v then refused Finished
         else unwrap_or (option_map (moved a.plan (history l j) j) o) (refused NoSavePoint))
         ≡ moved a.plan (history l j) j x
-    go true o e = cc
-    go false None e = cc
-    go false (Some y) e = let same : y ≡ x = cc in ap (moved a.plan (history l j) j) same
+    go v o e = grind arith
 
 -- a step of an open journey makes its one step
 pub step-moves : (l : List Event) (j : ℕ) → is_in is_open l j ≡ true → (one : HasOneStep l j)

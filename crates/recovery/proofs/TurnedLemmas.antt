@@ -1,14 +1,12 @@
 -- The first pass over one journey after another. For `turn_back`.
-use Rattle.std.proofs.Common.{◌≡◌, ℕ, ◌+◌, ◌<◌, ◌≤◌, List, [], ◌∷◌, ◌++◌, length, refl, ap, sym, ◌∙◌, arith, append-nil, length-append, subst, Bool, true, false, Some, None, option_map}
+use Rattle.std.proofs.Common.{◌≡◌, ℕ, ◌+◌, ◌<◌, ◌≤◌, List, [], ◌∷◌, ◌++◌, length, ap, sym, ◌∙◌, arith, append-nil, length-append, subst, Bool, true, false, Some, None, option_map}
 use Rattle.std.proofs.lemmas.Bool.{false_from_ne_true}
 use Rattle.std.specs.Prelude.{unwrap_or}
 use Rattle.commands.specs.declared.replies.Fault.{Fault}
 use Rattle.commands.specs.declared.items.Phase.{Phase}
-use Rattle.commands.specs.declared.items.Phase.TheVariants.{Run, Back, Ended, Undone}
 use Rattle.ledger.specs.Answer.{State, most_events}
 use Rattle.ledger.specs.History.{is_running, is_open}
-use Rattle.ledger.specs.Ledger.{Event, history, journeys, is_in}
-use Rattle.ledger.proofs.Phases.{passing}
+use Rattle.ledger.specs.Ledger.{Event, journeys, is_in}
 use Rattle.saga_core.specs.Views.{first_unfinished}
 use Rattle.saga_core.specs.declared.records.Brief.{Brief}
 use Rattle.recovery.specs.Asking.{stop_of, Stops, StopsOrNot, IsAtMost, none, one}
@@ -31,22 +29,11 @@ firsts l after events t = record { rest = turns_above l after; all = t.all }
 
 -- a running journey is open
 run-open : (p : Phase) → is_running p ≡ true → is_open p ≡ true
-run-open Run e = refl
-run-open (Back q) e = cc
-run-open Ended e = cc
-run-open Undone e = cc
+run-open p e = grind arith
 
 -- so a journey that is not open does not run
 not_running : (m : List Event) (k : ℕ) → is_in is_open m k ≡ false → is_in is_running m k ≡ false
-not_running m k closed =
-    false_from_ne_true _ (λ runs.
-    let t = is_there is_running m k runs in
-    let bad : true ≡ false =
-    sym (ap (passing is_open (history m k)) t.at ∙ run-open _ t.here) ∙ closed in
-    clash bad)
-  where
-    clash : true ≡ false → ⊥
-    clash e = cc
+not_running m k closed = grind (arith, false_from_ne_true, is_there, run-open)
 
 -- a test of the first open journey is a test of the reported phase
 pub first-in : (passes : Phase → Bool) (m : List Event) (after : ℕ) (b : Brief) → IsFirst m after b
@@ -77,12 +64,7 @@ module _ {stood : State → Type 0} {s : State} {after made rounds : ℕ} (t : T
 
   -- all rounds are over: then the ledger has more events than it may have
   pub turned-over : {stands : State → Type 0} → most_events ≤ rounds → stands (with_events s t.grew.events) → GrewFull stands (AreFirstStops s.ledger) s made
-  turned-over over here =
-      let all : length (s.ledger ++ t.grew.events) ≡ length s.ledger + length t.grew.events = length-append s.ledger t.grew.events in
-      let begun = journeys-fewer s.ledger in
-      let below = t.below in
-      let treated = t.treated in
-      grew-full t.grew (firsts s.ledger after t.grew.events t.grew.are) here (omega (arith, all, begun, below, treated, over))
+  turned-over over here = grind (arith, length-append, journeys-fewer, grew-full, firsts)
 
   -- a read of the book met a fault
   pub turned-look : {left : State → State → Type 0} {fault : Fault} → left (with_events s t.grew.events) (with_events s t.grew.events)
@@ -95,10 +77,7 @@ module _ {stood : State → Type 0} {s : State} {after made rounds : ℕ} (t : T
     found = first-found (s.ledger ++ t.grew.events) after b is
 
     within : b.id ≤ length (journeys s.ledger)
-    within =
-        let inside = found.within in
-        let begun = ap length t.grew.are.same.begun in
-        omega (arith, inside, begun)
+    within = grind (arith, found)
 
     here_now : (v : Bool) → is_running b.cursor.phase ≡ v → is_in is_running (s.ledger ++ t.grew.events) b.id ≡ v
     here_now v e = first-in is_running (s.ledger ++ t.grew.events) after b found ∙ e

@@ -74,9 +74,7 @@ few-orders events n few = let same = length-map events order_of in omega (arith,
 crash-leaves : (leaves : State → State → Type 0) (s : State) (events next : List Event) → (p : Parts s events next)
     → leaves (with_events s events) (with_events s (events ++ next))
     → leaves (state_after s (orders_of events)) (state_after s (orders_of events ++ orders_of next))
-crash-leaves leaves s events next p left =
-    subst (leaves (state_after s (orders_of events))) (sym p.leads)
-    (subst (λ t. leaves t (with_events s (events ++ next))) (sym p.front.leads) left)
+crash-leaves leaves s events next p left = grind arith
 
 -- the events of a book that was extended
 grown-parts : (left : State → State → Type 0) (s : State) (fault : Fault) → IsLegal s.ledger

@@ -9,8 +9,7 @@ use Rattle.recovery.proofs.asking.step.Goals as goal
 
 -- the reply reports the phase after the journey's one step
 pub returns-in-Ok-clause-made : goal.returns-in-Ok-clause-made
-returns-in-Ok-clause-made g c =
-    λ sound following s here unfinished.
+returns-in-Ok-clause-made g c sound following s here unfinished =
     let j = c.args.id in
     let book = g.B.Book in
     let after = AfterMove book.stands book.may_act following c.act.new.self in
@@ -22,8 +21,7 @@ returns-in-Ok-clause-made g c =
 
 -- at a fault the journey made its one step, or it did not
 pub returns-clause-fault : goal.returns-clause-fault
-returns-clause-fault g c =
-    λ sound following s here unfinished.
+returns-clause-fault g c sound following s here unfinished =
     let j = c.args.id in
     let book = g.B.Book in
     let legal = g.met.B.Book.legal c.args.book.now s (standing book.stands book.may_act following c.args.book.now s here) in

@@ -8,8 +8,7 @@ use Rattle.recovery.proofs.asking.stop.Goals as goal
 
 -- the reply reports a phase exactly if the journey turned
 pub returns-in-Ok-clause-made : goal.returns-in-Ok-clause-made
-returns-in-Ok-clause-made g c =
-    λ sound following s here runs.
+returns-in-Ok-clause-made g c sound following s here runs =
     let j = c.args.id in
     let after = AfterMove g.B.Book.stands g.B.Book.may_act following c.act.new.self in
     subst (λ v. Adds (after v) s (stop_of s.ledger j) v) (sym (c.is_some.ensures ∙ ap is_some c.phase_told.ensures))
@@ -17,7 +16,6 @@ returns-in-Ok-clause-made g c =
 
 -- at a fault the journey turned, or it did not
 pub returns-clause-fault : goal.returns-clause-fault
-returns-clause-fault g c =
-    λ sound following s here runs.
+returns-clause-fault g c sound following s here runs =
     move-left sound following s here (request.Stop c.args.id) tt c.args.id _ (stop-moves s.ledger c.args.id runs) c.in-Err.fault
     g.met.B.Book.settled c.in-Err.ensures none one

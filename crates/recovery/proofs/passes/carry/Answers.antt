@@ -1,8 +1,6 @@
-use Rattle.std.proofs.Common.{sym, ◌∙◌, arith, subst}
+use Rattle.std.proofs.Common.{sym, ◌∙◌, arith}
 use Rattle.saga_core.proofs.CallLemmas.{stays_read, stays_served, stays_twice}
-use Rattle.recovery.specs.Following.{AfterPass, MayGoOn}
 use Rattle.recovery.specs.Growing.{with_events}
-use Rattle.recovery.specs.Passes.{CarriedOne}
 use Rattle.recovery.proofs.CarriedLemmas.{carried-all, carried-cut, carried-fault, carried-further, carried-look, carried-more, carried-over, goes-first}
 use Rattle.recovery.proofs.FollowLemmas.{come, goes-read, left-read, standing}
 use Rattle.recovery.proofs.PassLemmas.{sum-fits}
@@ -11,8 +9,7 @@ use Rattle.recovery.proofs.passes.carry.Goals.{then-goes_on+in-Ok-Through, else-
 
 -- no journey is left
 pub returns-in-Ok-None-clause-came : goal.returns-in-Ok-None-clause-came
-returns-in-Ok-None-clause-came g c =
-    λ sound following s here.
+returns-in-Ok-None-clause-came g c sound following s here =
     let book = g.B.Book in
     let t = c.loop-round.invariant.carried (c.first_unfinished.ensures.reads.sound sound) following s here in
     let u = with_events s t.grew.events in
@@ -23,8 +20,7 @@ returns-in-Ok-None-clause-came g c =
 
 -- all rounds are over
 pub returns-clause-came : goal.returns-clause-came
-returns-clause-came g c =
-    λ sound following s here.
+returns-clause-came g c sound following s here =
     let book = g.B.Book in
     let t = c.loop-round.invariant.carried sound following s here in
     carried-over t (omega (arith, c.loop-round-test.false))
@@ -32,8 +28,7 @@ returns-clause-came g c =
 
 -- the ledger was full within a journey
 pub returns-in-Ok-Full-clause-came : goal.returns-in-Ok-Full-clause-came
-returns-in-Ok-Full-clause-came g c =
-    λ sound following s here.
+returns-in-Ok-Full-clause-came g c sound following s here =
     let book = g.B.Book in
     let looked = c.carry_one.ensures.serves.sound sound in
     let t = c.loop-round.invariant.carried (c.first_unfinished.ensures.reads.sound looked) following s here in
@@ -41,24 +36,21 @@ returns-in-Ok-Full-clause-came g c =
     let b = c.in-Ok-Some.brief in
     let first = sym c.in-Ok-Some.field-0-is
     ∙ c.in-Ok-Some.ensures.first looked u (standing book.stands book.may_act following c.loop-round.book u t.grew.stands_there) in
-    let more = subst (λ r. CarriedOne (MayGoOn book.stands book.may_act following c.first_unfinished.new.self)
-    (AfterPass book.stands book.may_act following c.carry_one.new.book r) c.args.pass b.id r) c.in-Ok-Full.field-0-is
-    (c.in-Ok-Full.ensures.came sound following) u (goes-read looked following u t.grew.stands_there c.in-Ok-Some.ensures.reads)
+    let more = rw c.in-Ok-Full.field-0-is at c.in-Ok-Full.ensures.came sound following u
+    (goes-read looked following u t.grew.stands_there c.in-Ok-Some.ensures.reads)
     (goes-first c.args.pass u.ledger c.loop-round.after b first (sym c.goes_on.ensures ∙ c.if-goes_on.true)) in
     carried-cut t b first more (let fits = sum-fits c.in-Ok-Full.more t.grew more.grew.within in omega (arith, c.saturating_add.ensures, fits))
 
 -- a read of the book met a fault
 pub returns-in-Err-clause-fault : goal.returns-in-Err-clause-fault
-returns-in-Err-clause-fault g c =
-    λ sound following s here.
+returns-in-Err-clause-fault g c sound following s here =
     let t = c.loop-round.invariant.carried (c.first_unfinished.ensures.reads.sound sound) following s here in
     carried-look t
     (left-read sound following (with_events s t.grew.events) t.grew.stands_there c.in-Err.fault g.met.B.Book.settled c.in-Err.ensures.reads)
 
 -- a fault within a journey
 pub returns-in-Err-carry_one-clause-fault : goal.returns-in-Err-carry_one-clause-fault
-returns-in-Err-carry_one-clause-fault g c =
-    λ sound following s here.
+returns-in-Err-carry_one-clause-fault g c sound following s here =
     let book = g.B.Book in
     let looked = c.carry_one.ensures.serves.sound sound in
     let t = c.loop-round.invariant.carried (c.first_unfinished.ensures.reads.sound looked) following s here in
@@ -85,9 +77,8 @@ loop-round-preserved g c =
             let u = with_events s t.grew.events in
             let first = sym c.in-Ok-Some.field-0-is
             ∙ c.in-Ok-Some.ensures.first looked u (standing book.stands book.may_act following c.loop-round.book u t.grew.stands_there) in
-            let more = subst (λ r. CarriedOne (MayGoOn book.stands book.may_act following c.first_unfinished.new.self)
-            (AfterPass book.stands book.may_act following w.carry_one.new.book r) c.args.pass b.id r) w.in-Ok-Through.field-0-is
-            (w.in-Ok-Through.ensures.came sound following) u (goes-read looked following u t.grew.stands_there c.in-Ok-Some.ensures.reads)
+            let more = rw w.in-Ok-Through.field-0-is at w.in-Ok-Through.ensures.came sound following u
+            (goes-read looked following u t.grew.stands_there c.in-Ok-Some.ensures.reads)
             (goes-first c.args.pass u.ledger c.loop-round.after b first (sym c.goes_on.ensures ∙ w.if-goes_on.true)) in
             carried-more t b first more
             (let fits = sum-fits w.in-Ok-Through.more t.grew more.within in omega (arith, w.saturating_add-made.ensures, fits));

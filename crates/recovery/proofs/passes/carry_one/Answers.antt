@@ -1,7 +1,5 @@
-use Rattle.std.proofs.Common.{sym, ◌∙◌, subst, arith, is_some}
+use Rattle.std.proofs.Common.{sym, ◌∙◌, arith}
 use Rattle.saga_core.proofs.CallLemmas.{stays_served, stays_twice}
-use Rattle.recovery.specs.Asking.{Steps}
-use Rattle.recovery.specs.Following.{AfterMove, MayGoOn}
 use Rattle.recovery.specs.Growing.{with_events}
 use Rattle.recovery.proofs.CarriedOneLemmas.{one-done, one-fault, one-on, one-refused}
 use Rattle.recovery.proofs.FollowLemmas.{standing}
@@ -9,31 +7,23 @@ use Rattle.recovery.proofs.passes.carry_one.Goals as goal
 
 -- the step found the ledger full
 pub returns-in-Ok-None-clause-came : goal.returns-in-Ok-None-clause-came
-returns-in-Ok-None-clause-came g c =
-    λ sound following s here on.
-    let book = g.B.Book in
+returns-in-Ok-None-clause-came g c sound following s here on =
     one-refused (c.loop-made.invariant.carried (c.step.ensures.serves.sound sound) following s here on)
-    (subst (λ o. Steps (MayGoOn book.stands book.may_act following c.loop-made.book)
-    (AfterMove book.stands book.may_act following c.step.new.book (is_some o)) c.args.id o) c.in-Ok-None.field-0-is
-    (c.in-Ok-None.ensures.made sound following))
+    (rw c.in-Ok-None.field-0-is at c.in-Ok-None.ensures.made sound following)
 
 -- one step more, and the pass is done with the journey
 pub returns-then-not-goes_on-clause-came : goal.returns-then-not-goes_on-clause-came
-returns-then-not-goes_on-clause-came g c =
-    λ sound following s here on.
+returns-then-not-goes_on-clause-came g c sound following s here on =
     let book = g.B.Book in
     let t = c.loop-made.invariant.carried (c.step.ensures.serves.sound sound) following s here on in
     let u = with_events s t.events in
     one-done t c.in-Ok-Some.phase
     (g.met.B.Book.legal c.loop-made.book u (standing book.stands book.may_act following c.loop-made.book u t.stands_there))
-    (subst (λ o. Steps (MayGoOn book.stands book.may_act following c.loop-made.book)
-    (AfterMove book.stands book.may_act following c.step.new.book (is_some o)) c.args.id o) c.in-Ok-Some.field-0-is
-    (c.in-Ok-Some.ensures.made sound following)) (sym c.goes_on.ensures ∙ c.if-not-goes_on.true)
+    (rw c.in-Ok-Some.field-0-is at c.in-Ok-Some.ensures.made sound following) (sym c.goes_on.ensures ∙ c.if-not-goes_on.true)
 
 -- the steps so far, and perhaps the one that met the fault
 pub returns-in-Err-clause-fault : goal.returns-in-Err-clause-fault
-returns-in-Err-clause-fault g c =
-    λ sound following s here on.
+returns-in-Err-clause-fault g c sound following s here on =
     let book = g.B.Book in
     let t = c.loop-made.invariant.carried (c.step.ensures.serves.sound sound) following s here on in
     let u = with_events s t.events in
@@ -42,8 +32,7 @@ returns-in-Err-clause-fault g c =
 
 -- more steps were made than there is room for
 pub returns-clause-came : goal.returns-clause-came
-returns-clause-came g c =
-    λ sound following s here on.
+returns-clause-came g c sound following s here on =
     let within = (c.loop-made.invariant.carried sound following s here on).within in
     absurd (omega (arith, within, c.loop-made-test.false))
 
@@ -57,7 +46,5 @@ loop-made-preserved g c = record {
       let u = with_events s t.events in
       one-on t c.in-Ok-Some.phase
       (g.met.B.Book.legal c.loop-made.book u (standing book.stands book.may_act following c.loop-made.book u t.stands_there))
-      (subst (λ o. Steps (MayGoOn book.stands book.may_act following c.loop-made.book)
-      (AfterMove book.stands book.may_act following c.step.new.book (is_some o)) c.args.id o) c.in-Ok-Some.field-0-is
-      (c.in-Ok-Some.ensures.made sound following)) (sym c.goes_on.ensures ∙ c.if-not-goes_on.false);
+      (rw c.in-Ok-Some.field-0-is at c.in-Ok-Some.ensures.made sound following) (sym c.goes_on.ensures ∙ c.if-not-goes_on.false);
 }

@@ -1,7 +1,6 @@
-use Rattle.std.proofs.Common.{sym, ◌∙◌, arith, subst}
+use Rattle.std.proofs.Common.{sym, ◌∙◌, arith}
 use Rattle.saga_core.proofs.CallLemmas.{stays_read, stays_served, stays_twice}
-use Rattle.recovery.specs.Asking.{Stops}
-use Rattle.recovery.specs.Following.{AfterMove, MayGoOn}
+use Rattle.recovery.specs.Following.{MayGoOn}
 use Rattle.recovery.specs.Growing.{with_events}
 use Rattle.recovery.proofs.FollowLemmas.{come, goes-read, left-read, standing}
 use Rattle.recovery.proofs.TurnedLemmas.{turned-all, turned-fault, turned-further, turned-look, turned-more, turned-now, turned-over, turned-refused}
@@ -10,8 +9,7 @@ use Rattle.recovery.proofs.passes.turn_back.Goals.{then-is_running+in-Ok-true, e
 
 -- no journey is left
 pub returns-in-Ok-None-clause-came : goal.returns-in-Ok-None-clause-came
-returns-in-Ok-None-clause-came g c =
-    λ sound following s here.
+returns-in-Ok-None-clause-came g c sound following s here =
     let book = g.B.Book in
     let t = c.loop-round.invariant.turned (c.first_unfinished.ensures.reads.sound sound) following s here in
     let u = with_events s t.grew.events in
@@ -22,8 +20,7 @@ returns-in-Ok-None-clause-came g c =
 
 -- all rounds are over
 pub returns-clause-came : goal.returns-clause-came
-returns-clause-came g c =
-    λ sound following s here.
+returns-clause-came g c sound following s here =
     let book = g.B.Book in
     let t = c.loop-round.invariant.turned sound following s here in
     turned-over t (omega (arith, c.loop-round-test.false))
@@ -31,8 +28,7 @@ returns-clause-came g c =
 
 -- the stop found the ledger full
 pub returns-in-Ok-false-clause-came : goal.returns-in-Ok-false-clause-came
-returns-in-Ok-false-clause-came g c =
-    λ sound following s here.
+returns-in-Ok-false-clause-came g c sound following s here =
     let book = g.B.Book in
     let on = MayGoOn book.stands book.may_act following c.first_unfinished.new.self in
     let looked = c.stop.ensures.serves.sound sound in
@@ -43,21 +39,18 @@ returns-in-Ok-false-clause-came g c =
     (sym c.in-Ok-Some.field-0-is
     ∙ c.in-Ok-Some.ensures.first looked u (standing book.stands book.may_act following c.loop-round.book u t.grew.stands_there))
     (sym c.is_running.ensures ∙ c.if-is_running.true)
-    (subst (λ v. Stops on (AfterMove book.stands book.may_act following c.stop.new.book v) b.id v) c.in-Ok-false.field-0-test
-    (c.in-Ok-false.ensures.made sound following))
+    (rw c.in-Ok-false.field-0-test at c.in-Ok-false.ensures.made sound following)
 
 -- a read of the book met a fault
 pub returns-in-Err-clause-fault : goal.returns-in-Err-clause-fault
-returns-in-Err-clause-fault g c =
-    λ sound following s here.
+returns-in-Err-clause-fault g c sound following s here =
     let t = c.loop-round.invariant.turned (c.first_unfinished.ensures.reads.sound sound) following s here in
     turned-look t
     (left-read sound following (with_events s t.grew.events) t.grew.stands_there c.in-Err.fault g.met.B.Book.settled c.in-Err.ensures.reads)
 
 -- the turns so far, and perhaps the one that met the fault
 pub returns-in-Err-stop-clause-fault : goal.returns-in-Err-stop-clause-fault
-returns-in-Err-stop-clause-fault g c =
-    λ sound following s here.
+returns-in-Err-stop-clause-fault g c sound following s here =
     let book = g.B.Book in
     let on = MayGoOn book.stands book.may_act following c.first_unfinished.new.self in
     let looked = c.stop.ensures.serves.sound sound in
@@ -87,8 +80,7 @@ loop-round-preserved g c =
             (sym c.in-Ok-Some.field-0-is
             ∙ c.in-Ok-Some.ensures.first looked u (standing book.stands book.may_act following c.loop-round.book u t.grew.stands_there))
             (sym c.is_running.ensures ∙ w.if-is_running.true)
-            (subst (λ v. Stops on (AfterMove book.stands book.may_act following w.stop.new.book v) b.id v) w.in-Ok-true.field-0-test
-            (w.in-Ok-true.ensures.made sound following));
+            (rw w.in-Ok-true.field-0-test at w.in-Ok-true.ensures.made sound following);
       })
       | else-is_running w ↦ rw (w.book-is, w.made-is) (record {
         each_once = let fewer = c.loop-round.invariant.each_once in omega arith;

@@ -12,8 +12,7 @@ use Rattle.recovery.proofs.recovering.recover.Goals as goal
 
 -- the book represents the recovered state
 pub returns-in-Ok-clause-recovered : goal.returns-in-Ok-clause-recovered
-returns-in-Ok-clause-recovered g c =
-    λ sound.
+returns-in-Ok-clause-recovered g c sound =
     subst (λ b. Recovers (g.B.Book.stands c.args.book) (g.B.Book.stands b) c.in-Ok.made) (sym c.new.ensures.same)
     (c.in-Ok.ensures.recovered (subst g.B.Book.is_sound c.new.ensures.same sound) None)
 
@@ -23,8 +22,7 @@ returns-in-Err-clause-fault g c = λ sound. c.in-Err.ensures.fault sound None
 
 -- the recovered ledger has no unfinished journey
 pub returns-in-Ok-clause-finished : goal.returns-in-Ok-clause-finished
-returns-in-Ok-clause-finished g c =
-    λ sound s r st is fits.
+returns-in-Ok-clause-finished g c sound s r st is fits =
     let moved = subst g.B.Book.is_sound c.new.ensures.same sound in
     let grew = c.in-Ok.ensures.recovered moved None s st in
     record {
@@ -37,8 +35,7 @@ returns-in-Ok-clause-finished g c =
 
 -- recovery makes no more events than the bound
 pub returns-in-Ok-clause-bound : goal.returns-in-Ok-clause-bound
-returns-in-Ok-clause-bound g c =
-    λ sound s st.
+returns-in-Ok-clause-bound g c sound s st =
     let moved = subst g.B.Book.is_sound c.new.ensures.same sound in
     let grew = c.in-Ok.ensures.recovered moved None s st in
     let counted = grew.counted in
@@ -48,8 +45,7 @@ returns-in-Ok-clause-bound g c =
 
 -- an execution continues with the requests of recovery
 pub returns-in-Ok-clause-world : goal.returns-in-Ok-clause-world
-returns-in-Ok-clause-world g c =
-    λ sound w here.
+returns-in-Ok-clause-world g c sound w here =
     let book = g.B.Book in
     let s = after start w in
     let legal = g.met.B.Book.legal c.args.book s here.stands_there in
@@ -61,8 +57,7 @@ returns-in-Ok-clause-world g c =
 
 -- at a fault an execution continues with a prefix of them
 pub returns-in-Err-clause-world_at_fault : goal.returns-in-Err-clause-world_at_fault
-returns-in-Err-clause-world_at_fault g c =
-    λ sound w here.
+returns-in-Err-clause-world_at_fault g c sound w here =
     let s = after start w in
     world-cut (g.B.Book.stands c.recover_all.new.book) (g.B.Book.leaves c.recover_all.new.book) w
     c.in-Err.fault here (g.met.B.Book.legal c.args.book s here.stands_there)
@@ -70,8 +65,7 @@ returns-in-Err-clause-world_at_fault g c =
 
 -- the book may act for the later asks
 pub returns-in-Ok-clause-may_act : goal.returns-in-Ok-clause-may_act
-returns-in-Ok-clause-may_act g c =
-    λ sound first later s may.
+returns-in-Ok-clause-may_act g c sound first later s may =
     let book = g.B.Book in
     let moved = subst book.is_sound c.new.ensures.same sound in
     subst (λ b. Grew (MayActThen (book.stands b) (book.may_act first b) later) (AreRecovery s.ledger) s c.in-Ok.made) (sym c.new.ensures.same)
@@ -79,8 +73,7 @@ returns-in-Ok-clause-may_act g c =
 
 -- the store failed for a reason
 pub returns-in-Err-clause-reason : goal.returns-in-Err-clause-reason
-returns-in-Err-clause-reason g c =
-    λ sound first later store.
+returns-in-Err-clause-reason g c sound first later store =
     let book = g.B.Book in
     subst (λ f. RecoversPart (MayRecover (book.stands c.args.book) (book.may_act first c.args.book) later)
     (LeftAt book.stands book.leaves book.has_reason (Some (first, later)) c.recover_all.new.book f) f) store

@@ -1,8 +1,8 @@
-use Rattle.std.proofs.Common.{subst, arith}
-use Rattle.recovery.specs.Following.{AfterPass, HasCome, MayGoOn}
+use Rattle.std.proofs.Common.{arith}
+use Rattle.recovery.specs.Following.{HasCome}
 use Rattle.recovery.specs.Growing.{with_events}
-use Rattle.recovery.specs.Passes.{MadeStops, CarriedAll, IsUnderWay, IsThrough, made_by}
-use Rattle.recovery.specs.declared.passes.Pass.TheVariants.{Back, On}
+use Rattle.recovery.specs.Passes.{IsUnderWay, IsThrough, made_by}
+use Rattle.recovery.specs.declared.passes.Pass.TheVariants.{On}
 use Rattle.recovery.proofs.FinishLemmas.{turns-cut, back-cut, came-within, on-came, turns-fault, back-fault, on-fault}
 use Rattle.recovery.proofs.FollowLemmas.{came-over, come-standing, standing}
 use Rattle.recovery.proofs.PassLemmas.{sum-fits, sums-fit}
@@ -10,41 +10,30 @@ use Rattle.recovery.proofs.recovering.recover_all.Goals as goal
 
 -- the turns filled the ledger
 pub returns-in-Ok-Full-clause-recovered : goal.returns-in-Ok-Full-clause-recovered
-returns-in-Ok-Full-clause-recovered g c =
-    λ sound following s here.
+returns-in-Ok-Full-clause-recovered g c sound following s here =
     let book = g.B.Book in
-    let on = MayGoOn book.stands book.may_act following in
-    let after = AfterPass book.stands book.may_act following in
     turns-cut (g.met.B.Book.legal c.args.book.now s (standing book.stands book.may_act following c.args.book.now s here))
-    (subst (λ r. MadeStops (on c.args.book.now) (after c.turn_back.new.book r) r) c.in-Ok-Full.field-0-is
-    (c.in-Ok-Full.ensures.came sound following) s here)
+    (rw c.in-Ok-Full.field-0-is at c.in-Ok-Full.ensures.came sound following s here)
 
 -- the way back filled the ledger
 pub returns-in-Ok-Full-carry-clause-recovered : goal.returns-in-Ok-Full-carry-clause-recovered
-returns-in-Ok-Full-carry-clause-recovered g c =
-    λ sound following s here.
+returns-in-Ok-Full-carry-clause-recovered g c sound following s here =
     let book = g.B.Book in
-    let on = MayGoOn book.stands book.may_act following in
-    let after = AfterPass book.stands book.may_act following in
-    let t = subst (λ r. MadeStops (on c.args.book.now) (after c.turn_back.new.book r) r) c.in-Ok-Through.field-0-is
-    (c.in-Ok-Through.ensures.came (c.carry.ensures.serves.sound sound) following) s here in
-    let b = subst (λ r. CarriedAll (on c.turn_back.new.book) (after c.carry.new.book r) Back r) c.in-Ok-Full-carry.field-0-is
-    (c.in-Ok-Full-carry.ensures.came sound following) (with_events s t.events) t.stands_there in
+    let t = rw c.in-Ok-Through.field-0-is at c.in-Ok-Through.ensures.came (c.carry.ensures.serves.sound sound) following s here in
+    let b = rw c.in-Ok-Full-carry.field-0-is at c.in-Ok-Full-carry.ensures.came sound following
+    (with_events s t.events) t.stands_there in
     back-cut (g.met.B.Book.legal c.args.book.now s (standing book.stands book.may_act following c.args.book.now s here)) t b
     (let fits = sum-fits c.in-Ok-Full-carry.made t b.grew.within in omega (arith, c.saturating_add.ensures, fits))
 
 -- the way on completed, or filled the ledger
 pub returns-in-Ok-clause-recovered : goal.returns-in-Ok-clause-recovered
-returns-in-Ok-clause-recovered g c =
-    λ sound following s here.
+returns-in-Ok-clause-recovered g c sound following s here =
     let book = g.B.Book in
-    let on = MayGoOn book.stands book.may_act following in
-    let after = AfterPass book.stands book.may_act following in
     let on_way = c.carry-2.ensures.serves.sound sound in
-    let t = subst (λ r. MadeStops (on c.args.book.now) (after c.turn_back.new.book r) r) c.in-Ok-Through.field-0-is
-    (c.in-Ok-Through.ensures.came (c.carry.ensures.serves.sound on_way) following) s here in
-    let b = subst (λ r. CarriedAll (on c.turn_back.new.book) (after c.carry.new.book r) Back r) c.in-Ok-Through-carry.field-0-is
-    (c.in-Ok-Through-carry.ensures.came on_way following) (with_events s t.events) t.stands_there in
+    let t = rw c.in-Ok-Through.field-0-is at c.in-Ok-Through.ensures.came
+    (c.carry.ensures.serves.sound on_way) following s here in
+    let b = rw c.in-Ok-Through-carry.field-0-is at c.in-Ok-Through-carry.ensures.came on_way following
+    (with_events s t.events) t.stands_there in
     let last = with_events (with_events s t.events) b.events in
     let through = IsThrough On last.ledger in
     let under_way = IsUnderWay On last.ledger in
@@ -58,35 +47,27 @@ returns-in-Ok-clause-recovered g c =
 
 -- a fault in the turns
 pub returns-in-Err-clause-fault : goal.returns-in-Err-clause-fault
-returns-in-Err-clause-fault g c =
-    λ sound following s here.
+returns-in-Err-clause-fault g c sound following s here =
     let book = g.B.Book in
     turns-fault (g.met.B.Book.legal c.args.book.now s (standing book.stands book.may_act following c.args.book.now s here))
     (c.in-Err.ensures.fault sound following s here)
 
 -- a fault on the way back
 pub returns-in-Err-carry-clause-fault : goal.returns-in-Err-carry-clause-fault
-returns-in-Err-carry-clause-fault g c =
-    λ sound following s here.
+returns-in-Err-carry-clause-fault g c sound following s here =
     let book = g.B.Book in
-    let on = MayGoOn book.stands book.may_act following in
-    let after = AfterPass book.stands book.may_act following in
-    let t = subst (λ r. MadeStops (on c.args.book.now) (after c.turn_back.new.book r) r) c.in-Ok-Through.field-0-is
-    (c.in-Ok-Through.ensures.came (c.carry.ensures.serves.sound sound) following) s here in
+    let t = rw c.in-Ok-Through.field-0-is at c.in-Ok-Through.ensures.came (c.carry.ensures.serves.sound sound) following s here in
     back-fault (g.met.B.Book.legal c.args.book.now s (standing book.stands book.may_act following c.args.book.now s here)) t
     (c.in-Err-carry.ensures.fault sound following (with_events s t.events) t.stands_there)
 
 -- a fault on the way on
 pub returns-in-Err-carry-2-clause-fault : goal.returns-in-Err-carry-2-clause-fault
-returns-in-Err-carry-2-clause-fault g c =
-    λ sound following s here.
+returns-in-Err-carry-2-clause-fault g c sound following s here =
     let book = g.B.Book in
-    let on = MayGoOn book.stands book.may_act following in
-    let after = AfterPass book.stands book.may_act following in
     let on_way = c.carry-2.ensures.serves.sound sound in
-    let t = subst (λ r. MadeStops (on c.args.book.now) (after c.turn_back.new.book r) r) c.in-Ok-Through.field-0-is
-    (c.in-Ok-Through.ensures.came (c.carry.ensures.serves.sound on_way) following) s here in
-    let b = subst (λ r. CarriedAll (on c.turn_back.new.book) (after c.carry.new.book r) Back r) c.in-Ok-Through-carry.field-0-is
-    (c.in-Ok-Through-carry.ensures.came on_way following) (with_events s t.events) t.stands_there in
+    let t = rw c.in-Ok-Through.field-0-is at c.in-Ok-Through.ensures.came
+    (c.carry.ensures.serves.sound on_way) following s here in
+    let b = rw c.in-Ok-Through-carry.field-0-is at c.in-Ok-Through-carry.ensures.came on_way following
+    (with_events s t.events) t.stands_there in
     on-fault (g.met.B.Book.legal c.args.book.now s (standing book.stands book.may_act following c.args.book.now s here)) t b
     (c.in-Err-carry-2.ensures.fault sound following (with_events (with_events s t.events) b.events) b.stands_there)
