@@ -22,7 +22,7 @@ use Rattle.program_ends.specs.Ends.{EndsBadly, IfDone}
 use Rattle.program_ends.specs.declared.ends.End.{End}
 use Rattle.program_ends.specs.declared.ends.End.TheVariants as finish
 use Rattle.histories.specs.Following.{EachMayReopen, HasComeUp, HasNotComeUp, LeavesAnswered, StandsAnswered}
-use Rattle.histories.specs.Openings.{File, Input, IsUnserved, Lines, Nothing, load_reply}
+use Rattle.histories.specs.Openings.{File, Input, HasNoExchange, Lines, Nothing, load_reply}
 use Rattle.histories.specs.Stages.{Answering, LeavesAnswering, Stood}
 use Rattle.histories.proofs.FileLemmas.{file_cut, file_loaded, file_unasked, loaded, nothing_asked}
 use Rattle.histories.proofs.FollowLemmas.{leaves_answered, leaves_unanswered, stands_answered, stands_found, stands_leaves}
@@ -41,8 +41,8 @@ if_done (finish.Fault fault) holds = tt
 if_done (finish.Usage text) holds = tt
 
 -- lines may be unserved
-pub lines_unserved : (known : Option (List ℕ)) → IfSome (option_map Lines known) IsUnserved
-lines_unserved known = of_lines known IsUnserved (if_some_each known _ (λ bytes. tt))
+pub lines_unserved : (known : Option (List ℕ)) → IfSome (option_map Lines known) HasNoExchange
+lines_unserved known = of_lines known HasNoExchange (if_some_each known _ (λ bytes. tt))
 
 -- the book over a connection stands for what that stood for, in tables of any version
 pub book_stands : {S : Type 0} (g : Ghosts S) (old : Held S) (b : TableBook S g) → OpensBook g old b → HasCleanDisk (state g b.conn)
@@ -82,7 +82,7 @@ module _ {S : Type 0} (g : Ghosts S) (b : TableBook S g) (new : Held S) (input :
 
 -- the desk did not come up
 pub follows_not_up : {S : Type 0} (g : Ghosts S) (old new : Held S) (input : Option Input) (held : Option (List ℕ)) (e : End)
-    → EachMayReopen → (HasCleanDisk (state g new) → HasNotComeUp g old new) → EndsBadly e → IfSome input IsUnserved
+    → EachMayReopen → (HasCleanDisk (state g new) → HasNotComeUp g old new) → EndsBadly e → IfSome input HasNoExchange
     → Follows g old new input held held e
 follows_not_up g old new input held e law left bad unserved = record {
   left = λ clean. if_some_more input _ _ (λ i is. leaves_unanswered law g old new held i is (left clean)) unserved;

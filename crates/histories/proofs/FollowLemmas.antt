@@ -9,7 +9,7 @@ use Rattle.ledger.specs.World.{Moment, after, IsWorld}
 use Rattle.saga_core.specs.Chains.{reopened}
 use Rattle.saga_core.specs.Worlds.{StandsAtEnd}
 use Rattle.recovery.specs.Recovers.{HasOneRecovery}
-use Rattle.histories.specs.Openings.{Input, IsUnserved, recovered}
+use Rattle.histories.specs.Openings.{Input, HasNoExchange, recovered}
 use Rattle.histories.specs.Chains.{StandsAs}
 use Rattle.histories.specs.Following.{EachMayReopen, HasComeUp, HasNotComeUp, LeavesAnswered, LeavesOpened, StandsAnswered, StandsOpened}
 use Rattle.histories.specs.Stages.{LeavesRecovering, Stood}
@@ -47,7 +47,7 @@ module _ (law : EachMayReopen) where
         (λ db may. stands_found g new (after start w) clean (stays (after start w) stood) db may)
 
     -- it was not recovered, and answered nobody
-    pub leaves_unanswered : (held : Option (List ℕ)) (input : Input) → IsUnserved input → HasNotComeUp g old new
+    pub leaves_unanswered : (held : Option (List ℕ)) (input : Input) → HasNoExchange input → HasNotComeUp g old new
         → LeavesOpened g old new held held input
     leaves_unanswered held input unserved left w world stood =
         recovering_leads law w world (state g new).may_leave held input unserved (left w world stood)

@@ -7,7 +7,7 @@ use Rattle.ledger.specs.Ledger.{Event}
 use Rattle.ledger.specs.World.{Moment, after, IsWorld}
 use Rattle.saga_core.specs.Chains.{reopened}
 use Rattle.recovery.specs.Recovers.{IsRecovery}
-use Rattle.histories.specs.Openings.{Input, IsUnserved, recovered}
+use Rattle.histories.specs.Openings.{Input, HasNoExchange, recovered}
 use Rattle.histories.specs.Chains.{StandsAs, LeadsEach}
 use Rattle.histories.specs.Following.{EachMayReopen}
 use Rattle.histories.specs.Stages.{HasRecovered, LeavesRecovering, Answering, LeavesAnswering, HasOpened}
@@ -22,7 +22,7 @@ module _ (law : EachMayReopen) (w : List Moment) (world : IsWorld w) where
   same_recovery events is = subst (λ (s : State). IsRecovery s events) same_state is
 
   -- it stopped before it was recovered
-  pub recovering_leads : (finds : Trees → Type 0) (held : Option (List ℕ)) (input : Input) → IsUnserved input
+  pub recovering_leads : (finds : Trees → Type 0) (held : Option (List ℕ)) (input : Input) → HasNoExchange input
       → LeavesRecovering finds (reopened w) → LeadsEach finds held held input w
   recovering_leads finds held input unserved left db may =
       let r = left db may in

@@ -87,18 +87,18 @@ abbrev pub recovered : List Moment → List Event → List Moment
 recovered w events = continued (reopened w) (orders_of events) []
 
 -- no message of a connection was answered
-abbrev pub IsUnserved : Input → Type 0
-IsUnserved (Lines bytes) = ⊤
-IsUnserved (Connections exchanges) = exchanges ≡ []
-IsUnserved (File name bytes) = ⊤
-IsUnserved Nothing = ⊤
+abbrev pub HasNoExchange : Input → Type 0
+HasNoExchange (Lines bytes) = ⊤
+HasNoExchange (Connections exchanges) = exchanges ≡ []
+HasNoExchange (File name bytes) = ⊤
+HasNoExchange Nothing = ⊤
 
 -- the desk stopped before it was recovered: it answered nobody, and wrote nothing
 pub record StopsRecovering (w : List Moment) (input : Input) (told : List ℕ) (v : List Moment) : Type 0 where
   pub events : List Event
   pub is : IsRecovery (after start w) events
   pub goes : GoesOnTo (reopened w) (orders_of events) v
-  pub unserved : IsUnserved input
+  pub unserved : HasNoExchange input
   pub silent : told ≡ []
 
 -- the desk recovered, and then answered

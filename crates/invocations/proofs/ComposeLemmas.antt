@@ -26,7 +26,7 @@ use Rattle.desk_files.specs.Images.{Closes, KeepsFound, LeavesAsFound, OpensOver
 use Rattle.desk_files.specs.declared.closing.Left.{Left}
 use Rattle.histories.specs.Chains.{StandsAs}
 use Rattle.histories.specs.Following.{EachMayReopen, LeavesOpened, StandsStill}
-use Rattle.histories.specs.Openings.{Input, IsUnserved}
+use Rattle.histories.specs.Openings.{Input, HasNoExchange}
 use Rattle.histories.specs.Stages.{Stood}
 use Rattle.histories.specs.Worlds.{Reopens}
 use Rattle.histories.proofs.FollowLemmas.{stands_found}
@@ -76,7 +76,7 @@ ran_still first rest held holds same sound tell image may w world stands =
     let r : Reaches (unasked held holds) w (StandsIn image) = record { end = w; goes = refl; world = world; there = there } in r)
 
 module _ (law : EachMayReopen) where
-  goes_late : (held : Option (List ℕ)) (input : Input) (w : List Moment) → IsUnserved input → IsWorld w
+  goes_late : (held : Option (List ℕ)) (input : Input) (w : List Moment) → HasNoExchange input → IsWorld w
       → Reopens held held input w (reopened w)
   goes_late held input w unserved world = record {
     told = [];
@@ -96,7 +96,7 @@ module _ (law : EachMayReopen) where
   stands_late image w world (inr new) = inr (new.0, (law w world).again.same ∙ new.1)
 
   ran_late : {D : Type 0} {g : disk.Ghosts D} (first : Image) (rest : Left D g) (held : Option (List ℕ)) (input : Input)
-      → IsUnserved input → LeavesAsFound first rest → RanTo (asked input held held) first rest
+      → HasNoExchange input → LeavesAsFound first rest → RanTo (asked input held held) first rest
   ran_late first rest held input unserved same sound tell image may w world stands =
       ∥∥₁_map (stands_kept first image w (same sound tell image may) stands) (λ there.
       let r : Reaches (asked input held held) w (StandsIn image) = record {
@@ -108,7 +108,7 @@ module _ (law : EachMayReopen) where
 
   -- of an input that may be known
   pub late_ran : {D : Type 0} {g : disk.Ghosts D} (first : Image) (rest : Left D g) (held : Option (List ℕ))
-      (input : Option Input) → IfSome input IsUnserved → LeavesAsFound first rest
+      (input : Option Input) → IfSome input HasNoExchange → LeavesAsFound first rest
       → IfSome input (λ i. RanTo (asked i held held) first rest)
   late_ran first rest held None unserved same = tt
   late_ran first rest held (Some i) unserved same = ran_late first rest held i unserved same
