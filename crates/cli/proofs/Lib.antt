@@ -1,3 +1,6 @@
 pub mod AskingLemmas
+pub mod CallLemmas
+pub mod EndLemmas
 pub mod NoteLemmas
-pub mod ReportLemmas
+pub mod PerformLemmas
+pub mod TaskLemmas

@@ -1,14 +1,13 @@
 -- How a job over a file ends, what it prints, and what it reads.
-use Rattle.std.specs.Prelude.{◌≡◌, ◌≢◌, ⊤, ℕ, List, [], ◌∷◌, codes, decimal, Option, None}
+use Rattle.std.specs.Prelude.{◌≡◌, ◌≢◌, ⊤, ℕ, List, codes, Option, None}
 use Rattle.std.specs.String.{string_bytes}
 use Rattle.std.specs.Io.KnownBytes.{Appends, IsAtEnd}
-use Rattle.commands.specs.Texts.{sentence}
-use Rattle.protocols.specs.Scenes.{ended}
 use Rattle.desk_lines.specs.Lines.{journey_in}
 use Rattle.desk_jobs.specs.Ends.{recovered_line, TellsAccepted}
 use Rattle.desk_jobs.specs.Migrating.{indexed_line, migrated_line}
 use Rattle.migrate.specs.declared.indexing.Indexed.{Indexed}
 use Rattle.migrate.specs.declared.migrating.Migrated.{Migrated}
+use Rattle.program_jobs.specs.Serving.{ready_line}
 use Rattle.command_line.specs.declared.jobs.Job.{Job}
 use Rattle.command_line.specs.Version.{version_line}
 use Rattle.command_line.specs.declared.jobs.Job.TheVariants.{Run, Serve, Recover, Load, Stock, Calendar, Summary, Holders, Holdings, Unfinished, Journeys, History, Why, Migrate, Index, Version}
@@ -24,10 +23,6 @@ TellsMigrated held holds = (m : Migrated) × Appends held holds (migrated_line m
 -- the line with the number of indexed journeys was written, and nothing else
 abbrev pub TellsIndexed : Option (List ℕ) → Option (List ℕ) → Type 0
 TellsIndexed held holds = (i : Indexed) × Appends held holds (indexed_line i)
-
--- the line that reports that connections to this port are accepted: `ready 8080`
-abbrev pub ready_line : ℕ → List ℕ
-ready_line port = ended (sentence (codes "ready" ∷ decimal port ∷ []))
 
 -- the line that reports that connections to this port are accepted was written, and nothing else
 abbrev pub TellsReady : ℕ → Option (List ℕ) → Option (List ℕ) → Type 0

@@ -1,3 +1,5 @@
+pub mod Actions
 pub mod Asking
+pub mod Doing
 pub mod Ends
 pub mod Explaining

@@ -23,6 +23,9 @@ pub(crate) fn asked_report<O: Write>(
     out: &mut O,
 ) -> Ended
     ensures job { EndsJob result.end }
+
+    ensures untold { result.end ≢ End.Done → result.end ≢ End.Fault ProgramFault.Write →
+        Keeps (O.contents out.old) (O.contents out.new) }
 {
     let target = match target_of(alloc, socket.words.as_slice()) {
         Ok(Some(target)) => target,

@@ -3,15 +3,17 @@
 //! `perform` does a job of the command line, prints how it ended, and returns the exit status. `perform_explained` also
 //! says on standard error what an opening recovered and why a fault came.
 //!
-//! Few functions here own a store in a file; the others are generic in the store, or in the book over it.
+//! What a call asks for is an `Action`, which `do_action` does: a task over a file is one call of `invocations::do_over_file`.
+//! `perform` does it over a file of any contents, on this host.
 #![tactic(auto)]
 
+mod actions;
 mod asking;
-mod indexes;
+mod doing;
+mod hosts;
 mod listening;
-mod loads;
-mod migrations;
 mod programs;
-mod telling;
 
+pub use actions::Action;
+pub use doing::do_action;
 pub use programs::{perform, perform_explained};

@@ -1,30 +1,32 @@
 //! The jobs of the program, each over its file, from the opening to an orderly end.
-ghost use Rattle.std.specs.Prelude.{◌≡◌, ◌≤◌};
-ghost use Rattle.std.specs.Io.KnownBytes.{Appends, IsAtEnd, Keeps};
+ghost use Rattle.std.specs.Prelude.{◌≡◌, ◌≤◌, Option};
+ghost use Rattle.std.specs.Io.KnownBytes.{Keeps};
 ghost use Rattle.commands.specs.Texts.{refusal_line};
 ghost use Rattle.streams.specs.Written.{WroteFront};
 ghost use Rattle.protocols.specs.Scenes.{ended};
-ghost use Rattle.program_ends.specs.Ends.{EndsJob, IfDone, TellsNoneOrFault};
-ghost use Rattle.command_line.specs.Version.{version_line as line_of_version};
-ghost use Rattle.desk_jobs.specs.Notes.{MayNote, MayNoteAll};
+ghost use Rattle.http_sockets.specs.Ends.{is_failed};
+ghost use Rattle.program_ends.specs.Ends.{TellsNoneOrFault};
+ghost use Rattle.program_jobs.specs.Serving.{CameFrom};
+ghost use Rattle.program_jobs.specs.Streams.{streams};
+ghost use Rattle.command_line.specs.declared.asking.Socket.{Socket};
+ghost use Rattle.command_line.specs.declared.jobs.Job.{Job};
+ghost use Rattle.cli.specs.Actions.{IsActionOf};
+ghost use Rattle.cli.specs.Doing.{DidAction, DidCall, EndsCall, ExplainsEnd, Performs, TellsEnd, unknown_files};
 ghost use Rattle.cli.specs.Explaining.{TellsExplained};
-ghost use Rattle.cli.specs.Ends.{HasBadId, ReadsFor, TellsOf, TellsRecovered};
+ghost use Rattle.cli.specs.Ends.{HasBadId, ReadsFor, TellsOf};
 
-use crate::indexes::index_file;
-use crate::listening::{Served, serve_file};
-use crate::loads::load_file;
-use crate::migrations::migrate_file;
-use crate::telling::tell_report;
-use command_line::{Call, Job, LogForm as Form, version_line};
+use crate::actions::{Action, action_of, served_of};
+use crate::doing::do_at_file;
+use crate::hosts::Host;
+use command_line::Call;
 use commands::Refusal;
-use desk_files::{close_after, connect};
-use desk_jobs::{recover_over, run_over};
-use http_sockets::LogForm;
+use http_live::Turns;
+use http_sockets::Sockets;
 use program_ends::{End, Ended, ProgramFault};
-use report_words::report_of;
-use std::alloc::Global;
+use sqlite::{File, FileStore};
+use sqlite_trees::store::Store;
+use std::alloc::{AllocError, Global};
 use std::io::{Read, Write, sink};
-use streams::send;
 
 /// Does a job, prints how it ended, and returns the exit status: 0 done, 1 refused or fault.
 ///
@@ -41,6 +43,13 @@ pub fn perform<R: Read, O: Write, E: Write>(
     ensures status { result ≤ 1 }
     ensures read { result ≡ 0 → ReadsFor call.job (R.remaining reader.old) (R.remaining reader.new) }
     ensures told { result ≡ 0 → TellsOf call.job (O.contents out.old) (O.contents out.new) }
+
+    ensures does { Performs ⟦<FileStore<File> as Store>⟧
+        (CameFrom ⟦<<Sockets<'static> as Turns>::Reader as Read>⟧
+        ⟦<<Sockets<'static> as Turns>::Writer as Write>⟧ ⟦<Sockets<'static> as Turns>⟧ is_failed)
+        (TellsEnd (E.contents err.old) (E.contents err.new))
+        call.job call.socket (R.remaining reader.old) (R.remaining reader.new)
+        (O.contents out.old) (O.contents out.new) result }
 
     ensures quiet { result ≡ 0 → Keeps (E.contents err.old) (E.contents err.new) }
     ensures err { TellsNoneOrFault (E.contents err.old) (E.contents err.new) }
@@ -68,6 +77,13 @@ pub fn perform_explained<R: Read, O: Write, E: Write>(
     ensures read { result ≡ 0 → ReadsFor call.job (R.remaining reader.old) (R.remaining reader.new) }
     ensures told { result ≡ 0 → TellsOf call.job (O.contents out.old) (O.contents out.new) }
 
+    ensures does { Performs ⟦<FileStore<File> as Store>⟧
+        (CameFrom ⟦<<Sockets<'static> as Turns>::Reader as Read>⟧
+        ⟦<<Sockets<'static> as Turns>::Writer as Write>⟧ ⟦<Sockets<'static> as Turns>⟧ is_failed)
+        (ExplainsEnd (E.contents err.old) (E.contents err.new))
+        call.job call.socket (R.remaining reader.old) (R.remaining reader.new)
+        (O.contents out.old) (O.contents out.new) result }
+
     ensures err { TellsExplained (E.contents err.old) (E.contents err.new) }
 
     ensures bad_id { HasBadId call.job →
@@ -79,7 +95,6 @@ pub fn perform_explained<R: Read, O: Write, E: Write>(
 }
 
 /// Does a job, and returns its end.
-#[tactic(auto, using(crate::proofs::NoteLemmas::first_alone, crate::proofs::NoteLemmas::none_noted, crate::proofs::ReportLemmas::bad_report))]
 fn carry_out<R: Read, O: Write, N: Write>(
     rt: &HostRuntime,
     alloc: Global,
@@ -88,116 +103,44 @@ fn carry_out<R: Read, O: Write, N: Write>(
     out: &mut O,
     notes: &mut N,
 ) -> Ended
-    ensures job { EndsJob result.end }
-    ensures read { IfDone result.end
-        (ReadsFor call.job (R.remaining reader.old) (R.remaining reader.new)) }
-    ensures told { IfDone result.end (TellsOf call.job (O.contents out.old) (O.contents out.new)) }
-    ensures notes { MayNoteAll (N.contents notes.old) (N.contents notes.new) }
-
-    ensures bad_id { HasBadId call.job → result.end ≡ End.Refused Refusal.BadBody }
-    ensures untold { HasBadId call.job → Keeps (O.contents out.old) (O.contents out.new) }
+    ensures did { DidCall ⟦<FileStore<File> as Store>⟧
+        (CameFrom ⟦<<Sockets<'static> as Turns>::Reader as Read>⟧
+        ⟦<<Sockets<'static> as Turns>::Writer as Write>⟧ ⟦<Sockets<'static> as Turns>⟧ is_failed)
+        call.job call.socket
+        (streams (R.remaining reader.old) (R.remaining reader.new) (O.contents out.old)
+        (O.contents out.new) (N.contents notes.old) (N.contents notes.new)) result }
+    ensures ends { EndsCall call.job
+        (streams (R.remaining reader.old) (R.remaining reader.new) (O.contents out.old)
+        (O.contents out.new) (N.contents notes.old) (N.contents notes.new)) result }
 {
-    match &call.job {
-        Job::Run { file } => run_file(rt, alloc, file.as_str(), reader, out, notes),
-        Job::Serve {
-            file,
-            port,
-            connections,
-            house,
-            page,
-            log,
-            wide,
-        } => {
-            let served = Served {
-                port: *port,
-                connections: *connections,
-                house: house.as_ref().map(|path| path.as_str()),
-                page: *page,
-                log: form_of(*log),
-                wide: *wide,
-            };
-            serve_file(rt, alloc, file.as_str(), served, out, notes)
-        }
-        Job::Recover { file } => recover_file(rt, alloc, file.as_str(), out),
-        Job::Load { file, csv, batch } => {
-            let (file, csv, batch) = (file.as_str(), csv.as_str(), batch.as_str());
-            load_file(rt, alloc, file, csv, batch, reader, out, notes)
-        }
-        Job::Stock { file, .. }
-        | Job::Calendar { file, .. }
-        | Job::Summary { file, .. }
-        | Job::Holders { file, .. }
-        | Job::Holdings { file, .. }
-        | Job::Unfinished { file, .. }
-        | Job::Journeys { file, .. }
-        | Job::History { file, .. }
-        | Job::Why { file, .. } => {
-            let report = report_of(&call.job);
-            tell_report(rt, alloc, file.as_str(), &call.socket, report, out)
-        }
-        Job::Migrate { file } => migrate_file(rt, alloc, file.as_str(), out),
-        Job::Index { file } => index_file(rt, alloc, file.as_str(), out),
-        Job::Version => Ended::from(tell_version(out)),
+    match action_of(&call) {
+        Ok(action) => do_here(rt, alloc, &call, &action, reader, out, notes),
+        Err(AllocError) => Ended::from(End::Fault(ProgramFault::Memory)),
     }
 }
 
-/// How the log is written, if it is asked for.
-fn form_of(log: Option<Form>) -> Option<LogForm> {
-    match log {
-        Some(Form::Plain) => Some(LogForm::Plain),
-        Some(Form::Timed) => Some(LogForm::Timed),
-        None => None,
-    }
-}
-
-/// Answers the lines of the reader over the database in a file, after recovery.
-fn run_file<R: Read, O: Write, N: Write>(
+/// Does what a call asks for, on this host. The sockets are ended once the database is closed.
+fn do_here<R: Read, O: Write, N: Write>(
     rt: &HostRuntime,
     alloc: Global,
-    file: &str,
+    call: &Call,
+    action: &Action,
     reader: &mut R,
     out: &mut O,
     notes: &mut N,
 ) -> Ended
-    ensures job { EndsJob result.end }
-    ensures read { IfDone result.end (IsAtEnd (R.remaining reader.new)) }
-    ensures notes { MayNote (N.contents notes.old) (N.contents notes.new) }
+    ensures did { DidAction ⟦<FileStore<File> as Store>⟧ unknown_files
+        (CameFrom ⟦<<Sockets<'static> as Turns>::Reader as Read>⟧
+        ⟦<<Sockets<'static> as Turns>::Writer as Write>⟧ ⟦<Sockets<'static> as Turns>⟧ is_failed)
+        (streams (R.remaining reader.old) (R.remaining reader.new) (O.contents out.old)
+        (O.contents out.new) (N.contents notes.old) (N.contents notes.new)) result action.now }
+    ensures ends { (job : Job) (socket : Option Socket) → IsActionOf job socket action.now →
+        EndsCall job (streams (R.remaining reader.old) (R.remaining reader.new)
+        (O.contents out.old) (O.contents out.new) (N.contents notes.old)
+        (N.contents notes.new)) result }
 {
-    let (conn, log) = match connect(rt, file) {
-        Ok(opened) => opened,
-        Err(ended) => return ended,
-    };
-    let (conn, end) = run_over(alloc, conn, reader, out, notes);
-    close_after(rt, conn, log, &end).after(Ended::from(end))
-}
-
-/// Recovers the desk over the database in a file, and, once it is closed, prints how many events recovery made.
-fn recover_file<O: Write>(rt: &HostRuntime, alloc: Global, file: &str, out: &mut O) -> Ended
-    ensures job { EndsJob result.end }
-    ensures told { IfDone result.end (TellsRecovered (O.contents out.old) (O.contents out.new)) }
-{
-    let (conn, log) = match connect(rt, file) {
-        Ok(opened) => opened,
-        Err(ended) => return ended,
-    };
-    let (conn, recovered) = recover_over(alloc, conn);
-    match recovered {
-        Ok(made) => match close_after(rt, conn, log, &End::Done) {
-            Ended { end: End::Done, .. } => Ended::from(made.tell(alloc, out)),
-            ended => ended,
-        },
-        Err(end) => close_after(rt, conn, log, &end).after(Ended::from(end)),
-    }
-}
-
-/// Prints the version of the program.
-fn tell_version<O: Write>(out: &mut O) -> End
-    ensures job { EndsJob result }
-    ensures told { IfDone result
-        (Appends (O.contents out.old) (O.contents out.new) line_of_version) }
-{
-    match send(out, version_line().as_bytes()) {
-        Ok(()) => End::Done,
-        Err(_) => End::Fault(ProgramFault::Write),
-    }
+    let mut host = Host::new(rt, served_of(&call.job));
+    let ended = do_at_file(rt, alloc, call, action, &mut host, reader, out, notes);
+    host.end();
+    ended
 }

@@ -1,20 +1,25 @@
--- A load reads the input only where its allotment file is `-`.
-use Rattle.std.proofs.Common.{◌∙◌, sym, subst}
-use Rattle.program_ends.specs.Ends.{IfDone}
-use Rattle.program_ends.specs.declared.ends.End.{End}
-use Rattle.program_ends.specs.declared.ends.End.TheVariants as finish
-use Rattle.cli.specs.Ends.{ReadsFor}
+-- What the call asks for was done; or memory ran out for the words of a load, and nothing was.
+use Rattle.std.proofs.Common.{ap, inl, inr, refl}
+use Rattle.program_ends.specs.declared.ended.Ended.{Ended}
+use Rattle.cli.proofs.CallLemmas.{nothing_ends}
 use Rattle.cli.proofs.programs.carry_out.Goals as goal
 
--- what holds, holds where all was done
-if_done : (P : Type 0) (e : End) → P → IfDone e P
-if_done P finish.Done holds = holds
-if_done P (finish.Refused why) holds = tt
-if_done P (finish.Fault fault) holds = tt
-if_done P (finish.Usage text) holds = tt
+pub returns-in-Ok-clause-did : goal.returns-in-Ok-clause-did
+returns-in-Ok-clause-did g c =
+    inr (record { asked = c.in-Ok.action; is = c.in-Ok.ensures.action; did = c.do_here.ensures.did })
 
-pub returns-in-Load-clause-read : goal.returns-in-Load-clause-read
-returns-in-Load-clause-read g c =
-    if_done _ c.load_file.result.end
-    (subst (λ job. ReadsFor job (g.R.Read.remaining c.args.reader.now) (g.R.Read.remaining c.load_file.new.reader)) (sym c.in-Load.is)
-    (λ other. c.load_file.ensures.unread (λ at. other (sym c.as_str-csv.ensures.value ∙ at))))
+pub returns-in-Ok-clause-ends : goal.returns-in-Ok-clause-ends
+returns-in-Ok-clause-ends g c = c.do_here.ensures.ends c.args.call.job c.args.call.socket c.in-Ok.ensures.action
+
+pub returns-clause-did : goal.returns-clause-did
+returns-clause-did g c =
+    inl (record {
+      load = c.in-Err.ensures.memory;
+      end = ap (λ (e : Ended). e.end) c.from.ensures;
+      untouched = record { only = record { unread = refl; unnoted = refl }; unwritten = refl };
+    })
+
+pub returns-clause-ends : goal.returns-clause-ends
+returns-clause-ends g c =
+    nothing_ends _ _ c.args.call.job c.in-Err.ensures.memory (ap (λ (e : Ended). e.end) c.from.ensures)
+    (record { only = record { unread = refl; unnoted = refl }; unwritten = refl })

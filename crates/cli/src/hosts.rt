@@ -1,0 +1,71 @@
+//! The surroundings of a job on this host: its files, and who comes to its sockets.
+
+use crate::actions::Served;
+use crate::listening::bind;
+use http_sockets::{Sockets, log_opening};
+use program_ends::{Ended, ProgramFault};
+use program_jobs::Environment;
+use std::alloc::Global;
+use std::fs;
+use std::io::{ErrorKind, Read};
+
+/// This host, for one job.
+#[derive(Drop)]
+pub(crate) struct Host<'a> {
+    rt: &'a HostRuntime,
+    served: Served<'a>,
+    /// The sockets at which somebody was served.
+    dismissed: Option<Sockets<'a>>,
+}
+
+impl<'a> Host<'a> {
+    /// This host, before anybody is served.
+    pub(crate) fn new(rt: &'a HostRuntime, served: Served<'a>) -> Host<'a> {
+        Host {
+            rt,
+            served,
+            dismissed: None,
+        }
+    }
+
+    /// Ends the sockets, if somebody was served, and removes the file of the Unix socket. The database is closed by then.
+    pub(crate) fn end(self) {
+        if let Some(sockets) = self.dismissed {
+            sockets.end();
+        }
+    }
+}
+
+impl<'a> Environment for Host<'a> {
+    ghost use Rattle.http_sockets.specs.Ends.{is_failed};
+
+    type Guests = Sockets<'a>;
+
+    ghost has_failed = { is_failed };
+
+    fn read_file(&mut self, alloc: Global, name: &str, most: u64) -> Result<Vec<u8>, ProgramFault> {
+        let mut bytes = Vec::new(alloc);
+        let read = match fs::open(self.rt, name) {
+            Ok(file) => file.take(most).read_to_end(&mut bytes),
+            Err(error) => Err(error),
+        };
+        match read {
+            Ok(_) => Ok(bytes),
+            Err(error) if error.kind() == ErrorKind::OutOfMemory => Err(ProgramFault::Memory),
+            Err(_) => Err(ProgramFault::File),
+        }
+    }
+
+    fn listen(&mut self, alloc: Global, port: u16, recovered: u64) -> Result<Sockets<'a>, Ended> {
+        if let Some(form) = self.served.log {
+            log_opening(self.rt, alloc, form, recovered);
+        }
+        bind(self.rt, alloc, port, self.served)
+    }
+
+    fn dismiss(&mut self, guests: Sockets<'a>) -> bool {
+        let has_failed = guests.has_failed();
+        self.dismissed = Some(guests);
+        has_failed
+    }
+}
