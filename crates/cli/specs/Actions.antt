@@ -1,9 +1,13 @@
 -- What is done for a call: the task of its job over its file, or a report, or the version.
-use Rattle.std.specs.Prelude.{◌≡◌, ◌≢◌, ⊤, ℕ, List, codes, Option, None, Some}
+use Rattle.std.specs.Prelude.{◌≡◌, ◌≢◌, ⊤, ℕ, List, [], codes, Option, None, Some}
 use Rattle.std.specs.String.{string_bytes}
 use Rattle.command_line.specs.declared.asking.Socket.{Socket}
 use Rattle.command_line.specs.declared.jobs.Job.{Job}
 use Rattle.command_line.specs.declared.jobs.Job.TheVariants as job
+use Rattle.command_line.specs.declared.jobs.LogForm.{LogForm as Asked}
+use Rattle.command_line.specs.declared.jobs.LogForm.TheVariants as asked
+use Rattle.http_log.specs.declared.forms.LogForm.{LogForm}
+use Rattle.http_log.specs.declared.forms.LogForm.TheVariants as form
 use Rattle.program_jobs.specs.declared.tasks.Source.{Source}
 use Rattle.program_jobs.specs.declared.tasks.Source.TheVariants as source
 use Rattle.program_jobs.specs.declared.tasks.Task.{Task}
@@ -12,6 +16,38 @@ use Rattle.report_kinds.specs.declared.report.Report.{Report}
 use Rattle.report_words.specs.Jobs.{report_of}
 use Rattle.cli.specs.declared.actions.Action.{Action}
 use Rattle.cli.specs.declared.actions.Action.TheVariants as action
+use Rattle.cli.specs.declared.actions.Served.{Served}
+
+-- the file of a job; the version is of none
+abbrev pub file_of : Job → List ℕ
+file_of (job.Run file) = string_bytes file
+file_of (job.Serve file port connections house page log wide) = string_bytes file
+file_of (job.Recover file) = string_bytes file
+file_of (job.Load file csv batch) = string_bytes file
+file_of (job.Stock file filter format) = string_bytes file
+file_of (job.Calendar file filter) = string_bytes file
+file_of (job.Summary file filter format) = string_bytes file
+file_of (job.Holders file cell format) = string_bytes file
+file_of (job.Holdings file filter format) = string_bytes file
+file_of (job.Unfinished file filter format) = string_bytes file
+file_of (job.Journeys file filter format) = string_bytes file
+file_of (job.History file id format) = string_bytes file
+file_of (job.Why file id format) = string_bytes file
+file_of (job.Migrate file) = string_bytes file
+file_of (job.Index file) = string_bytes file
+file_of job.Version = []
+
+-- the form of the log, if one is asked for
+abbrev pub form_of : Option Asked → Option LogForm
+form_of (Some asked.Plain) = Some form.Plain
+form_of (Some asked.Timed) = Some form.Timed
+form_of None = None
+
+-- a desk serves as its job asks; what is not said is which path its Unix socket has
+abbrev pub IsServedAs : Job → Served → Type 0
+IsServedAs (job.Serve file port connections house page log wide) served =
+    (served.connections ≡ connections) × (served.page ≡ page) × (served.log ≡ form_of log) × (served.wide ≡ wide)
+IsServedAs _ served = ⊤
 
 -- the allotment file `-` is the input, and any other word names a file
 abbrev pub IsSourceOf : List ℕ → Source → Type 0

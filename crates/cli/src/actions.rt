@@ -1,7 +1,7 @@
 //! What a call of the program asks for.
-ghost use Rattle.std.specs.Prelude.{IfErr, IfOk};
+ghost use Rattle.std.specs.Prelude.{◌≡◌, IfErr, IfOk};
 ghost use Rattle.std.specs.String.{string_bytes};
-ghost use Rattle.cli.specs.Actions.{IsActionOf, IsLoadOf, IsOfLoad, IsReportAction, IsSourceOf};
+ghost use Rattle.cli.specs.Actions.{IsActionOf, IsLoadOf, IsOfLoad, IsReportAction, IsServedAs, IsSourceOf, file_of, form_of};
 
 use command_line::{Call, Job, LogForm as Form, Socket};
 use http_sockets::LogForm;
@@ -96,7 +96,9 @@ fn report_action(report: Option<Report>, socket: &Option<Socket>) -> Action
 }
 
 /// The file of a job; the empty text for one that has none.
-pub(crate) fn file_of(job: &Job) -> &str {
+pub(crate) fn file_of(job: &Job) -> &str
+    ensures file { result.now ≡ file_of job.now }
+{
     match job {
         Job::Run { file }
         | Job::Serve { file, .. }
@@ -118,7 +120,9 @@ pub(crate) fn file_of(job: &Job) -> &str {
 }
 
 /// How the desk of a job serves; without options for one that serves nobody.
-pub(crate) fn served_of(job: &Job) -> Served<'_> {
+pub(crate) fn served_of(job: &Job) -> Served<'_>
+    ensures served { IsServedAs job.now result }
+{
     match job {
         Job::Serve {
             connections,
@@ -145,7 +149,9 @@ pub(crate) fn served_of(job: &Job) -> Served<'_> {
 }
 
 /// How the log is written, if it is asked for.
-fn form_of(log: Option<Form>) -> Option<LogForm> {
+fn form_of(log: Option<Form>) -> Option<LogForm>
+    ensures form { result ≡ form_of log }
+{
     match log {
         Some(Form::Plain) => Some(LogForm::Plain),
         Some(Form::Timed) => Some(LogForm::Timed),
