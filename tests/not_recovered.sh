@@ -24,5 +24,6 @@ is_refused() {
 
 is_refused crates/desk_jobs/src/running.rt 'run_lines(alloc, reader, out, &mut desk)' \
   'run_lines(alloc, reader, out, &mut desk.into_inner())'
-is_refused crates/cli/src/listening.rt 'book: &mut Ready<B>' 'book: &mut B'
+is_refused crates/program_jobs/src/serving.rt 'serve_to_end(alloc, &mut guests, &mut desk)' \
+  'serve_to_end(alloc, &mut guests, &mut desk.into_inner())'
 finish
