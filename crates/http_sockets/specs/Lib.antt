@@ -1,7 +1,6 @@
 pub mod Doors
 pub mod Limits
 pub mod Ends
-pub mod Going
 pub mod Owed
 pub mod Seats
 pub mod Places

@@ -8,13 +8,13 @@
 #![tactic(auto)]
 
 mod files;
+mod limits;
 mod listeners;
 mod places;
 mod rounds;
-mod serving;
 mod sockets;
 
 pub use http_journal::log_opening;
 pub use http_log::LogForm;
-pub use serving::{Limits, PATIENCE, serve_sockets};
+pub use limits::{Limits, PATIENCE};
 pub use sockets::Sockets;

@@ -5,13 +5,13 @@ ghost use Rattle.http_sockets.specs.Counts.{IsFewer, one_fewer};
 ghost use Rattle.http_sockets.specs.Doors.{IsAt, IsPair, IsReadBy, IsTurn};
 ghost use Rattle.http_sockets.specs.Ends.{IsOver};
 
+use crate::limits::Limits;
 use crate::listeners::{Accepted, FIRST, Listeners};
 use crate::places::{Places, ReadEnd, Socket, WriteEnd, ends_of};
 use crate::rounds::{Rounds, turn_of_rounds};
-use crate::serving::Limits;
 use desk_http::{Door, Site};
 use http_journal::Journal;
-use http_live::{Ending, SEATS, Standing, Turn, Turns};
+use http_live::{SEATS, Standing, Turn, Turns};
 use http_log::{LogForm, Metrics, Why};
 use http_pages::HtmlPage;
 use http_ways::{Arrived, Way};
@@ -71,7 +71,6 @@ pub struct Sockets<'a> {
 }
 
 impl<'a> Sockets<'a> {
-    ghost use Rattle.http_live.specs.Whole.{EndsOver};
     ghost use Rattle.http_sockets.specs.Ends.{HasWaited, HaveLeft, is_failed};
     ghost use Rattle.http_sockets.specs.Doors.{ComesAt, ComesBy, page_at_port, way_to_come};
     ghost use Rattle.http_sockets.specs.Limits.{KeepsLimits, patience_of, still_to_come};
@@ -165,17 +164,6 @@ impl<'a> Sockets<'a> {
         ensures failed { result ≡ is_failed self.now }
     {
         self.has_failed
-    }
-
-    /// Serving has ended so. That all turns were spent is a failure.
-    pub(crate) fn note_ending(&mut self, ending: Ending)
-        ensures over { EndsOver (IsOver self.old) ending → IsOver self.new }
-    {
-        match ending {
-            Ending::NoTurn => {}
-            Ending::Stopped => {}
-            Ending::Spent => self.has_failed = true,
-        }
     }
 
     /// Ends all connections, listens no more, and removes the file of the Unix socket.

@@ -1,6 +1,7 @@
 //! Connections of the system, several at once.
 use crate::tests::plain::new_desk;
-use http_sockets::{Limits, Sockets, serve_sockets};
+use http_live::serve_to_end;
+use http_sockets::{Limits, Sockets};
 use std::io::{Read, Write};
 use std::net::{Ipv4Addr, TcpStream};
 use std::test::Fail;
@@ -32,8 +33,8 @@ fn clients_are_answered_beside_a_silent_one(rt: HostRuntime) -> Result<(), Fail>
         client.write_all(ASKED)?;
     }
     let mut desk = new_desk(&rt, alloc);
-    let ended = serve_sockets(alloc, &mut sockets, &mut desk);
-    assert!(rt; ended == Ok(()), "{ended:?}");
+    let ended = serve_to_end(alloc, &mut sockets, &mut desk);
+    assert!(rt; ended.is_ok() && !sockets.has_failed(), "{ended:?}");
     for client in &mut clients {
         let mut pages = Vec::new(alloc);
         client.read_to_end(&mut pages)?;
