@@ -1,5 +1,5 @@
 -- CREATE TABLE beside tables that have rows: those stay, and the new table is empty.
-use Rattle.std.proofs.Common.{◌≡◌, ℕ, List, [], true, false, if◌then◌else◌, None, Ok, Err, Result, OnOk, IsTrue, refl, sym, ap, subst, ◌∙◌}
+use Rattle.std.proofs.Common.{◌≡◌, ℕ, List, [], true, false, if◌then◌else◌, None, Ok, Err, Result, OnOk, IsTrue, refl, sym, ap, subst, ◌∙◌, rules, arith}
 use Rattle.std.specs.List.{AllByRecursion}
 use Rattle.sqlite.specs.Table.{Table}
 use Rattle.sqlite_schema.specs.declared.schema.Schema.{Schema}
@@ -15,9 +15,8 @@ use Rattle.sqlite.specs.Listing.{understood}
 use Rattle.sqlite.specs.State.{State, Writes, ExecutesInside, Shows as ShowsNow}
 use Rattle.sqlite.proofs.Callers.{IsPlain, command_of, statement_of, runs_as}
 use Rattle.sqlite_tied.specs.Compute.{everything}
-use Rattle.desk_sql.specs.declared.versions.Version.TheVariants.{One}
 use Rattle.desk_sql.specs.Lists.{IsTableOf, IsNumbered}
-use Rattle.desk_sql.specs.Rows.{Tables, EntryRow, MarkRow, entry_row, mark_columns, ShowsIn}
+use Rattle.desk_sql.specs.Rows.{Tables, EntryRow, MarkRow, entry_row, mark_columns}
 use Rattle.desk_sql.specs.Schema.{seven_schema, desk_schema, entry2_at, mark_at}
 use Rattle.desk_sql.specs.Texts.{entry2_text, mark_text}
 use Rattle.desk_sql.proofs.Making.{schema_8}
@@ -99,46 +98,11 @@ unfolding everything
 desk_is = refl
 
 no_marks : (rows : List Row) → rows ≡ [] → (marks : List MarkRow) → marks ≡ [] → IsTableOf mark_columns rows marks
-no_marks rows none marks unmarked =
-    subst (IsTableOf mark_columns rows) (sym unmarked) (record { numbered = []; values_are = refl; rows_are = none; rise = tt })
+no_marks rows none marks unmarked = search (rules, arith)
 
 no_items : (rows : List Row) → rows ≡ [] → (items : List EntryRow) → items ≡ [] → IsNumbered (λ (e : EntryRow). e.num) entry_row rows items
-no_items rows none items uncopied =
-    subst (IsNumbered (λ (e : EntryRow). e.num) entry_row rows) (sym uncopied) (record { rows_are = none; rise = tt })
+no_items rows none items uncopied = search (rules, arith)
 
 -- after both statements the seven tables are as they were, and no item is copied
 pub has_added : (a b c : State) (t : Tables) → MayAdd a t → Adds a b seven_schema (entry2_at 0) → Adds b c schema_8 (mark_at 0) → HasCopied 0 c t
-has_added a b c t may one two =
-    let shown : ShowsIn One a.now.trees t = (may.sees one.was_open).rows in
-    let o = one.others in
-    let p = two.others in
-    let r0 : c.now.trees 0 ≡ a.now.trees 0 = p.0 ∙ o.0 in
-    let r1 : c.now.trees 1 ≡ a.now.trees 1 = p.1.0 ∙ o.1.0 in
-    let r3 : c.now.trees 3 ≡ a.now.trees 3 = p.1.1.0 ∙ o.1.1.0 in
-    let r6 : c.now.trees 6 ≡ a.now.trees 6 = p.1.1.1.0 ∙ o.1.1.1.0 in
-    let r8 : c.now.trees 8 ≡ a.now.trees 8 = p.1.1.1.1.0 ∙ o.1.1.1.1.0 in
-    let r10 : c.now.trees 10 ≡ a.now.trees 10 = p.1.1.1.1.1.0 ∙ o.1.1.1.1.1.0 in
-    let r11 : c.now.trees 11 ≡ a.now.trees 11 = p.1.1.1.1.1.1.0 ∙ o.1.1.1.1.1.1.0 in
-    let b13 : b.now.trees 13 ≡ [] = subst (λ n. b.now.trees n ≡ []) at_13 one.empty in
-    let p13 : c.now.trees (next_tree seven_schema) ≡ b.now.trees (next_tree seven_schema) = p.1.1.1.1.1.1.1.0 in
-    let r13 : c.now.trees 13 ≡ [] = subst (λ n. c.now.trees n ≡ b.now.trees n) at_13 p13 ∙ b13 in
-    let r14 : c.now.trees 14 ≡ [] = subst (λ n. c.now.trees n ≡ []) at_14 two.empty in
-    record {
-      is_open = two.is_open;
-      inside = two.inside;
-      sees = record {
-        schema = record { extra = []; are = tt; is = two.schema ∙ desk_is };
-        sound = two.sound;
-        rows = record {
-          meta = rw r0 (shown.meta);
-          stock = rw r1 (shown.stock);
-          batch = rw r3 (shown.batch);
-          journey = rw r6 (shown.journey);
-          step = rw r8 (shown.step);
-          answer = rw r11 (shown.answer);
-          entries = no_items (c.now.trees 13) r13 _ (items_below-zero t.entries);
-          mark = no_marks (c.now.trees 14) r14 t.mark shown.mark;
-        };
-      };
-      all = rw r10 (shown.entries);
-    }
+has_added a b c t may one two = search (rules, arith, at_13, at_14, desk_is, no_items, items_below-zero, no_marks)

@@ -1,17 +1,15 @@
 -- What the commit of a migration keeps. For bring_over.
-use Rattle.std.proofs.Common.{◌≡◌, ◌⊎◌, inl, inr, true, false, IsTrue, refl, sym, ap, subst, ◌∙◌, arith}
+use Rattle.std.proofs.Common.{◌≡◌, ◌⊎◌, true, false, IsTrue, refl, arith, rules}
 use Rattle.sqlite.specs.Tree.{Trees}
 use Rattle.sqlite.specs.Store.{Ghosts}
-use Rattle.sqlite.specs.Effect.{Database, IsDatabase}
 use Rattle.sqlite.specs.State.{HasCleanDisk, Survives, Shows as ShowsNow}
 use Rattle.sqlite.specs.Held.{Held, state}
 use Rattle.desk_sql.specs.declared.versions.Version.TheVariants.{One, Two}
 use Rattle.desk_sql.specs.declared.meta.Meta.{Meta}
 use Rattle.desk_sql.specs.Calls.{Sees, LeavesNoMore}
-use Rattle.desk_sql.specs.Rows.{Tables, ShowsIn}
+use Rattle.desk_sql.specs.Rows.{Tables}
 use Rattle.ledger.specs.Answer.{State}
 use Rattle.sql_model.specs.Keeping.{MeansIn, SeesOf, IsKeptIn, KeepsIn}
-use Rattle.desk_sql.specs.Schema.{IsSchemaOf}
 use Rattle.sql_model.proofs.KeepLemmas.{is_database}
 use Rattle.migrate.specs.Copying.{MayAdd}
 use Rattle.migrate.specs.Migrating.{AreNumbersOf, migrated}
@@ -33,8 +31,7 @@ pub wrote_from : {S : Type 0} (g : Ghosts S) (old begun late : Held S) (m : Meta
     → (HasCleanDisk (state g late) → IsTrue (state g begun).in_transaction → IsTrue (state g begun).is_open)
     → (HasCleanDisk (state g late) → (t : Tables) → MayAdd (state g begun) t → Sees (state g late) (migrated m t))
     → Wrote g (record old { in_transaction = true }) late m
-wrote_from {S} g old begun late m is less live made =
-    subst (λ (h : Held S). Wrote g h late m) is (record { less = less; live = live; made = made })
+wrote_from {S} g old begun late m is less live made = search (rules, arith)
 
 module _ {S : Type 0} (g : Ghosts S) (old late : Held S) (m : Meta) (s : State)
     (wrote : Wrote g (record old { in_transaction = true }) late m) (numbers : AreNumbersOf m s)
@@ -51,46 +48,25 @@ module _ {S : Type 0} (g : Ghosts S) (old late : Held S) (m : Meta) (s : State)
   saw = kept.sees (wrote.live clean refl)
 
   has_made : Sees (state g late) (migrated m saw.tables)
-  has_made =
-      wrote.made clean saw.tables
-      (record { inside = refl; sees = λ _. record { schema = saw.schema; rows = saw.shown; sound = saw.sound } })
+  has_made = search (rules, arith, saw)
 
   -- the transaction's trees represent the same state, in tables of version 2
   late_means : MeansIn Two (state g late).now.trees s
-  late_means = record {
-    of = is_database (state g late) (migrated m saw.tables) has_made;
-    tables = migrated m saw.tables;
-    shown = has_made.rows;
-    stands = migrated_stands m saw.tables s numbers saw.stands;
-  }
+  late_means = search (rules, arith, is_database, saw, has_made, migrated_stands)
 
   -- after the commit a crash leaves only those trees
   pub leaves_new : KeepsOne g → (end : Held S)
       → ShowsNow (state g late) (state g end) (state g late).now (state g late).now false
       → (db : Trees) → (state g end).may_leave db → MeansIn Two db s
-  leaves_new law end shown db may =
-      subst (λ (t : Trees). MeansIn Two t s)
-      (sym (law end.store db shown.is_open may ∙ ap (λ (d : Database). d.trees) shown.committed_is)) late_means
+  leaves_new law end shown db may = search (rules, arith, late_means)
 
   -- the connection keeps the state in those trees
   pub keeps_new : KeepsOne g → (end : Held S)
       → ShowsNow (state g late) (state g end) (state g late).now (state g late).now false
       → IsKeptIn Two (state g end) s
-  keeps_new law end shown = record {
-    sees = λ _. record {
-      schema = subst (λ (d : Database). IsSchemaOf Two d.schema) (sym shown.now_is) has_made.schema;
-      sound = subst IsDatabase (sym shown.now_is) has_made.sound;
-      committed = shown.now_is ∙ sym shown.committed_is;
-      tables = migrated m saw.tables;
-      shown = subst (λ (d : Database). ShowsIn Two d.trees (migrated m saw.tables)) (sym shown.now_is) has_made.rows;
-      stands = migrated_stands m saw.tables s numbers saw.stands;
-    };
-    leaves = λ db may. inl (leaves_new law end shown db may);
-  }
+  keeps_new law end shown = search (rules, arith, has_made, saw, migrated_stands, leaves_new)
 
   -- whether the commit succeeded or not, a crash leaves trees that it could leave before, or the new ones
   pub either_left : (db : Trees) → (state g late).may_leave db ⊎ (db ≡ (state g late).now.trees)
       → (state g old).may_leave db ⊎ MeansIn Two db s
-  either_left db (inl before) =
-      elim (wrote.less.crash clean db before) [ inl first ↦ inl first | inr none ↦ absurd none ]
-  either_left db (inr is) = inr (subst (λ (t : Trees). MeansIn Two t s) (sym is) late_means)
+  either_left db it = search (rules, arith, late_means)

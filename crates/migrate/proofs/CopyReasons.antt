@@ -1,7 +1,6 @@
 -- Why the statement that copies a range of items fails. For copy_items.
-use Rattle.std.proofs.Common.{◌≡◌, ◌<◌, ◌≤◌, ◌^◌, ◌∙◌, inl, inr, ℕ, List, [], ◌++◌, length, map, filter, drop, true, false, Option, None, Some, Ok, Err, refl, sym, ap, subst, arith, nat_le, IsSome}
-use Rattle.std.proofs.lemmas.Bool.{and_parts}
-use Rattle.std.proofs.lemmas.Bool.Decides.{nat_tests}
+use Rattle.std.proofs.Common.{◌≡◌, ◌<◌, ◌≤◌, ◌^◌, ◌∙◌, inl, inr, ℕ, List, [], ◌++◌, length, map, filter, drop, true, Option, None, Ok, Err, refl, sym, ap, subst, arith, nat_le, rules}
+use Rattle.std.proofs.lemmas.Bool.{and_parts, leb-true}
 use Rattle.sqlite.specs.declared.types.Value.TheVariants.{Null}
 use Rattle.sqlite.specs.declared.error.Error.{Error}
 use Rattle.sqlite.specs.Order.{Row}
@@ -55,8 +54,7 @@ copy_typed first last extra = refl
 
 -- it has no sums, so none overflows
 no_overflow : (db : Trees) (params : Row) → ¬ QueryOverflows copy_items_query db params
-no_overflow db params (inl none) = none
-no_overflow db params (inr any) = any.4
+no_overflow db params it = search (rules, arith)
 
 abbrev copy_program : Program
 copy_program = record { lets = []; body = copy_items_query }
@@ -66,10 +64,7 @@ module _ (extra : List Index) (are : AllByRecursion IsExtra extra) (first last :
     (safe : (rows : List Row) → IsAnswer copy_items_query (overlay old.now.trees []) (range_params first last) rows
     → IsSafe old.now.trees (program_edit (entry2_at 13) old.now.trees rows)) where
   sourced : (stopped : Option Error) → ¬ Sourced old.step_limit (desk_at extra old) (range_params first last) (source.Query copy_program) (Err stopped)
-  sourced None none = none
-  sourced (Some e) (inl (is, wrong)) = let bad : true ≡ false = sym (copy_typed first last extra) ∙ wrong in cc
-  sourced (Some e) (inr (inl (is, over))) = no_overflow (overlay old.now.trees []) (range_params first last) over
-  sourced (Some e) (inr (inr (is, limit))) = let none : false ≡ true = subst (λ l. IsSome l) unlimited limit in cc
+  sourced stopped none = search (rules, arith, copy_typed, no_overflow, range_params)
 
   inserts : (s : Option Error) → ¬ Inserts (task_for extra old (entry2_at 13) (range_params first last)) (source.Query copy_program) old.now.trees (Err s)
   inserts s (inl k) = sourced k.0 k.1
@@ -91,9 +86,6 @@ module _ (extra : List Index) (are : AllByRecursion IsExtra extra) (first last :
 
 -- The rows.
 
-at_most : (a b : ℕ) → nat_le a b ≡ true → a ≤ b
-at_most a b t = grind (arith, nat_tests)
-
 -- a row of an item that the old table has, and whose number fits
 record IsOld (db : Trees) (row : Row) : Type 0 where
   pub item : EntryRow
@@ -113,7 +105,7 @@ module _ (first last : ℕ) (order : first ≤ last) (small : last < 2 ^ 63) (ol
   of_range row new =
       let e = has_mapped entry_row some row new in
       let kept = has_filtered (is_between first last) t.entries e.0 e.1 in
-      let low : e.0.num ≤ last = at_most e.0.num last (and_parts (nat_le first e.0.num) (nat_le e.0.num last) kept.1).1 in
+      let low : e.0.num ≤ last = leb-true e.0.num last (and_parts (nat_le first e.0.num) (nat_le e.0.num last) kept.1).1 in
       record {
         item = e.0;
         there = rw has.all.rows_are (mapped_has entry_row t.entries e.0 kept.0);

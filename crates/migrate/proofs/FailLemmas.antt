@@ -1,5 +1,5 @@
 -- Why a migration failed, from call to call. For the functions of `migrating`.
-use Rattle.std.proofs.Common.{◌≡◌, ◌≢◌, ◌⊎◌, ◌↔◌, ◌≤◌, inl, inr, List, [], ◌∷◌, length, true, IsTrue, refl, ap, subst, arith}
+use Rattle.std.proofs.Common.{◌≡◌, ◌≢◌, ◌⊎◌, ◌↔◌, ◌≤◌, inl, inr, List, [], ◌∷◌, length, true, IsTrue, refl, subst, arith, rules}
 use Rattle.sqlite.specs.Tree.{Trees}
 use Rattle.sqlite.specs.Store.{Ghosts}
 use Rattle.sqlite.specs.Held.{Held, state}
@@ -13,10 +13,9 @@ use Rattle.desk_sql.specs.declared.versions.Version.TheVariants.{One}
 use Rattle.desk_sql.specs.Calls.{MaySeeIn}
 use Rattle.desk_sql.specs.Causes.{HasFaulted, HasReason, IsUp}
 use Rattle.desk_sql.specs.Readable.{HasMeta}
-use Rattle.desk_sql.specs.Rows.{Tables, MetaRow}
+use Rattle.desk_sql.specs.Rows.{Tables}
 use Rattle.ledger.specs.Answer.{State}
 use Rattle.ledger.specs.Ledger.{Event, Loaded, Began, Did, journeys}
-use Rattle.sql_model.specs.ExpectedRows.{meta_in}
 use Rattle.sql_model.specs.Keeping.{IsFound, KeepsIn, SeesOf}
 use Rattle.sql_model.specs.Staying.{StaysUp}
 use Rattle.sql_model.proofs.Staying.{commit_why, faulted_earlier, faulted_later, stays_begun, stays_committing, stays_twice, stays_up}
@@ -30,8 +29,7 @@ use Rattle.migrate.proofs.CommitLemmas.{Wrote}
 -- an error that was told as Store was the store's own
 pub not_memory : (old new : Connected) (e : Error) (why : MigrateFault) → (why ≡ Store ↔ (e ≢ SqliteFailure OutOfMemory)) → HasReason old new e
     → why ≡ Store → HasFaulted old new
-not_memory old new e why store (inl memory) is = absurd (store.0 is memory)
-not_memory old new e why store (inr faulted) is = faulted
+not_memory old new e why store it is = search (rules, arith)
 
 -- there are no more journeys than events
 few_journeys : (l : List Event) → length (journeys l) ≤ length l
@@ -42,21 +40,12 @@ few_journeys (Did journey item ∷ l) = omega (arith, few_journeys l)
 
 -- numbers of version 1 that are refused as the store's are those of a ledger with too many events
 pub too_many_events : (m : Meta) (s : State) → AreNumbersOf m s → RefusesNumbers m Store → HasTooMany s
-too_many_events m s numbers refused =
-    let events : m.events ≡ length s.ledger = ap (λ (r : MetaRow). r.events) numbers in
-    let count : m.journeys ≡ length (journeys s.ledger) = ap (λ (r : MetaRow). r.journeys) numbers in
-    let few = few_journeys s.ledger in
-    elim refused.1 [
-      | inl many ↦ omega (arith, events, many)
-      | inr many ↦ omega (arith, count, few, many)
-    ]
+too_many_events m s numbers refused = search (rules, arith, few_journeys)
 
 -- a reading of meta of a desk of version 1 fails for a reason
 pub meta_fails : (old new : Connected) (s : State) (e : Error) → IsFound One old s → IsUp old
     → ((t : Tables) → MaySeeIn One old t → HasMeta t → HasReason old new e) → HasReason old new e
-meta_fails old new s e found up fails =
-    let desk : SeesOf One old s = found.sees up.is_open in
-    fails desk.tables (λ _. record { schema = desk.schema; rows = desk.shown; sound = desk.sound }) (meta_in One s.ledger, desk.stands.meta)
+meta_fails old new s e found up fails = search (rules, arith)
 
 -- A transaction over tables of version 1 that a connection kept.
 module _ {S : Type 0} (g : Ghosts S) (old late end : Held S) (s : State) (keeps : KeepsIn One (state g old) s) (up : IsUp (state g old))
@@ -78,10 +67,7 @@ module _ {S : Type 0} (g : Ghosts S) (old late end : Held S) (s : State) (keeps 
   pub not_written : (Ends : Trees → Type 0) → Survives (state g late) (state g end) Ends → (e : Error) (why : MigrateFault)
       → (HasCleanDisk (state g late) → (t : Tables) → MayAdd (state g begun) t → IsUp (state g begun) → HasReason (state g begun) (state g late) e)
       → (why ≡ Store ↔ (e ≢ SqliteFailure OutOfMemory)) → why ≡ Store → HasFaulted (state g old) (state g end)
-  not_written Ends back e why fails store is =
-      let faulted : HasFaulted (state g begun) (state g late)
-      = not_memory (state g begun) (state g late) e why store (fails clean saw.tables may_add up_begun) is in
-      faulted_earlier (state g begun) (state g late) (state g end) faulted back.counts
+  not_written Ends back e why fails store is = search (rules, arith, not_memory, saw, may_add, up_begun, faulted_earlier)
 
   -- tables that were not committed are Store only there, or where the commit ran out of memory
   pub not_committed : (Ends : Trees → Type 0) → Survives (state g late) (state g end) Ends → (m : Meta) → AreNumbersOf m s → Wrote g begun late m
@@ -106,10 +92,7 @@ module _ {S : Type 0} (g : Ghosts S) (old late end : Held S) (s : State) (keeps 
 -- a store stays up through a transaction, however it ends
 pub stays_through : {S : Type 0} (g : Ghosts S) (old late end : Held S) (Ends : Trees → Type 0)
     → Survives (state g (record old { in_transaction = true })) (state g late) (λ _. ⊥) → Survives (state g late) (state g end) Ends → StaysUp g old end
-stays_through g old late end Ends less ended =
-    let begun = record old { in_transaction = true } in
-    stays_begun g old end (stays_twice g begun late end (stays_up g begun late less) (stays_committing g late end Ends ended)
-    (λ clean. omega (arith, ended.clean)))
+stays_through g old late end Ends less ended = search (rules, arith, stays_begun, stays_twice, stays_up, stays_committing)
 
 -- A fault after the numbers were read.
 module _ {S : Type 0} (g : Ghosts S) (old mid new : Held S) (s : State) (read : StaysUp g old mid) (brought : StaysUp g mid new)
@@ -117,10 +100,4 @@ module _ {S : Type 0} (g : Ghosts S) (old mid new : Held S) (s : State) (read : 
   -- what failed then failed for a reason since the beginning
   pub fails_later : {Q : Type 0} → (IsUp (state g mid) → HasFaulted (state g mid) (state g new) ⊎ MigrationRanOut g new s)
       → HasFaulted (state g old) (state g new) ⊎ (MigrationRanOut g new s ⊎ Q)
-  fails_later fails = elim (read.up clean up) [
-    | inr faulted ↦ inl (faulted_earlier (state g old) (state g mid) (state g new) faulted brought.counts)
-    | inl still ↦ elim (fails still) [
-      | inl faulted ↦ inl (faulted_later (state g old) (state g mid) (state g new) read.counts faulted)
-      | inr ran ↦ inr (inl ran)
-    ]
-  ]
+  fails_later fails = search (rules, arith, faulted_earlier, faulted_later)

@@ -1,8 +1,7 @@
 -- How the statement that copies a range of items changes entry2.
-use Rattle.std.proofs.Common.{◌≡◌, ◌<ℤ◌, ◌<◌, ◌≤◌, ◌+◌, ℕ, pos, List, [], ◌∷◌, ◌++◌, map, filter, fold, drop, false, if◌then◌else◌, MatchBool, Ok, Err, Result, OnOk, refl, sym, ap, subst, subst₂, ◌∙◌, inl, inr, arith}
+use Rattle.std.proofs.Common.{◌≡◌, ◌<ℤ◌, ◌<◌, ◌≤◌, ◌+◌, ℕ, pos, List, [], ◌∷◌, ◌++◌, map, filter, drop, false, Ok, Result, OnOk, refl, sym, ap, subst, ◌∙◌, inl, inr, arith, append-nil, append_assoc, rules}
 use Rattle.std.proofs.lemmas.Int.{ints}
 use Rattle.std.specs.List.{AllByRecursion}
-use Rattle.std.specs.Ordering.{is_lt, int_cmp}
 use Rattle.sqlite.specs.declared.types.Value.TheVariants.{Null}
 use Rattle.sqlite.specs.declared.error.Error.{Error}
 use Rattle.sqlite.specs.Order.{Row}
@@ -11,10 +10,10 @@ use Rattle.sqlite.specs.Tree.{Trees, put_row}
 use Rattle.sqlite.specs.Cast.{cast_row}
 use Rattle.sqlite.specs.Source.TheVariants as source
 use Rattle.sqlite.specs.Edit.{Edit, edit_of, edited}
-use Rattle.sqlite.specs.Rowids.TheVariants.{Chosen, Above}
+use Rattle.sqlite.specs.Rowids.TheVariants.{Chosen}
 use Rattle.sqlite.specs.Query.{Query, Output, IsAnswer, output_cmp}
 use Rattle.sqlite.specs.Program.{overlay}
-use Rattle.sqlite.specs.Rows.{Written, Task, Inserts, Edited, CountsIn, Gives, stamped, sequence, count_of, higher, rowids_for}
+use Rattle.sqlite.specs.Rows.{Written, Task, Inserts, Edited, stamped}
 use Rattle.sqlite.specs.Listing.{understood}
 use Rattle.sqlite.specs.State.{State, ExecutesInside, Executes}
 use Rattle.sqlite.proofs.Callers.{statement_of}
@@ -27,7 +26,7 @@ use Rattle.sqlite_tied.specs.Compute.{everything}
 use Rattle.desk_sql.specs.Schema.{desk_with, entry2_at}
 use Rattle.desk_sql.specs.Lists.{IsNumbered}
 use Rattle.desk_sql.specs.Rows.{Tables, EntryRow, entry_row, whole}
-use Rattle.desk_sql.specs.Calls.{IsReady, Makes}
+use Rattle.desk_sql.specs.Calls.{IsReady}
 use Rattle.desk_sql.proofs.Meaning.{Means}
 use Rattle.desk_sql.proofs.Writing.{Edits, went, same_value, on_rows, does_so, edits_so, runs_ready, task_for, cast_null}
 use Rattle.desk_sql.proofs.Inserting.{cast_int}
@@ -40,7 +39,7 @@ use Rattle.desk_sql.proofs.Ascending.{IsUpTo, output_total}
 use Rattle.desk_sql.proofs.Keyed.{put_last}
 use Rattle.desk_sql.proofs.OneList.{one_list}
 use Rattle.migrate.specs.Statements.{copy_items_text, range_query, copy_items_query, copy_items_command}
-use Rattle.migrate.specs.Copying.{HasCopied, with_items_below, items_below}
+use Rattle.migrate.specs.Copying.{HasCopied, items_below}
 use Rattle.migrate.proofs.Ranges.{is_between, Rises, items_below-next}
 
 -- The text.
@@ -58,19 +57,7 @@ program_edit table db rows = edit_of db table [] Chosen 0 rows
 pub query_edits : (task : Task) (q : Query) (db : Trees) (w : Written) → task.table.is_counted ≡ false → stamped task.table task.params ≡ task.params
     → Inserts task (source.Query (record { lets = []; body = q })) db (Ok w)
     → (rows : List Row) × IsAnswer q (overlay db []) task.params rows × Edited task.schema task.keys db (program_edit task.table db rows) (Ok w.trees)
-query_edits task q db w uncounted unstamped h =
-    let given = went h in
-    let counted = went given.2 in
-    let written = went counted.2 in
-    let done = went written.2 in
-    let done1 = subst (λ b. MatchBool (if b then is_lt (int_cmp (count_of counted.0) (fold higher (count_of counted.0) (edit_of db task.table [] (rowids_for task.table (count_of counted.0)) 0 given.0).news)) else false) (CountsIn task written.0 counted.0 (fold higher (count_of counted.0) (edit_of db task.table [] (rowids_for task.table (count_of counted.0)) 0 given.0).news) (sequence task.schema) (Ok done.0)) (Gives written.0 (Ok done.0))) uncounted done.1 in
-    let trees : w.trees ≡ written.0 = ap (λ (it : Written). it.trees) (same_value done.2) ∙ same_value done1 in
-    let edit : edit_of db task.table [] (rowids_for task.table (count_of counted.0)) 0 given.0 ≡ program_edit task.table db given.0
-    = ap (λ b. edit_of db task.table [] (if b then Above (count_of counted.0) else Chosen) 0 given.0) uncounted in (
-      given.0,
-      subst (λ ps. IsAnswer q (overlay db []) ps given.0) unstamped (given.1.answer Null),
-      subst₂ (λ e t. Edited task.schema task.keys db e (Ok t)) edit (sym trees) written.1,
-    )
+query_edits task q db w uncounted unstamped h = search (rules, arith, went, same_value)
 
 copies_rows : (params : Row) (old new : State) (count : ℕ) → stamped (entry2_at 13) params ≡ params → IsReady old → Executes copy_items_text params old new (Ok count)
     → (rows : List Row) × IsAnswer copy_items_query (overlay old.now.trees []) params rows × Edits old new (program_edit (entry2_at 13) old.now.trees rows)
@@ -96,16 +83,7 @@ range_test : (first last : ℕ) (e : EntryRow) → passes range_query.filter (ra
 range_test first last e = simp (ge_whole, le_whole) (simp and_true)
 
 as_plain : (db : Trees) (params : Row) (rows : List Row) → IsAnswer copy_items_query (overlay db []) params rows → IsAnswer range_query (overlay db []) params rows
-as_plain db params rows a = record {
-  staged = a.staged;
-  grouped = a.grouped;
-  kept = a.kept;
-  distinct = a.distinct;
-  ordered = a.ordered;
-  same = a.same;
-  sorted = a.sorted;
-  shown = a.shown;
-}
+as_plain db params rows a = search (rules, arith)
 
 -- the rows of the query are the items of the range, in their order
 pub range_rows : (first last : ℕ) (db : Trees) (items : List EntryRow) (rows : List Row) → IsNumbered (λ (e : EntryRow). e.num) entry_row (db 10) items
@@ -141,21 +119,13 @@ first_below (x ∷ xs) y ys rise =
     has_mid [] = inl refl
     has_mid (z ∷ zs) = inr (has_mid zs)
 
-pub together : (xs : List EntryRow) (y : EntryRow) (ys : List EntryRow) → (xs ++ y ∷ []) ++ ys ≡ xs ++ y ∷ ys
-together [] y ys = refl
-together (x ∷ xs) y ys = ap (λ r. x ∷ r) (together xs y ys)
-
-nothing_more : (xs : List EntryRow) → xs ++ [] ≡ xs
-nothing_more [] = refl
-nothing_more (x ∷ xs) = ap (λ r. x ∷ r) (nothing_more xs)
-
 -- rows that rise above those already there are appended
 put_after : (xs ys : List EntryRow) → Rises (xs ++ ys) → put_all (map entry_row xs) (map entry_row ys) ≡ map entry_row (xs ++ ys)
-put_after xs [] rise = ap (map entry_row) (sym (nothing_more xs))
+put_after xs [] rise = ap (map entry_row) (sym (append-nil xs))
 put_after xs (y ∷ ys) rise =
     ap (λ rows. put_all rows (map entry_row ys)) (put_last entry_row (λ (e : EntryRow). pos e.num) (λ _. refl) xs y (first_below xs y ys rise))
-    ∙ put_after (xs ++ y ∷ []) ys (subst Rises (sym (together xs y ys)) rise)
-    ∙ ap (map entry_row) (together xs y ys)
+    ∙ put_after (xs ++ y ∷ []) ys (subst Rises (sym (append_assoc xs (y ∷ []) ys)) rise)
+    ∙ ap (map entry_row) (append_assoc xs (y ∷ []) ys)
 
 -- the range is appended to the items already there
 filled : (first last : ℕ) → first ≤ last → (db : Trees) (items : List EntryRow) (rows : List Row) → IsNumbered (λ (e : EntryRow). e.num) entry_row (db 10) items
@@ -177,22 +147,12 @@ filled first last order db items rows table there answer =
 -- one more range is copied, and the other rows are as they were
 pub copies_range : (first last : ℕ) (old new : State) (t : Tables) (r : Result ℕ Error) → first ≤ last → HasCopied first old t
     → ExecutesInside 0 copy_items_text (range_params first last) old new r → OnOk r (HasCopied (last + 1) new t)
-copies_range first last old new t (Err e) order has ran = tt
-copies_range first last old new t (Ok count) order has ran =
-    let db = old.now.trees in
-    let shown = has.sees.rows in
-    let it = copies_rows (range_params first last) old new count refl (record { inside = has.inside; schema = has.sees.schema }) ran.0 in
-    let edit = program_edit (entry2_at 13) db it.0 in
-    let rows : edited db edit ≡ map entry_row (items_below (last + 1) t.entries)
-    = filled first last order db t.entries it.0 has.all shown.entries.rows_are it.1 in
-    let made : Makes old new (with_items_below (last + 1) t)
-    = makes_at old new edit it.2 13 (map entry_row (items_below (last + 1) t.entries)) (with_items_below (last + 1) t) refl rows
-    (with_entries db (with_items_below first t) shown _ (items_below (last + 1) t.entries)
-    (record { rows_are = refl; rise = ascending-filter _ _ t.entries has.all.rise })) in
-    let beside : new.now.trees 10 ≡ db 10 = it.2.applies.tables.1.1.1.1.1.0 (λ e. absurd (let no : 10 ≡ 13 = e in omega (arith, no))) in
-    record {
-      is_open = made.is_open;
-      inside = made.inside;
-      sees = made.sees;
-      all = rw beside (has.all);
-    }
+copies_range first last old new t r order has ran = search (
+  rules,
+  arith,
+  copies_rows,
+  filled,
+  makes_at,
+  with_entries,
+  ascending-filter,
+)

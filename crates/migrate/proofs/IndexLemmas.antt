@@ -1,5 +1,5 @@
 -- What a transaction that makes the index leaves, however it ends, and what the reading before it says. For the functions of `indexing`.
-use Rattle.std.proofs.Common.{◌≡◌, ◌≢◌, ◌↔◌, ◌+◌, ◌<◌, inl, inr, ℕ, suc, List, [], ◌∷◌, length, true, false, Ok, IsTrue, refl, sym, ap, subst, ◌∙◌, arith}
+use Rattle.std.proofs.Common.{◌≡◌, ◌≢◌, ◌↔◌, ◌+◌, ◌<◌, inl, inr, ℕ, suc, List, [], ◌∷◌, length, true, false, Ok, IsTrue, refl, sym, ap, subst, ◌∙◌, arith, rules}
 use Rattle.std.specs.Prelude.{⊤}
 use Rattle.sqlite.specs.Store.{Ghosts}
 use Rattle.sqlite.specs.Effect.{Database, IsDatabase}
@@ -117,35 +117,18 @@ module _ {S : Type 0} (g : Ghosts S) (old late end : Held S) (s : State) (keeps 
   -- a transaction that was rolled back leaves the desk that the connection saw
   sees_back : Left g (record old { in_transaction = true }) late → HasCleanDisk (state g late) → IsRolledBack (state g late) (state g end)
       → IsTrue (state g end).is_open → SeesDesk (state g end) s
-  sees_back left clean back live =
-      let kept = left.commit clean refl in
-      let late_live = back.was_open live in
-      let saw = (keeps (omega (arith, left.less.clean, clean))).sees (kept.was_open late_live) in
-      same_desk (state g old) (state g end) s saw ((back.undone live).0 ∙ kept.committed late_live ∙ sym saw.committed)
-      ((back.undone live).1 ∙ kept.committed late_live)
+  sees_back left clean back live = search (rules, arith, same_desk)
 
   -- the index was not made
   pub keeps_undone : Left g (record old { in_transaction = true }) late → LeavesNoMore g late end
       → (HasCleanDisk (state g end) → IsRolledBack (state g late) (state g end)) → HasCleanDisk (state g end) → IsKeptIn Two (state g end) s
-  keeps_undone left less undone clean =
-      let at_late : HasCleanDisk (state g late) = omega (arith, less.clean, clean) in
-      record {
-        sees = sees_back left at_late (undone clean);
-        leaves = λ db may. elim (less.crash clean db may) [
-          | inl before ↦ elim (left.less.crash at_late db before) [
-            | inl first ↦ (keeps (omega (arith, left.less.clean, at_late))).leaves db first
-            | inr none ↦ absurd none
-          ]
-          | inr none ↦ absurd none
-        ];
-      }
+  keeps_undone left less undone clean = search (rules, arith, sees_back)
 
   module _ (wrote : Wrote g (record old { in_transaction = true }) late (λ _. ⊤) 0 (λ t. t)) where
     -- it was made, and committed
     pub keeps_indexed : HasCleanDisk (state g late) → KeepsOne g
         → ShowsNow (state g late) (state g end) (state g late).now (state g late).now false → IsKeptIn Two (state g end) s
-    keeps_indexed clean law shown =
-        keeps_next g old late (λ _. ⊤) 0 (λ t. t) s s wrote (λ t st. tt) (λ t st. st) keeps clean law end shown
+    keeps_indexed clean law shown = search (rules, arith, keeps_next)
 
     -- it was made, and its commit failed
     pub keeps_uncommitted : Survives (state g late) (state g end) (λ db. db ≡ (state g late).now.trees) → (e : Error)
@@ -193,8 +176,7 @@ module _ {S : Type 0} (g : Ghosts S) (old new : Held S) where
   refuses_numbers meta why is other saw = rw is (other, inr saw)
 
   pub refuses_fault : (why : MigrateFault) → IsFault why → RefusesIndex g old new why
-  refuses_fault why (inl is) = rw is tt
-  refuses_fault why (inr is) = rw is tt
+  refuses_fault why it = search (rules, arith)
 
   -- an error is a fault
   pub refuses_error : (why : MigrateFault) (IsMemory : Type 0) → (why ≡ Memory ↔ IsMemory) → (why ≡ Store ↔ (¬ IsMemory)) → RefusesIndex g old new why

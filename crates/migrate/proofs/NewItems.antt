@@ -1,5 +1,5 @@
 -- When the rules of SQL allow the insertion of several rows of entry2. For CopyReasons.
-use Rattle.std.proofs.Common.{◌≡◌, ◌≢◌, ◌<◌, ◌≤◌, ◌^◌, inl, inr, pos, List, [], ◌∷◌, ◌++◌, map, length, filter, Option, None, Some, ◌==◌, Bool, true, false, not, ◌&&◌, ◌||◌, nat_lt, refl, sym, ap, subst, ◌∙◌, arith}
+use Rattle.std.proofs.Common.{◌≡◌, ◌≢◌, ◌<◌, ◌≤◌, ◌^◌, inl, inr, pos, List, [], ◌∷◌, ◌++◌, map, length, Option, None, Some, Bool, true, false, not, ◌&&◌, ◌||◌, nat_lt, refl, sym, ap, subst, ◌∙◌, arith, append_assoc, rules}
 use Rattle.std.specs.List.{AllByRecursion, list_all, list_any}
 use Rattle.std.proofs.lemmas.Bool.{cases_eq, ne_eqb, and_parts, and_from, or_cases, or_left, or_right, false_from_ne_true}
 use Rattle.sqlite_value.specs.Keys.{first_key, joined}
@@ -32,7 +32,7 @@ use Rattle.desk_sql.proofs.Refusing.{IsSafe}
 use Rattle.desk_sql.proofs.NewRow.{IsFit, desk_apart}
 use Rattle.desk_sql.proofs.Writing.{Lands}
 use Rattle.desk_sql.proofs.Storing.{storable, held_from, fits_whole, range_holds, range_ends, is_between as is_within, untaken}
-use Rattle.migrate.proofs.Filling.{first_below, together}
+use Rattle.migrate.proofs.Filling.{first_below}
 use Rattle.migrate.proofs.Ranges.{Rises}
 
 -- Items of the old table.
@@ -70,7 +70,7 @@ fresh_after xs (y ∷ ys) rise =
     and_from (not (is_taken (map entry_row xs) (entry_row y))) (are_fresh (put_row (entry_row y) (map entry_row xs)) (map entry_row ys))
     (ap not free)
     (subst (λ rows. are_fresh rows (map entry_row ys) ≡ true) (sym next)
-    (fresh_after (xs ++ y ∷ []) ys (subst Rises (sym (together xs y ys)) rise)))
+    (fresh_after (xs ++ y ∷ []) ys (subst Rises (sym (append_assoc xs (y ∷ []) ys)) rise)))
 
 -- New items.
 
@@ -102,24 +102,17 @@ module _ (db : Trees) (news : List Row) (ordered : IsTable (db 13)) (obeys : Obe
   after = with_tree db 13 (edited db it)
 
   after_others : AllByRecursion (λ t. t.tree ≢ 13 → after t.tree ≡ db t.tree) desk_schema.tables
-  after_others = all_from (λ t. t.tree ≢ 13 → after t.tree ≡ db t.tree) desk_schema.tables
-      (λ t _ other. let off : (t.tree == 13) ≡ false = ne_eqb t.tree 13 other in rw off refl)
+  after_others = search (rules, arith, all_from, ne_eqb)
 
   turn : Turns desk_schema db after (entry2_at 13) (left_by db it) (taken_by db it) news
   turn = turned after refl after_others
 
   -- no unique index is on entry2
   no_clash : (i : Index) → Has desk_schema.indexes i → (guards i (entry2_at 13) && list_any (clashes i.order i.columns (after 13)) news) ≡ true → ⊥
-  no_clash i known both =
-      none (has_kept (λ (x : Index). guards x (entry2_at 13)) desk_schema.indexes i known
-      (and_parts (guards i (entry2_at 13)) (list_any (clashes i.order i.columns (after 13)) news) both).0)
-    where
-      none : ¬ Has (filter (λ (x : Index). guards x (entry2_at 13)) desk_schema.indexes) i
-      none h = h
+  no_clash i known both = search (rules, arith, has_kept, and_parts)
 
   unique : are_unique desk_schema.indexes after (entry2_at 13) news ≡ true
-  unique = test_from (λ i. not (guards i (entry2_at 13) && list_any (clashes i.order i.columns (after 13)) news)) desk_schema.indexes
-      (λ i known. ap not (false_from_ne_true (guards i (entry2_at 13) && list_any (clashes i.order i.columns (after 13)) news) (no_clash i known)))
+  unique = search (rules, arith, test_from, false_from_ne_true, no_clash)
 
   passed : (p : Row → Bool) → ((r : Row) → IsFit (entry2_at 13) db r → p r ≡ true) → list_all p news ≡ true
   passed p each = test_from p news (λ r there. each r (fit r there))
@@ -165,8 +158,7 @@ module _ (db : Trees) (news : List Row) (ordered : IsTable (db 13)) (obeys : Obe
 
   -- a new row refers to its journey alone, which is there
   own_parent : (ref : Reference) (row : Row) → Has (entry2_at 13).references ref → Has news row → has_parent desk_schema.tables db row ref ≡ true
-  own_parent ref row (inl is) new = subst (λ (r : Reference). has_parent desk_schema.tables db row r ≡ true) (sym is) (parents row new)
-  own_parent ref row (inr none) new = absurd none
+  own_parent ref row it new = search (rules, arith)
 
   refers : (next : Trees) → Lands db it next → Refers All desk_schema next
   refers next made =

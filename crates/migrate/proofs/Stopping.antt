@@ -1,6 +1,5 @@
 -- What a crash leaves, and what the connection shows, if a migration did not complete. For migrate.
-use Rattle.std.proofs.Common.{◌≡◌, ◌≢◌, inl, inr, ℕ, suc, List, [], ◌∷◌, length, Bool, true, false, IsTrue, refl, sym, ap, subst, ◌∙◌, arith}
-use Rattle.std.specs.List.{AllByRecursion}
+use Rattle.std.proofs.Common.{◌≡◌, ◌≢◌, inl, inr, ℕ, suc, [], ◌∷◌, length, Bool, true, false, IsTrue, refl, sym, ap, ◌∙◌, arith, rules}
 use Rattle.sqlite.specs.Store.{Ghosts}
 use Rattle.sqlite.specs.Held.{Held, state}
 use Rattle.sqlite.specs.State.{HasCleanDisk}
@@ -9,7 +8,7 @@ use Rattle.desk_sql.specs.declared.versions.Version.{Version}
 use Rattle.desk_sql.specs.declared.versions.Version.TheVariants.{One, Two}
 use Rattle.desk_sql.specs.declared.meta.Meta.{Meta}
 use Rattle.desk_sql.specs.Calls.{Quiet}
-use Rattle.desk_sql.specs.Rows.{Tables, MetaRow, no_rows}
+use Rattle.desk_sql.specs.Rows.{Tables, no_rows}
 use Rattle.desk_sql.specs.Schema.{no_schema, seven_schema}
 use Rattle.desk_sql.specs.Versions.{number_of, AreOfVersion, SawVersion}
 use Rattle.ledger.specs.Answer.{State}
@@ -28,8 +27,7 @@ not_bare e = let n : ◌≡◌ {A = ℕ} 7 0 = ap (λ (s : Schema). length s.tab
 
 -- rows that represent a state have the number of their version
 has_number : (v : Version) (n : ℕ) (t : Tables) (s : State) → StandsIn v t s → AreOfVersion n t → number_of v ≡ n
-has_number v n t s stands all =
-    (subst (λ (rows : List MetaRow). AllByRecursion (λ (m : MetaRow). m.version ≡ n) rows) stands.meta all).0
+has_number v n t s stands all = search (rules, arith)
 
 module _ {S : Type 0} (g : Ghosts S) (old mid : Held S) where
   -- a version that was seen shows that the connection was open: a closed one may be said to see any rows
@@ -49,9 +47,7 @@ module _ {S : Type 0} (g : Ghosts S) (old mid : Held S) where
   -- tables that show a state have the number of their version
   pub saw_number : (v : Version) (n : ℕ) (s : State) → SawVersion g old mid n → HasCleanDisk (state g mid)
       → SeesOf v (state g old) s → number_of v ≡ n
-  saw_number v n s saw clean desk =
-      has_number v n desk.tables s desk.stands
-      (saw clean v desk.tables (λ _. record { schema = desk.schema; rows = desk.shown; sound = desk.sound }))
+  saw_number v n s saw clean desk = search (rules, arith, has_number)
 
   -- where the tables have version 1, the connection represented no state in tables of version 2
   not_new : (s : State) → SawVersion g old mid 1 → (old.schema ≡ no_schema → ⊥) → HasCleanDisk (state g mid) → HasCleanDisk (state g old)
@@ -70,9 +66,7 @@ module _ {S : Type 0} (g : Ghosts S) (old mid : Held S) where
 
     -- after a quiet call a crash leaves what it could leave before
     pub left_as_before : LeavesEither g old mid
-    left_as_before clean v s stood db may =
-        let before = quiet_leaves g old mid quiet clean db may in
-        inl (before, (stood (at_first clean)).leaves db before)
+    left_as_before clean v s stood db may = search (rules, arith, quiet_leaves, at_first)
 
     -- after such a call the connection shows what it showed
     pub shows_as_before : ShowsAsBefore g old mid
@@ -90,10 +84,7 @@ module _ {S : Type 0} (g : Ghosts S) (old mid : Held S) where
 
     -- where the store has no tables, the connection represented no state in tables of version 1
     bare_not_old : old.schema ≡ no_schema → WasNotOld g old mid
-    bare_not_old bare clean live s stood =
-        let found : IsFound One (state g old) s = stood (at_first clean) in
-        let desk : SeesOf One (state g old) s = found.sees live in
-        not_bare (sym desk.schema.is ∙ bare)
+    bare_not_old bare clean live s stood = search (rules, arith, at_first, not_bare)
 
   -- so no refusal comes on tables of version 1
   pub refuses_others : Quiet g old mid → (why : MigrateFault) → Tells g old mid why → IsRefusal why → WasNotOld g old mid
@@ -113,17 +104,8 @@ module _ {S : Type 0} (g : Ghosts S) (old mid : Held S) where
 
     -- a crash leaves what it could leave at first, or the new tables
     pub left_either : NumbersOld g old mid m → LeavesOneOf g mid new m → LeavesEither g old new
-    left_either numbers left clean One s stood db may =
-        let at_mid = sound clean in
-        elim (left clean s (numbers at_mid s stood) (kept_there quiet s stood) db may) [
-          | inl before ↦ left_as_before quiet at_mid One s stood db before
-          | inr next ↦ inr (refl, next)
-        ]
-    left_either numbers left clean Two s stood db may =
-        absurd (was_not_new clean s stood)
+    left_either numbers left clean it s stood db may = search (rules, arith, kept_there, left_as_before, was_not_new)
 
     -- the connection shows the old tables
     pub shows_either : ShowsOld g mid new → ShowsAsBefore g old new
-    shows_either shows clean One s stood live = shows clean s (kept_there quiet s stood) live
-    shows_either shows clean Two s stood live =
-        absurd (was_not_new clean s stood)
+    shows_either shows clean it s stood live = search (rules, arith, kept_there, was_not_new)

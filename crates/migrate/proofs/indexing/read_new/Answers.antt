@@ -1,5 +1,5 @@
 -- The version that was read is that of the tables; a read changes nothing.
-use Rattle.std.proofs.Common.{◌≢◌, rules}
+use Rattle.std.proofs.Common.{◌≢◌, rules, arith}
 use Rattle.desk_sql.proofs.Selecting.{ok_then}
 use Rattle.desk_sql.specs.Schema.{no_schema}
 use Rattle.desk_sql.specs.declared.versions.Version.TheVariants.{Two}
@@ -28,8 +28,7 @@ returns-in-Ok-clause-refused g c =
     c.newest_only.ensures.refused
 
 pub returns-in-Err-clause-refused : goal.returns-in-Err-clause-refused
-returns-in-Err-clause-refused g c =
-    refuses_error g.S.Store c.args.conn.now c.read_meta.new.conn c.fault_of.result _ c.fault_of.ensures.memory c.fault_of.ensures.store
+returns-in-Err-clause-refused g c = search (rules, arith, refuses_error, c.fault_of.ensures.memory, c.fault_of.ensures.store)
 
 pub returns-in-Ok-clause-quiet : goal.returns-in-Ok-clause-quiet
 returns-in-Ok-clause-quiet g c = (c.read_meta.ensures.queries Two).quiet

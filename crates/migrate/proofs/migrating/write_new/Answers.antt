@@ -20,11 +20,7 @@ returns-clause-made g c clean t may =
 
 -- each of the three fails for a reason
 pub returns-in_err-add_tables-clause-reason : goal.returns-in_err-add_tables-clause-reason
-returns-in_err-add_tables-clause-reason g c clean t may up =
-    let old = state g.S.Store c.args.tx.now.conn.now in
-    let one = state g.S.Store c.add_tables.new.tx.conn.now in
-    let reason : HasReason old one c.in_err-add_tables.field-0.0 = c.in_err-add_tables.ensures.reason clean t may up in
-    search rules
+returns-in_err-add_tables-clause-reason g c clean t may up = search (rules, arith, c.in_err-add_tables.ensures.reason)
 
 pub returns-in_err-copy_all-clause-reason : goal.returns-in_err-copy_all-clause-reason
 returns-in_err-copy_all-clause-reason g c clean t may up =
