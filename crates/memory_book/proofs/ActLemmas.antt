@@ -1,9 +1,9 @@
 -- The outcome of a request with or without a known key. For `act` of a book in memory.
-use Rattle.std.proofs.Common.{◌≡◌, refl, ap, sym, ◌∙◌, Option, Some, None, option_map}
+use Rattle.std.proofs.Common.{◌≡◌, Option, Some, None, option_map, arith}
 use Rattle.commands.specs.Asks.{Asked}
 use Rattle.commands.specs.Request.{Request}
 use Rattle.commands.specs.declared.replies.Reply.{Reply}
-use Rattle.ledger.specs.Answer.{State, KeptReply, Outcome, outcome, outcome_for, kept_for, answered_again, text_of, carried_out, answer, asker}
+use Rattle.ledger.specs.Answer.{State, KeptReply, outcome, kept_for, answered_again, text_of, carried_out, answer, asker}
 use Rattle.memory_book.specs.Memory.{StandsFor}
 use Rattle.memory_book.specs.MemoryAnswers.{kept_in, found_for}
 use Rattle.memory_book.specs.declared.mem_book.MemBook.{MemBook}
@@ -11,8 +11,7 @@ use Rattle.memory_book.specs.declared.mem_book.MemBook.{MemBook}
 -- the reply that the book keeps for a request is the one that the state keeps
 pub found_for-kept : (m : MemBook) (s : State) → StandsFor m s → (ask : Option Asked)
     → found_for (kept_in m.answers) ask ≡ kept_for s ask
-found_for-kept m s here None = refl
-found_for-kept m s here (Some a) = here.kept a.agent a.key
+found_for-kept m s here ask = grind arith
 
 -- the reply is the outcome's, and nothing changes
 pub record IsAgain (s : State) (ask : Option Asked) (asked : Request) (r : Reply) : Type 0 where
@@ -23,20 +22,11 @@ pub record IsAgain (s : State) (ask : Option Asked) (asked : Request) (r : Reply
 pub again-known : (s : State) (ask : Option Asked) (asked : Request) (r : Reply)
     (o : Option KeptReply) → kept_for s ask ≡ o
     → Some r ≡ option_map (λ k. (answered_again s (text_of ask) k).reply) o → IsAgain s ask asked r
-again-known s ask asked r None known is = cc
-again-known s ask asked r (Some k) known is =
-    let told : outcome s ask asked ≡ answered_again s (text_of ask) k =
-    ap (outcome_for s ask asked) known in
-    let same : r ≡ (answered_again s (text_of ask) k).reply = cc in
-    record {
-      replied = same ∙ ap (λ (t : Outcome). t.reply) (sym told);
-      same = ap (λ (t : Outcome). t.state) told;
-    }
+again-known s ask asked r o known is = grind arith
 
 -- where no reply is kept, the request is executed
 pub outcome-new : (s : State) (ask : Option Asked) (asked : Request) (o : Option KeptReply)
     → kept_for s ask ≡ o
     → None ≡ option_map (λ k. (answered_again s (text_of ask) k).reply) o
     → outcome s ask asked ≡ carried_out s ask (answer s.ledger (asker ask) asked)
-outcome-new s ask asked None known is = ap (outcome_for s ask asked) known
-outcome-new s ask asked (Some k) known is = cc
+outcome-new s ask asked o known is = grind arith

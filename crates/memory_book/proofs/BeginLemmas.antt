@@ -11,7 +11,6 @@ use Rattle.commands.specs.declared.replies.Reply.{Reply}
 use Rattle.commands.specs.declared.replies.Reply.TheVariants as reply
 use Rattle.ledger.specs.Answer.{State, Answer, answer, asker, most_events}
 use Rattle.ledger.specs.Replies.{answer_begin}
-use Rattle.ledger.specs.Ledger as l
 use Rattle.ledger.specs.Ledger.{Began, journeys}
 use Rattle.ledger_transitions.proofs.Allotments.{allotment-began}
 use Rattle.ledger_transitions.proofs.Events.{journeys-began, history-began}
@@ -59,13 +58,7 @@ carried_out-begun m n s ask plan r here good b room is =
     })
   where
     begun : map begun_as n.journeys.items ≡ journeys (s.ledger ++ Began (owner ask) plan ∷ [])
-    begun =
-        let new : begun_as b.journey ≡ record { agent = owner ask; plan = plan } =
-        λ i. record { agent = b.agent i; plan = b.plan_is i } in
-        ap (map begun_as) b.grown ∙ map-append begun_as m.journeys.items (b.journey ∷ [])
-        ∙ ap (λ js. js ++ begun_as b.journey ∷ []) here.begun
-        ∙ ap (λ (j : l.Journey). journeys s.ledger ++ j ∷ []) new
-        ∙ sym (journeys-began s.ledger (owner ask) plan)
+    begun = grind (arith, map-append, journeys-began)
 
     told : TellEach n.journeys.items (s.ledger ++ Began (owner ask) plan ∷ [])
     told i k at =
@@ -79,8 +72,4 @@ carried_out-begun m n s ask plan r here good b room is =
         ])
 
     stock : (x : Cell) → stock_at n.stock x ≡ places_of (s.ledger ++ Began (owner ask) plan ∷ []) x
-    stock x =
-        ap (λ st. stock_at st x) b.stock ∙ here.stock x
-        ∙ places_of-parts (s.ledger ++ Began (owner ask) plan ∷ []) x _ _
-        (held-began s.ledger (owner ask) plan x here.legal)
-        (allotment-began s.ledger (owner ask) plan x)
+    stock x = grind (arith, places_of-parts, held-began, allotment-began)

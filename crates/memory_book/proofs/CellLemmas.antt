@@ -1,5 +1,5 @@
 -- Cells as keys, and places of cells that change one by one. For the stock of a book in memory.
-use Rattle.std.proofs.Common.{◌≡◌, ℕ, zero, suc, ◌+◌, ◌-◌, ◌<◌, Bool, true, false, cond, List, [], ◌∷◌, refl, ap, sym, ◌∙◌, map, arith, ◌==◌, ◌&&◌, ◌||◌, not, if◌then◌else◌, Option, Some, None, option_map, nat_le}
+use Rattle.std.proofs.Common.{◌≡◌, ℕ, zero, suc, ◌-◌, ◌<◌, Bool, true, false, cond, List, [], ◌∷◌, refl, ap, ◌∙◌, map, arith, ◌&&◌, ◌||◌, not, if◌then◌else◌, Option, Some, option_map, nat_le, sym, None}
 use Rattle.std.specs.Prelude.{unwrap_or}
 use Rattle.std.specs.List.{list_any, list_all}
 use Rattle.std.specs.BTreeMap as tree
@@ -19,8 +19,7 @@ use Rattle.memory_book.specs.declared.stock.Stock.{Stock}
 -- a function of what is found, where one thing is tried before the others
 pub map-found : {X Y : Type 0} (f : X → Y) (b : Bool) (x : X) (o : Option X)
     → option_map f (cond b (Some x) o) ≡ cond b (Some (f x)) (option_map f o)
-map-found f true x o = refl
-map-found f false x o = refl
+map-found f b x o = grind arith
 
 -- what is written at a key is found there, and other keys keep what they had
 pub stock_at-put : (old new : Stock) (k : Cell) (held : Held)
@@ -47,9 +46,7 @@ changed change n cells places x =
 -- the first cell is not among the others, none of which occurs twice
 pub apart-parts : (k : Cell) (cells : List Cell) → are_apart (k ∷ cells) ≡ true
     → (list_any (is_cell k) cells ≡ false) × (are_apart cells ≡ true)
-apart-parts k cells apart =
-    let both = and_parts (not (list_any (is_cell k) cells)) (are_apart cells) apart in
-    (not-true _ both.0, both.1)
+apart-parts k cells apart = grind (arith, and_parts, not-true)
 
 -- after the first cell has changed, the others are still to change: the first cell does not change again, and its
 -- change left the others the same
@@ -106,20 +103,13 @@ free-step change n k (x ∷ cells) old new one apart free =
 later_nights : (want : Wanted) (a b n : ℕ) → a < b
     → list_any (is_cell (cell_at want a)) (map (cell_at want) (numbers_from b n)) ≡ false
 later_nights want a b zero less = refl
-later_nights want a b (suc n) less =
-    let other : (a == b) ≡ false = ne_eqb a b (λ e. omega arith) in
-    ap (λ t. t || list_any (is_cell (cell_at want a)) (map (cell_at want) (numbers_from (suc b) n)))
-    (and_right _ (a == b) other)
-    ∙ later_nights want a (suc b) n (omega arith)
+later_nights want a b (suc n) less = grind (arith, ne_eqb, and_right, later_nights want a (suc b) n (omega arith))
 
 -- the cells of n nights are distinct
 nights_apart : (want : Wanted) (first n : ℕ)
     → are_apart (map (cell_at want) (numbers_from first n)) ≡ true
 nights_apart want first zero = refl
-nights_apart want first (suc n) =
-    ap (λ t. not t && are_apart (map (cell_at want) (numbers_from (suc first) n)))
-    (later_nights want first (suc first) n (omega arith))
-    ∙ nights_apart want (suc first) n
+nights_apart want first (suc n) = grind (arith, later_nights, nights_apart want (suc first) n)
 
 -- no cell of a want occurs twice
 pub cells_of-apart : (want : Wanted) → are_apart (cells_of want) ≡ true
@@ -129,13 +119,8 @@ cells_of-apart want = nights_apart want want.first want.nights
 
 -- taking 0 places changes nothing
 pub none_less : (p : Places) → with_less 0 p ≡ p
-none_less p =
-    let e : p.free - 0 ≡ p.free = omega arith in ap (λ f. record { allot = p.allot; free = f }) e
+none_less p = grind arith
 
 -- giving 0 places back changes nothing
 pub none_back : (p : Places) → with_back 0 p ≡ p
-none_back p =
-    let low : nat_le 0 (p.allot - p.free) ≡ true = le-leb 0 (p.allot - p.free) (omega arith) in
-    let e : p.free + 0 ≡ p.free = omega arith in
-    ap (λ b. if b then record { allot = p.allot; free = p.free + 0 } else p) low
-    ∙ ap (λ f. record { allot = p.allot; free = f }) e
+none_back p = grind (arith, le-leb)

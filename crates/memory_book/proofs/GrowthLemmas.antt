@@ -1,5 +1,5 @@
 -- How one more event changes the parts that a book in memory keeps. For each command.
-use Rattle.std.proofs.Common.{◌≡◌, ℕ, ◌+◌, ◌-◌, ◌<◌, ◌≤◌, Bool, true, false, List, [], ◌∷◌, ◌++◌, length, map, ap, sym, ◌∙◌, subst, inl, inr, ◌&&◌, ◌↔◌, nat_le, if◌then◌else◌, suc, slice_set, Option, Some, is_some, option_map, Result, Ok, Err, IsTrue}
+use Rattle.std.proofs.Common.{◌≡◌, ℕ, ◌+◌, ◌-◌, ◌<◌, ◌≤◌, Bool, true, false, List, [], ◌∷◌, ◌++◌, length, map, ap, sym, ◌∙◌, subst, inl, inr, ◌&&◌, ◌↔◌, if◌then◌else◌, suc, slice_set, Option, Some, is_some, option_map, Result, Ok, Err, IsTrue, arith}
 use Rattle.std.specs.declared.alloc.AllocError.{AllocError}
 use Rattle.std.specs.List.{cons_option}
 use Rattle.std.proofs.lemmas.Bool.{lt-leb, le-leb, and_right, cases_lt}
@@ -37,10 +37,7 @@ places_of-parts l x h a holds allots = λ i. option_map (places_left (sym holds 
 
 -- where the ledger has room, the limit does not change the answer
 pub limited-room : (l : List Event) (a : Answer) → length l < most_events → limited l a ≡ a
-limited-room l a room =
-    ap (λ b. if b then refused Limit else a)
-    (and_right (is_some a.event) (nat_le most_events (length l))
-    (lt-leb most_events (length l) room))
+limited-room l a room = grind (arith, and_right, lt-leb)
 
 -- where the ledger has no room, an answer with an event becomes a refusal
 pub limited-full : (l : List Event) (a : Answer) → is_some a.event ≡ true → most_events ≤ length l
@@ -52,17 +49,12 @@ limited-full l a due full =
 pub carried_out-refused : (m : MemBook) (s : State) (ask : Option Asked) (a : Answer) (why : Refusal)
     → StandsFor m s → a ≡ refused why → (r : Reply) → r ≡ (refused why).reply
     → IsCarriedOut m s ask a r
-carried_out-refused m s ask a why here is r replied =
-    subst (λ (b : Answer). IsCarriedOut m s ask b r) (sym is)
-    (record { replied = replied; stands = here })
+carried_out-refused m s ask a why here is r replied = grind arith
 
 -- a ledger that is not full has room
 pub room_left : (full : Bool) (most events : ℕ) → IsTrue full ↔ (most ≤ events) → full ≡ false
     → events < most
-room_left full most events tells not_full = elim (cases_lt events most) [
-  | inl room ↦ room
-  | inr past ↦ (let is : true ≡ false = sym (tells.1 past) ∙ not_full in cc)
-]
+room_left full most events tells not_full = grind (arith, cases_lt)
 
 -- The book.
 

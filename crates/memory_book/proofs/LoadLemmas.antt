@@ -12,21 +12,20 @@ use Rattle.commands.specs.Asks.{Asked}
 use Rattle.commands.specs.BatchData.{Batched}
 use Rattle.commands.specs.declared.replies.Reply.{Reply}
 use Rattle.commands.specs.Request as request
-use Rattle.commands.specs.declared.replies.Refusal.TheVariants.{BatchDiffers}
 use Rattle.ledger.specs.Answer.{State, answer, asker, limited, most_events}
-use Rattle.ledger.specs.Replies.{Answer, answer_known, answer_load, answer_new, are_same_rows, loaded, refused}
+use Rattle.ledger.specs.Replies.{Answer, answer_known, answer_load, answer_new, loaded}
 use Rattle.ledger.proofs.Answers.{IsAllowedEvent, answer-allowed}
 use Rattle.ledger.specs.Ledger.{Event, Loaded, Began, Did, batches_named, allotment, held, is_not_below_held, is_batch, IsLegal}
-use Rattle.ledger_transitions.specs.JourneyChanges.{newer}
 use Rattle.ledger_transitions.proofs.Allotments.{allotment-loaded_last}
 use Rattle.ledger_transitions.proofs.Events.{journeys-loaded, history-loaded}
 use Rattle.ledger_transitions.proofs.Places.{held-loaded, held_within, held_none}
 use Rattle.saga_core.specs.Views.{Places, places_of}
-use Rattle.memory_book.specs.MemoryStock.{stock_at, is_below_in, with_allotment, set_to, last_row, LoadsRows}
+use Rattle.memory_book.specs.MemoryStock.{stock_at, is_below_in, set_to, LoadsRows, last_row}
 use Rattle.memory_book.specs.Memory.{begun_as, Tells, loads, StandsFor, IsCarriedOut}
 use Rattle.memory_book.specs.declared.stock.Stock.{Stock}
 use Rattle.memory_book.specs.declared.mem_book.MemBook.{MemBook}
 use Rattle.memory_book.proofs.GrowthLemmas.{Grows, places_left, places_of-parts, limited-room, stands-grown}
+use Rattle.ledger_transitions.specs.JourneyChanges.{newer}
 
 -- Known batches.
 
@@ -38,8 +37,7 @@ rows_of_named name b = if bytes_eq name b.name then Some b.rows else None
 batches_named-loads : (l : List Event) (name : List ℕ)
     → batches_named l name ≡ filter_map (rows_of_named name) (loads l)
 batches_named-loads [] name = refl
-batches_named-loads (Loaded other rows ∷ l) name =
-    ap (cons_option (if bytes_eq name other then Some rows else None)) (batches_named-loads l name)
+batches_named-loads (Loaded other rows ∷ l) name = grind (arith, batches_named-loads l name)
 batches_named-loads (Began agent plan ∷ l) name = batches_named-loads l name
 batches_named-loads (Did j x ∷ l) name = batches_named-loads l name
 
@@ -63,17 +61,13 @@ named-first name (b ∷ bs) =
         → option_map (λ (x : Batched). x.rows) (cond v (Some b) (find (has_name name) bs))
         ≡ slice_get (cons_option (if v then Some b.rows else None)
         (filter_map (rows_of_named name) bs)) 0
-    go true later = refl
-    go false later = later
+    go v later = grind arith
 
 -- so the book finds the first rows of that name in the ledger
 pub named-kept : (m : MemBook) (s : State) → StandsFor m s → (name : List ℕ) (o : Option Batched)
     → o ≡ find (has_name name) m.batches.items
     → slice_get (batches_named s.ledger name) 0 ≡ option_map (λ (b : Batched). b.rows) o
-named-kept m s here name o is =
-    ap (λ bs. slice_get bs 0)
-    (batches_named-loads s.ledger name ∙ ap (filter_map (rows_of_named name)) (sym here.batches))
-    ∙ sym (named-first name m.batches.items) ∙ ap (option_map (λ (b : Batched). b.rows)) (sym is)
+named-kept m s here name o is = grind (arith, batches_named-loads, named-first)
 
 -- a list without a first element is empty
 pub none_first : (bs : List (List Row)) → slice_get bs 0 ≡ None → bs ≡ []
@@ -115,8 +109,7 @@ none_passes test i (x ∷ xs) none = go (test x) none (none_passes test (i + 1) 
     go : (v : Bool) → cond v (Some i) (position_from test (i + 1) xs) ≡ None
         → (position_from test (i + 1) xs ≡ None → list_all (λ y. not (test y)) xs ≡ true)
         → (not v && list_all (λ y. not (test y)) xs) ≡ true
-    go true none later = cc
-    go false none later = later none
+    go v none later = grind arith
 
 -- where no position is found, each element fails
 pub none_at : {X : Type 0} (test : X → Bool) (xs : List X) → None ≡ position test xs
@@ -128,22 +121,7 @@ none_at test xs none = none_passes test 0 xs (sym (none ∙ position_from-zero t
 -- a row sets its cell to its places, less those that are held
 set_left : (s : List Event) (stock : Stock) (x : Cell) (n : ℕ) → IsLegal s
     → stock_at stock x ≡ places_of s x → set_to stock x n ≡ places_left (held s x) n
-set_left s stock x n legal here =
-    ap (λ o. unwrap_or (option_map (with_allotment n) o) (record { allot = n; free = n })) here
-    ∙ go (allotment s x) refl
-  where
-    go : (o : Option ℕ) → allotment s x ≡ o
-        → unwrap_or (option_map (with_allotment n) (option_map (places_left (held s x)) o))
-        (record { allot = n; free = n })
-        ≡ places_left (held s x) n
-    go None e =
-        let none = held_none s x legal e in
-        let same : n ≡ n - held s x = omega arith in
-        ap (λ f. record { allot = n; free = f }) same
-    go (Some a) e =
-        let within = held_within s x a legal e in
-        let same : n - (a - (a - held s x)) ≡ n - held s x = omega arith in
-        ap (λ f. record { allot = n; free = f }) same
+set_left s stock x n legal here = grind (arith, held_none, held_within)
 
 -- a stock with the places of a ledger has them after a load too, when the rows are loaded
 pub stock-loaded : (s : List Event) (name : List ℕ) (rows : List Row) → IsLegal s
@@ -175,18 +153,7 @@ pub carried_out-known : (m : MemBook) (s : State) (ask : Option Asked) (name : L
     → slice_get (batches_named s.ledger name) 0 ≡ Some known
     → r ≡ (answer_known name rows known).reply
     → IsCarriedOut m s ask (answer s.ledger (asker ask) (request.Load name rows)) r
-carried_out-known m s ask name rows known r here is replied =
-    subst (λ (a : Answer). IsCarriedOut m s ask a r)
-    (sym (ap (limited s.ledger) (load-known s.ledger name rows known (batches_named s.ledger name) is)))
-    (go (are_same_rows rows known) replied)
-  where
-    go : (v : Bool)
-        → r ≡ (if v then record { event = None; reply = loaded name rows }
-        else refused BatchDiffers).reply
-        → IsCarriedOut m s ask (limited s.ledger
-        (if v then record { event = None; reply = loaded name rows } else refused BatchDiffers)) r
-    go true replied = record { replied = replied; stands = here }
-    go false replied = record { replied = replied; stands = here }
+carried_out-known m s ask name rows known r here is replied = grind (arith, load-known)
 
 -- the answer to a batch with a new name, by the first row that the stock has below what is held
 pub answer-new : (m : MemBook) (s : State) (who : Option (List ℕ)) (name : List ℕ)

@@ -1,5 +1,5 @@
 -- How one more item changes a book in memory. For `MemBook::make` and `carry_out`.
-use Rattle.std.proofs.Common.{◌≡◌, ℕ, suc, ◌+◌, ◌-◌, ◌≤◌, true, List, [], ◌∷◌, ◌++◌, map, refl, ap, sym, ◌∙◌, subst, arith, slice_get, slice_set, nat_le, if◌then◌else◌, Option, Some, None, option_map, IsTrue}
+use Rattle.std.proofs.Common.{◌≡◌, ℕ, suc, ◌+◌, ◌-◌, ◌≤◌, List, [], ◌∷◌, ◌++◌, map, refl, ap, sym, ◌∙◌, subst, arith, slice_get, slice_set, Option, Some, option_map, IsTrue}
 use Rattle.std.proofs.lemmas.Bool.{le-leb}
 use Rattle.allotment.specs.declared.cells.Cell.{Cell}
 use Rattle.plan.specs.PlanModel.{want_at}
@@ -36,23 +36,14 @@ use Rattle.memory_book.proofs.TellLemmas.{MakesOne, tells-same, tells-more}
 less_left : (n h : ℕ) (allotted : Option ℕ)
     → option_map (with_less n) (option_map (places_left h) allotted)
     ≡ option_map (places_left (h + n)) allotted
-less_left n h None = refl
-less_left n h (Some a) =
-    let e : a - h - n ≡ a - (h + n) = omega arith in
-    ap (λ f. Some (record { allot = a; free = f })) e
+less_left n h allotted = grind arith
 
 -- with fewer places held, more are free, as many as were held
 back_left : (n g h : ℕ) (allotted : Option ℕ) → h ≡ g + n
     → ((a : ℕ) → allotted ≡ Some a → h ≤ a)
     → option_map (with_back n) (option_map (places_left h) allotted)
     ≡ option_map (places_left g) allotted
-back_left n g h None is within = refl
-back_left n g h (Some a) is within =
-    let room : h ≤ a = within a refl in
-    let e : a - h + n ≡ a - g = omega arith in
-    let low : nat_le n (a - (a - h)) ≡ true = le-leb n (a - (a - h)) (omega arith) in
-    ap (λ b. Some (if b then record { allot = a; free = a - h + n } else places_left h a)) low
-    ∙ ap (λ f. Some (record { allot = a; free = f })) e
+back_left n g h allotted is within = grind (arith, le-leb)
 
 -- a stock with the places of a ledger has them after an item too, when the item's places changed
 pub stock-did : (s : List Event) (j : ℕ) (a : l.Journey) (x : Item) → IsLegal s
@@ -60,10 +51,7 @@ pub stock-did : (s : List Event) (j : ℕ) (a : l.Journey) (x : Item) → IsLega
     → ((y : Cell) → stock_at old y ≡ places_of s y) → ChangesFor a.plan x old new
     → (y : Cell) → stock_at new y ≡ places_of (s ++ Did j x ∷ []) y
 stock-did s j a (Transaction i c) legal at may old new here changed y =
-    let n = places_in y (want_at a.plan i c) in
-    changed y ∙ ap (option_map (with_less n)) (here y) ∙ less_left n (held s y) (allotment s y)
-    ∙ places_of-parts (s ++ Did j (Transaction i c) ∷ []) y _ _ (held-transaction s j i c a y at)
-    (allotment-did s j (Transaction i c) y)
+    grind (arith, less_left, places_of-parts, held-transaction, allotment-did)
 stock-did s j a (Compensation i c) legal at may old new here changed y =
     let n = places_in y (want_at a.plan i c) in
     changed y ∙ ap (option_map (with_back n)) (here y)
@@ -71,14 +59,8 @@ stock-did s j a (Compensation i c) legal at may old new here changed y =
     (held-compensation s j i c a y legal at may) (λ m e. held_within s y m legal e)
     ∙ places_of-parts (s ++ Did j (Compensation i c) ∷ []) y _ _ refl
     (allotment-did s j (Compensation i c) y)
-stock-did s j a (Turn p cause) legal at may old new here changed y =
-    changed y ∙ here y
-    ∙ places_of-parts (s ++ Did j (Turn p cause) ∷ []) y _ _ (held-turn s j p cause a y at)
-    (allotment-did s j (Turn p cause) y)
-stock-did s j a (Save p) legal at may old new here changed y =
-    changed y ∙ here y
-    ∙ places_of-parts (s ++ Did j (Save p) ∷ []) y _ _ (held-save s j p a y at)
-    (allotment-did s j (Save p) y)
+stock-did s j a (Turn p cause) legal at may old new here changed y = grind (arith, places_of-parts, held-turn, allotment-did)
+stock-did s j a (Save p) legal at may old new here changed y = grind (arith, places_of-parts, held-save, allotment-did)
 
 -- The book.
 

@@ -10,10 +10,7 @@ pub place_of-push : {X : Type 0} (xs : List X) (x : X) (i : ℕ) (y : X)
 place_of-push [] x zero y e = inr (refl, cc)
 place_of-push [] x (suc i) y e = cc
 place_of-push (z ∷ xs) x zero y e = inl e
-place_of-push (z ∷ xs) x (suc i) y e = elim (place_of-push xs x i y e) [
-  | inl there ↦ inl there
-  | inr last ↦ inr (ap (λ n. suc n) last.0, last.1)
-]
+place_of-push (z ∷ xs) x (suc i) y e = grind (arith, place_of-push xs x i y e)
 
 -- an element of a list of which one was replaced is that one, or another, which is as it was
 pub place_of-set : {X : Type 0} (xs : List X) (p : ℕ) (x : X) (i : ℕ) (y : X)
@@ -23,10 +20,7 @@ place_of-set [] p x i y e = cc
 place_of-set (z ∷ xs) zero x zero y e = inl (refl, cc)
 place_of-set (z ∷ xs) zero x (suc i) y e = inr (λ (h : suc i ≡ zero). omega arith, e)
 place_of-set (z ∷ xs) (suc p) x zero y e = inr (λ (h : zero ≡ suc p). omega arith, e)
-place_of-set (z ∷ xs) (suc p) x (suc i) y e = elim (place_of-set xs p x i y e) [
-  | inl here ↦ inl (ap (λ n. suc n) here.0, here.1)
-  | inr other ↦ inr (λ (h : suc i ≡ suc p). other.0 (omega arith), other.1)
-]
+place_of-set (z ∷ xs) (suc p) x (suc i) y e = grind (arith, place_of-set xs p x i y e)
 
 -- a function has the same values on the list, where it has the same value on the element that was replaced
 pub map-set : {X Y : Type 0} (f : X → Y) (xs : List X) (p : ℕ) (x y : X)

@@ -1,27 +1,20 @@
 -- Which items a journey in a book in memory may make, and the journey after one. For the moves of the book.
-use Rattle.std.proofs.Common.{◌≡◌, ℕ, zero, suc, ◌+◌, ◌-◌, ◌<◌, ◌≤◌, Bool, true, false, List, [], ◌∷◌, length, get_or, map, refl, ap, sym, ◌∙◌, subst, arith, ltb-true, ◌&&◌, not, nat_lt, slice_get, slice_set, if◌then◌else◌, Some, Result, Ok, Err, IfOk, IsTrue}
+use Rattle.std.proofs.Common.{◌≡◌, ℕ, zero, suc, ◌-◌, ◌<◌, ◌≤◌, List, [], ◌∷◌, length, get_or, map, refl, ap, sym, ◌∙◌, subst, arith, ltb-true, slice_get, slice_set, Some, Result, Ok, IfOk}
 use Rattle.std.specs.FinSet as set
 use Rattle.std.specs.declared.alloc.AllocError.{AllocError}
 use Rattle.std.proofs.lemmas.Option.{slice_get_read}
 use Rattle.std.specs.Ordering.{nat_cmp}
 use Rattle.plan.specs.Limits.{most_steps}
-use Rattle.plan.specs.PlanModel.{Planned, step_count, option_count}
-use Rattle.savepoints.specs.Marks.{is_taken_in}
-use Rattle.savepoints.specs.Rules as rules
+use Rattle.plan.specs.PlanModel.{Planned, step_count}
 use Rattle.commands.specs.declared.items.Cursor.{Cursor}
 use Rattle.commands.specs.declared.items.Item.{Item}
-use Rattle.commands.specs.declared.items.Item.TheVariants.{Transaction, Compensation, Turn, Save}
-use Rattle.commands.specs.declared.items.Phase.{Phase}
-use Rattle.commands.specs.declared.items.Phase.TheVariants.{Run, Back, Ended, Undone}
-use Rattle.commands.specs.declared.replies.Refusal.TheVariants.{Finished, NoSave}
-use Rattle.ledger.specs.History.{is_finished, is_going_back, is_running}
 use Rattle.ledger.specs.Ledger as l
 use Rattle.ledger.specs.Ledger.{history}
 use Rattle.saga_core.specs.Cursors.{IsWithin}
 use Rattle.memory_book.specs.MemoryAnswers.{kept_in, AreKeptAlike}
 use Rattle.memory_book.specs.MemoryJourneys.{IsPlaced, IsNext}
 use Rattle.memory_book.specs.MemoryNext.{save_said}
-use Rattle.memory_book.specs.MemoryStock.{IsInPlan, fits_where_taken}
+use Rattle.memory_book.specs.MemoryStock.{IsInPlan}
 use Rattle.memory_book.specs.Memory.{begun_as, TellEach, KeepsBook, IsReady, IsSameJourney, MayBeMade}
 use Rattle.memory_book.specs.declared.journeys.Journey.{Journey}
 use Rattle.memory_book.specs.declared.mem_book.MemBook.{MemBook}
@@ -35,60 +28,17 @@ use Rattle.memory_book.proofs.TellLemmas.{tells-same}
 pub save_said-next : (plan : Planned) (c : Cursor) (marks : set.FinSet nat_cmp) (taken : List ℕ)
     → IsPlaced plan c taken → step_count plan ≤ most_steps
     → IfOk (save_said plan c marks) (IsNext plan c)
-save_said-next plan c marks taken placed few =
-    go c.phase refl (nat_lt 0 c.pos) refl
-    (rules.is_save_point plan (is_taken_in marks) c.pos c.pos)
-  where
-    go : (p : Phase) → c.phase ≡ p → (begun : Bool) → nat_lt 0 c.pos ≡ begun → (stands : Bool)
-        → IfOk (if is_finished p then Err Finished
-        else if is_running p && begun && not stands then Ok (Save c.pos) else Err NoSave)
-        (IsNext plan c)
-    go Run e true is false =
-        let below : c.pos < step_count plan = placed.running e in
-        let above : 0 < c.pos = ltb-true 0 c.pos is in
-        (omega arith, omega arith)
-    go Run e true is true = tt
-    go Run e false is stands = tt
-    go (Back q) e begun is stands = tt
-    go Ended e begun is stands = tt
-    go Undone e begun is stands = tt
+save_said-next plan c marks taken placed few = grind (arith, ltb-true)
 
 -- an item that is next is in the plan
 pub in_plan : (plan : Planned) (cursor : Cursor) (taken : List ℕ) (x : Item)
     → IsPlaced plan cursor taken → IsNext plan cursor x → IsInPlan plan x
-in_plan plan cursor taken (Transaction i c) placed next =
-    let below = placed.running next.0 in
-    let step : cursor.pos + 1 ≡ i = sym next.1 in (
-      omega (arith, next.1),
-      omega (arith, next.1),
-      next.2.0,
-      subst (λ n. c ≤ option_count plan n) step next.2.1,
-    )
-in_plan plan cursor taken (Compensation i c) placed next =
-    let above : 0 < cursor.pos = above_start cursor.phase refl next.0 in
-    let step : cursor.pos - 1 + 1 ≡ i = omega (arith, next.1) in (
-      omega (arith, next.1),
-      omega (arith, next.1, placed.within),
-      next.2.0,
-      subst (λ n. c ≤ option_count plan n) step next.2.1,
-    )
-  where
-    above_start : (p : Phase) → cursor.phase ≡ p → IsTrue (is_going_back p) → 0 < cursor.pos
-    above_start Run e back = cc
-    above_start (Back q) e back = let k = placed.back q e in omega arith
-    above_start Ended e back = cc
-    above_start Undone e back = cc
-in_plan plan cursor taken (Turn p cause) placed next = tt
-in_plan plan cursor taken (Save p) placed next = tt
+in_plan plan cursor taken x placed next = grind arith
 
 -- an item that is next is within the numbers of the plan
 pub next_within : (plan : Planned) (cursor : Cursor) (taken : List ℕ) (x : Item)
     → IsPlaced plan cursor taken → IsNext plan cursor x → IsWithin (step_count plan) cursor x
-next_within plan cursor taken (Transaction i c) placed next = placed.running next.0
-next_within plan cursor taken (Compensation i c) placed next =
-    let step = in_plan plan cursor taken (Compensation i c) placed next in omega (arith, next.1, step.0)
-next_within plan cursor taken (Turn p cause) placed next = tt
-next_within plan cursor taken (Save p) placed next = tt
+next_within plan cursor taken x placed next = grind (arith, in_plan)
 
 -- After an item.
 
@@ -116,14 +66,7 @@ pub ready-same : (m : MemBook) (place : ℕ) (old kept : Journey) (x : Item)
     → place < length m.journeys.items → old ≡ get_or m.journeys.items place old
     → begun_as kept ≡ begun_as old → kept.cursor ≡ old.cursor
     → MayBeMade m place (Ok x) → IsReady m kept x
-ready-same m place old kept x within read begun cursor may =
-    let ready = may old (slice_get_read m.journeys.items _ place old refl within read) in
-    record {
-      next = subst (λ (b : l.Journey). IsNext b.plan kept.cursor x) (sym begun)
-          (subst (λ c. IsNext old.plan c x) (sym cursor) ready.next);
-      fits = subst (λ (b : l.Journey). IsTrue (fits_where_taken m.stock b.plan x)) (sym begun)
-          ready.fits;
-    }
+ready-same m place old kept x within read begun cursor may = grind (arith, slice_get_read)
 
 -- at a fault the book is kept, if a journey has more capacity and the same replies are kept
 pub keeps-reserved : {T : Type 0} (m n : MemBook) (r : Result T AllocError) (place : ℕ)

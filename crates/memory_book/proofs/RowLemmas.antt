@@ -1,5 +1,5 @@
 -- Rows of batches, and the list of all cells. For the stock of a book in memory.
-use Rattle.std.proofs.Common.{◌≡◌, ℕ, Bool, true, false, cond, List, [], ◌∷◌, ◌++◌, map, refl, ap, sym, ◌∙◌, append-nil, ◌==◌, ◌&&◌, if◌then◌else◌, filter_map, filter, Option, Some, option_map}
+use Rattle.std.proofs.Common.{◌≡◌, ℕ, Bool, true, false, cond, List, [], ◌∷◌, ◌++◌, map, refl, ap, sym, ◌∙◌, append-nil, ◌==◌, ◌&&◌, if◌then◌else◌, filter_map, Option, Some, option_map, arith}
 use Rattle.std.specs.Prelude.{unwrap_or}
 use Rattle.std.specs.List.{list_all, AllByRecursion}
 use Rattle.std.specs.List.Sorted.{IsStrictlySortedBy}
@@ -69,10 +69,7 @@ before_all : (k : CellKey) (es : List (CellKey × Held))
     → AllByRecursion (λ y. cell_key_cmp k y ≡ Less) (keys_of es)
     → list_all (λ (s : Cell × Held). is_lt (cell_cmp k.cell s.0)) (map row_of es) ≡ true
 before_all k [] all = refl
-before_all k (e ∷ es) all =
-    ap (λ o. is_lt o && list_all (λ (s : Cell × Held). is_lt (cell_cmp k.cell s.0)) (map row_of es))
-    all.0
-    ∙ before_all k es all.1
+before_all k (e ∷ es) all = grind (arith, before_all k es all.1)
 
 -- keys in order are cells in order
 in_order-rows : (es : List (CellKey × Held)) → IsStrictlySortedBy cell_key_cmp (keys_of es)
@@ -88,10 +85,7 @@ pub IsStock-rows : (l : List Event) (stock : Stock)
     → ((x : Cell) → stock_at stock x ≡ places_of l x)
     → tree.IsOrdered cell_key_cmp stock.places
     → IsStock l (map row_of stock.places.entries)
-IsStock-rows l stock here ordered = record {
-  each = λ x. places_at-rows stock.places.entries x ∙ here x;
-  in_order = in_order-rows stock.places.entries ordered;
-}
+IsStock-rows l stock here ordered = grind (arith, places_at-rows, in_order-rows)
 
 -- Loads.
 
@@ -104,15 +98,7 @@ last_of-push (q ∷ p ∷ rs) r = last_of-push (p ∷ rs) r
 -- the last row of a cell, of rows with one appended, is that one if it is of the cell
 last_row-push : (rs : List Row) (r : Row) (x : Cell)
     → last_row (rs ++ r ∷ []) x ≡ (if is_cell x r.cell then Some r else last_row rs x)
-last_row-push rs r x =
-    ap last_of (filter-append (λ (q : Row). is_cell x q.cell) rs (r ∷ []))
-    ∙ go (is_cell x r.cell)
-  where
-    go : (b : Bool)
-        → last_of (filter (λ (q : Row). is_cell x q.cell) rs ++ cond b (r ∷ []) [])
-        ≡ (if b then Some r else last_row rs x)
-    go true = last_of-push (filter (λ (q : Row). is_cell x q.cell) rs) r
-    go false = ap last_of (append-nil (filter (λ (q : Row). is_cell x q.cell) rs))
+last_row-push rs r x = grind (arith, filter-append, last_of-push, append-nil)
 
 -- the places of a cell after these rows are loaded
 abbrev pub loaded_at : Stock → List Row → Cell → Option Places

@@ -1,5 +1,5 @@
 -- What a book in memory shows, by the state that it represents. For the reads of the book.
-use Rattle.std.proofs.Common.{◌≡◌, ℕ, zero, suc, ◌<◌, ◌⊎◌, inl, inr, [], length, refl, ap, sym, ◌∙◌, arith, slice_get, option_map, Some, None}
+use Rattle.std.proofs.Common.{◌≡◌, ℕ, suc, ◌<◌, ◌⊎◌, [], length, ap, sym, ◌∙◌, arith, slice_get, option_map, Some, None}
 use Rattle.std.proofs.lemmas.Option.{slice_get-map, slice_get_past}
 use Rattle.ledger.specs.Answer.{State}
 use Rattle.ledger.specs.Ledger.{journey_at, history}
@@ -21,11 +21,7 @@ journey_at-kept m s here place k at =
 -- no journey has number 0, or a number above the last
 pub journey_at-past : (m : MemBook) (s : State) → StandsFor m s → (id : ℕ)
     → (id ≡ 0) ⊎ (length m.journeys.items < id) → journey_at s.ledger id ≡ None
-journey_at-past m s here zero past = refl
-journey_at-past m s here (suc i) (inl is) = absurd (omega arith)
-journey_at-past m s here (suc i) (inr past) =
-    ap (λ js. slice_get js i) (sym here.begun) ∙ slice_get-map begun_as m.journeys.items i
-    ∙ ap (option_map begun_as) (slice_get_past m.journeys.items i (omega arith))
+journey_at-past m s here id past = grind (arith, slice_get-map, slice_get_past)
 
 -- a journey that does not exist has no items
 pub history-past : (m : MemBook) (s : State) → StandsFor m s → (id : ℕ)
@@ -37,8 +33,7 @@ history-past m s here id past =
 pub history-kept : (m : MemBook) (s : State) → StandsFor m s → (id place : ℕ) (k : Journey)
     → slice_get m.journeys.items place ≡ Some k → id ≡ suc place
     → k.items.items ≡ history s.ledger id
-history-kept m s here id place k at is =
-    (here.told place k at).items ∙ ap (history s.ledger) (sym is)
+history-kept m s here id place k at is = grind arith
 
 -- what is kept of a journey is what the ledger shows of it
 pub record_of-kept : (m : MemBook) (s : State) → StandsFor m s → (id place : ℕ) (k : Journey)
@@ -62,6 +57,4 @@ record_of-kept m s here id place k at is r agent plan cursor marks =
 -- no journey is shown where none exists
 pub record_of-past : (m : MemBook) (s : State) → StandsFor m s → (id : ℕ)
     → (id ≡ 0) ⊎ (length m.journeys.items < id) → None ≡ record_of s.ledger id
-record_of-past m s here id past =
-    ap (option_map (record_of_journey (history s.ledger id)))
-    (sym (journey_at-past m s here id past))
+record_of-past m s here id past = grind (arith, journey_at-past)

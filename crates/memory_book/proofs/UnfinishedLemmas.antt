@@ -1,6 +1,6 @@
 -- The first journey that is not finished, the first of an agent, and how many are unfinished, by what is kept of each.
 -- For `first_unfinished`, `first_owned` and `counts` of `MemBook`.
-use Rattle.std.proofs.Common.{◌≡◌, ℕ, suc, ◌+◌, ◌<◌, Bool, true, false, cond, ◌⊎◌, List, [], ◌∷◌, length, get_or, drop, refl, ap, sym, ◌∙◌, arith, not, slice_get, filter, filter_map, find, Some, None, option_map}
+use Rattle.std.proofs.Common.{◌≡◌, ℕ, suc, ◌+◌, ◌<◌, Bool, cond, ◌⊎◌, List, [], ◌∷◌, length, get_or, drop, refl, ap, sym, ◌∙◌, arith, not, slice_get, filter, filter_map, find, Some, None, option_map}
 use Rattle.std.proofs.lemmas.List.{at_drop_more}
 use Rattle.std.specs.List.{cons_option}
 use Rattle.allotment.specs.Cells.{numbers_from}
@@ -89,15 +89,7 @@ runs b = not (is_finished b.cursor.phase)
 length-unfinished : (j : ℕ) (ks : List Journey)
     → length (filter is_unfinished ks) ≡ length (filter runs (briefs_from j ks))
 length-unfinished j [] = refl
-length-unfinished j (k ∷ ks) = go (is_unfinished k) (length-unfinished (suc j) ks)
-  where
-    go : (v : Bool)
-        → length (filter is_unfinished ks) ≡ length (filter runs (briefs_from (suc j) ks))
-        → length (cond v (k ∷ filter is_unfinished ks) (filter is_unfinished ks))
-        ≡ length (cond v (brief_at j k ∷ filter runs (briefs_from (suc j) ks))
-        (filter runs (briefs_from (suc j) ks)))
-    go true later = ap suc later
-    go false later = later
+length-unfinished j (k ∷ ks) = grind (arith, length-unfinished (suc j) ks)
 
 -- the numbers that are kept are those of the ledger
 pub counts-kept : (m : MemBook) (s : State) (counts : Counts) → StandsFor m s → counts.events ≡ m.events
@@ -118,8 +110,7 @@ counts-kept m s counts here events journeys_are unfinished =
 -- a summary with these parts is that of the journey
 pub brief_is : (b : Brief) (j : ℕ) (k : Journey) → b.id ≡ j → b.agent ≡ k.agent
     → b.cursor ≡ k.cursor → b ≡ brief_at j k
-brief_is b j k number agent cursor =
-    λ i. record { id = number i; agent = agent i; cursor = cursor i }
+brief_is b j k number agent cursor = grind arith
 
 -- the summaries of the journeys after this place
 abbrev pub briefs_after : List Journey → ℕ → List Brief
@@ -137,3 +128,12 @@ briefs_on f ks place k b within is number agent cursor =
     ∙ ap (λ n. f (brief_at n k ∷ briefs_from (suc n) (drop (place + 1) ks))) next
     ∙ ap (λ c. f (c ∷ briefs_after ks place))
     (sym (brief_is b (place + 1) k number agent cursor))
+
+-- of the summaries from a place on, the first that passes is that of the journey there, or among those after it
+pub find_on : (test : Brief → Bool) (ks : List Journey) (place : ℕ) (k : Journey) (b : Brief) (v : Bool)
+    → find test (briefs_from 1 ks) ≡ find test (briefs_from (suc place) (drop place ks)) → place < length ks
+    → k ≡ get_or ks place k → b.id ≡ place + 1 → b.agent ≡ k.agent → b.cursor ≡ k.cursor → test b ≡ v
+    → find test (briefs_from 1 ks) ≡ cond v (Some b) (find test (briefs_after ks place))
+find_on test ks place k b v so_far within is number agent cursor tested =
+    so_far ∙ briefs_on (find test) ks place k b within is number agent cursor
+    ∙ ap (λ w. cond w (Some b) (find test (briefs_after ks place))) tested

@@ -1,34 +1,24 @@
-use Rattle.std.proofs.Common.{◌≤◌, suc, cond, length, ap, sym, ◌∙◌, arith, find, Some}
+use Rattle.std.proofs.Common.{◌≤◌, suc, length, sym, ◌∙◌, arith, find}
 use Rattle.std.proofs.lemmas.List.{at_drop_all}
 use Rattle.saga_core.specs.Views.{is_owned_above}
-use Rattle.memory_book.proofs.UnfinishedLemmas.{briefs_from, briefs_after, briefs_on, first_owned-kept}
+use Rattle.memory_book.proofs.UnfinishedLemmas.{briefs_from, first_owned-kept, find_on}
 use Rattle.memory_book.proofs.mem_book.MemBookBook.first_owned.Goals as goal
 
 -- the current journey is not one
 pub loop-place-preserved : goal.loop-place-preserved
 loop-place-preserved c =
-    let ks = c.args.self.now.journeys.items in
-    let test = is_owned_above c.args.agent.now c.args.after in
     let b = c.brief-brief in
-    let later = find test (briefs_after ks c.loop-place.place) in
-    c.loop-place.invariant
-    ∙ briefs_on (find test) ks c.loop-place.place c.index.result.now b.result (omega arith)
-    c.index.ensures b.ensures.number b.ensures.agent b.ensures.cursor
-    ∙ ap (λ v. cond v (Some b.result) later)
-    (sym c.is_owned_above.ensures.owned ∙ c.if-is_owned_above.false)
+    find_on (is_owned_above c.args.agent.now c.args.after) c.args.self.now.journeys.items c.loop-place.place
+    c.index.result.now b.result _ c.loop-place.invariant (omega arith) c.index.ensures b.ensures.number b.ensures.agent
+    b.ensures.cursor (sym c.is_owned_above.ensures.owned ∙ c.if-is_owned_above.false)
 
 -- the current journey is the first
 pub returns-then-is_owned_above-clause-first : goal.returns-then-is_owned_above-clause-first
 returns-then-is_owned_above-clause-first c _ s here =
-    let ks = c.args.self.now.journeys.items in
-    let test = is_owned_above c.args.agent.now c.args.after in
     let b = c.brief-brief in
-    let later = find test (briefs_after ks c.loop-place.place) in
-    sym (c.loop-place.invariant
-    ∙ briefs_on (find test) ks c.loop-place.place c.index.result.now b.result (omega arith)
-    c.index.ensures b.ensures.number b.ensures.agent b.ensures.cursor
-    ∙ ap (λ v. cond v (Some b.result) later)
-    (sym c.is_owned_above.ensures.owned ∙ c.if-is_owned_above.true))
+    sym (find_on (is_owned_above c.args.agent.now c.args.after) c.args.self.now.journeys.items c.loop-place.place
+    c.index.result.now b.result _ c.loop-place.invariant (omega arith) c.index.ensures b.ensures.number b.ensures.agent
+    b.ensures.cursor (sym c.is_owned_above.ensures.owned ∙ c.if-is_owned_above.true))
     ∙ first_owned-kept c.args.self.now s c.args.agent.now c.args.after here
 
 -- there is no such journey
