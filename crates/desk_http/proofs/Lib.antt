@@ -5,7 +5,6 @@ pub mod WhyLemmas
 pub mod AnswerLemmas
 pub mod ServeLemmas
 pub mod AgainLemmas
-pub mod EachDemand
 pub mod AskLemmas
 pub mod MeantLemmas
 pub mod WorldLemmas

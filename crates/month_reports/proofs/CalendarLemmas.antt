@@ -43,8 +43,11 @@ pub shows_all : (marks : List ℕ) (month : List Places) → length marks ≡ 31
 shows_all marks month long shown =
     ext_get_or blank marks (marks_of month) long (λ day within.
     shown day (omega (arith, long, within)) ∙ sym (numbered (mark_on month) 1 31 day (omega (arith, long, within))
-    ∙ ap (mark_on month) (let one_more : 1 + day ≡ day + 1 = omega arith in one_more)))
+    ∙ ap (mark_on month) (one_more day)))
   where
+    one_more : (day : ℕ) → 1 + day ≡ day + 1
+    one_more day = omega arith
+
     at_first : (first : ℕ) → first ≡ first + 0
     at_first first = omega arith
 
@@ -70,6 +73,12 @@ line_parts product month marks = simp append_assoc
 -- the line of a month is that of its first cell
 pub row_by_first : (month : List Places) (row : Places) → Some row ≡ slice_get month 0
     → calendar_row month ≡ calendar_line row.0 (marks_of month)
-row_by_first [] row is = let none : Some row ≡ None = is in cc
+row_by_first [] row is = absurd (some_is_none row is)
+  where
+    some_is_none : (x : Places) → Some x ≡ None → ⊥
+    some_is_none x is = cc
 row_by_first (first ∷ later) row is =
-    let same : first ≡ row = cc is in ap (λ (r : Places). calendar_line r.0 (marks_of (first ∷ later))) same
+    ap (λ (r : Places). calendar_line r.0 (marks_of (first ∷ later))) (same first row is)
+  where
+    same : (x y : Places) → Some y ≡ Some x → x ≡ y
+    same x y is = cc

@@ -4,7 +4,6 @@ use Rattle.std.proofs.lemmas.Bool.{and_parts, ltb-true}
 use Rattle.allotment.specs.Nights.{date_of}
 use Rattle.allotment.specs.declared.cells.Cell.{Cell}
 use Rattle.saga_core.specs.RowSources.{Hands, HandsFirst}
-use Rattle.reports.proofs.TakeLemmas.{none_left}
 use Rattle.filters.specs.CellFilters.{is_cell_asked}
 use Rattle.filters.specs.declared.cells.CellFilter.{CellFilter}
 use Rattle.month_reports.specs.Months.{asked_of, AskedRest, before_first, goes_on, is_followed, is_later_day, is_product, months_of, MonthsRest, Places}
@@ -58,12 +57,6 @@ begins_more cells last row begun follows =
 pub record Reading (rested rests : List Places → Type 0) (first : Places) (cells : List Places) : Type 0 where
   pub rest : (later : List Places) → rested later → (others : List Places) × rests others × (first ∷ later ≡ cells ++ others)
 
--- a row was returned: it was the first that remained
-one_left : (rests : List Places → Type 0) (row : Places) (rows : List Places) → HandsFirst rests (Some row) rows
-    → (left : List Places) × rests left × (rows ≡ row ∷ left)
-one_left rests row [] told = absurd (let no : Some row ≡ None = told.0 in cc)
-one_left rests row (next ∷ left) told = let here : next ≡ row = cc told.0 in (left, told.1, ap (λ x. x ∷ left) here)
-
 -- at first one cell was read
 pub reads_one : (rests : List Places → Type 0) (first : Places) → Reading rests rests first (first ∷ [])
 reads_one rests first = record { rest = λ later is. (later, is, refl) }
@@ -72,12 +65,21 @@ reads_one rests first = record { rest = λ later is. (later, is, refl) }
 pub reads_more : (rested between rests : List Places → Type 0) (first : Places) (cells : List Places) (row : Places)
     → Reading rested between first cells → Hands between rests (Some row)
     → Reading rested rests first (cells ++ row ∷ [])
-reads_more rested between rests first cells row reading hands = record {
-  rest = λ later is.
-      let now = reading.rest later is in
-      let one = one_left rests row now.0 (hands now.0 now.1) in
-      (one.0, one.1, now.2 ∙ ap (λ x. cells ++ x) one.2 ∙ sym (append_assoc cells (row ∷ []) one.0));
-}
+reads_more rested between rests first cells row reading hands =
+    record { rest = λ later is. let now = reading.rest later is in by later now.0 now.1 now.2 }
+  where
+    none_is_some : {A : Type 0} (x : A) → Some x ≡ None → ⊥
+    none_is_some x is = cc
+
+    same : {A : Type 0} (x y : A) → Some x ≡ Some y → y ≡ x
+    same x y is = cc
+
+    by : (later others : List Places) → between others → first ∷ later ≡ cells ++ others
+        → (left : List Places) × rests left × (first ∷ later ≡ (cells ++ row ∷ []) ++ left)
+    by later [] rest cut = absurd (none_is_some row (hands [] rest).0)
+    by later (next ∷ left) rest cut =
+        let told = hands (next ∷ left) rest in
+        (left, told.1, cut ∙ ap (λ x. cells ++ x ∷ left) (same row next told.0) ∙ sym (append_assoc cells (row ∷ []) left))
 
 -- the source has no more cells: the month is the last
 pub hands_last : (rested between rests : List Places → Type 0) (first : Places) (cells : List Places) (last : Cell)
@@ -85,9 +87,18 @@ pub hands_last : (rested between rests : List Places → Type 0) (first : Places
     → Hands (MonthsRest rested (Some first)) (MonthsRest rests None) (Some cells)
 hands_last rested between rests first cells last reading begun hands = λ months rest.
     let now = reading.rest rest.0 rest.1 in
-    let none = none_left rests now.0 (hands now.0 now.1) in
-    let whole : months ≡ cells ∷ [] = rest.2 ∙ ap months_of (now.2 ∙ ap (λ x. cells ++ x) none.0) ∙ begun.ends [] refl in
-    subst (HandsFirst (MonthsRest rests None) (Some cells)) (sym whole) (refl, (refl, none.1))
+    by rest.0 months rest.2 now.0 now.1 now.2
+  where
+    none_is_some : {A : Type 0} (x : A) → None ≡ Some x → ⊥
+    none_is_some x is = cc
+
+    by : (later : List Places) (months : List (List Places)) → months ≡ months_of (first ∷ later)
+        → (others : List Places) → between others → first ∷ later ≡ cells ++ others
+        → HandsFirst (MonthsRest rests None) (Some cells) months
+    by later months is (next ∷ left) rest cut = absurd (none_is_some next (hands (next ∷ left) rest).0)
+    by later months is [] rest cut =
+        let whole : months ≡ cells ∷ [] = is ∙ ap months_of cut ∙ begun.ends [] refl in
+        subst (HandsFirst (MonthsRest rests None) (Some cells)) (sym whole) (refl, (refl, (hands [] rest).1))
 
 -- the next cell does not go on with the month: it begins the next one
 pub hands_month : (rested between rests : List Places → Type 0) (first : Places) (cells : List Places) (last : Cell) (row : Places)
@@ -95,10 +106,24 @@ pub hands_month : (rested between rests : List Places → Type 0) (first : Place
     → Hands (MonthsRest rested (Some first)) (MonthsRest rests (Some row)) (Some cells)
 hands_month rested between rests first cells last row reading begun hands apart = λ months rest.
     let now = reading.rest rest.0 rest.1 in
-    let one = one_left rests row now.0 (hands now.0 now.1) in
-    let whole : months ≡ cells ∷ months_of (row ∷ one.0) =
-    rest.2 ∙ ap months_of (now.2 ∙ ap (λ x. cells ++ x) one.2) ∙ begun.ends (row ∷ one.0) apart in
-    subst (HandsFirst (MonthsRest rests (Some row)) (Some cells)) (sym whole) (refl, (one.0, one.1, refl))
+    by rest.0 months rest.2 now.0 now.1 now.2
+  where
+    none_is_some : {A : Type 0} (x : A) → Some x ≡ None → ⊥
+    none_is_some x is = cc
+
+    same : {A : Type 0} (x y : A) → Some x ≡ Some y → y ≡ x
+    same x y is = cc
+
+    by : (later : List Places) (months : List (List Places)) → months ≡ months_of (first ∷ later)
+        → (others : List Places) → between others → first ∷ later ≡ cells ++ others
+        → HandsFirst (MonthsRest rests (Some row)) (Some cells) months
+    by later months is [] rest cut = absurd (none_is_some row (hands [] rest).0)
+    by later months is (next ∷ left) rest cut =
+        let told = hands (next ∷ left) rest in
+        let here = same row next told.0 in
+        let whole : months ≡ cells ∷ months_of (row ∷ left) =
+        is ∙ ap months_of (cut ∙ ap (λ x. cells ++ x ∷ left) here) ∙ begun.ends (row ∷ left) apart in
+        subst (HandsFirst (MonthsRest rests (Some row)) (Some cells)) (sym whole) (refl, (left, told.1, refl))
 
 -- the first cell of all was read: the months of all remain
 pub first_read : (rested rests : List Places → Type 0) (found : Option Places) (all : List Places)
@@ -141,18 +166,36 @@ pub asked_none : (f : CellFilter) (rested between rests : List Places → Type 0
     → Hands (AskedRest f rested) (AskedRest f rests) None
 asked_none f rested between rests passing hands = λ asked rest.
     let now = passing.rest rest.0 rest.1 in
-    let none = none_left rests now.0 (hands now.0 now.1) in
-    subst (HandsFirst (AskedRest f rests) None) (sym (rest.2 ∙ now.2 ∙ ap (asked_of f) none.0)) (refl, ([], none.1, refl))
+    by asked now.0 now.1 (rest.2 ∙ now.2)
+  where
+    none_is_some : {A : Type 0} (x : A) → None ≡ Some x → ⊥
+    none_is_some x is = cc
+
+    by : (asked later : List Places) → between later → asked ≡ asked_of f later → HandsFirst (AskedRest f rests) None asked
+    by asked (next ∷ left) rest is = absurd (none_is_some next (hands (next ∷ left) rest).0)
+    by asked [] rest is = subst (HandsFirst (AskedRest f rests) None) (sym is) (refl, ([], (hands [] rest).1, refl))
 
 -- a cell was returned
 module _ (f : CellFilter) (rested between rests : List Places → Type 0) (row : Places)
     (passing : Passing f rested between) (hands : Hands between rests (Some row)) where
+  none_is_some : {A : Type 0} (x : A) → Some x ≡ None → ⊥
+  none_is_some x is = cc
+
+  same : {A : Type 0} (x y : A) → Some x ≡ Some y → y ≡ x
+  same x y is = cc
+
   -- it is the first of those that remained
   pub first_of : (all : List Places) → rested all → (left : List Places) × rests left × (asked_of f all ≡ asked_of f (row ∷ left))
   first_of all rest =
       let now = passing.rest all rest in
-      let one = one_left rests row now.0 (hands now.0 now.1) in
-      (one.0, one.1, now.2 ∙ ap (asked_of f) one.2)
+      by now.0 now.1 now.2
+    where
+      by : (later : List Places) → between later → asked_of f all ≡ asked_of f later
+          → (left : List Places) × rests left × (asked_of f all ≡ asked_of f (row ∷ left))
+      by [] rest is = absurd (none_is_some row (hands [] rest).0)
+      by (next ∷ left) rest is =
+          let told = hands (next ∷ left) rest in
+          (left, told.1, is ∙ ap (λ x. asked_of f (x ∷ left)) (same row next told.0))
 
   -- it is not asked for: it is passed over
   pub passes_more : is_cell_asked f row.0 ≡ false → Passing f rested rests

@@ -93,17 +93,14 @@ record_is l j r e =
 some_same : {X : Type 0} (x y : X) → Some x ≡ Some y → x ≡ y
 some_same x y e = cc
 
+-- the target of a turn
+same_target : (p q : ℕ) → move.Turn p ≡ move.Turn q → p ≡ q
+same_target p q e = cc
+
 -- the outlook of these parts
 abbrev the_outlook : ℕ → List ℕ → Cursor → Option NextStep → Option Item → Outlook
 the_outlook j agent cursor next step =
     record { brief = record { id = j; agent = agent; cursor = cursor }; next = next; step = step }
-
--- the item of a move, with this next step
-abbrev pub item_by : Option NextStep → Move → Option Item
-item_by next (move.Turn p) = Some (Turn p Refused)
-item_by next (move.Take i c) = option_map (λ (n : NextStep). n.item) next
-item_by next (move.Undo i) = option_map (λ (n : NextStep). n.item) next
-item_by next move.Nothing = None
 
 -- The next step.
 
@@ -338,35 +335,92 @@ module _ (l : List Event) (j : ℕ) (r : Record) (of : IsJourneyOf l j r) where
   -- What a step makes, by the move.
 
   -- the move is the one that the rules let the journey make
-  module _ (next : Option NextStep) (fitting : Bool) (m : Move)
-      (takes : r.cursor.phase ≡ Run → fitting ≡ true
-      → m ≡ move.Take (r.cursor.pos + 1) (rules.next_option r.plan r.cursor.pos r.cursor.used))
-      (turns : r.cursor.phase ≡ Run → fitting ≡ false
-      → m ≡ move.Turn (rules.refused_target r.plan (is_taken_in r.marks) r.cursor.pos r.cursor.used))
-      (undoes : (p : ℕ) → r.cursor.phase ≡ Back p → m ≡ move.Undo r.cursor.pos)
-      (ends : is_finished r.cursor.phase ≡ true → m ≡ move.Nothing)
+  pub record Decides (fitting : Bool) (m : Move) : Type 0 where
+    pub takes : r.cursor.phase ≡ Run → fitting ≡ true
+        → m ≡ move.Take (r.cursor.pos + 1) (rules.next_option r.plan r.cursor.pos r.cursor.used)
+    pub turns : r.cursor.phase ≡ Run → fitting ≡ false
+        → m ≡ move.Turn (rules.refused_target r.plan (is_taken_in r.marks) r.cursor.pos r.cursor.used)
+    pub undoes : (p : ℕ) → r.cursor.phase ≡ Back p → m ≡ move.Undo r.cursor.pos
+    pub ends : is_finished r.cursor.phase ≡ true → m ≡ move.Nothing
+
+  module _ (next : Option NextStep) (fitting : Bool) (m : Move) (decides : Decides fitting m)
       (is_next : next ≡ next_of r.plan h) (is_fit : FitsNext l next fitting) where
-    -- its item is what a step makes: by the phase, and by whether the next want fits
-    pub move_made : (n : Move) → m ≡ n → item_by next n ≡ step_of l j
-    move_made n is = ap (item_by next) (sym is) ∙ go r.cursor.phase refl fitting refl
+    -- a turn is that of a running journey whose next want does not fit
+    pub turn_made : (p : ℕ) → m ≡ move.Turn p → Some (Turn p Refused) ≡ step_of l j
+    turn_made p m_is = go r.cursor.phase refl fitting refl
+      where
+        go : (q : Phase) → r.cursor.phase ≡ q → (b : Bool) → fitting ≡ b → Some (Turn p Refused) ≡ step_of l j
+        go Run e true f =
+            let bad : move.Turn p ≡ move.Take (r.cursor.pos + 1) (rules.next_option r.plan r.cursor.pos r.cursor.used) =
+            sym m_is ∙ decides.takes e f in
+            cc
+        go Run e false f =
+            let target : move.Turn p ≡ move.Turn (rules.refused_target r.plan (is_taken_in r.marks) r.cursor.pos r.cursor.used) =
+            sym m_is ∙ decides.turns e f in
+            step_turns p e (sym (fits_next next fitting e is_next is_fit) ∙ f) (same_target p _ target)
+        go (Back q) e b f = let bad : move.Turn p ≡ move.Undo r.cursor.pos = sym m_is ∙ decides.undoes q e in cc
+        go Ended e b f = let bad : move.Turn p ≡ move.Nothing = sym m_is ∙ decides.ends (ap is_finished e) in cc
+        go Undone e b f = let bad : move.Turn p ≡ move.Nothing = sym m_is ∙ decides.ends (ap is_finished e) in cc
+
+    -- a transaction is that of a running journey whose next want fits
+    pub take_made : (i c : ℕ) → m ≡ move.Take i c → option_map (λ (n : NextStep). n.item) next ≡ step_of l j
+    take_made i c m_is = go r.cursor.phase refl fitting refl
       where
         taken : (o : Option NextStep) → r.cursor.phase ≡ Run → o ≡ next_of r.plan h → FitsNext l o fitting → fitting ≡ true
             → option_map (λ (n : NextStep). n.item) o ≡ step_of l j
         taken None e is_o fit f = let bad : true ≡ false = sym f ∙ fit in cc
         taken (Some n) e is_o fit f = step_fits n e is_o (sym fit ∙ f)
 
+        go : (q : Phase) → r.cursor.phase ≡ q → (b : Bool) → fitting ≡ b
+            → option_map (λ (n : NextStep). n.item) next ≡ step_of l j
+        go Run e true f = taken next e is_next is_fit f
+        go Run e false f =
+            let bad : move.Take i c ≡ move.Turn (rules.refused_target r.plan (is_taken_in r.marks) r.cursor.pos r.cursor.used) =
+            sym m_is ∙ decides.turns e f in
+            cc
+        go (Back q) e b f = let bad : move.Take i c ≡ move.Undo r.cursor.pos = sym m_is ∙ decides.undoes q e in cc
+        go Ended e b f = let bad : move.Take i c ≡ move.Nothing = sym m_is ∙ decides.ends (ap is_finished e) in cc
+        go Undone e b f = let bad : move.Take i c ≡ move.Nothing = sym m_is ∙ decides.ends (ap is_finished e) in cc
+
+    -- a compensation is that of a journey that goes back
+    pub undo_made : (i : ℕ) → m ≡ move.Undo i → option_map (λ (n : NextStep). n.item) next ≡ step_of l j
+    undo_made i m_is = go r.cursor.phase refl fitting refl
+      where
         undone : (o : Option NextStep) (p : ℕ) → r.cursor.phase ≡ Back p → o ≡ next_of r.plan h
             → option_map (λ (n : NextStep). n.item) o ≡ step_of l j
         undone None p e is_o = none_goes_back p e is_o
         undone (Some n) p e is_o = step_backs n p e is_o
 
-        go : (q : Phase) → r.cursor.phase ≡ q → (b : Bool) → fitting ≡ b → item_by next m ≡ step_of l j
-        go Run e true f = ap (item_by next) (takes e f) ∙ taken next e is_next is_fit f
+        go : (q : Phase) → r.cursor.phase ≡ q → (b : Bool) → fitting ≡ b
+            → option_map (λ (n : NextStep). n.item) next ≡ step_of l j
+        go Run e true f =
+            let bad : move.Undo i ≡ move.Take (r.cursor.pos + 1) (rules.next_option r.plan r.cursor.pos r.cursor.used) =
+            sym m_is ∙ decides.takes e f in
+            cc
         go Run e false f =
-            ap (item_by next) (turns e f) ∙ step_turns _ e (sym (fits_next next fitting e is_next is_fit) ∙ f) refl
-        go (Back p) e b f = ap (item_by next) (undoes p e) ∙ undone next p e is_next
-        go Ended e b f = ap (item_by next) (ends (ap is_finished e)) ∙ step_ends (ap is_finished e)
-        go Undone e b f = ap (item_by next) (ends (ap is_finished e)) ∙ step_ends (ap is_finished e)
+            let bad : move.Undo i ≡ move.Turn (rules.refused_target r.plan (is_taken_in r.marks) r.cursor.pos r.cursor.used) =
+            sym m_is ∙ decides.turns e f in
+            cc
+        go (Back p) e b f = undone next p e is_next
+        go Ended e b f = let bad : move.Undo i ≡ move.Nothing = sym m_is ∙ decides.ends (ap is_finished e) in cc
+        go Undone e b f = let bad : move.Undo i ≡ move.Nothing = sym m_is ∙ decides.ends (ap is_finished e) in cc
+
+    -- nothing is made of a finished journey
+    pub none_made : m ≡ move.Nothing → None ≡ step_of l j
+    none_made m_is = go r.cursor.phase refl fitting refl
+      where
+        go : (q : Phase) → r.cursor.phase ≡ q → (b : Bool) → fitting ≡ b → None ≡ step_of l j
+        go Run e true f =
+            let bad : move.Nothing ≡ move.Take (r.cursor.pos + 1) (rules.next_option r.plan r.cursor.pos r.cursor.used) =
+            sym m_is ∙ decides.takes e f in
+            cc
+        go Run e false f =
+            let bad : move.Nothing ≡ move.Turn (rules.refused_target r.plan (is_taken_in r.marks) r.cursor.pos r.cursor.used) =
+            sym m_is ∙ decides.turns e f in
+            cc
+        go (Back q) e b f = let bad : move.Nothing ≡ move.Undo r.cursor.pos = sym m_is ∙ decides.undoes q e in cc
+        go Ended e b f = step_ends (ap is_finished e)
+        go Undone e b f = step_ends (ap is_finished e)
 
   -- the outlook of its record, its next step and what a step makes
   pub outlook_is : (next : Option NextStep) (step : Option Item) → next ≡ next_of r.plan h → step ≡ step_of l j

@@ -1,5 +1,5 @@
 -- The rows of the holders of cells, night by night, in their only order. For `start_holdings`.
-use Rattle.std.proofs.Common.{◌≡◌, ◌≢◌, ℕ, suc, ◌+◌, ◌<◌, ◌≤◌, ◌-◌, ◌^◌, ◌==◌, ◌&&◌, List, [], ◌∷◌, ◌++◌, map, filter, Bool, true, Some, is_lt, refl, sym, ap, ap₂, subst, ◌∙◌, arith, flat_map, nat_le}
+use Rattle.std.proofs.Common.{◌≡◌, ◌≢◌, ℕ, suc, ◌+◌, ◌<◌, ◌≤◌, ◌-◌, ◌^◌, ◌==◌, ◌&&◌, List, [], ◌∷◌, ◌++◌, map, filter, Bool, true, false, Some, is_lt, refl, sym, ap, ap₂, subst, ◌∙◌, arith, flat_map, nat_le}
 use Rattle.std.specs.List.{AllByRecursion, list_all}
 use Rattle.std.specs.List.Sorted.{IsPermutation}
 use Rattle.std.proofs.lemmas.Bool.{and_from, and_parts, leb-true}
@@ -23,7 +23,7 @@ use Rattle.desk_sql.specs.RemainingRows.{IsOnlyOrder}
 use Rattle.desk_sql.proofs.Members.{permutation_from, permutation_to}
 use Rattle.sql_model.specs.ExpectedRows.{counted_from, is_standing, journeys_called, option_row, option_rows, step_rows, steps_called}
 use Rattle.sql_model.specs.Reading.{stock_row_of}
-use Rattle.sql_model.specs.Standing.{StockStands}
+use Rattle.sql_model.specs.Standing.{StockStands, is_same_stock}
 use Rattle.sql_model.proofs.Numbering.{counted_stands}
 use Rattle.sql_model.proofs.Orders.{pairs-permutation}
 use Rattle.sql_model.proofs.RecordRows.{plan_good}
@@ -34,7 +34,7 @@ use Rattle.holder_reports.specs.Holdings.{by_night, cells_asked, holdings_in, ho
 use Rattle.holder_reports.specs.declared.holdings.Holding.{Holding}
 use Rattle.report_rows.specs.HoldingsLeft.{holding_short, holding_told}
 use Rattle.report_rows.proofs.HandedHolders.{IsBefore, called_rise, not_before}
-use Rattle.report_rows.proofs.HandedStock.{in_order_strict, listed_row, row_listed, rows_apart}
+use Rattle.report_rows.proofs.HandedStock.{in_order_strict, listed_row, row_listed, same_self}
 use Rattle.report_rows.proofs.HeldRows.{held_told}
 use Rattle.report_rows.proofs.NightOrder.{IsJoinedBefore, IsNightBefore, has_among, has_one_of, joined_apart, joined_rises, joined_total, one_order, with_held, with_own}
 use Rattle.report_rows.proofs.NightlyStock.{Listed, nightly, nightly_same, has_nightly, nightly_has, IsCellBefore, nightly_rises}
@@ -163,7 +163,9 @@ module _ (l : List Event) (legal : IsLegal l) where
     -- The one order.
 
     cells_apart : IsAscending ◌≢◌ t.stock
-    cells_apart = rows_apart t.stock stand.once
+    cells_apart =
+        ascending_weaker (λ (a b : StockRow). is_same_stock a b ≡ false) ◌≢◌
+        (λ a b off e. let bad : true ≡ false = sym (same_self a) ∙ ap (is_same_stock a) e ∙ off in absurd (cc)) t.stock stand.once
 
     options_apart : IsAscending ◌≢◌ t.step
     options_apart =

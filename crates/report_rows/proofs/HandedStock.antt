@@ -1,6 +1,8 @@
 -- The rows of the stock, in their only order. For `cell_rows`.
-use Rattle.std.proofs.Common.{◌≡◌, inl, inr, ℕ, ◌≤◌, List, [], ◌∷◌, map, find, true, false, Option, Some, None, refl, sym, ap, ap₂, subst, ◌∙◌, eqb-true, eq-eqb, option_map, ◌≢◌}
-use Rattle.std.specs.Ordering.{is_lt}
+use Rattle.std.proofs.Common.{◌≡◌, inl, inr, ℕ, ◌≤◌, List, [], ◌∷◌, map, find, true, false, Option, Some, None, refl, sym, ap, ap₂, subst, ◌∙◌, eqb-true, eq-eqb, option_map}
+use Rattle.std.specs.Ordering.{is_lt, ordering_reverse}
+use Rattle.std.specs.declared.cmp.Ordering.{Ordering}
+use Rattle.std.specs.declared.cmp.Ordering.TheVariants.{Less, Equal, Greater}
 use Rattle.std.specs.Cmp.{IsTotalOrder}
 use Rattle.std.specs.List.{AllByRecursion}
 use Rattle.std.proofs.Math.Bridge.{le_prop}
@@ -27,8 +29,6 @@ use Rattle.sql_model.specs.Reading.{stock_row_of}
 use Rattle.sql_model.proofs.Finding.{find-none}
 use Rattle.sql_model.proofs.Orders.{pairs-permutation}
 use Rattle.sql_model.proofs.StockRows.{stock_at-row, row-stock_at, same_back}
-use Rattle.sqlite_trees.proofs.ListLemmas.{ascending_weaker}
-use Rattle.report_rows.proofs.NightOrder.{one_order as in_one_order}
 
 pub stock_total : IsTotalOrder stock_cmp
 stock_total =
@@ -36,23 +36,47 @@ stock_total =
     (then_total (on_total (λ (r : StockRow). r.supplier) nat_list_cmp_total)
     (then_total (on_total (λ (r : StockRow). r.product) nat_list_cmp_total) (on_total (λ (r : StockRow). r.night) nat_cmp_total)))
 
+-- no row is before itself
+not_before : (r : StockRow) → is_lt (stock_cmp r r) ≡ true → ⊥
+not_before r e = go (stock_cmp r r) (stock_total.antisymm r r) e
+  where
+    go : (o : Ordering) → o ≡ ordering_reverse o → is_lt o ≡ true → ⊥
+    go Less f g = cc
+    go Equal f g = cc
+    go Greater f g = cc
+
 -- a row is of the same cell as itself
 pub same_self : (r : StockRow) → is_same_stock r r ≡ true
 same_self r =
     and_from _ _ (and_from _ _ (and_from _ _ (eq-eqb r.kind r.kind refl) ((bytes_eq-Decides r.supplier r.supplier).1 refl)) ((bytes_eq-Decides r.product r.product).1 refl))
     (eq-eqb r.night r.night refl)
 
--- rows of different cells differ
-pub rows_apart : (rows : List StockRow) → AreApart is_same_stock rows → IsAscending ◌≢◌ rows
-rows_apart rows apart =
-    ascending_weaker (λ (r s : StockRow). is_same_stock r s ≡ false) ◌≢◌
-    (λ r s off e. let bad : true ≡ false = sym (same_self r) ∙ ap (is_same_stock r) e ∙ off in absurd (cc)) rows apart
-
 -- a list in which no element is before an earlier one is the list in which each is before all later ones
 pub one_order : (xs ys : List StockRow) → IsAscending IsByCell xs → AreApart is_same_stock xs
     → IsAscending (λ (r s : StockRow). is_lt (stock_cmp r s) ≡ true) ys
     → ((r : StockRow) → Has xs r → Has ys r) → ((r : StockRow) → Has ys r → Has xs r) → xs ≡ ys
-one_order xs ys up apart strict = in_one_order stock_cmp stock_total xs ys up (rows_apart xs apart) strict
+one_order [] [] up apart strict a b = refl
+one_order [] (y ∷ ys) up apart strict a b = absurd (b y (inl refl))
+one_order (x ∷ xs) [] up apart strict a b = absurd (a x (inl refl))
+one_order (x ∷ xs) (y ∷ ys) up apart strict a b =
+    let first : x ≡ y = elim (a x (inl refl)) [
+      | inl e ↦ e
+      | inr later ↦ elim (b y (inl refl)) [
+        | inl e ↦ sym e
+        | inr also ↦ absurd (let one = all_has _ xs y up.0 also in let two = all_has _ ys x strict.0 later in let bad : true ≡ false = sym two ∙ one in cc)
+      ]
+    ] in
+    ap₂ ◌∷◌ first (one_order xs ys up.1 apart.1 strict.1
+    (λ r h. elim (a r (inr h)) [ inl e ↦ absurd (twice r h (e ∙ sym first)) | inr k ↦ k ])
+    (λ r h. elim (b r (inr h)) [ inl e ↦ absurd (again r h (e ∙ first)) | inr k ↦ k ]))
+  where
+    twice : (r : StockRow) → Has xs r → r ≡ x → ⊥
+    twice r h e =
+        let off = all_has _ xs r apart.0 h in
+        let bad : true ≡ false = sym (same_self x) ∙ ap (is_same_stock x) (sym e) ∙ off in cc
+
+    again : (r : StockRow) → Has ys r → r ≡ y → ⊥
+    again r h e = not_before y (ap (λ s. is_lt (stock_cmp y s)) (sym e) ∙ all_has _ ys r strict.0 h)
 
 -- a row of this cell with these places is the row that both give
 row_is : (x : Cell) (h : Held) (r : StockRow) → is_stock_of x r ≡ true → places_said h ≡ places_told r → stock_row_of (x, h) ≡ r

@@ -2,7 +2,7 @@
 use Rattle.std.proofs.Common.{◌≡◌, ◌≢◌, ℕ, zero, suc, ◌+◌, ◌<◌, ◌≤◌, ◌==◌, ◌&&◌, ◌||◌, List, [], ◌∷◌, ◌++◌, map, filter, cond, length, if◌then◌else◌, Bool, true, false, Option, Some, None, inl, inr, refl, sym, ap, ap₂, ◌∙◌, arith, eq-eqb, eqb-true, bytes_eq, filter_map, flat_map, nat_le, nat_lt, slice_get, option_map, option_and_then}
 use Rattle.std.specs.Prelude.{unwrap_or}
 use Rattle.std.specs.List.{cons_option, list_any}
-use Rattle.std.proofs.lemmas.Bool.{and_from, and_parts, cases_Bool, eqb-false, ne_eqb, or_cases, leb-true, ltb-true, le-leb, lt-ltb}
+use Rattle.std.proofs.lemmas.Bool.{and_from, and_parts, cases_Bool, eqb-false, ne_eqb, or_cases}
 use Rattle.std.proofs.lemmas.Bool.Decides.{nat_tests}
 use Rattle.std.proofs.lemmas.List.{map-append}
 use Rattle.std.proofs.lemmas.List.Elements.{filter-append}
@@ -22,7 +22,6 @@ use Rattle.sql_model.specs.ExpectedRows.{counted_from, is_standing, option_row, 
 use Rattle.holder_reports.specs.Holders.{holder_if, holders_by, holders_in_journey, holders_of}
 use Rattle.holder_reports.specs.declared.holders.Holder.{Holder}
 use Rattle.report_rows.specs.HoldersLeft.{found_of}
-use mathlib.Core.Bool.{and_assoc}
 
 -- The test of a row is that of its want.
 
@@ -41,14 +40,26 @@ bytes_turned a b =
     (λ e. (bytes_eq-Decides b a).1 (sym ((bytes_eq-Decides a b).0 e)))
     (λ e. (bytes_eq-Decides a b).1 (sym ((bytes_eq-Decides b a).0 e)))
 
+low_of : (a b : ℕ) → nat_le a b ≡ true → a ≤ b
+low_of a b t = grind (arith, nat_tests)
+
+below_of : (a b : ℕ) → nat_lt a b ≡ true → a < b
+below_of a b t = grind (arith, nat_tests)
+
+of_low : (a b : ℕ) → a ≤ b → nat_le a b ≡ true
+of_low a b t = grind (arith, nat_tests)
+
+of_below : (a b : ℕ) → a < b → nat_lt a b ≡ true
+of_below a b t = grind (arith, nat_tests)
+
 -- a night is one of the numbers from the first on
 night_among : (first nights night : ℕ) → list_any (λ n. night == n) (numbers_from first nights) ≡ is_night_of first nights night
 night_among first zero night =
     same_test false (is_night_of first 0 night) (λ e. absurd (cc))
     (λ e.
     let both = and_parts (nat_le first night) (nat_lt night (first + 0)) e in
-    let low = leb-true first night both.0 in
-    let high = ltb-true night (first + 0) both.1 in
+    let low = low_of first night both.0 in
+    let high = below_of night (first + 0) both.1 in
     absurd (omega arith))
 night_among first (suc more) night =
     ap (λ b. (night == first) || b) (night_among (suc first) more night)
@@ -57,23 +68,23 @@ night_among first (suc more) night =
     forth : ((night == first) || is_night_of (suc first) more night) ≡ true → is_night_of first (suc more) night ≡ true
     forth e = elim (or_cases (night == first) (is_night_of (suc first) more night) e) [
       | inl is ↦ (let same = eqb-true _ _ is in
-          and_from _ _ (le-leb first night (omega arith)) (lt-ltb night (first + suc more) (omega arith)))
+          and_from _ _ (of_low first night (omega arith)) (of_below night (first + suc more) (omega arith)))
       | inr later ↦ (let both = and_parts (nat_le (suc first) night) (nat_lt night (suc first + more)) later in
-          let low = leb-true (suc first) night both.0 in
-          let high = ltb-true night (suc first + more) both.1 in
-          and_from _ _ (le-leb first night (omega arith)) (lt-ltb night (first + suc more) (omega arith)))
+          let low = low_of (suc first) night both.0 in
+          let high = below_of night (suc first + more) both.1 in
+          and_from _ _ (of_low first night (omega arith)) (of_below night (first + suc more) (omega arith)))
     ]
 
     back : is_night_of first (suc more) night ≡ true → ((night == first) || is_night_of (suc first) more night) ≡ true
     back e =
         let both = and_parts (nat_le first night) (nat_lt night (first + suc more)) e in
-        let low = leb-true first night both.0 in
-        let high = ltb-true night (first + suc more) both.1 in
+        let low = low_of first night both.0 in
+        let high = below_of night (first + suc more) both.1 in
         elim (cases_Bool (night == first)) [
           | inl is ↦ ap (λ v. v || is_night_of (suc first) more night) is
           | inr off ↦ (let other = eqb-false _ _ off in
               ap (λ v. v || is_night_of (suc first) more night) off
-              ∙ and_from _ _ (le-leb (suc first) night (omega (arith, low, other))) (lt-ltb night (suc first + more) (omega arith)))
+              ∙ and_from _ _ (of_low (suc first) night (omega (arith, low, other))) (of_below night (suc first + more) (omega arith)))
         ]
 
 -- a test that does not depend on the element stands before all of them
@@ -112,7 +123,9 @@ row_wants x w =
     ∙ three k s p (list_any (λ n. x.night == n) (numbers_from w.first w.nights)) ∙ sym among
   where
     three : (a b c d : Bool) → (a && (b && (c && d))) ≡ ((a && (b && c)) && d)
-    three a b c d = simp and_assoc
+    three true true c d = refl
+    three true false c d = refl
+    three false b c d = refl
 
 row_held : (x : Cell) (id step : ℕ) (m : Bool) (c : ℕ) (taken : Bool) (w : Wanted)
     → is_row_held x (option_row id step m c taken w) ≡ (taken && wants_cell w x)

@@ -99,10 +99,10 @@ less_is Less e = refl
 less_is Equal e = cc
 less_is Greater e = cc
 
-pub number_less : (a b : ℕ) → a < b → nat_cmp a b ≡ Less
+number_less : (a b : ℕ) → a < b → nat_cmp a b ≡ Less
 number_less a b low = grind (arith, nat_tests)
 
-pub number_same : (a : ℕ) → nat_cmp a a ≡ Equal
+number_same : (a : ℕ) → nat_cmp a a ≡ Equal
 number_same a = grind (arith, nat_tests)
 
 cell_same : (c : StockRow) → night_cmp c c ≡ Equal

@@ -49,16 +49,18 @@ loop-next-preserved g c =
     }
 
 -- the source failed, or out of memory for a month
-pub returns-in_err-month-clause-writes : goal.returns-in_err-month-clause-writes
-returns-in_err-month-clause-writes g c =
-    written_less c.loop-next.invariant.written g.met.R.RowSource.joins c.read_month.ensures.takes
-    c.from_residual-in_err-month.result c.from_residual-in_err-month.ensures.0
+pub returns-in_err-month : goal.returns-in_err-month
+returns-in_err-month g c = record {
+  writes = written_less c.loop-next.invariant.written g.met.R.RowSource.joins c.read_month.ensures.takes
+      c.from_residual-in_err-month.result c.from_residual-in_err-month.ensures.0;
+}
 
 -- out of memory for the text of a month
-pub returns-in_err-bytes-clause-writes : goal.returns-in_err-bytes-clause-writes
-returns-in_err-bytes-clause-writes g c =
-    written_less c.loop-next.invariant.written g.met.R.RowSource.joins c.read_month.ensures.takes
-    c.from_residual-in_err-bytes.result c.from_residual-in_err-bytes.ensures.0
+pub returns-in_err-bytes : goal.returns-in_err-bytes
+returns-in_err-bytes g c = record {
+  writes = written_less c.loop-next.invariant.written g.met.R.RowSource.joins c.read_month.ensures.takes
+      c.from_residual-in_err-bytes.result c.from_residual-in_err-bytes.ensures.0;
+}
 
 -- a prefix of the text of a month was written
 pub returns-in_err-send : goal.returns-in_err-send

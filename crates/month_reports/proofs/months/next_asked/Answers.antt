@@ -21,11 +21,13 @@ pub loop-row-preserved : goal.loop-row-preserved
 loop-row-preserved g c =
     let source = g.R.RowSource in
     let at = c.loop-row in
+    let after = c.next_row.new.self in
     let no : is_cell_asked c.args.filter.now c.in-Some.row.0 ≡ false = search rules in
     record {
       passing = λ sound.
-          passes_more c.args.filter.now _ _ (source.rests c.next_row.new.self) c.in-Some.row
-          (at.invariant.passing (c.next_row.ensures.sound sound)) (rw c.in-Some.is at c.in_ok-row.ensures.next sound) no;
+          passes_more c.args.filter.now (source.rests c.args.rows.now) (source.rests at.rows) (source.rests after) c.in-Some.row
+          (at.invariant.passing (c.next_row.ensures.sound sound))
+          (subst (Hands (source.rests at.rows) (source.rests after)) c.in-Some.is (c.in_ok-row.ensures.next sound)) no;
       given = omega (arith, given_one _ _ c.in_ok-row.ensures.counted c.in-Some.is, at.invariant.given);
       takes = takes_next source g.met.R.RowSource.joins at.invariant.takes c.next_row.ensures.kept c.next_row.ensures.sound;
     }
@@ -33,12 +35,20 @@ loop-row-preserved g c =
 -- one is asked for
 pub returns-then-lets-clause-next : goal.returns-then-lets-clause-next
 returns-then-lets-clause-next g c sound =
-    asked_some c.args.filter.now _ _ (g.R.RowSource.rests c.next_row.new.self) c.in-Some.row
-    (c.loop-row.invariant.passing (c.next_row.ensures.sound sound)) (rw c.in-Some.is at c.in_ok-row.ensures.next sound)
+    let source = g.R.RowSource in
+    let at = c.loop-row in
+    let after = c.next_row.new.self in
+    asked_some c.args.filter.now (source.rests c.args.rows.now) (source.rests at.rows) (source.rests after) c.in-Some.row
+    (at.invariant.passing (c.next_row.ensures.sound sound))
+    (subst (Hands (source.rests at.rows) (source.rests after)) c.in-Some.is (c.in_ok-row.ensures.next sound))
     (sym c.lets.ensures.asked ∙ c.if-lets.true)
 
 -- none is left
 pub returns-clause-next : goal.returns-clause-next
 returns-clause-next g c sound =
-    asked_none c.args.filter.now _ _ (g.R.RowSource.rests c.next_row.new.self)
-    (c.loop-row.invariant.passing (c.next_row.ensures.sound sound)) (rw c.in_default.is at c.in_ok-row.ensures.next sound)
+    let source = g.R.RowSource in
+    let at = c.loop-row in
+    let after = c.next_row.new.self in
+    asked_none c.args.filter.now (source.rests c.args.rows.now) (source.rests at.rows) (source.rests after)
+    (at.invariant.passing (c.next_row.ensures.sound sound))
+    (subst (Hands (source.rests at.rows) (source.rests after)) c.in_default.is (c.in_ok-row.ensures.next sound))

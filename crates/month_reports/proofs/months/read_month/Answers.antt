@@ -35,6 +35,8 @@ loop-cells-preserved g c =
     let at = c.loop-cells in
     let cells = at.cells.items in
     let row = c.in-Some.row in
+    let all = AskedRest c.args.filter.now (source.rests c.args.rows.now) in
+    let left = AskedRest c.args.filter.now (source.rests at.rows) in
     let after = AskedRest c.args.filter.now (source.rests c.next_asked.new.rows) in
     let is : c.add-in-Some.new.cells.items ≡ cells ++ row ∷ [] = c.in_ok-add-2.ensures.added in
     let follows : goes_on at.last.0 row.0 ≡ true = search rules in
@@ -42,9 +44,9 @@ loop-cells-preserved g c =
     let later = later_day at.last.0 row.0 (length cells) follows at.invariant.days in
     record {
       begun = subst (λ cs. Begins cs row.0) (sym is) (begins_more cells at.last.0 row at.invariant.begun follows);
-      reading = λ sound. rw is
-          (reads_more _ _ after c.args.first.now cells row (at.invariant.reading (c.next_asked.ensures.takes.sound sound))
-          (rw c.in-Some.is at c.in_ok-row.ensures.next sound));
+      reading = λ sound. subst (Reading all after c.args.first.now) (sym is)
+          (reads_more all left after c.args.first.now cells row (at.invariant.reading (c.next_asked.ensures.takes.sound sound))
+          (subst (Hands left after) c.in-Some.is (c.in_ok-row.ensures.next sound)));
       few = subst (λ n. n ≤ 31) (sym long)
           (at_most (length cells + 1) (date_of row.0.night).1.1 31 later c.goes_on.ensures.short);
       days = subst (λ n. n ≤ (date_of row.0.night).1.1) (sym long) later;
@@ -55,28 +57,36 @@ loop-cells-preserved g c =
 -- the next cell begins another month
 pub returns-then-not-goes_on-clause-month : goal.returns-then-not-goes_on-clause-month
 returns-then-not-goes_on-clause-month g c sound =
+    let source = g.R.RowSource in
     let at = c.loop-cells in
     let row = c.in-Some.row in
-    let after = AskedRest c.args.filter.now (g.R.RowSource.rests c.next_asked.new.rows) in
+    let all = AskedRest c.args.filter.now (source.rests c.args.rows.now) in
+    let left = AskedRest c.args.filter.now (source.rests at.rows) in
+    let after = AskedRest c.args.filter.now (source.rests c.next_asked.new.rows) in
     let apart : goes_on at.last.0 row.0 ≡ false = search rules in
-    hands_month _ _ after c.args.first.now at.cells.items at.last.0 row
+    hands_month all left after c.args.first.now at.cells.items at.last.0 row
     (at.invariant.reading (c.next_asked.ensures.takes.sound sound)) at.invariant.begun
-    (rw c.in-Some.is at c.in_ok-row.ensures.next sound) apart
+    (subst (Hands left after) c.in-Some.is (c.in_ok-row.ensures.next sound)) apart
 
 pub returns-then-not-goes_on-clause-takes : goal.returns-then-not-goes_on-clause-takes
 returns-then-not-goes_on-clause-takes g c =
-    takes_twice g.R.RowSource g.met.R.RowSource.joins c.loop-cells.invariant.takes c.next_asked.ensures.takes
+    let at = c.loop-cells in
+    takes_twice g.R.RowSource g.met.R.RowSource.joins at.invariant.takes c.next_asked.ensures.takes
 
 -- out of memory for one more cell
 pub returns-in_err-add-2-clause-takes : goal.returns-in_err-add-2-clause-takes
 returns-in_err-add-2-clause-takes g c =
-    takes_twice g.R.RowSource g.met.R.RowSource.joins c.loop-cells.invariant.takes c.next_asked.ensures.takes
+    let at = c.loop-cells in
+    takes_twice g.R.RowSource g.met.R.RowSource.joins at.invariant.takes c.next_asked.ensures.takes
 
 -- no cell is left
 pub returns-clause-month : goal.returns-clause-month
 returns-clause-month g c sound =
+    let source = g.R.RowSource in
     let at = c.loop-cells in
-    let after = AskedRest c.args.filter.now (g.R.RowSource.rests c.next_asked.new.rows) in
-    hands_last _ _ after c.args.first.now at.cells.items at.last.0
+    let all = AskedRest c.args.filter.now (source.rests c.args.rows.now) in
+    let left = AskedRest c.args.filter.now (source.rests at.rows) in
+    let after = AskedRest c.args.filter.now (source.rests c.next_asked.new.rows) in
+    hands_last all left after c.args.first.now at.cells.items at.last.0
     (at.invariant.reading (c.next_asked.ensures.takes.sound sound)) at.invariant.begun
-    (rw c.in_default.is at c.in_ok-row.ensures.next sound)
+    (subst (Hands left after) c.in_default.is (c.in_ok-row.ensures.next sound))
