@@ -1,6 +1,8 @@
 //! Words of the command line that are refused, or ask for help: each gets the text of a usage.
 use crate::tests::desks::holds;
 use crate::tests::jobs::{asked, words_of};
+use std::alloc::Global;
+use std::process::Abort;
 use std::test::Fail;
 
 // what the row shows, the words, and the prefix of the usage
@@ -172,9 +174,9 @@ const REFUSED_OF_FILTERS: [(&str, &str, &str); 19] = [
 ];
 
 /// Stops the test unless the words of each row get a usage that begins so.
-fn get_the_usage(rt: &HostRuntime, rows: &[(&str, &str, &str)]) -> Result<(), Fail> {
+fn get_the_usage(rt: &impl Abort, alloc: Global, rows: &[(&str, &str, &str)]) -> Result<(), Fail> {
     for &(case, words, expected) in rows {
-        let found = asked(rt.alloc(), words_of(rt.alloc(), words)?)?;
+        let found = asked(alloc, words_of(alloc, words)?)?;
         holds(rt, case, found.as_str().starts_with(expected));
     }
     Ok(())
@@ -182,27 +184,27 @@ fn get_the_usage(rt: &HostRuntime, rows: &[(&str, &str, &str)]) -> Result<(), Fa
 
 #[test]
 fn other_words_get_the_usage(rt: HostRuntime) -> Result<(), Fail> {
-    get_the_usage(&rt, &REFUSED)
+    get_the_usage(&rt, rt.alloc(), &REFUSED)
 }
 
 #[test]
 fn other_words_of_serve_get_the_usage(rt: HostRuntime) -> Result<(), Fail> {
-    get_the_usage(&rt, &REFUSED_OF_SERVE)
+    get_the_usage(&rt, rt.alloc(), &REFUSED_OF_SERVE)
 }
 
 #[test]
 fn other_words_of_sockets_get_the_usage(rt: HostRuntime) -> Result<(), Fail> {
-    get_the_usage(&rt, &REFUSED_OF_SOCKETS)
+    get_the_usage(&rt, rt.alloc(), &REFUSED_OF_SOCKETS)
 }
 
 #[test]
 fn other_words_of_filters_get_the_usage(rt: HostRuntime) -> Result<(), Fail> {
-    get_the_usage(&rt, &REFUSED_OF_FILTERS)
+    get_the_usage(&rt, rt.alloc(), &REFUSED_OF_FILTERS)
 }
 
 #[test]
 fn other_words_of_one_cell_or_journey_get_the_usage(rt: HostRuntime) -> Result<(), Fail> {
-    get_the_usage(&rt, &REFUSED_OF_ONE)
+    get_the_usage(&rt, rt.alloc(), &REFUSED_OF_ONE)
 }
 
 #[test]
