@@ -12,9 +12,10 @@ use commands::number_between;
 use reports::Format;
 use std::alloc::{AllocError, Global};
 
-/// The option of a format, and what is allowed of it beside the calendar.
+/// The option of a format.
 const FORMAT: &str = "--format <FORMAT>";
 
+/// What is allowed of it where the calendar is asked for.
 const CALENDAR: &str = "text, which the calendar is";
 
 /// The value of this name. The precondition says that there is one.
