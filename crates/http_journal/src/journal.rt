@@ -1,5 +1,5 @@
 //! What is counted of connections and requests, and which lines of the log are written, and when.
-ghost use Rattle.std.specs.Prelude.{◌≡◌, ◌≢◌, ◌<◌, ◌&&◌, ℕ, All, IfOk, IfSome, IsSomeAnd, IsTrue, None, Option, false, if◌then◌else◌, is_some, length, nat_lt, option_map, slice_get, vec_len};
+ghost use Rattle.std.specs.Prelude.{◌≡◌, ◌≢◌, ◌<◌, ◌&&◌, ℕ, All, IfOk, IfSome, IsSomeAnd, IsTrue, None, Option, Some, false, if◌then◌else◌, is_some, length, nat_lt, option_map, slice_get, vec_len};
 ghost use Rattle.std.specs.List.{list_all};
 ghost use Rattle.std.specs.Option.{option_copied};
 ghost use Rattle.std.specs.declared.time.Instant.{Instant};
@@ -9,6 +9,7 @@ ghost use Rattle.http_log.specs.Lines.{request_text};
 ghost use Rattle.http_log.specs.Shown.{is_printable};
 ghost use Rattle.http_log.specs.Times.{IsTimedLine};
 ghost use Rattle.http_journal.specs.Ends.{counted_end, counted_ends, is_taken, IsNobody};
+ghost use Rattle.http_journal.specs.Logging.{log_of};
 ghost use Rattle.http_journal.specs.Requests.{is_again};
 ghost use Rattle.http_journal.specs.Seen.{counted_answer, counted_over, counted_turn, is_busy, micros_between, with_answer, with_page, with_part, with_rest, with_seat};
 
@@ -82,7 +83,7 @@ impl<'a> Journal<'a> {
     pub fn new(rt: &'a HostRuntime, alloc: Global, count: usize) -> Result<Journal<'a>, AllocError>
         ensures seats { IfOk result (λ journal. vec_len journal.seats ≡ count) }
         ensures nobody { IfOk result (λ journal. All IsNobody journal.seats.items) }
-        ensures unlogged { IfOk result (λ journal. journal.form ≡ None) }
+        ensures unlogged { IfOk result (λ journal. log_of journal ≡ None) }
         ensures counted { IfOk result (λ journal. journal.metrics.connections ≡ 0) }
     {
         let mut seats = Vec::with_capacity(alloc, count)?;
@@ -103,6 +104,7 @@ impl<'a> Journal<'a> {
 
     /// The log is written from now on, and its lines begin so.
     pub fn log(&mut self, form: LogForm)
+        ensures logged { log_of self.new ≡ Some form }
         ensures counted { self.new.metrics ≡ self.old.metrics }
     {
         self.form = Some(form);

@@ -8,7 +8,7 @@ use Rattle.ledger.specs.Answer.{State}
 use Rattle.http_conversations.specs.Exchanges.{Exchange, IsNoStop, StopAtLast}
 use Rattle.http_conversations.proofs.Steps.{since_more}
 use Rattle.http_conversations.specs.Leading.{Ends, GoesOnByOne}
-use Rattle.http_live.specs.Merging.{IsMerged, Merges, Seated, exchange_of, of_seat}
+use Rattle.http_live.specs.Merging.{IsMerged, Merges, Seated, exchange_of, of_seat, seated_at}
 use Rattle.http_live.proofs.LeadLemmas.{ends_then}
 
 of_seat-append : (i : ℕ) (xs ys : List Seated) → of_seat i (xs ++ ys) ≡ of_seat i xs ++ of_seat i ys
@@ -17,10 +17,6 @@ of_seat-append i (m ∷ xs) ys =
     let later = of_seat-append i xs ys in
     elim (m.0 == i) as (λ v. (if v then m.1 ∷ of_seat i (xs ++ ys) else of_seat i (xs ++ ys)) ≡ (if v then m.1 ∷ of_seat i xs else of_seat i xs) ++ of_seat i ys)
     [ true ↦ ap (λ t. m.1 ∷ t) later | false ↦ later ]
-
--- all of one seat
-abbrev pub seated_at : ℕ → List Exchange → List Seated
-seated_at i xs = map (λ x. (i, x)) xs
 
 pub exchanges-seated_at : (i : ℕ) (xs : List Exchange) → map exchange_of (seated_at i xs) ≡ xs
 exchanges-seated_at i [] = refl
@@ -100,38 +96,35 @@ stops_then true xs ys x y =
 -- Books that went on.
 
 pub merges_none : (sound : Type 0) (stands : State → Type 0) (leaves : State → State → Type 0) (xs ys : List (List Exchange)) → ys ≡ xs
-    → Merges sound stands stands leaves false false xs ys
+    → Merges sound stands stands leaves false false xs ys []
 merges_none sound stands leaves xs ys kept =
     record {
-      merged = [];
       is_merged = merged_none xs ys kept;
       stopping = All-nil IsNoStop;
       ends = λ is_sound s stood. (s, refl, stood);
     }
 
 pub merges_then : (failed stopped : Bool) (sound0 sound1 : Type 0) (stood between stands : State → Type 0) (leaves0 leaves1 : State → State → Type 0)
-    (xs ys zs : List (List Exchange)) → (sound1 → sound0) → Merges sound0 stood between leaves0 false false xs ys
-    → Merges sound1 between stands leaves1 failed stopped ys zs → Merges sound1 stood stands leaves1 failed stopped xs zs
-merges_then failed stopped sound0 sound1 stood between stands leaves0 leaves1 xs ys zs back x y = record {
-  merged = x.merged ++ y.merged;
-  is_merged = merged_then xs ys zs x.merged y.merged x.is_merged y.is_merged;
-  stopping = subst (StopAtLast stopped) (sym (map-append exchange_of x.merged y.merged))
-      (stops_then stopped (map exchange_of x.merged) (map exchange_of y.merged) x.stopping y.stopping);
+    (xs ys zs : List (List Exchange)) (ms ns : List Seated) → (sound1 → sound0) → Merges sound0 stood between leaves0 false false xs ys ms
+    → Merges sound1 between stands leaves1 failed stopped ys zs ns → Merges sound1 stood stands leaves1 failed stopped xs zs (ms ++ ns)
+merges_then failed stopped sound0 sound1 stood between stands leaves0 leaves1 xs ys zs ms ns back x y = record {
+  is_merged = merged_then xs ys zs ms ns x.is_merged y.is_merged;
+  stopping = subst (StopAtLast stopped) (sym (map-append exchange_of ms ns))
+      (stops_then stopped (map exchange_of ms) (map exchange_of ns) x.stopping y.stopping);
   ends = λ is_sound s was.
       let first = x.ends (back is_sound) s was in
-      subst (Ends failed stands leaves1 s) (sym (map-append exchange_of x.merged y.merged))
-      (ends_then failed stands leaves1 (map exchange_of x.merged) (map exchange_of y.merged) s first.0 first.1 (y.ends is_sound first.0 first.2));
+      subst (Ends failed stands leaves1 s) (sym (map-append exchange_of ms ns))
+      (ends_then failed stands leaves1 (map exchange_of ms) (map exchange_of ns) s first.0 first.1 (y.ends is_sound first.0 first.2));
 }
 
 module _ {X : Type 0} (f : X → List Exchange) {failed stopped : Bool} {sound : Type 0} {stood stands : State → Type 0}
     {leaves : State → State → Type 0} where
   -- one seat went on
   pub merges_set : (seats : List X) (i : ℕ) (d new : X) → i < length seats
-      → GoesOnByOne sound stood stands leaves failed stopped (f (slice_index_or seats i d)) (f new)
-      → Merges sound stood stands leaves failed stopped (map f seats) (map f (slice_set seats i new))
+      → (x : GoesOnByOne sound stood stands leaves failed stopped (f (slice_index_or seats i d)) (f new))
+      → Merges sound stood stands leaves failed stopped (map f seats) (map f (slice_set seats i new)) (seated_at i x.goes_on.exchanges)
   merges_set seats i d new within x =
       let more = x.goes_on.exchanges in record {
-        merged = seated_at i more;
         is_merged = merged_set f seats i d new more within x.goes_on.more;
         stopping = subst (StopAtLast stopped)
             (since_more (f (slice_index_or seats i d)) (f new) more x.goes_on.more ∙ sym (exchanges-seated_at i more)) x.stopping;

@@ -1,8 +1,9 @@
 -- What a connection waits for, and how serving ends. For Connection::serve and take_turn.
-use Rattle.std.proofs.Common.{◌≡◌, ◌≢◌, Bool, true, false, [], Ok, refl, sym, subst, inl, inr, IsTrue}
+use Rattle.std.proofs.Common.{◌≡◌, ◌≢◌, Bool, true, false, [], Result, Ok, Err, ap, refl, sym, subst, inl, inr, IsTrue}
+use Rattle.commands.specs.declared.replies.Fault.{Fault}
 use Rattle.http_conversations.specs.History.{HasNoTurn, History}
 use Rattle.http_conversations.proofs.CallLemmas.{nothing_pending}
-use Rattle.http_live.specs.Endings.{ending_after, ends_stopped, is_stop}
+use Rattle.http_live.specs.Endings.{ending_after, ends_stopped, is_stop, turn_stops}
 use Rattle.http_live.specs.Resting.{IsUsedUp}
 use Rattle.http_live.specs.declared.seats.Standing.{Standing}
 use Rattle.http_live.specs.declared.seats.Standing.TheVariants.{Between, Amid, Unsent, Lingering, Answered, Stopped, Busy, Over}
@@ -20,7 +21,7 @@ used_up h k b some is_false no_turn same =
     })
 
 -- the house asked for a stop only in a turn that says so
-pub asked_to_stop : (standing : Standing) → is_stop standing ≡ true → standing ≡ Stopped
+asked_to_stop : (standing : Standing) → is_stop standing ≡ true → standing ≡ Stopped
 asked_to_stop Stopped is = refl
 asked_to_stop Between is = cc
 asked_to_stop Amid is = cc
@@ -29,6 +30,11 @@ asked_to_stop Lingering is = cc
 asked_to_stop Answered is = cc
 asked_to_stop Busy is = cc
 asked_to_stop Over is = cc
+
+-- so it is of what a turn came to
+pub asked_in_turn : (result : Result Standing Fault) → turn_stops result ≡ true → result ≡ Ok Stopped
+asked_in_turn (Ok standing) is = ap Ok (asked_to_stop standing is)
+asked_in_turn (Err fault) is = cc
 
 -- a turn ends serving as the house asked just where it asked in this turn
 pub stops_in_turn : (standing : Standing) → ends_stopped (Ok (ending_after standing)) ≡ is_stop standing

@@ -1,61 +1,195 @@
--- Turns one after another: no turn, one that answers nobody, one of a seat, and turns after others. For the loops over turns.
-use Rattle.std.proofs.Common.{◌≡◌, ◌<◌, ℕ, Bool, true, false, List, length, map, refl, subst, slice_index_or, slice_set}
+-- What one turn leaves, and turn after turn. For take_turn, the loop over turns, serve_many, and the law of their order.
+use Rattle.std.proofs.Common.{◌≡◌, ◌∙◌, ◌<◌, ℕ, Bool, true, false, List, [], ◌∷◌, ◌++◌, length, map, refl, ap, sym, subst, inl, inr, append_assoc, slice_index_or, slice_set, Contains}
+use Rattle.std.proofs.Math.Seq.{map-set_same}
+use Rattle.std.proofs.lemmas.List.{get_or_default}
+use Rattle.std.proofs.lemmas.List.Elements.{Contains-push_cases}
 use Rattle.std.proofs.lemmas.List.Quantifiers.{any-set}
 use Rattle.std.specs.declared.io.traits.Read as Read
 use Rattle.std.specs.declared.io.traits.Write as Write
 use Rattle.ledger.specs.Answer.{State}
 use Rattle.desk_http.specs.declared.doors.Door.{Door}
 use Rattle.http_ways.specs.declared.ways.Way.{Way}
-use Rattle.http_conversations.specs.Leading.{GoesOnByOne}
+use Rattle.http_conversations.specs.Leading.{GoesOnByOne, has_broken}
 use Rattle.http_live.specs.Arrivals.{arrivals_at}
-use Rattle.http_live.specs.Calls.{Admits, TakesTurns}
+use Rattle.http_live.specs.Calls.{Admits, ChangesAt, ChangesOne, TakesTurns}
+use Rattle.http_live.specs.Endings.{turn_stops}
+use Rattle.http_live.specs.InTime.{ByTurns, InTime, Instant, IsInOrder, IsTurn, TakesSome, TakesTurn, came, ended, had_none, left, more, none, went_on}
+use Rattle.http_live.specs.Merging.{Seated, seated_at}
 use Rattle.http_live.specs.Seats.{HasStopAt, exchanges_at}
 use Rattle.http_live.specs.declared.seats.Seat.{Seat}
-use Rattle.http_live.proofs.DoorLemmas.{admits_none, admits_then}
+use Rattle.http_live.specs.declared.seats.Standing.{Standing}
+use Rattle.http_live.specs.declared.serving.Turn.{Turn}
+use Rattle.http_live.proofs.DoorLemmas.{admits_none, admits_one, admits_then}
 use Rattle.http_live.proofs.Merged.{merges_none, merges_set, merges_then}
+use Rattle.http_live.proofs.RestLemmas.{asked_in_turn}
+use Rattle.http_live.proofs.WorldLemmas.{worlds_go_on}
+
+module _ {R W : Type 0} {r : Read.Ghosts R} {w : Write.Ghosts W} where
+  -- one seat of these has changed so
+  pub changes_one : (how : Seat R W r w → Seat R W r w → Type 0) (seats : List (Seat R W r w)) (i : ℕ) (d new : Seat R W r w)
+      → i < length seats → how (slice_index_or seats i d) new → ChangesOne how i seats (slice_set seats i new)
+  changes_one how seats i d new within so = record {
+    within = within;
+    new = new;
+    is = refl;
+    so = subst (λ old. how old new) (get_or_default seats i d new within) so;
+  }
 
 module _ {R W : Type 0} {r : Read.Ghosts R} {w : Write.Ghosts W} {is_at : R → Door → Type 0} {is_by : R → Way → Type 0}
     {is_pair : R → W → Type 0} where
   module _ {sound : Type 0} {stands : State → Type 0} {leaves : State → State → Type 0} where
     -- no message was answered
-    pub turns_none : (old new : List (Seat R W r w)) → map exchanges_at new ≡ map exchanges_at old → Admits is_at is_by is_pair old new
-        → TakesTurns is_at is_by is_pair sound stands stands leaves false false old new
+    turns_none : (old new : List (Seat R W r w)) → map exchanges_at new ≡ map exchanges_at old → Admits is_at is_by is_pair old new
+        → TakesTurns is_at is_by is_pair sound stands stands leaves false false old new []
     turns_none old new kept admits = record {
       served = merges_none sound stands leaves (map exchanges_at old) (map exchanges_at new) kept;
       asked = λ is. cc;
       admits = admits;
     }
 
-    -- no turn was taken
-    pub no_turns : (seats : List (Seat R W r w)) → TakesTurns is_at is_by is_pair sound stands stands leaves false false seats seats
+    -- and nobody came
+    no_turns : (seats : List (Seat R W r w)) → TakesTurns is_at is_by is_pair sound stands stands leaves false false seats seats []
     no_turns seats = turns_none seats seats refl (record { doors = λ doors. doors; ways = λ ways. ways; pairs = λ pairs. pairs })
 
+    -- one seat has changed, if there is one of that number, and no message was answered
+    turns_quiet : (how : Seat R W r w → Seat R W r w → Type 0) (i : ℕ) (before after : List (Seat R W r w))
+        → ((old new : Seat R W r w) → how old new → exchanges_at new ≡ exchanges_at old)
+        → ((d new : Seat R W r w) → i < length before → how (slice_index_or before i d) new → Admits is_at is_by is_pair before (slice_set before i new))
+        → ChangesAt how i before after → TakesTurns is_at is_by is_pair sound stands stands leaves false false before after []
+    turns_quiet how i before after kept admits changes = elim changes [
+      | inl x ↦ subst (λ seats. TakesTurns is_at is_by is_pair sound stands stands leaves false false before seats []) (sym x.is)
+          (turns_none before (slice_set before i x.new) (map-set_same exchanges_at before i x.new x.new (kept _ x.new x.so))
+          (admits x.new x.new x.within x.so))
+      | inr same ↦ subst (λ seats. TakesTurns is_at is_by is_pair sound stands stands leaves false false before seats []) (sym same.1)
+          (no_turns before)
+    ]
+
   module _ {sound : Type 0} {stood stands : State → Type 0} {leaves : State → State → Type 0} {failed : Bool} where
-    -- a turn of one seat
-    pub turns_set : (stopped : Bool) (seats : List (Seat R W r w)) (i : ℕ) (d new : Seat R W r w) → i < length seats
-        → GoesOnByOne sound stood stands leaves failed stopped (exchanges_at (slice_index_or seats i d)) (exchanges_at new)
+    -- the connection of one seat went on
+    turns_set : (stopped : Bool) (seats : List (Seat R W r w)) (i : ℕ) (d new : Seat R W r w) → i < length seats
+        → (x : GoesOnByOne sound stood stands leaves failed stopped (exchanges_at (slice_index_or seats i d)) (exchanges_at new))
         → arrivals_at new ≡ arrivals_at (slice_index_or seats i d) → (stopped ≡ true → HasStopAt new)
-        → TakesTurns is_at is_by is_pair sound stood stands leaves failed stopped seats (slice_set seats i new)
-    turns_set stopped seats i d new within turn same stop = record {
-      served = merges_set exchanges_at seats i d new within turn;
+        → TakesTurns is_at is_by is_pair sound stood stands leaves failed stopped seats (slice_set seats i new) (seated_at i x.goes_on.exchanges)
+    turns_set stopped seats i d new within x same stop = record {
+      served = merges_set exchanges_at seats i d new within x;
       asked = λ is. any-set HasStopAt seats i new within (stop is);
       admits = admits_none seats i d new within same;
     }
 
-    -- as much is said of a stop
-    pub turns_as : (stopped other : Bool) (old new : List (Seat R W r w)) → stopped ≡ other
-        → TakesTurns is_at is_by is_pair sound stood stands leaves failed stopped old new
-        → TakesTurns is_at is_by is_pair sound stood stands leaves failed other old new
-    turns_as stopped other old new same x = subst (λ t. TakesTurns is_at is_by is_pair sound stood stands leaves failed t old new) same x
-
     -- turns after others
-    pub turns_then : {sound0 : Type 0} {stood0 : State → Type 0} {leaves0 : State → State → Type 0} (stopped : Bool)
-        (before between after : List (Seat R W r w)) → (sound → sound0)
-        → TakesTurns is_at is_by is_pair sound0 stood0 stood leaves0 false false before between
-        → TakesTurns is_at is_by is_pair sound stood stands leaves failed stopped between after
-        → TakesTurns is_at is_by is_pair sound stood0 stands leaves failed stopped before after
-    turns_then stopped before between after back x y = record {
-      served = merges_then failed stopped _ _ _ _ _ _ _ _ _ _ back x.served y.served;
+    turns_then : {sound0 : Type 0} {stood0 : State → Type 0} {leaves0 : State → State → Type 0} (stopped : Bool)
+        (before between after : List (Seat R W r w)) (ms ns : List Seated) → (sound → sound0)
+        → TakesTurns is_at is_by is_pair sound0 stood0 stood leaves0 false false before between ms
+        → TakesTurns is_at is_by is_pair sound stood stands leaves failed stopped between after ns
+        → TakesTurns is_at is_by is_pair sound stood0 stands leaves failed stopped before after (ms ++ ns)
+    turns_then stopped before between after ms ns back x y = record {
+      served = merges_then failed stopped _ _ _ _ _ _ _ _ _ _ ms ns back x.served y.served;
       asked = y.asked;
       admits = admits_then before between after x.admits y.admits;
     }
+
+module _ {R W T B : Type 0} {r : Read.Ghosts R} {w : Write.Ghosts W} {took : T → Turn R W → T → Type 0}
+    {heard : T → ℕ → Standing → T → Type 0} {seen : T → T → Type 0} {is_at : R → Door → Type 0} {is_by : R → Way → Type 0}
+    {is_pair : R → W → Type 0} {is_sound : B → Type 0} {stands : B → State → Type 0} {leaves : B → State → State → Type 0} where
+  -- what one turn leaves
+  takes_turn : (failed stopped : Bool) (old : Instant r w T B) (added : List Seated) (new : Instant r w T B)
+      → IsTurn took heard seen is_at is_by is_pair is_sound stands leaves failed stopped old added new
+      → TakesTurns is_at is_by is_pair (is_sound new.book) (stands old.book) (stands new.book) (leaves new.book) failed stopped
+      old.seats new.seats added
+  takes_turn _ _ _ _ _ (came from to before after book i door way reader writer took here read pair changes) =
+      turns_quiet _ i before after (λ old new so. so.kept)
+      (λ d new within so. admits_one before i d new within reader writer door way so.arrived here read pair) changes
+  takes_turn _ _ _ _ _ (went_on from taken shown timed to before after old new i result took shows times seat told back) =
+      subst (λ seats. TakesTurns is_at is_by is_pair (is_sound new) (stands old) (stands new) (leaves new) (has_broken result)
+      (turn_stops result) before seats (seated_at i seat.so.turn.goes_on.exchanges)) (sym seat.is)
+      (turns_set _ before i seat.new seat.new seat.within seat.so.turn seat.so.ends.arrivals
+      (λ is. seat.so.ends.stopped (asked_in_turn result is)))
+  takes_turn _ _ _ _ _ (had_none from to seats book i took past) = no_turns seats
+  takes_turn _ _ _ _ _ (left from to before after book i took changes) =
+      turns_quiet _ i before after (λ old new so. so.left.kept) (λ d new within so. admits_none before i d new within so.left.arrivals) changes
+  takes_turn _ _ _ _ _ (ended from to seats book took) = no_turns seats
+
+  -- after it no book is sound that was not before
+  sound_turn : (failed stopped : Bool) (old : Instant r w T B) (added : List Seated) (new : Instant r w T B)
+      → IsTurn took heard seen is_at is_by is_pair is_sound stands leaves failed stopped old added new
+      → is_sound new.book → is_sound old.book
+  sound_turn _ _ _ _ _ (came from to before after book i door way reader writer took here read pair changes) sound = sound
+  sound_turn _ _ _ _ _ (went_on from taken shown timed to before after old new i result took shows times seat told back) sound = back sound
+  sound_turn _ _ _ _ _ (had_none from to seats book i took past) sound = sound
+  sound_turn _ _ _ _ _ (left from to before after book i took changes) sound = sound
+  sound_turn _ _ _ _ _ (ended from to seats book took) sound = sound
+
+  -- as much is said of a stop
+  pub turn_as : {failed stopped other : Bool} {old new : Instant r w T B} → stopped ≡ other
+      → TakesTurn took heard seen is_at is_by is_pair is_sound stands leaves failed stopped old new
+      → TakesTurn took heard seen is_at is_by is_pair is_sound stands leaves failed other old new
+  turn_as {failed} {old} {new} same turn = subst (λ s. TakesTurn took heard seen is_at is_by is_pair is_sound stands leaves failed s old new) same turn
+
+  -- no turn
+  pub no_turn : (at : Instant r w T B) → TakesSome took heard seen is_at is_by is_pair is_sound stands leaves false false at at
+  no_turn at = record { instants = []; merged = []; by_turns = none at }
+
+  -- one turn more
+  pub one_more : {failed stopped : Bool} {first old new : Instant r w T B}
+      → TakesSome took heard seen is_at is_by is_pair is_sound stands leaves false false first old
+      → TakesTurn took heard seen is_at is_by is_pair is_sound stands leaves failed stopped old new
+      → TakesSome took heard seen is_at is_by is_pair is_sound stands leaves failed stopped first new
+  one_more {failed} {stopped} {first} {old} {new} x turn = record {
+    instants = x.instants ++ old ∷ [];
+    merged = x.merged ++ turn.0;
+    by_turns = more failed stopped first old new x.instants x.merged turn.0 x.by_turns turn.1;
+  }
+
+  -- what turn after turn leaves
+  takes_turns : (failed stopped : Bool) (first : Instant r w T B) (instants : List (Instant r w T B)) (merged : List Seated) (last : Instant r w T B)
+      → ByTurns took heard seen is_at is_by is_pair is_sound stands leaves failed stopped first instants merged last
+      → TakesTurns is_at is_by is_pair (is_sound last.book) (stands first.book) (stands last.book) (leaves last.book) failed stopped
+      first.seats last.seats merged
+  takes_turns _ _ _ _ _ _ (none first) = no_turns first.seats
+  takes_turns _ _ _ _ _ _ (more failed stopped first old new instants merged added earlier turn) =
+      turns_then stopped first.seats old.seats new.seats merged added (sound_turn failed stopped old added new turn)
+      (takes_turns false false first instants merged old earlier) (takes_turn failed stopped old added new turn)
+
+  -- in time the exchanges are one list
+  pub in_time : (failed stopped : Bool) (first last : Instant r w T B) → ((u : State) → stands last.book u → leaves last.book u u)
+      → TakesSome took heard seen is_at is_by is_pair is_sound stands leaves failed stopped first last
+      → InTime took heard seen is_at is_by is_pair is_sound stands leaves failed stopped first last
+  in_time failed stopped first last settled x =
+      let turns = takes_turns failed stopped first x.instants x.merged last x.by_turns in record {
+        worlds = worlds_go_on failed stopped (is_sound last.book) (stands first.book) (stands last.book) (leaves last.book)
+            (map exchanges_at first.seats) (map exchanges_at last.seats) x.merged settled turns.served;
+        instants = x.instants;
+        by_turns = x.by_turns;
+        turns = turns;
+      }
+
+  -- what was answered before a turn leads to its instant, and what is answered in it and after it leads on
+  pub in_order : (failed stopped : Bool) (first : Instant r w T B) (instants : List (Instant r w T B)) (merged : List Seated) (last : Instant r w T B)
+      → ByTurns took heard seen is_at is_by is_pair is_sound stands leaves failed stopped first instants merged last
+      → (now : Instant r w T B) → Contains instants now
+      → IsInOrder took heard seen is_at is_by is_pair is_sound stands leaves failed stopped first now last merged
+  in_order _ _ _ _ _ _ (none first) now (k, below, is) = absurd (elim below [ ])
+  in_order _ _ _ _ _ _ (more failed stopped first old new instants merged added earlier turn) now among =
+      let back = sound_turn failed stopped old added new turn in
+      let follows = (takes_turn failed stopped old added new turn).served in
+      elim (Contains-push_cases instants old now among) [
+        | inl before ↦
+            (let x = in_order false false first instants merged old earlier now before in record {
+              earlier = x.earlier;
+              later = x.later ++ added;
+              parts = ap (λ l. l ++ added) x.parts ∙ append_assoc x.earlier x.later added;
+              sound = λ sound. x.sound (back sound);
+              answered = x.answered;
+              follows = merges_then failed stopped _ _ _ _ _ _ _ _ _ _ x.later added back x.follows follows;
+            })
+        | inr is ↦
+            subst (λ m. IsInOrder took heard seen is_at is_by is_pair is_sound stands leaves failed stopped first m new (merged ++ added)) is
+            (record {
+              earlier = merged;
+              later = added;
+              parts = refl;
+              sound = back;
+              answered = (takes_turns false false first instants merged old earlier).served;
+              follows = follows;
+            })
+      ]

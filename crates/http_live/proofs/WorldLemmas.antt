@@ -10,7 +10,7 @@ use Rattle.desk_http.specs.Worlds.{asks_by}
 use Rattle.desk_http.proofs.WorldLemmas.{by-in_limits, leads-by, limits_of, one-asked}
 use Rattle.http_conversations.specs.Exchanges.{Exchange}
 use Rattle.http_conversations.specs.Leading.{Comes, Ends, Leads, LeadsBy}
-use Rattle.http_live.specs.Merging.{Merges, exchange_of}
+use Rattle.http_live.specs.Merging.{Merges, Seated, exchange_of}
 use Rattle.http_live.specs.Worlds.{AreDone, GoesOnBy, HasPage, Heard, WorldsGoOn, asks_of}
 
 -- Messages at both doors.
@@ -117,7 +117,7 @@ done_of : (xs : List Exchange) (s t : State) → Leads s xs t → Done s xs t
 done_of [] s t is = record { messages = []; done = refl; leads_to = is }
 done_of (x ∷ xs) s t l = done_more x xs s l.0 t l.1 (done_of xs l.0 t l.2)
 
-goes_on_by : {stood : State → Type 0} (failed : Bool) (stands : State → Type 0) (leaves : State → State → Type 0) (w : List Moment)
+pub goes_on_by : {stood : State → Type 0} (failed : Bool) (stands : State → Type 0) (leaves : State → State → Type 0) (w : List Moment)
     (xs : List Exchange) → ((u : State) → stands u → leaves u u) → StandsAtEnd stood w
     → Ends failed stands leaves (after start w) xs → GoesOnBy failed stands leaves w xs
 goes_on_by false stands leaves w xs settled here e =
@@ -143,14 +143,14 @@ goes_on_by true stands leaves w xs settled here e =
     }
 
 -- what the seats' exchanges merge to is how each world goes on
-pub worlds_go_on : (failed stopped : Bool) (sound : Type 0) (stood stands : State → Type 0) (leaves : State → State → Type 0)
-    (xs ys : List (List Exchange)) → ((u : State) → stands u → leaves u u)
-    → Merges sound stood stands leaves failed stopped xs ys → WorldsGoOn sound stood stands leaves failed stopped xs ys
-worlds_go_on failed stopped sound stood stands leaves xs ys settled m = record {
-  merged = m.merged;
+abbrev pub worlds_go_on : (failed stopped : Bool) (sound : Type 0) (stood stands : State → Type 0) (leaves : State → State → Type 0)
+    (xs ys : List (List Exchange)) (merged : List Seated) → ((u : State) → stands u → leaves u u)
+    → Merges sound stood stands leaves failed stopped xs ys merged → WorldsGoOn sound stood stands leaves failed stopped xs ys
+worlds_go_on failed stopped sound stood stands leaves xs ys merged settled m = record {
+  merged = merged;
   is_merged = m.is_merged;
   stopping = m.stopping;
   worlds = λ is_sound w here.
-      goes_on_by {stood = stood} failed stands leaves w (map exchange_of m.merged) settled here
+      goes_on_by {stood = stood} failed stands leaves w (map exchange_of merged) settled here
       (m.ends is_sound (after start w) here.stands_there);
 }

@@ -1,5 +1,5 @@
 -- What a call leaves of a connection, of a seat, and of all seats.
-use Rattle.std.specs.Prelude.{◌≡◌, Bool, true, false, List, [], map, Result, Ok, IfErr, IfOk, IfSome}
+use Rattle.std.specs.Prelude.{◌≡◌, ◌⊎◌, ℕ, ◌<◌, ◌≤◌, Bool, true, false, List, [], ◌∷◌, ◌++◌, length, map, None, Result, Ok, IfErr, IfOk, IfSome, slice_index_or, slice_set}
 use Rattle.std.specs.declared.io.traits.Read as Read
 use Rattle.std.specs.declared.io.traits.Write as Write
 use Rattle.ledger.specs.Answer.{State}
@@ -9,11 +9,13 @@ use Rattle.desk_http.specs.declared.doors.Door.{Door}
 use Rattle.http_ways.specs.declared.ways.Way.{Way}
 use Rattle.http_conversations.specs.Conversations.{history}
 use Rattle.http_conversations.specs.History.{History}
-use Rattle.http_live.specs.Arrivals.{AreAtTheirDoors, ArePairs, AreReadByTheirWays, arrival_of, arrivals_at}
-use Rattle.http_live.specs.Gains.{is_answer}
-use Rattle.http_live.specs.Merging.{Merges}
+use Rattle.http_conversations.specs.Leading.{GoesOnByOne, has_broken}
+use Rattle.http_live.specs.Arrivals.{AreAtTheirDoors, ArePairs, AreReadByTheirWays, arrival, arrival_of, arrivals_at}
+use Rattle.http_live.specs.Endings.{turn_stops}
+use Rattle.http_live.specs.Gains.{Gains, is_answer}
+use Rattle.http_live.specs.Merging.{Merges, Seated}
 use Rattle.http_live.specs.Resting.{Rests}
-use Rattle.http_live.specs.Seats.{HasStopAmong, HasStopAt, connections_at, exchanges_at, exchanges_with, received_at, received_with}
+use Rattle.http_live.specs.Seats.{HasDoor, HasStopAmong, HasStopAt, connections_at, exchanges_at, exchanges_with, pending_at, received_at, received_with}
 use Rattle.http_live.specs.declared.connection.Connection.{Connection}
 use Rattle.http_live.specs.declared.seats.Seat.{Seat}
 use Rattle.http_live.specs.declared.seats.Standing.{Standing}
@@ -68,7 +70,36 @@ module _ {R W : Type 0} {r : Read.Ghosts R} {w : Write.Ghosts W} where
     pub stopped : result ≡ Ok Stopped → HasStopAt new
     pub broken : IfErr result (λ fault. fault ≡ Store)
 
+  -- a peer took the seat with these ends, by this door and this way
+  pub record IsTakenBy (reader : R) (writer : W) (door : Door) (way : Way) (old new : Seat R W r w) : Type 0 where
+    pub kept : exchanges_at new ≡ exchanges_at old
+    pub arrived : arrivals_at new ≡ arrivals_at old ++ arrival reader writer door way ∷ []
+    pub by : HasDoor door way new.connection
+
+  -- the connection, if there was one, ended
+  pub record IsCleared (old new : Seat R W r w) : Type 0 where
+    pub left : IsLeft old new
+    pub none : new.connection ≡ None
+
+  -- The connection, if there is one, went on by one message at most, which leads the book on. Its page waits, or was lost.
+  pub record GoesOn (sound : Type 0) (stood stands : State → Type 0) (leaves : State → State → Type 0)
+      (result : Result Standing Fault) (old new : Seat R W r w) : Type 0 where
+    pub turn : GoesOnByOne sound stood stands leaves (has_broken result) (turn_stops result) (exchanges_at old) (exchanges_at new)
+    pub ends : EndsTurnAt result old new
+    pub gains : IfOk result (λ standing. Gains standing (pending_at new) (exchanges_at old) (exchanges_at new))
+
   -- Of all seats.
+
+  -- one seat has changed so, and no other
+  pub record ChangesOne (how : Seat R W r w → Seat R W r w → Type 0) (at : ℕ) (before after : List (Seat R W r w)) : Type 0 where
+    pub within : at < length before
+    pub new : Seat R W r w
+    pub is : after ≡ slice_set before at new
+    pub so : how (slice_index_or before at new) new
+
+  -- so has the seat of this number, if there is one, and no other
+  abbrev pub ChangesAt : (Seat R W r w → Seat R W r w → Type 0) → ℕ → List (Seat R W r w) → List (Seat R W r w) → Type 0
+  ChangesAt how at before after = ChangesOne how at before after ⊎ ((length before ≤ at) × (after ≡ before))
 
   -- no message was answered, nobody came, and nothing was read
   pub record AreLeft (old new : List (Seat R W r w)) : Type 0 where
@@ -83,11 +114,12 @@ module _ {R W : Type 0} {r : Read.Ghosts R} {w : Write.Ghosts W} where
     pub ways : AreReadByTheirWays is_by old → AreReadByTheirWays is_by new
     pub pairs : ArePairs is_pair old → ArePairs is_pair new
 
-  -- turns were taken
+  -- turns were taken, by which these exchanges were added
   pub record TakesTurns (is_at : R → Door → Type 0) (is_by : R → Way → Type 0) (is_pair : R → W → Type 0) (sound : Type 0)
-      (stood stands : State → Type 0) (leaves : State → State → Type 0) (store_failed stopped : Bool) (old new : List (Seat R W r w)) : Type 0 where
-    -- the book went on by the exchanges that were added, merged
-    pub served : Merges sound stood stands leaves store_failed stopped (map exchanges_at old) (map exchanges_at new)
+      (stood stands : State → Type 0) (leaves : State → State → Type 0) (store_failed stopped : Bool) (old new : List (Seat R W r w))
+      (merged : List Seated) : Type 0 where
+    -- the book went on by them
+    pub served : Merges sound stood stands leaves store_failed stopped (map exchanges_at old) (map exchanges_at new) merged
     -- where they ended so, the house asked the desk to stop
     pub asked : stopped ≡ true → HasStopAmong new
     pub admits : Admits is_at is_by is_pair old new

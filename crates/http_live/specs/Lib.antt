@@ -9,4 +9,5 @@ pub mod Seats
 pub mod Doors
 pub mod Arrivals
 pub mod Calls
+pub mod InTime
 pub mod Whole

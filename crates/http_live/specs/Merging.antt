@@ -16,6 +16,10 @@ abbrev pub of_seat : ℕ → List Seated → List Exchange
 of_seat at [] = []
 of_seat at (x ∷ later) = if x.0 == at then x.1 ∷ of_seat at later else of_seat at later
 
+-- all of one seat
+abbrev pub seated_at : ℕ → List Exchange → List Seated
+seated_at at xs = map (λ x. (at, x)) xs
+
 -- each seat has those of its own more, in their order
 pub record IsMerged (before after : List (List Exchange)) (merged : List Seated) : Type 0 where
   pub seated : All (λ (x : Seated). x.0 < length before) merged
@@ -23,11 +27,10 @@ pub record IsMerged (before after : List (List Exchange)) (merged : List Seated)
   pub each : (at : ℕ) → at < length before
       → slice_index_or after at [] ≡ slice_index_or before at [] ++ of_seat at merged
 
--- A book went on by the exchanges of all seats, merged, in each state that it stood for, while it is sound. The last of
--- them stops the desk, or none does.
+-- A book went on by these exchanges, those of all seats, merged, in each state that it stood for, while it is sound. The last
+-- of them stops the desk, or none does.
 pub record Merges (sound : Type 0) (stood stands : State → Type 0) (leaves : State → State → Type 0)
-    (store_failed stopped : Bool) (before after : List (List Exchange)) : Type 0 where
-  pub merged : List Seated
+    (store_failed stopped : Bool) (before after : List (List Exchange)) (merged : List Seated) : Type 0 where
   pub is_merged : IsMerged before after merged
   pub stopping : StopAtLast stopped (map exchange_of merged)
   pub ends : sound → (s : State) → stood s → Ends store_failed stands leaves s (map exchange_of merged)

@@ -1,5 +1,5 @@
 -- The exchanges of a seat.
-use Rattle.std.specs.Prelude.{◌≡◌, ℕ, true, List, [], ◌++◌, map, Option, Some, None, option_to_list, slice_set}
+use Rattle.std.specs.Prelude.{◌≡◌, ℕ, true, List, [], ◌++◌, map, Option, Some, None, option_to_list}
 use Rattle.std.specs.List.{Any, flat_map}
 use Rattle.std.specs.declared.io.traits.Read as Read
 use Rattle.std.specs.declared.io.traits.Write as Write
@@ -24,11 +24,6 @@ module _ {R W : Type 0} {r : Read.Ghosts R} {w : Write.Ghosts W} where
   HasDoor door way None = ⊥
   HasDoor door way (Some c) =
       ((history c.conversation).door ≡ door) × ((history c.conversation).way ≡ way)
-
-  -- a connection took one seat by this door and this way, and no other seat has changed
-  abbrev pub IsTaken : ℕ → Door → Way → List (Seat R W r w) → List (Seat R W r w) → Type 0
-  IsTaken at door way before after =
-      (seat : Seat R W r w) × (after ≡ slice_set before at seat) × HasDoor door way seat.connection
 
   -- the message that was answered last asked the desk to stop
   abbrev pub HasStop : Option (Connection R W r w) → Type 0

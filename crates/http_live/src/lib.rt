@@ -10,11 +10,13 @@
 #![tactic(auto)]
 
 mod connection;
+mod laws;
 mod seats;
 mod serving;
 mod whole;
 
 pub use connection::Connection;
+pub use laws::{second_turn_sees_the_first, turns_are_in_order};
 pub use seats::{SEATS, Seat, Standing, empty_seats};
 pub use serving::{Ending, Turn, Turns, finish_many, serve_many};
 pub use whole::serve_to_end;

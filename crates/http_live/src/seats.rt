@@ -1,12 +1,11 @@
 //! Places for one connection after another, and what each waits for.
 ghost use Rattle.http_conversations.specs.Leading.{GoesOnByOne, has_broken};
-ghost use Rattle.http_live.specs.Arrivals.{arrival, arrivals_at};
-ghost use Rattle.http_live.specs.Calls.{EndsTurnAt, IsEmpty, IsLeft};
+ghost use Rattle.http_live.specs.Calls.{EndsTurnAt, IsEmpty, IsLeft, IsTakenBy};
 ghost use Rattle.http_live.specs.Endings.{turn_stops};
 ghost use Rattle.http_live.specs.Gains.{Gains};
-ghost use Rattle.http_live.specs.Seats.{HasDoor, exchanges_at, pending_at};
+ghost use Rattle.http_live.specs.Seats.{exchanges_at, pending_at};
 ghost use Rattle.saga_core.specs.Calls.{Serves};
-ghost use Rattle.std.specs.Prelude.{◌≡◌, ◌∷◌, ◌++◌, ◌≤◌, [], All, length, IfOk};
+ghost use Rattle.std.specs.Prelude.{◌≡◌, ◌≤◌, All, length, IfOk};
 
 use crate::connection::Connection;
 use commands::Fault;
@@ -44,10 +43,7 @@ impl<R: Read + Drop, W: Write + Drop> Seat<R, W> {
 
     /// A connection takes the seat, by this door and this way. Which was there before ends.
     pub(crate) fn take(&mut self, alloc: Global, door: Door, way: Way, reader: R, writer: W)
-        ensures kept { exchanges_at self.new ≡ exchanges_at self.old }
-        ensures door { HasDoor door way self.new.connection }
-        ensures arrivals { arrivals_at self.new
-            ≡ arrivals_at self.old ++ arrival reader writer door way ∷ [] }
+        ensures taken { IsTakenBy reader writer door way self.old self.new }
     {
         self.clear();
         self.connection = Some(Connection::new(alloc, door, way, reader, writer));

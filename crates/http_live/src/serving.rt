@@ -1,14 +1,15 @@
 //! Where turns come from; serving the connections of all seats, and ending those that are left.
 
 ghost use Rattle.http_conversations.specs.Leading.{has_broken};
-ghost use Rattle.http_live.specs.Calls.{Admits, AreLeft, TakesTurns};
+ghost use Rattle.http_live.specs.Calls.{AreLeft, ChangesAt, IsTakenBy};
 ghost use Rattle.http_live.specs.Endings.{ends_stopped, has_stopped, ending_after};
-ghost use Rattle.http_live.specs.Seats.{IsTaken, exchanges_at};
-ghost use Rattle.http_live.specs.Worlds.{WorldsGoOn};
+ghost use Rattle.http_live.specs.InTime.{InTime, Sees, TakesSome, TakesTurn, instant};
 ghost use Rattle.saga_core.specs.Calls.{Serves};
-ghost use Rattle.std.specs.Prelude.{◌≡◌, ◌<◌, ◌≤◌, length, map, false, true, Ok, Err, Some, IfErr};
+ghost use Rattle.std.specs.Prelude.{◌≡◌, ◌≤◌, ⊤, ℕ, length, false, true, Ok, Err, Some, IfErr};
 ghost use Rattle.desk_http.specs.declared.doors.Door.{Door};
 ghost use Rattle.http_live.specs.Doors.{ComesByItsDoor, ComesByItsWay, ComesWithBoth, EndsOnlyIf};
+ghost use Rattle.http_live.specs.declared.seats.Standing.{Standing};
+ghost use Rattle.http_live.specs.declared.serving.Turn.{Turn};
 ghost use Rattle.http_ways.specs.declared.ways.Way.{Way};
 
 use crate::seats::{Seat, Standing};
@@ -33,12 +34,9 @@ pub fn serve_many<T: Turns, B: Reporting>(
     turns: &mut T,
     book: &mut Ready<B>,
 ) -> Result<Ending, Fault>
-    ensures turns { TakesTurns T.is_at T.is_by T.is_pair (B.is_sound book.new)
-        (B.stands book.old) (B.stands book.new) (B.leaves book.new) (has_broken result)
-        (has_stopped result) seats.old seats.new }
-    ensures worlds { WorldsGoOn (B.is_sound book.new) (B.stands book.old) (B.stands book.new)
-        (B.leaves book.new) (has_broken result) (has_stopped result) (map exchanges_at seats.old)
-        (map exchanges_at seats.new) }
+    ensures in_time { InTime T.took T.heard T.seen T.is_at T.is_by T.is_pair B.is_sound B.stands
+        B.leaves (has_broken result) (has_stopped result)
+        (instant turns.old seats.old book.old) (instant turns.new seats.new book.new) }
     ensures over { result ≡ Ok Ending.NoTurn → T.is_over turns.new }
 
     ensures memory { result ≡ Err Fault.Memory →
@@ -65,9 +63,9 @@ fn serve_turns<T: Turns, B: Reporting>(
 ) -> Result<Ending, Fault>
     requires small { length buffer.old ≤ MOST_READ }
 
-    ensures turns { TakesTurns T.is_at T.is_by T.is_pair (B.is_sound book.new)
-        (B.stands book.old) (B.stands book.new) (B.leaves book.new) (has_broken result)
-        (has_stopped result) seats.old seats.new }
+    ensures turns { TakesSome T.took T.heard T.seen T.is_at T.is_by T.is_pair B.is_sound B.stands
+        B.leaves (has_broken result) (has_stopped result)
+        (instant turns.old seats.old book.old) (instant turns.new seats.new book.new) }
     ensures over { result ≡ Ok Ending.NoTurn → T.is_over turns.new }
 
     ensures broken { IfErr result (λ fault. fault ≡ Fault.Store) }
@@ -94,9 +92,9 @@ fn take_turn<T: Turns, B: Reporting>(
 ) -> Result<Option<Ending>, Fault>
     requires small { length buffer.old ≤ MOST_READ }
 
-    ensures turns { TakesTurns T.is_at T.is_by T.is_pair (B.is_sound book.new)
-        (B.stands book.old) (B.stands book.new) (B.leaves book.new) (has_broken result)
-        (ends_stopped result) seats.old seats.new }
+    ensures turn { TakesTurn T.took T.heard T.seen T.is_at T.is_by T.is_pair B.is_sound B.stands
+        B.leaves (has_broken result) (ends_stopped result)
+        (instant turns.old seats.old book.old) (instant turns.new seats.new book.new) }
     ensures over { result ≡ Ok (Some Ending.NoTurn) → T.is_over turns.new }
 
     ensures broken { IfErr result (λ fault. fault ≡ Fault.Store) }
@@ -131,7 +129,9 @@ fn take_turn<T: Turns, B: Reporting>(
 }
 
 /// Shows whether something was received at a seat and may be answered, before its turn.
-fn show_received<T: Turns>(seats: &[Seat<T::Reader, T::Writer>], turns: &mut T, at: usize) {
+fn show_received<T: Turns>(seats: &[Seat<T::Reader, T::Writer>], turns: &mut T, at: usize)
+    ensures sees { Sees T.seen turns.old turns.new }
+{
     if let Some(seat) = seats.get(at) {
         turns.see_received(at, seat.has_unanswered());
     }
@@ -144,7 +144,9 @@ fn show_page<T: Turns>(
     at: usize,
     standing: Standing,
     seen: Option<&Arrived>,
-) {
+)
+    ensures sees { Sees T.seen turns.old turns.new }
+{
     if let Some(seat) = seats.get(at) {
         turns.see_page(at, standing, seen, seat.unsent(), seat.closes());
     }
@@ -160,13 +162,7 @@ fn welcome<T: Turns>(
     reader: T::Reader,
     writer: T::Writer,
 )
-    requires door { T.is_at reader door }
-    requires way { T.is_by reader way }
-    requires pair { T.is_pair reader writer }
-
-    ensures kept { map exchanges_at seats.new ≡ map exchanges_at seats.old }
-    ensures taken { at < length seats.old → IsTaken at door way seats.old seats.new }
-    ensures admits { Admits T.is_at T.is_by T.is_pair seats.old seats.new }
+    ensures taken { ChangesAt (IsTakenBy reader writer door way) at seats.old seats.new }
 {
     if at >= seats.len() {
         return;
@@ -259,19 +255,31 @@ pub trait Turns {
     /// There is a reason that no turn comes any more.
     ghost is_over: { Self → Type 0 };
 
+    /// The source gave this turn, and went on from the one to the other.
+    ghost took: { Self → Turn Self.Reader Self.Writer → Self → Type 0 } = { λ _ _ _. ⊤ };
+
+    /// It heard for what the connection of this seat waits, and went on from the one to the other.
+    ghost heard: { Self → ℕ → Standing → Self → Type 0 } = { λ _ _ _ _. ⊤ };
+
+    /// It was shown something, or asked for the time, and went on from the one to the other.
+    ghost seen: { Self → Self → Type 0 } = { λ _ _. ⊤ };
+
     /// Waits for the next turn. A peer comes by the door of its reader, and is read by the way of its reader. Its pages go to
     /// the writer of the same peer.
     fn next_turn(&mut self) -> Turn<Self::Reader, Self::Writer>
         ensures door { ComesByItsDoor is_at result }
         ensures way { ComesByItsWay is_by result }
         ensures pair { ComesWithBoth is_pair result }
-        ensures over { EndsOnlyIf (is_over self.new) result };
+        ensures over { EndsOnlyIf (is_over self.new) result }
+        ensures takes { took self.old result self.new };
 
     /// The administrator stops the desk: nobody comes any more, and no turn comes once the pages that wait had time to go out.
     fn stop(&mut self) {}
 
     /// What the clock shows, in seconds since 1970, if it can be read. Pages by the wide way have its date.
-    fn second(&mut self) -> Option<u64> {
+    fn second(&mut self) -> Option<u64>
+        ensures sees { Sees seen self.old self.new }
+    {
         None
     }
 
@@ -282,7 +290,9 @@ pub trait Turns {
 
     /// Sees whether a message, or part of one, waits at a seat to be answered in its turn, which comes next. Nothing depends on
     /// it: a log may be kept so.
-    fn see_received(&mut self, _seat: usize, _has_part: bool) {}
+    fn see_received(&mut self, _seat: usize, _has_part: bool)
+        ensures sees { Sees seen self.old self.new }
+    {}
 
     /// Sees how a turn of a seat ended, the message that was taken in it, if one was, what is left of the page, and whether the
     /// connection ends after it. Nothing depends on it.
@@ -293,10 +303,13 @@ pub trait Turns {
         _seen: Option<&Arrived>,
         _page: &[u8],
         _closes: bool,
-    ) {}
+    )
+        ensures sees { Sees seen self.old self.new }
+    {}
 
     /// Hears what the connection of a seat waits for after its turn.
-    fn hear(&mut self, seat: usize, standing: Standing);
+    fn hear(&mut self, seat: usize, standing: Standing)
+        ensures hears { heard self.old seat standing self.new };
 }
 
 /// Why no more turns are taken.

@@ -7,7 +7,7 @@ use Rattle.std.proofs.lemmas.List.Folds.{list_any_at, list_any_more}
 use Rattle.std.proofs.lemmas.Option.{get_or_from_slice_get, same_Some, slice_get_past, slice_get_read}
 use Rattle.std.specs.List.{list_any}
 use Rattle.http_sockets.specs.declared.places.Place.{Place}
-use Rattle.http_sockets.specs.Seats.{AddWaiting, Changes, HaveTurns, IsChosen, heard_at, is_free, is_free_at, is_overdue, overdue_from, queued, times, waits_at}
+use Rattle.http_sockets.specs.Seats.{AddWaiting, Changes, HaveTurns, IsChosen, heard_at, is_free, is_overdue, overdue_from, queued, times, waits_at}
 
 -- the seat that a look-up finds
 pub found : (seats : List Place) (at : ℕ) (seat : Place) → at < length seats → seat ≡ get_or seats at seat

@@ -7,7 +7,7 @@ use Rattle.http_sockets.specs.declared.places.ReadEnd.{ReadEnd}
 use Rattle.http_sockets.specs.declared.places.WriteEnd.{WriteEnd}
 use Rattle.http_sockets.specs.declared.sockets.Sockets.{Sockets}
 use Rattle.http_sockets.specs.Counts.{IsFewer, IsNoMore, one_fewer}
-use Rattle.http_sockets.specs.Limits.{still_to_come}
+use Rattle.http_sockets.specs.Options.{still_to_come}
 use Rattle.http_sockets.specs.Turns.{IsComing, IsFirst, IsSeated, IsUnseated}
 
 -- a turn of somebody needs no reason that none comes

@@ -12,7 +12,6 @@ use Rattle.http_sockets.specs.declared.places.ReadEnd.{ReadEnd}
 use Rattle.http_sockets.specs.declared.places.WriteEnd.{WriteEnd}
 use Rattle.http_sockets.specs.declared.places.Socket.{Socket}
 use Rattle.http_sockets.specs.declared.places.Socket.TheVariants.{Port, Path}
-use Rattle.http_sockets.specs.declared.sockets.Sockets.{Sockets}
 
 -- those at the path come in at the door of the house, and none at the port does
 abbrev pub IsDoorOf : Socket → Door → Type 0
@@ -33,10 +32,6 @@ door_of (Path stream) page = House
 door_of (Port stream) (Some site) = doors.Page site
 door_of (Port stream) None = doors.Port
 
--- the page that who comes to the port is served too
-abbrev pub page_at_port : Sockets → Option Site
-page_at_port sockets = sockets.page
-
 -- who comes in this turn, if anybody does, comes by the door of its socket, where this page is served at the port
 abbrev pub ComesAt : {W : Type 0} → Option Site → Turn ReadEnd W → Type 0
 ComesAt page (Comes at door way reader writer) = door ≡ door_of reader.0.value page
@@ -47,10 +42,6 @@ ComesAt page End = ⊤
 -- what the end of a socket gives is read by its way
 abbrev pub IsReadBy : ReadEnd → Way → Type 0
 IsReadBy end way = end.1 ≡ way
-
--- the way by which who comes from now on is read
-abbrev pub way_to_come : Sockets → Way
-way_to_come sockets = sockets.way
 
 -- who comes in this turn, if anybody does, is read by this way
 abbrev pub ComesBy : {R W : Type 0} → Way → Turn R W → Type 0

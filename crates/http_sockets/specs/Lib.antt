@@ -1,5 +1,4 @@
 pub mod Doors
-pub mod Limits
 pub mod Ends
 pub mod Owed
 pub mod Seats
@@ -7,3 +6,4 @@ pub mod Places
 pub mod Turns
 pub mod Listening
 pub mod Counts
+pub mod Options

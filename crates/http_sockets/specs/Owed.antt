@@ -1,5 +1,5 @@
 -- What a peer owes.
-use Rattle.std.specs.Prelude.{Bool, true, false, ◌||◌, not, if◌then◌else◌, ℕ}
+use Rattle.std.specs.Prelude.{Bool, true, false, not}
 use Rattle.http_live.specs.declared.seats.Standing.{Standing}
 use Rattle.http_live.specs.declared.seats.Standing.TheVariants.{Between, Amid, Unsent, Lingering, Answered, Stopped, Busy, Over}
 use Rattle.http_log.specs.declared.endings.Why.{Why}

@@ -1,12 +1,11 @@
 -- What is known of each seat: its peer, what that owes and since when, when it last sent or took something, and whether the
 -- seat waits for its turn.
-use Rattle.std.specs.Prelude.{◌≡◌, ◌≤◌, ◌+◌, ◌-◌, ℕ, Bool, true, false, ◌&&◌, ◌||◌, not, Some, None, is_none, is_some, List, [], ◌∷◌, All, MatchOption, nat_lt, ◌==◌, slice_get, slice_set, if◌then◌else◌, ◌⊎◌, option_map}
+use Rattle.std.specs.Prelude.{◌≡◌, ◌≤◌, ◌+◌, ◌-◌, ℕ, Bool, true, false, ◌&&◌, ◌||◌, Some, None, is_none, is_some, List, [], ◌∷◌, All, MatchOption, nat_lt, ◌==◌, slice_get, slice_set, if◌then◌else◌, ◌⊎◌, option_map}
 use Rattle.std.specs.List.{list_any}
 use Rattle.std.specs.Option.{option_map_or}
 use Rattle.std.specs.declared.alloc.Global.{Global}
 use Rattle.std.specs.declared.rc.Rc.{Rc}
 use Rattle.http_live.specs.declared.seats.Standing.{Standing}
-use Rattle.http_live.specs.declared.seats.Standing.TheVariants.{Between, Amid, Unsent, Lingering, Answered, Stopped, Busy, Over}
 use Rattle.http_log.specs.declared.endings.Why.{Why}
 use Rattle.http_log.specs.declared.endings.Why.TheVariants.{Closed}
 use Rattle.http_sockets.specs.declared.places.TheConstants.{LINGERING}

@@ -12,7 +12,7 @@ use Rattle.http_sockets.specs.declared.places.Socket.{Socket}
 use Rattle.http_sockets.specs.declared.places.WriteEnd.{WriteEnd}
 use Rattle.http_sockets.specs.declared.sockets.Sockets.{Sockets}
 use Rattle.http_sockets.specs.Counts.{IsNoMore}
-use Rattle.http_sockets.specs.Limits.{still_to_come}
+use Rattle.http_sockets.specs.Options.{still_to_come}
 use Rattle.http_sockets.specs.Places.{round_of, seats_of}
 use Rattle.http_sockets.specs.Seats.{Changes, IsChosen, cleared, heard_so, overdue_from, queued, served, taken}
 

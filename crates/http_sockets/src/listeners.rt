@@ -1,5 +1,6 @@
 //! The listeners: a port of 127.0.0.1, and perhaps the path of a Unix socket.
-ghost use Rattle.http_sockets.specs.Listening.{IsPortHere};
+ghost use Rattle.std.specs.Prelude.{◌≡◌, ◌↔◌, IsTrue, MatchResult};
+ghost use Rattle.http_sockets.specs.Listening.{IsForLater, IsOfOne, IsPortHere};
 
 use crate::files::{listen_at, remove_socket};
 use crate::places::{Places, Socket};
@@ -49,8 +50,13 @@ pub(crate) enum Accepted {
 }
 
 impl Accepted {
+    ghost use Rattle.http_sockets.specs.declared.listeners.Accepted.TheVariants.{Lost, Nobody};
+
     /// What an error of a listener comes to.
-    fn from_error(error: &io::Error) -> Accepted {
+    fn from_error(error: &io::Error) -> Accepted
+        ensures nobody { IsForLater error.now → result ≡ Nobody }
+        ensures lost { (IsForLater error.now → ⊥) → result ≡ Lost }
+    {
         let is_later = matches!(
             error.kind(),
             ErrorKind::WouldBlock | ErrorKind::Interrupted | ErrorKind::OutOfMemory
@@ -171,7 +177,10 @@ impl<'a> Listeners<'a> {
 }
 
 /// Whether one more may wait after this. Where none can be taken, the next tick asks again.
-fn may_wait_after<T>(accepted: &io::Result<T>) -> bool {
+fn may_wait_after<T>(accepted: &io::Result<T>) -> bool
+    ensures waits { MatchResult accepted.now (λ _. IsTrue result)
+        (λ error. IsTrue result ↔ IsOfOne error) }
+{
     match accepted {
         Ok(_) => true,
         Err(error) => {

@@ -72,8 +72,8 @@ pub struct Sockets<'a> {
 
 impl<'a> Sockets<'a> {
     ghost use Rattle.http_sockets.specs.Ends.{HasWaited, HaveLeft, is_failed};
-    ghost use Rattle.http_sockets.specs.Doors.{ComesAt, ComesBy, page_at_port, way_to_come};
-    ghost use Rattle.http_sockets.specs.Limits.{KeepsLimits, patience_of, still_to_come};
+    ghost use Rattle.http_sockets.specs.Doors.{ComesAt, ComesBy};
+    ghost use Rattle.http_sockets.specs.Options.{AddsPage, options_of, options_within, page_at_port, still_to_come, way_to_come};
     ghost use Rattle.http_sockets.specs.Seats.{AddWaiting};
     ghost use Rattle.http_sockets.specs.Turns.{EndsLate, IsSeated, IsUnseated, seats_in};
 
@@ -86,11 +86,7 @@ impl<'a> Sockets<'a> {
         path: Option<&'a str>,
         limits: Limits,
     ) -> io::Result<Sockets<'a>>
-        ensures no_page { IfOk result (λ sockets. page_at_port sockets ≡ None) }
-        ensures way { IfOk result (λ sockets. way_to_come sockets ≡ Way.Profile) }
-        ensures connections { IfOk result
-            (λ sockets. still_to_come sockets ≡ limits.connections) }
-        ensures patience { IfOk result (λ sockets. patience_of sockets ≡ limits.patience) }
+        ensures options { IfOk result (λ sockets. options_of sockets ≡ options_within limits) }
     {
         let poll = Poll::new(rt)?;
         let events = Events::with_capacity(alloc, EVENTS)?;
@@ -124,9 +120,7 @@ impl<'a> Sockets<'a> {
     /// Writes a line on standard error for each request and for each connection that ended, from now on, in this form. Nothing
     /// else changes.
     pub fn log(&mut self, form: LogForm)
-        ensures page { page_at_port self.new ≡ page_at_port self.old }
-        ensures way { way_to_come self.new ≡ way_to_come self.old }
-        ensures limits { KeepsLimits self.old self.new }
+        ensures options { options_of self.new ≡ record (options_of self.old) { log = Some form } }
     {
         self.journal.log(form);
     }
@@ -138,12 +132,9 @@ impl<'a> Sockets<'a> {
 
     /// Who comes to the port from now on is served this page too.
     pub fn show(&mut self, page: HtmlPage) -> io::Result<()>
-        ensures shown { OnOk result (IfSome (page_at_port self.new) (λ site. site.page ≡ page)) }
-        ensures some { OnOk result (IsSome (page_at_port self.new)) }
-        ensures way { way_to_come self.new ≡ way_to_come self.old }
-        ensures limits { KeepsLimits self.old self.new }
+        ensures options { OnOk result (AddsPage page (options_of self.old) (options_of self.new)) }
 
-        ensures err { OnErr result (page_at_port self.new ≡ page_at_port self.old) }
+        ensures err { OnErr result (options_of self.new ≡ options_of self.old) }
     {
         let port = self.port()?;
         self.page = Some(Site { port, page });
@@ -152,9 +143,7 @@ impl<'a> Sockets<'a> {
 
     /// Who comes from now on may speak HTTP as libraries, proxies and pools do.
     pub fn widen(&mut self)
-        ensures way { way_to_come self.new ≡ Way.Wide }
-        ensures page { page_at_port self.new ≡ page_at_port self.old }
-        ensures limits { KeepsLimits self.old self.new }
+        ensures options { options_of self.new ≡ record (options_of self.old) { way = Way.Wide } }
     {
         self.way = Way::Wide;
     }
@@ -373,7 +362,7 @@ impl Rounds for Sockets<'_> {
 }
 
 impl Turns for Sockets<'_> {
-    ghost use Rattle.http_sockets.specs.Limits.{still_to_come};
+    ghost use Rattle.http_sockets.specs.Options.{still_to_come};
     ghost use Rattle.http_sockets.specs.Seats.{AddWaiting};
     ghost use Rattle.http_sockets.specs.Turns.{HearsSo, seats_in};
 

@@ -1,23 +1,25 @@
 -- Turn after turn.
-use Rattle.std.proofs.Common.{Ok, ap, false, rules}
+use Rattle.std.proofs.Common.{Ok, ap, rules}
 use Rattle.std.proofs.lemmas.Result.{err_from_is_err_and}
-use Rattle.http_live.specs.Endings.{ends_stopped, is_stopped}
+use Rattle.http_live.specs.Endings.{ends_stopped}
+use Rattle.http_live.specs.InTime.{instant}
 use Rattle.saga_core.proofs.CallLemmas.{stays_alone, stays_served, stays_twice}
-use Rattle.http_live.proofs.TurnLemmas.{no_turns, turns_as, turns_then}
+use Rattle.http_live.proofs.TurnLemmas.{no_turn, one_more, turn_as}
 use Rattle.http_live.proofs.serving.serve_turns.Goals as goal
 
 -- no turn was taken yet
 pub loop-init : goal.loop-init
-loop-init g c = record { turns = no_turns c.args.seats.now; stays = stays_alone c.args.book.now }
+loop-init g c = record {
+  turns = no_turn (instant c.args.turns.now c.args.seats.now c.args.book.now);
+  stays = stays_alone c.args.book.now;
+}
 
 -- one more turn was taken
 pub loop-preserved : goal.loop-preserved
 loop-preserved g c =
     let at = c.loop in
     let turn = c.in_ok-ending.ensures in record {
-      turns = turns_then false c.args.seats.now at.seats c.take_turn.new.seats turn.serves.sound at.invariant.turns
-          (turns_as (ends_stopped (Ok c.in_ok-ending.ending)) false at.seats c.take_turn.new.seats
-          (ap (λ end. ends_stopped (Ok end)) c.in-None.is) turn.turns);
+      turns = one_more at.invariant.turns (turn_as (ap (λ end. ends_stopped (Ok end)) c.in-None.is) turn.turn);
       stays = stays_twice at.invariant.stays (stays_served turn.serves);
     }
 
@@ -25,18 +27,12 @@ loop-preserved g c =
 pub returns-in_err-ending-clause-turns : goal.returns-in_err-ending-clause-turns
 returns-in_err-ending-clause-turns g c =
     let failed = err_from_is_err_and c.from_residual.result c.from_residual.ensures.1 in
-    let turn = c.in_err-ending.ensures in
-    rw (failed.1, failed.2)
-    (turns_then false c.args.seats.now c.loop.seats c.take_turn.new.seats turn.serves.sound c.loop.invariant.turns turn.turns)
+    rw (failed.1, failed.2) (one_more c.loop.invariant.turns c.in_err-ending.ensures.turn)
 
 -- serving ends
 pub returns-in-Some-clause-turns : goal.returns-in-Some-clause-turns
 returns-in-Some-clause-turns g c =
-    let at = c.loop in
-    let turn = c.in_ok-ending.ensures in
-    turns_then (is_stopped c.in-Some.ending) c.args.seats.now at.seats c.take_turn.new.seats turn.serves.sound at.invariant.turns
-    (turns_as (ends_stopped (Ok c.in_ok-ending.ending)) (is_stopped c.in-Some.ending) at.seats c.take_turn.new.seats
-    (ap (λ end. ends_stopped (Ok end)) c.in-Some.is) turn.turns)
+    one_more c.loop.invariant.turns (turn_as (ap (λ end. ends_stopped (Ok end)) c.in-Some.is) c.in_ok-ending.ensures.turn)
 
 pub returns-in-Some-clause-serves : goal.returns-in-Some-clause-serves
 returns-in-Some-clause-serves g c =

@@ -1,13 +1,14 @@
 use Rattle.std.proofs.Common.{false}
 use Rattle.saga_core.specs.Calls.{Stays}
-use Rattle.http_live.specs.Calls.{TakesTurns}
+use Rattle.http_live.specs.InTime.{TakesSome, instant}
 use Rattle.http_live.proofs.serving.serve_turns.Given as goal
 
 -- the turns so far
 abbrev pub invariant-loop : goal.invariant-loop
 invariant-loop g l =
-    let book = g.B.Book in record {
-      turns : TakesTurns g.T.Turns.is_at g.T.Turns.is_by g.T.Turns.is_pair (book.is_sound l.book)
-          (book.stands l.fn.book) (book.stands l.book) (book.leaves l.book) false false l.fn.seats l.seats;
+    let book = g.B.Book in
+    let turns = g.T.Turns in record {
+      turns : TakesSome turns.took turns.heard turns.seen turns.is_at turns.is_by turns.is_pair book.is_sound book.stands book.leaves
+          false false (instant l.fn.turns l.fn.seats l.fn.book) (instant l.turns l.seats l.book);
       stays : Stays book.is_sound book.leaves book.has_failed l.fn.book l.book;
     }

@@ -1,52 +1,65 @@
 -- A turn is one of a seat, or none.
-use Rattle.std.proofs.Common.{◌≡◌, ◌∙◌, Ok, ap, false, refl, sym}
+use Rattle.std.proofs.Common.{◌≡◌, ◌∙◌, [], Ok, Err, ap, inl, inr, refl, sym}
 use Rattle.std.proofs.lemmas.Result.{err_from_is_err_and}
 use Rattle.http_live.specs.Endings.{ends_stopped, is_stop}
-use Rattle.http_live.proofs.LeadLemmas.{turn_as, turn_none}
-use Rattle.http_live.proofs.RestLemmas.{asked_to_stop, stops_in_turn}
-use Rattle.http_live.proofs.TurnLemmas.{no_turns, turns_none, turns_set}
+use Rattle.http_live.specs.InTime.{came, ended, had_none, left, went_on}
+use Rattle.http_live.proofs.RestLemmas.{stops_in_turn}
+use Rattle.http_live.proofs.TurnLemmas.{changes_one, turn_as}
 use Rattle.http_live.proofs.serving.take_turn.Goals as goal
 
 -- a peer takes a seat, or is let go
-pub returns-in-Comes-clause-turns : goal.returns-in-Comes-clause-turns
-returns-in-Comes-clause-turns g c =
-    turns_none c.args.seats.now c.welcome.new.seats c.welcome.ensures.kept c.welcome.ensures.admits
+pub returns-in-Comes-clause-turn : goal.returns-in-Comes-clause-turn
+returns-in-Comes-clause-turn g c =
+    let come = c.in-Comes.ensures in
+    ([], came _ _ _ c.welcome.new.seats _ _ _ _ _ _ come.takes come.door come.way come.pair c.welcome.ensures.taken)
 
 -- the store failed at the message of a seat
-pub returns-in_err-standing-in-Ready-clause-turns : goal.returns-in_err-standing-in-Ready-clause-turns
-returns-in_err-standing-in-Ready-clause-turns g c =
+pub returns-in_err-standing-in-Ready-clause-turn : goal.returns-in_err-standing-in-Ready-clause-turn
+returns-in_err-standing-in-Ready-clause-turn g c =
     let failed = err_from_is_err_and c.from_residual.result c.from_residual.ensures.1 in
     let turn = c.in_err-standing-in-Ready.ensures in
-    rw (failed.1, failed.2)
-    (turns_set false c.args.seats.now c.in-Ready.at c.index-seats-at.result _ c.if-at-seats.true turn.turn turn.ends.arrivals (λ is. cc))
+    rw (failed.1, failed.2) (
+      _,
+      went_on _ _ _ _ _ _ _ _ _ c.in-Ready.at _ c.in-Ready.ensures.takes c.show_received.ensures.sees c.second-second.ensures.sees
+          (changes_one _ c.args.seats.now c.in-Ready.at c.index-seats-at.result _ c.if-at-seats.true
+          (record { turn = turn.turn; ends = turn.ends; gains = turn.gains }))
+          refl turn.serves.sound,
+    )
 
 -- the connection of a seat went on
-pub returns-then-at-seats-clause-turns : goal.returns-then-at-seats-clause-turns
-returns-then-at-seats-clause-turns g c =
+pub returns-then-at-seats-clause-turn : goal.returns-then-at-seats-clause-turn
+returns-then-at-seats-clause-turn g c =
     let turn = c.in_ok-standing-in-Ready.ensures in
     let standing = c.in_ok-standing-in-Ready.standing in
-    let stopped = ends_stopped (Ok c.ending_after.result) in
-    let same : stopped ≡ is_stop standing =
-    ap (λ end. ends_stopped (Ok end)) c.ending_after.ensures.ending ∙ stops_in_turn standing in
-    turns_set stopped c.args.seats.now c.in-Ready.at c.index-seats-at.result _ c.if-at-seats.true
-    (turn_as stopped (is_stop standing) _ _ _ same refl turn.turn) turn.ends.arrivals
-    (λ is. turn.ends.stopped (ap Ok (asked_to_stop standing (sym same ∙ is))))
+    let same : is_stop standing ≡ ends_stopped (Ok c.ending_after.result) =
+    sym (ap (λ end. ends_stopped (Ok end)) c.ending_after.ensures.ending ∙ stops_in_turn standing) in
+    turn_as same (
+      _,
+      went_on _ _ _ _ _ _ _ _ _ c.in-Ready.at (Ok standing) c.in-Ready.ensures.takes c.show_received.ensures.sees c.second-second.ensures.sees
+          (changes_one _ c.args.seats.now c.in-Ready.at c.index-seats-at.result _ c.if-at-seats.true
+          (record { turn = turn.turn; ends = turn.ends; gains = turn.gains }))
+          (_, c.show_page.ensures.sees, c.hear.ensures.hears) turn.serves.sound,
+    )
 
 -- there is no such seat
-pub returns-else-at-seats-clause-turns : goal.returns-else-at-seats-clause-turns
-returns-else-at-seats-clause-turns g c = no_turns c.args.seats.now
+pub returns-else-at-seats-clause-turn : goal.returns-else-at-seats-clause-turn
+returns-else-at-seats-clause-turn g c = ([], had_none _ _ _ _ c.in-Ready.at c.in-Ready.ensures.takes c.if-at-seats.false)
 
 -- the connection of a seat ends
-pub returns-then-at-seats-2-clause-turns : goal.returns-then-at-seats-2-clause-turns
-returns-then-at-seats-2-clause-turns g c =
-    let left = c.clear.ensures.left in
-    turns_set false c.args.seats.now c.in-Leaves.at c.index-seats-at-then-at-seats-2.result _ c.if-at-seats-2.true
-    (turn_none false _ _ refl left.kept) left.arrivals (λ is. cc)
+pub returns-then-at-seats-2-clause-turn : goal.returns-then-at-seats-2-clause-turn
+returns-then-at-seats-2-clause-turn g c =
+    let clear = c.clear.ensures in (
+      [],
+      left _ _ _ _ _ c.in-Leaves.at c.in-Leaves.ensures.takes
+          (inl (changes_one _ c.args.seats.now c.in-Leaves.at c.index-seats-at-then-at-seats-2.result _ c.if-at-seats-2.true
+          (record { left = clear.left; none = clear.none }))),
+    )
 
 -- there is no such seat
-pub returns-else-at-seats-2-clause-turns : goal.returns-else-at-seats-2-clause-turns
-returns-else-at-seats-2-clause-turns g c = no_turns c.args.seats.now
+pub returns-else-at-seats-2-clause-turn : goal.returns-else-at-seats-2-clause-turn
+returns-else-at-seats-2-clause-turn g c =
+    ([], left _ _ _ _ _ c.in-Leaves.at c.in-Leaves.ensures.takes (inr (c.if-at-seats-2.false, refl)))
 
 -- no turn comes
-pub returns-in-End-clause-turns : goal.returns-in-End-clause-turns
-returns-in-End-clause-turns g c = no_turns c.args.seats.now
+pub returns-in-End-clause-turn : goal.returns-in-End-clause-turn
+returns-in-End-clause-turn g c = ([], ended _ _ _ _ c.in-End.ensures.takes)

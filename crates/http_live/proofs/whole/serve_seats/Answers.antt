@@ -5,5 +5,5 @@ use Rattle.http_live.proofs.whole.serve_seats.Goals as goal
 pub returns-in-Stopped-clause-admits : goal.returns-in-Stopped-clause-admits
 returns-in-Stopped-clause-admits g c =
     let served = c.serve_many.new.seats in
-    admits_then c.args.seats.now served c.finish.new.seats c.in_ok-serve_many.ensures.turns.admits
+    admits_then c.args.seats.now served c.finish.new.seats c.in_ok-serve_many.ensures.in_time.turns.admits
     (admits_left served c.finish.new.seats c.finish.ensures.left)

@@ -22,7 +22,7 @@ returns-in_default-clause-goes_on g c =
       goes_on = record {
         stopped = false;
         stops_as = refl;
-        worlds = worlds_go_on false false (book.is_sound b) (book.stands b) (book.stands b) (book.leaves b) [] [] (g.met.B.Book.settled b)
+        worlds = worlds_go_on false false (book.is_sound b) (book.stands b) (book.stands b) (book.leaves b) [] [] [] (g.met.B.Book.settled b)
             (merges_none (book.is_sound b) (book.stands b) (book.leaves b) [] [] refl);
       };
     }

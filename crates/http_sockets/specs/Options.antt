@@ -1,0 +1,49 @@
+-- How sockets serve: whom, with which page, and with which log.
+use Rattle.std.specs.Prelude.{◌≡◌, ℕ, Option, Some, None}
+use Rattle.desk_http.specs.declared.doors.Site.{Site}
+use Rattle.http_journal.specs.Logging.{log_of}
+use Rattle.http_log.specs.declared.forms.LogForm.{LogForm}
+use Rattle.http_pages.specs.declared.answers.HtmlPage.{HtmlPage}
+use Rattle.http_sockets.specs.declared.limits.Limits.{Limits}
+use Rattle.http_sockets.specs.declared.sockets.Sockets.{Sockets}
+use Rattle.http_ways.specs.declared.ways.Way.{Way}
+use Rattle.http_ways.specs.declared.ways.Way.TheVariants.{Profile}
+
+-- how many peers may still come, if that is limited
+abbrev pub still_to_come : Sockets → Option ℕ
+still_to_come sockets = sockets.to_come
+
+-- the page that who comes to the port is served too
+abbrev pub page_at_port : Sockets → Option Site
+page_at_port sockets = sockets.page
+
+-- the way by which who comes from now on is read
+abbrev pub way_to_come : Sockets → Way
+way_to_come sockets = sockets.way
+
+-- how many may still come; for how many ticks a peer may owe something; the page at the port; by which way who comes is read;
+-- and in which form the log is written, if it is
+pub record Options : Type 0 where
+  pub connections : Option ℕ
+  pub patience : ℕ
+  pub page : Option Site
+  pub way : Way
+  pub log : Option LogForm
+
+abbrev pub options_of : Sockets → Options
+options_of sockets = record {
+  connections = still_to_come sockets;
+  patience = sockets.patience;
+  page = page_at_port sockets;
+  way = way_to_come sockets;
+  log = log_of sockets.journal;
+}
+
+-- those of new sockets within these limits: no page, no log, and the strict way
+abbrev pub options_within : Limits → Options
+options_within limits =
+    record { connections = limits.connections; patience = limits.patience; page = None; way = Profile; log = None }
+
+-- the same options, and this page at some port
+abbrev pub AddsPage : HtmlPage → Options → Options → Type 0
+AddsPage page old new = (port : ℕ) × (new ≡ record old { page = Some (record { port = port; page = page }) })
