@@ -1,5 +1,4 @@
 pub mod PlanTextLemmas
-pub mod MineLemmas
 pub mod DemandLemmas
 pub mod WhyLemmas
 pub mod AnswerLemmas

@@ -1,5 +1,5 @@
 -- The page of a message, and the state of the desk after it.
-use Rattle.std.specs.Prelude.{◌≡◌, ℕ, ◌&&◌, ◌||◌, not, Bool, true, false, List, [], ◌∷◌, filter, filter_map, take, bytes_eq, codes, if◌then◌else◌, Option, Some, None, is_some, option_and_then, Result, Ok, Err}
+use Rattle.std.specs.Prelude.{◌≡◌, ℕ, ◌&&◌, ◌||◌, not, Bool, true, false, List, [], ◌∷◌, filter, take, bytes_eq, codes, if◌then◌else◌, Option, Some, None, is_some, option_and_then, Result, Ok, Err}
 use Rattle.allotment.specs.declared.cells.Cell.{Cell}
 use Rattle.allotment.specs.declared.places.Held.{Held}
 use Rattle.commands.specs.Asks.{Asked}
@@ -10,8 +10,8 @@ use Rattle.commands.specs.declared.replies.Refusal.TheVariants.{BadHead, NoJourn
 use Rattle.commands.specs.declared.replies.Reply.{Reply}
 use Rattle.commands.specs.declared.replies.Reply.TheVariants.{Begun}
 use Rattle.ledger.specs.Answer.{State, outcome}
-use Rattle.ledger.specs.Ledger.{Event, history, numbers}
-use Rattle.saga_core.specs.Views.{IsStock, brief_of, counts_of, is_owned_above, kept_under, record_of, unfinished_of}
+use Rattle.ledger.specs.Ledger.{Event, history}
+use Rattle.saga_core.specs.Views.{IsStock, brief_of, counts_of, kept_under, owned_above, record_of, unfinished_of}
 use Rattle.saga_core.specs.declared.records.Brief.{Brief}
 use Rattle.saga_core.specs.declared.records.Record.{Record}
 use Rattle.http_messages.specs.Heads.{Parts, asks_to_close, is_method, is_unnamed, parts_of}
@@ -74,10 +74,6 @@ own_unfinished l asker = filter (λ (b : Brief). sees asker b.agent) (unfinished
 abbrev pub owner_of : Asker → List ℕ
 owner_of (who.Agent agent) = agent
 owner_of who.House = house
-
--- the journeys of this agent above a number, finished ones too
-abbrev pub owned_above : List Event → List ℕ → ℕ → List Brief
-owned_above l agent after = filter (is_owned_above agent after) (filter_map (brief_of l) (numbers l))
 
 -- the first hundred of the own journeys of who asks above a number, by rising number
 abbrev pub mine_of : List Event → Asker → ℕ → List Brief

@@ -32,7 +32,8 @@ pub(crate) fn see_mine<B: Book>(
     ensures serves { Serves B.is_sound B.leaves B.has_failed book.old book.new
         ServeFault.Store result }
 {
-    let briefs = mine_above(alloc, book, asker, after)?;
+    let owner = asker.owner();
+    let briefs = book.owned(&owner, after, MOST_SHOWN)?;
     let body = body_of(alloc, asker, &briefs)?;
     Ok(shown_page(Body::Json(body)))
 }
@@ -46,31 +47,4 @@ fn body_of(alloc: Global, asker: &Asker, briefs: &[Brief]) -> Result<String, All
         Asker::Agent(_) => mine_body(alloc, Owners::Hidden, briefs),
         Asker::House => mine_body(alloc, Owners::Shown, briefs),
     }
-}
-
-/// The first hundred of the own journeys of who asks above a number, by rising number.
-fn mine_above<B: Book>(
-    alloc: Global,
-    book: &mut B,
-    asker: &Asker,
-    after: u64,
-) -> Result<Vec<Brief>, ServeFault>
-    ensures briefs { B.is_sound book.new → (s : State) → B.stands book.old s →
-        Shows (B.stands book.new) (B.leaves book.new) s
-        (λ briefs. briefs.items ≡ mine_of s.ledger asker.now after) result }
-
-    ensures serves { Serves B.is_sound B.leaves B.has_failed book.old book.new
-        ServeFault.Store result }
-{
-    let owner = asker.owner();
-    let mut briefs = Vec::new(alloc);
-    let mut last = after;
-    for _shown in 0..MOST_SHOWN {
-        let Some(brief) = book.first_owned(&owner, last)? else {
-            return Ok(briefs);
-        };
-        last = brief.id;
-        briefs.push(brief)?;
-    }
-    Ok(briefs)
 }

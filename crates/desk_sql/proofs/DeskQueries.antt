@@ -1,8 +1,8 @@
 -- The queries for the numbers of meta, a kept reply, a batch, journeys, and the nights of a range. For the functions that read one table.
-use Rattle.std.proofs.Common.{◌≡◌, ◌<◌, inl, inr, List, [], ◌∷◌, filter, true, Some, None, arith, refl, sym, ap, subst, ◌∙◌, ℕ, ℤ, string_bytes, Bool, option_map, eqb-true}
+use Rattle.std.proofs.Common.{◌≡◌, ◌<◌, inl, inr, List, [], ◌∷◌, filter, true, Some, None, arith, refl, sym, ap, subst, ◌∙◌, ℕ, ℤ, string_bytes, eqb-true}
 use Rattle.sqlite.specs.Order.{Row}
 use Rattle.sqlite.specs.State.{State, IsUnchanged}
-use Rattle.sqlite.specs.Query.{Output, Query}
+use Rattle.sqlite.specs.Query.{Output}
 use Rattle.sqlite.specs.Listing.{understood}
 use Rattle.sqlite_tied.specs.Compute.{everything}
 use Rattle.sqlite_trees.specs.Tree.{IsAscending}
@@ -13,11 +13,11 @@ use Rattle.desk_sql.specs.declared.versions.Version.{Version}
 use Rattle.desk_sql.specs.declared.versions.Version.TheVariants.{One, Two}
 use Rattle.desk_sql.specs.Calls.{MaySeeIn}
 use Rattle.desk_sql.specs.Queries.{GivesRow}
-use Rattle.desk_sql.specs.FoundRows.{meta_of, IsMeta, shows_meta, three_of, is_for, answer_of, FindsAnswer, shows_answer, two_of, is_named, batch_of, FindsBatch, shows_batch, journey_of, is_numbered, is_owned_after, is_unfinished_after, FindsJourney, FindsOwned, FindsUnfinished, shows_journey, nine_of}
-use Rattle.desk_sql.specs.Readable.{HasMeta, meta_shown, ShowsOne, IsReplyText, HasReplyText, answer_shown, Any, batch_shown, Each, IsAgentText, HasAgentText, HaveAgentTexts, HaveOwnedTexts, night_shown}
+use Rattle.desk_sql.specs.FoundRows.{meta_of, IsMeta, shows_meta, three_of, is_for, answer_of, FindsAnswer, shows_answer, two_of, is_named, batch_of, FindsBatch, shows_batch, journey_of, is_numbered, is_unfinished_after, FindsJourney, FindsUnfinished, shows_journey, nine_of}
+use Rattle.desk_sql.specs.Readable.{HasMeta, meta_shown, ShowsOne, IsReplyText, HasReplyText, answer_shown, Any, batch_shown, IsAgentText, HasAgentText, HaveAgentTexts, night_shown}
 use Rattle.desk_sql.specs.declared.meta.Meta.{Meta}
-use Rattle.desk_sql.specs.Texts.{read_meta_text, find_answer_text, find_batch_text, find_journey_text, first_owned_text, first_unfinished_text, find_nights_text}
-use Rattle.desk_sql.specs.Meanings.{read_meta_query, read_meta_names, find_answer_query, find_answer_names, find_batch_query, find_batch_names, find_journey_query, first_owned_query, first_unfinished_query, journey_names, journey_project, rising, sorted_rows, find_nights_query, find_nights_names}
+use Rattle.desk_sql.specs.Texts.{read_meta_text, find_answer_text, find_batch_text, find_journey_text, first_unfinished_text, find_nights_text}
+use Rattle.desk_sql.specs.Meanings.{read_meta_query, read_meta_names, find_answer_query, find_answer_names, find_batch_query, find_batch_names, find_journey_query, first_unfinished_query, journey_names, journey_project, find_nights_query, find_nights_names}
 use Rattle.desk_sql.proofs.Asking.{SaysQuery, Asks, asks_own, FindsOne, asks_chosen, one_of, least_of, FindsList, lists}
 use Rattle.desk_sql.proofs.Changing.{meta_passes}
 use Rattle.desk_sql.proofs.Answering.{first_of}
@@ -25,13 +25,12 @@ use Rattle.std.proofs.lemmas.Bool.{and_parts}
 use Rattle.std.proofs.lemmas.Slice.Eq.{bytes_eq-Decides}
 use Rattle.sqlite.specs.declared.types.Value.TheVariants.{Text, Blob}
 use Rattle.sqlite_rules.proofs.ListLemmas.{has_filtered}
-use Rattle.desk_sql.specs.Lists.{numbered_row, IsLeastOf}
+use Rattle.desk_sql.specs.Lists.{numbered_row}
 use Rattle.desk_sql.specs.declared.answers.KeptAnswer.{KeptAnswer}
 use Rattle.desk_sql.proofs.Reading.{passes}
 use Rattle.desk_sql.proofs.Testing.{eq_text, and_true, eq_whole, gt_whole, le_whole, ge_whole}
 use Rattle.std.specs.Prelude.{⊤}
 use Rattle.desk_sql.specs.declared.batches.BatchFound.{BatchFound}
-use Rattle.sqlite.specs.Term.{Term, col}
 use Rattle.desk_sql.specs.RemainingRows.{journey_shown}
 use Rattle.desk_sql.specs.declared.journeys.JourneyFound.{JourneyFound}
 use Rattle.desk_sql.proofs.Ordered.{whole_last}
@@ -165,7 +164,7 @@ finds_batch name =
 -- The queries on journeys.
 
 -- the journey that was read of a row is that of the row
-same_journey : (f : JourneyFound) (j : JourneyRow) → shows_journey f ≡ journey_shown j → journey_of f ≡ j
+pub same_journey : (f : JourneyFound) (j : JourneyRow) → shows_journey f ≡ journey_shown j → journey_of f ≡ j
 same_journey f j e =
     let id : f.id ≡ j.id = cc in
     let num : f.num ≡ j.num = cc in
@@ -181,13 +180,9 @@ same_journey f j e =
 id_test : (id : ℕ) (j : JourneyRow) → passes find_journey_query.filter (whole id ∷ []) (journey_row j) ≡ is_numbered id j
 id_test id j = and_true _ ∙ eq_whole j.id id
 
-unfinished_test : (after : ℕ) (j : JourneyRow)
+pub unfinished_test : (after : ℕ) (j : JourneyRow)
     → passes first_unfinished_query.filter (whole after ∷ []) (journey_row j) ≡ is_unfinished_after after j
 unfinished_test after j = simp (gt_whole, le_whole) (simp and_true)
-
-owned_test : (agent : List ℕ) (after : ℕ) (j : JourneyRow)
-    → passes first_owned_query.filter (whole after ∷ Text agent ∷ []) (journey_row j) ≡ is_owned_after agent after j
-owned_test agent after j = simp (gt_whole, eq_text) (simp and_true)
 
 journey_says : (v : Version) (id : ℕ) → SaysQuery v find_journey_text find_journey_query journey_names (whole id ∷ [])
 unfolding understood everything
@@ -201,20 +196,6 @@ finds_journey v id =
     (λ _ _ s. s.journey) (is_numbered id) (id_test id)) journey_of shows_journey nine_of (λ t f j there shown. same_journey f j shown)
     (HasAgentText id) (ShowsOne journey_shown IsAgentText) (λ t fits j there. (j, refl, fits j there))
 
--- the journeys that pass these tests, by rising number
-abbrev by_number : List Term → Query
-by_number tests = sorted_rows 6 tests journey_project ((col 1 0, rising) ∷ [])
-
-finds_least : (text : List ℕ) (tests : List Term) (params : Row) → SaysQuery Two text (by_number tests) journey_names params
-    → (test : JourneyRow → Bool) → ((j : JourneyRow) → passes tests params (journey_row j) ≡ test j)
-    → FindsOne Two text params shows_journey nine_of (λ t found. IsLeastOf (λ (j : JourneyRow). j.id) (filter test t.journey) (option_map journey_of found))
-    (λ t. Each IsAgentText (filter test t.journey)) (ShowsOne journey_shown IsAgentText)
-finds_least text tests params says test test_is =
-    least_of (asks_own 6 tests journey_project ((col 1 0, rising) ∷ []) says (λ _. refl) (λ (j : JourneyRow). j.id) journey_row (λ t. t.journey)
-    (λ _ _ s. s.journey) test test_is) journey_of shows_journey nine_of (λ t f j there shown. same_journey f j shown)
-    (λ t. Each IsAgentText (filter test t.journey)) (ShowsOne journey_shown IsAgentText) (λ t fits j there. (j, refl, fits j there))
-    (λ (j : JourneyRow). j.id) (λ a b up. whole_last a.id b.id up)
-
 unfinished_says : (after : ℕ) → SaysQuery Two first_unfinished_text first_unfinished_query journey_names (whole after ∷ [])
 unfolding understood everything
 unfinished_says after = record { means = λ _. record { is = refl; plain = (refl, refl); unlisted = refl; selects = refl }; takes = λ _. record { whole = refl; typed = refl } }
@@ -222,17 +203,11 @@ unfinished_says after = record { means = λ _. record { is = refl; plain = (refl
 pub finds_unfinished : (after : ℕ)
     → FindsOne Two first_unfinished_text (whole after ∷ []) shows_journey nine_of (FindsUnfinished after) (HaveAgentTexts after) (ShowsOne journey_shown IsAgentText)
 finds_unfinished after =
-    finds_least first_unfinished_text first_unfinished_query.filter (whole after ∷ []) (unfinished_says after) (is_unfinished_after after) (unfinished_test after)
-
-owned_says : (agent : List ℕ) (after : ℕ) → SaysQuery Two first_owned_text first_owned_query journey_names (whole after ∷ Text agent ∷ [])
-unfolding understood everything
-owned_says agent after = record { means = λ _. record { is = refl; plain = (refl, refl); unlisted = refl; selects = refl }; takes = λ _. record { whole = refl; typed = refl } }
-
-pub finds_owned : (agent : List ℕ) (after : ℕ)
-    → FindsOne Two first_owned_text (whole after ∷ Text agent ∷ []) shows_journey nine_of (FindsOwned agent after) (HaveOwnedTexts agent after)
-    (ShowsOne journey_shown IsAgentText)
-finds_owned agent after =
-    finds_least first_owned_text first_owned_query.filter (whole after ∷ Text agent ∷ []) (owned_says agent after) (is_owned_after agent after) (owned_test agent after)
+    least_of (asks_own 6 first_unfinished_query.filter journey_project first_unfinished_query.order (unfinished_says after) (λ _. refl)
+    (λ (j : JourneyRow). j.id) journey_row (λ t. t.journey) (λ _ _ s. s.journey) (is_unfinished_after after) (unfinished_test after))
+    journey_of shows_journey nine_of (λ t f j there shown. same_journey f j shown)
+    (HaveAgentTexts after) (ShowsOne journey_shown IsAgentText) (λ t fits j there. (j, refl, fits j there))
+    (λ (j : JourneyRow). j.id) (λ a b up. whole_last a.id b.id up)
 
 -- The query on the nights of a range.
 

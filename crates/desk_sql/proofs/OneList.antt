@@ -1,4 +1,4 @@
--- A list whose numbers differ has just one ascending order. For Listings and HandedJourneys.
+-- A list whose numbers differ has just one ascending order. For Listings, and for lists of journeys and cells.
 use Rattle.std.proofs.Common.{◌≡◌, ℕ, ◌<◌, ◌≤◌, ◌==◌, List, [], ◌∷◌, Bool, false, arith, ne_eqb, IsPermutation, rules}
 use Rattle.std.proofs.lemmas.Bool.{eqb-false}
 use Rattle.std.proofs.lemmas.Bool.Decides.{nat_tests}

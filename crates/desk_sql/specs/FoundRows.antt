@@ -90,12 +90,6 @@ FindsUnfinished after t found =
 abbrev pub is_owned_after : List ℕ → ℕ → JourneyRow → Bool
 is_owned_after agent after j = nat_lt after j.id && bytes_eq j.agent agent
 
--- the journey of the agent with the least number above this one, or none if no journey above it is the agent's
-abbrev pub FindsOwned : List ℕ → ℕ → Tables → Option JourneyFound → Type 0
-FindsOwned agent after t found =
-    IsLeastOf (λ (j : JourneyRow). j.id) (filter (is_owned_after agent after) t.journey)
-    (option_map journey_of found)
-
 -- a query shows the cursor of a journey, and the whole journey, in this order
 abbrev pub shows_cursor : Cursor → Row
 shows_cursor c = whole c.pos ∷ whole c.phase ∷ whole c.target ∷ whole c.used ∷ []

@@ -107,11 +107,6 @@ first_unfinished_query =
     sorted_rows 6 (op2 (Compare Gt Binary) (col 1 0) (col 0 0) ∷ op2 (Compare Le Binary) (col 1 7) (lit (Int (pos 1))) ∷ [])
     journey_project ((col 1 0, rising) ∷ [])
 
-abbrev pub first_owned_query : Query
-first_owned_query =
-    sorted_rows 6 (op2 (Compare Gt Binary) (col 1 0) (col 0 0) ∷ is_equal (col 1 3) (col 0 1) ∷ [])
-    journey_project ((col 1 0, rising) ∷ [])
-
 -- options of steps
 abbrev pub insert_step_terms : List Term
 insert_step_terms =

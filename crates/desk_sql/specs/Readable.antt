@@ -4,7 +4,7 @@ use Rattle.sqlite.specs.Order.{Row}
 use Rattle.sqlite.specs.declared.types.Value.TheVariants.{Text, Blob}
 use Rattle.sqlite_rules.specs.Lists.{Has}
 use Rattle.desk_sql.specs.Rows.{whole, Tables, MetaRow, StockRow, BatchRow, JourneyRow, StepRow, EntryRow, MarkRow, AnswerRow}
-use Rattle.desk_sql.specs.FoundRows.{is_for, is_numbered, is_owned_after, is_unfinished_after, is_step_of, is_option_of}
+use Rattle.desk_sql.specs.FoundRows.{is_for, is_numbered, is_unfinished_after, is_step_of, is_option_of}
 
 -- the queries show the other values in this order
 abbrev pub meta_shown : MetaRow → Row
@@ -61,9 +61,6 @@ HasAgentText id t = Each IsAgentText (filter (is_numbered id) t.journey)
 
 abbrev pub HaveAgentTexts : ℕ → Tables → Type 0
 HaveAgentTexts after t = Each IsAgentText (filter (is_unfinished_after after) t.journey)
-
-abbrev pub HaveOwnedTexts : List ℕ → ℕ → Tables → Type 0
-HaveOwnedTexts agent after t = Each IsAgentText (filter (is_owned_after agent after) t.journey)
 
 abbrev pub HaveWantTexts : ℕ → Tables → Type 0
 HaveWantTexts journey t = Each AreWantTexts (filter (is_step_of journey) t.step)

@@ -13,7 +13,7 @@ use Rattle.desk_sql.specs.Schema.{IsSchemaOf}
 use Rattle.desk_sql.specs.Lists.{IsListed}
 use Rattle.desk_sql.specs.Rows.{whole, Tables, StockRow, JourneyRow}
 use Rattle.desk_sql.specs.Calls.{MaySeeIn, LeavesNoMore}
-use Rattle.desk_sql.specs.FoundRows.{is_unfinished_after}
+use Rattle.desk_sql.specs.FoundRows.{is_owned_after, is_unfinished_after}
 use Rattle.desk_sql.specs.Stock.{IsByCell}
 
 -- the first of these was returned, and the later ones remain; or there was none
@@ -40,6 +40,10 @@ IsByNumber a b = a.id ≤ b.id
 -- the unfinished journeys above a number, in order
 abbrev pub ListsUnfinished : ℕ → Tables → List JourneyRow → Type 0
 ListsUnfinished after t listed = IsListed IsByNumber (filter (is_unfinished_after after) t.journey) listed
+
+-- the journeys of an agent above a number, in order
+abbrev pub ListsOwned : List ℕ → ℕ → Tables → List JourneyRow → Type 0
+ListsOwned agent after t listed = IsListed IsByNumber (filter (is_owned_after agent after) t.journey) listed
 
 -- the queries show cells and journeys in this order
 abbrev pub stock_shown : StockRow → Row

@@ -85,9 +85,6 @@ find_journey_text = codes "SELECT id, num, agent, steps, tries, pos, phase, targ
 abbrev pub first_unfinished_text : List ℕ
 first_unfinished_text = codes "SELECT id, num, agent, steps, tries, pos, phase, target, used FROM journey WHERE id > ?1 AND phase <= 1 ORDER BY id"
 
-abbrev pub first_owned_text : List ℕ
-first_owned_text = codes "SELECT id, num, agent, steps, tries, pos, phase, target, used FROM journey WHERE id > ?1 AND agent = ?2 ORDER BY id"
-
 abbrev pub find_steps_text : List ℕ
 find_steps_text = codes "SELECT place, opt, save, taken, kind, supplier, product, night, nights, places FROM step WHERE journey = ?1 ORDER BY place, opt"
 

@@ -2,10 +2,10 @@
 
 ghost use Rattle.std.specs.Prelude.{◌≡◌, ◌<◌, ◌^◌, IfOk, IfErr, ⊤, map};
 ghost use Rattle.desk_sql.specs.Changes.{AreJourneysBelow, adds_journey, begun, IsSmallCursor, moves_journey, IsSmallItem, AreItemsBelow, adds_item};
-ghost use Rattle.desk_sql.specs.FoundRows.{FindsJourney, FindsOwned, FindsUnfinished, shows_cursor, cursor_of, shows_journey, nine_of, FindsItems, shows_item, four_of};
+ghost use Rattle.desk_sql.specs.FoundRows.{FindsJourney, FindsUnfinished, shows_cursor, cursor_of, shows_journey, nine_of, FindsItems, shows_item, four_of};
 ghost use Rattle.desk_sql.specs.Causes.{IsMemory};
 ghost use Rattle.desk_sql.specs.Writable.{MayAddJourney, MayMove, MayAddItem};
-ghost use Rattle.desk_sql.specs.Readable.{IsAgentText, HasAgentText, HaveAgentTexts, HaveOwnedTexts, Any, ShowsOne, item_shown};
+ghost use Rattle.desk_sql.specs.Readable.{IsAgentText, HasAgentText, HaveAgentTexts, Any, ShowsOne, item_shown};
 ghost use Rattle.desk_sql.specs.RemainingRows.{journey_shown};
 ghost use Rattle.desk_sql.specs.Rows.{JourneyRow, EntryRow};
 ghost use Rattle.desk_sql.specs.Statements.{Queries, QueriesEach, WritesKeyed};
@@ -120,34 +120,6 @@ pub fn first_unfinished<S: Alter>(
         conn,
         "SELECT id, num, agent, steps, tries, pos, phase, target, used FROM journey WHERE id > ?1 AND phase <= 1 ORDER BY id",
         &[ValueRef::Int(after as i64)],
-    )? {
-        Some(row) => {
-            let journey = read_journey(&row)?;
-            Ok(Some(journey))
-        }
-        None => Ok(None),
-    }
-}
-
-/// Returns the journey of this agent with the least number above `after`, if there is one. No index leads to the journeys of
-/// an agent: each journey between `after` and the one that is found is looked at.
-pub fn first_owned<'x, S: Alter>(
-    conn: &mut Connection<S>,
-    agent: &'x str,
-    after: u64,
-) -> Result<Option<JourneyFound>, Error>
-    requires { after < 2 ^ 63 }
-
-    ensures queries { Queries S.Store conn.old conn.new result
-        (FindsOwned agent.now after) (HaveOwnedTexts agent.now after) }
-{
-    match first_row(
-        conn,
-        "SELECT id, num, agent, steps, tries, pos, phase, target, used FROM journey WHERE id > ?1 AND agent = ?2 ORDER BY id",
-        &[
-            ValueRef::Int(after as i64),
-            ValueRef::Text(agent.as_bytes()),
-        ],
     )? {
         Some(row) => {
             let journey = read_journey(&row)?;

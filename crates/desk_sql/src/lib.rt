@@ -23,8 +23,8 @@ pub use batches::{BatchFound, find_batch, insert_batch};
 pub use founding::{has_no_tables, make_tables};
 pub use indexing::{add_index, has_extra_index};
 pub use journeys::{
-    Cursor, ItemFound, JourneyFound, find_items, find_journey, first_owned, first_unfinished,
-    insert_item, insert_journey, move_journey, read_item, read_journey,
+    Cursor, ItemFound, JourneyFound, find_items, find_journey, first_unfinished, insert_item,
+    insert_journey, move_journey, read_item, read_journey,
 };
 pub use marks::{delete_mark, find_marks, insert_mark};
 pub use meta::{Meta, read_meta, update_meta};

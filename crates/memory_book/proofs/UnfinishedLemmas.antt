@@ -1,13 +1,13 @@
--- The first journey that is not finished, the first of an agent, and how many are unfinished, by what is kept of each.
--- For `first_unfinished`, `first_owned` and `counts` of `MemBook`.
-use Rattle.std.proofs.Common.{◌≡◌, ℕ, suc, ◌+◌, ◌<◌, Bool, cond, ◌⊎◌, List, [], ◌∷◌, length, get_or, drop, refl, ap, sym, ◌∙◌, arith, not, slice_get, filter, filter_map, find, Some, None, option_map}
-use Rattle.std.proofs.lemmas.List.{at_drop_more}
+-- The first journey that is not finished, those of an agent, and how many are unfinished, by what is kept of each.
+-- For `first_unfinished`, `owned`, `unfinished` and `counts` of `MemBook`.
+use Rattle.std.proofs.Common.{◌≡◌, ℕ, suc, ◌+◌, ◌<◌, Bool, cond, ◌⊎◌, List, [], ◌∷◌, length, get_or, drop, ◌++◌, ◌≤◌, true, false, refl, ap, sym, ◌∙◌, append-nil, append_assoc, arith, not, slice_get, filter, filter_map, find, Some, None, option_map}
+use Rattle.std.proofs.lemmas.List.{at_drop_all, at_drop_more}
 use Rattle.std.specs.List.{cons_option}
 use Rattle.allotment.specs.Cells.{numbers_from}
 use Rattle.ledger.specs.Answer.{State}
 use Rattle.ledger.specs.History.{is_finished}
 use Rattle.ledger.specs.Ledger.{Event, history, numbers}
-use Rattle.saga_core.specs.Views.{brief_of, brief_of_journey, counts_of, first_owned, first_unfinished, is_owned_above, is_unfinished_above, unfinished_of}
+use Rattle.saga_core.specs.Views.{brief_of, brief_of_journey, counts_of, first_unfinished, is_owned_above, is_unfinished_above, owned_above, unfinished_of}
 use Rattle.memory_book.specs.Memory.{is_unfinished, StandsFor}
 use Rattle.saga_core.specs.declared.records.Brief.{Brief}
 use Rattle.saga_core.specs.declared.records.Counts.{Counts}
@@ -68,11 +68,10 @@ pub first_unfinished-kept : (m : MemBook) (s : State) (after : ℕ) → StandsFo
     ≡ first_unfinished s.ledger after
 first_unfinished-kept m s after here = ap (find (is_unfinished_above after)) (briefs-kept m s here)
 
--- and the first journey of an agent is the first among those that are kept
-pub first_owned-kept : (m : MemBook) (s : State) (agent : List ℕ) (after : ℕ) → StandsFor m s
-    → find (is_owned_above agent after) (briefs_from 1 m.journeys.items)
-    ≡ first_owned s.ledger agent after
-first_owned-kept m s agent after here = ap (find (is_owned_above agent after)) (briefs-kept m s here)
+-- and the journeys of an agent are those among the ones that are kept
+pub owned-kept : (m : MemBook) (s : State) (agent : List ℕ) (after : ℕ) → StandsFor m s
+    → filter (is_owned_above agent after) (briefs_from 1 m.journeys.items) ≡ owned_above s.ledger agent after
+owned-kept m s agent after here = ap (filter (is_owned_above agent after)) (briefs-kept m s here)
 
 -- and the journeys that are not finished are those among the ones that are kept
 pub unfinished-kept : (m : MemBook) (s : State) → StandsFor m s
@@ -137,3 +136,26 @@ pub find_on : (test : Brief → Bool) (ks : List Journey) (place : ℕ) (k : Jou
 find_on test ks place k b v so_far within is number agent cursor tested =
     so_far ∙ briefs_on (find test) ks place k b within is number agent cursor
     ∙ ap (λ w. cond w (Some b) (find test (briefs_after ks place))) tested
+
+-- of the summaries that pass, those before a place were taken; that of the journey there is taken if it passes
+pub taken_on : (test : Brief → Bool) (ks : List Journey) (place : ℕ) (k : Journey) (b : Brief) (v : Bool) (taken now : List Brief)
+    → taken ++ filter test (briefs_from (suc place) (drop place ks)) ≡ filter test (briefs_from 1 ks) → place < length ks
+    → k ≡ get_or ks place k → b.id ≡ place + 1 → b.agent ≡ k.agent → b.cursor ≡ k.cursor → test b ≡ v
+    → now ≡ cond v (taken ++ b ∷ []) taken
+    → now ++ filter test (briefs_after ks place) ≡ filter test (briefs_from 1 ks)
+taken_on test ks place k b v taken now so_far within is number agent cursor tested grown =
+    let more = filter test (briefs_after ks place) in
+    ap (λ bs. bs ++ more) grown ∙ go v more ∙ ap (λ w. taken ++ cond w (b ∷ more) more) (sym tested)
+    ∙ sym (briefs_on (λ bs. taken ++ filter test bs) ks place k b within is number agent cursor) ∙ so_far
+  where
+    go : (v : Bool) (more : List Brief) → cond v (taken ++ b ∷ []) taken ++ more ≡ taken ++ cond v (b ∷ more) more
+    go true more = append_assoc taken (b ∷ []) more
+    go false more = refl
+
+-- once no journey is left, all that pass were taken
+pub taken_all : (test : Brief → Bool) (ks : List Journey) (place : ℕ) (taken : List Brief) → length ks ≤ place
+    → taken ++ filter test (briefs_from (suc place) (drop place ks)) ≡ filter test (briefs_from 1 ks)
+    → taken ≡ filter test (briefs_from 1 ks)
+taken_all test ks place taken past so_far =
+    sym (append-nil taken)
+    ∙ sym (ap (λ bs. taken ++ bs) (at_drop_all (λ js. filter test (briefs_from (suc place) js)) ks place past)) ∙ so_far

@@ -176,14 +176,18 @@ impl Book for MemBook {
         Ok(None)
     }
 
-    fn first_owned(&mut self, agent: &Agent, after: u64) -> Result<Option<Brief>, Fault> {
+    fn owned(&mut self, agent: &Agent, after: u64, most: usize) -> Result<Vec<Brief>, Fault> {
+        let mut briefs = Vec::new(self.alloc);
         for place in 0..self.journeys.len() {
+            if briefs.len() == most {
+                return Ok(briefs);
+            }
             let brief = self.journeys[place].brief(place as u64 + 1);
-            if is_owned_above(&brief, agent, after) {
-                return Ok(Some(brief));
+            if is_owned_above(&brief, agent, after) && briefs.push(brief).is_err() {
+                return Err(Fault::Memory);
             }
         }
-        Ok(None)
+        Ok(briefs)
     }
 
     fn kept(&mut self, agent: &Agent, key: &Key) -> Result<Option<Reply>, Fault> {

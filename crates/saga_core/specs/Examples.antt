@@ -22,7 +22,7 @@ use Rattle.ledger.specs.KeyExamples.{ann, ann_began}
 use Rattle.ledger.specs.Ledger.{Event, Began}
 use Rattle.ledger.specs.Examples.{june, after_all, step, marked, untried, flight, load, row, row_after, nights_of}
 use Rattle.saga_core.specs.Rulings.{turn_said, save_said}
-use Rattle.saga_core.specs.Views.{first_unfinished, first_owned, counts_of, kept_under, places_shown}
+use Rattle.saga_core.specs.Views.{first_unfinished, owned_above, counts_of, kept_under, places_shown}
 use Rattle.saga_core.specs.declared.records.Brief.{Brief}
 
 -- a journey at this position, in this phase, without refusals
@@ -99,11 +99,11 @@ bob_began_last = second_has_ended ++ Began bob (untried (step (flight 2) ∷ [])
 
 -- the house's journeys above 0, 1 and 3, and bob's above 0 and 4
 pub finished_journey_is_owned :
-    map (λ after. option_map (λ (b : Brief). b.id) (first_owned bob_began_last house after))
+    map (λ after. map (λ (b : Brief). b.id) (owned_above bob_began_last house after))
     (0 ∷ 1 ∷ 3 ∷ [])
-    ++ map (λ after. option_map (λ (b : Brief). b.id) (first_owned bob_began_last bob after))
+    ++ map (λ after. map (λ (b : Brief). b.id) (owned_above bob_began_last bob after))
     (0 ∷ 4 ∷ [])
-    ≡ Some 1 ∷ Some 2 ∷ None ∷ Some 4 ∷ None ∷ []
+    ≡ (1 ∷ 2 ∷ 3 ∷ []) ∷ (2 ∷ 3 ∷ []) ∷ [] ∷ (4 ∷ []) ∷ [] ∷ []
 finished_journey_is_owned = refl
 
 -- ann began journey 1 under the key k: that is kept for her and that key alone

@@ -56,9 +56,9 @@ unfinished_of l =
 abbrev pub is_owned_above : List ℕ → ℕ → Brief → Bool
 is_owned_above agent after b = nat_lt after b.id && bytes_eq b.agent agent
 
--- the journey of this agent with the least number above this one, whether it is finished or not
-abbrev pub first_owned : List Event → List ℕ → ℕ → Option Brief
-first_owned l agent after = find (is_owned_above agent after) (filter_map (brief_of l) (numbers l))
+-- the journeys of this agent above a number, in order of number, whether they are finished or not
+abbrev pub owned_above : List Event → List ℕ → ℕ → List Brief
+owned_above l agent after = filter (is_owned_above agent after) (filter_map (brief_of l) (numbers l))
 
 -- the reply that is kept for this agent under this key, if one is
 abbrev pub kept_under : State → (agent key : List ℕ) → Option Reply

@@ -3,7 +3,7 @@
 //! A book *represents* a state (`stands`): a ledger with kept replies, which is then also all that a crash leaves. A
 //! book is *sound* while its store has returned what was written; soundness may end at any call, and never returns. A
 //! book has *failed* once a call returned `Store`; every later call returns `Store` too.
-ghost use Rattle.std.specs.Prelude.{◌≡◌, List, Bool, Option};
+ghost use Rattle.std.specs.Prelude.{◌≡◌, List, Bool, Option, take};
 ghost use Rattle.std.specs.Option.{option_copied};
 ghost use Rattle.commands.specs.Orders.{request_of};
 ghost use Rattle.ledger.specs.Ledger.{IsLegal, history};
@@ -11,7 +11,7 @@ ghost use Rattle.ledger.specs.Answer.{State};
 ghost use Rattle.saga_core.specs.Books.{Shows, LeavesJust};
 ghost use Rattle.saga_core.specs.Calls.{Acts, Reads};
 ghost use Rattle.saga_core.specs.Runs.{Asks};
-ghost use Rattle.saga_core.specs.Views.{record_of, first_unfinished, first_owned, counts_of, ShowsCells, IsStock};
+ghost use Rattle.saga_core.specs.Views.{record_of, first_unfinished, owned_above, counts_of, ShowsCells, IsStock};
 ghost use Rattle.saga_core.specs.Views.{TracesBrief, TracesItems, kept_under, unfinished_of};
 
 use crate::records::{Brief, Counts, Record, Trace};
@@ -69,11 +69,11 @@ pub trait Book {
         ensures reads { Reads is_sound stands leaves has_failed may_act has_reason self.old self.new
             result };
 
-    /// Returns the journey of this agent with the least number above `after`, a finished one too.
-    fn first_owned(&mut self, agent: &Agent, after: u64) -> Result<Option<Brief>, Fault>
-        ensures first { is_sound self.new →
-            Shows (stands self.old) (λ s found.
-            found ≡ first_owned s.ledger agent.now after) result }
+    /// Returns the journeys of this agent with numbers above `after`, finished ones too, by rising number, at most so many.
+    fn owned(&mut self, agent: &Agent, after: u64, most: usize) -> Result<Vec<Brief>, Fault>
+        ensures owned { is_sound self.new →
+            Shows (stands self.old) (λ s briefs.
+            briefs.items ≡ take most (owned_above s.ledger agent.now after)) result }
         ensures reads { Reads is_sound stands leaves has_failed may_act has_reason self.old self.new
             result };
 

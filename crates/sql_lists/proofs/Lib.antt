@@ -2,7 +2,6 @@ pub mod ListMeanings
 pub mod HandedRows
 pub mod HandedReasons
 pub mod HandedCells
-pub mod HandedJourneys
 pub mod CellAnswers
 pub mod JourneyAnswers
 pub mod Handed

@@ -1,16 +1,17 @@
 -- Each text means under the desk's schema what the definitions say, and takes its parameters. For the statements.
 use Rattle.std.proofs.Common.{ℕ, List, [], ◌∷◌, Bool, true, false, Option, None, Some, refl}
 use Rattle.sqlite.specs.declared.types.Value.TheVariants.{Text}
+use Rattle.sqlite.specs.Order.{Row}
 use Rattle.sqlite.specs.Listing.{understood}
 use Rattle.sqlite_tied.specs.Compute.{everything}
 use Rattle.desk_sql.specs.declared.versions.Version.{Version}
 use Rattle.desk_sql.specs.declared.versions.Version.TheVariants.{One, Two}
-use Rattle.desk_sql.specs.Meanings.{find_stock_names, find_stock_query, first_unfinished_query, journey_names}
+use Rattle.desk_sql.specs.Meanings.{find_stock_names, find_stock_query, journey_names}
 use Rattle.desk_sql.specs.Rows.{whole}
 use Rattle.desk_sql.proofs.Causing.{Takes}
 use Rattle.desk_sql.proofs.Meaning.{MeansEach}
 use Rattle.sql_lists.specs.CellLists.{cell_list_query, cell_list_text, cells_query, cells_text, stock_text}
-use Rattle.sql_lists.specs.JourneyLists.{journey_list_query, journey_list_text, journeys_query, journeys_text, unfinished_text}
+use Rattle.sql_lists.specs.JourneyLists.{JourneyList, UnfinishedAbove, OwnedAbove, InPhases, journey_list_query, journey_list_text}
 
 pub cells_means : (s p : Bool) → MeansEach (cells_text s p) (cells_query s p) find_stock_names
 unfolding understood everything
@@ -62,35 +63,38 @@ module _ (kind first last : ℕ) where
   both_take supplier product One extra = record { whole = refl; typed = refl }
   both_take supplier product Two extra = record { whole = refl; typed = refl }
 
-pub journeys_means : (agent : Bool) → MeansEach (journeys_text agent) (journeys_query agent) journey_names
+pub journey_list_means : (s : JourneyList) → MeansEach (journey_list_text s) (journey_list_query s) journey_names
 unfolding understood everything
-journeys_means false One extra = record { is = refl; plain = (refl, refl); unlisted = refl; selects = refl }
-journeys_means false Two extra = record { is = refl; plain = (refl, refl); unlisted = refl; selects = refl }
-journeys_means true One extra = record { is = refl; plain = (refl, refl); unlisted = refl; selects = refl }
-journeys_means true Two extra = record { is = refl; plain = (refl, refl); unlisted = refl; selects = refl }
+journey_list_means UnfinishedAbove One extra = record { is = refl; plain = (refl, refl); unlisted = refl; selects = refl }
+journey_list_means UnfinishedAbove Two extra = record { is = refl; plain = (refl, refl); unlisted = refl; selects = refl }
+journey_list_means OwnedAbove One extra = record { is = refl; plain = (refl, refl); unlisted = refl; selects = refl }
+journey_list_means OwnedAbove Two extra = record { is = refl; plain = (refl, refl); unlisted = refl; selects = refl }
+journey_list_means (InPhases false) One extra = record { is = refl; plain = (refl, refl); unlisted = refl; selects = refl }
+journey_list_means (InPhases false) Two extra = record { is = refl; plain = (refl, refl); unlisted = refl; selects = refl }
+journey_list_means (InPhases true) One extra = record { is = refl; plain = (refl, refl); unlisted = refl; selects = refl }
+journey_list_means (InPhases true) Two extra = record { is = refl; plain = (refl, refl); unlisted = refl; selects = refl }
 
-pub unfinished_means : MeansEach unfinished_text first_unfinished_query journey_names
+-- each journey list takes its parameters
+abbrev pub TakesEach : JourneyList → Row → Type 0
+TakesEach s params = (v : Version) → Takes v (journey_list_text s) (journey_list_query s) params
+
+pub unfinished_takes : (after : ℕ) → TakesEach UnfinishedAbove (whole after ∷ [])
 unfolding understood everything
-unfinished_means One extra = record { is = refl; plain = (refl, refl); unlisted = refl; selects = refl }
-unfinished_means Two extra = record { is = refl; plain = (refl, refl); unlisted = refl; selects = refl }
+unfinished_takes after One extra = record { whole = refl; typed = refl }
+unfinished_takes after Two extra = record { whole = refl; typed = refl }
 
-pub unfinished_takes : (v : Version) (after : ℕ) → Takes v unfinished_text first_unfinished_query (whole after ∷ [])
+pub owned_takes : (agent : List ℕ) (after : ℕ) → TakesEach OwnedAbove (whole after ∷ Text agent ∷ [])
 unfolding understood everything
-unfinished_takes One after extra = record { whole = refl; typed = refl }
-unfinished_takes Two after extra = record { whole = refl; typed = refl }
-
-pub journey_list_means : (s : Option Bool) → MeansEach (journey_list_text s) (journey_list_query s) journey_names
-journey_list_means None = unfinished_means
-journey_list_means (Some agent) = journeys_means agent
+owned_takes agent after One extra = record { whole = refl; typed = refl }
+owned_takes agent after Two extra = record { whole = refl; typed = refl }
 
 module _ (least most : ℕ) where
-  pub all_take : (v : Version) → Takes v (journeys_text false) (journeys_query false) (whole least ∷ whole most ∷ [])
+  pub all_take : TakesEach (InPhases false) (whole least ∷ whole most ∷ [])
   unfolding understood everything
   all_take One extra = record { whole = refl; typed = refl }
   all_take Two extra = record { whole = refl; typed = refl }
 
-  pub agent_takes : (agent : List ℕ) (v : Version)
-      → Takes v (journeys_text true) (journeys_query true) (Text agent ∷ whole least ∷ whole most ∷ [])
+  pub agent_takes : (agent : List ℕ) → TakesEach (InPhases true) (Text agent ∷ whole least ∷ whole most ∷ [])
   unfolding understood everything
   agent_takes agent One extra = record { whole = refl; typed = refl }
   agent_takes agent Two extra = record { whole = refl; typed = refl }

@@ -1,5 +1,5 @@
 -- The statements that return journeys: which rows they return, their texts, and what these mean.
-use Rattle.std.specs.Prelude.{ℕ, ◌&&◌, Bool, true, false, List, [], ◌∷◌, codes, filter, map, nat_le, Option, None, Some}
+use Rattle.std.specs.Prelude.{ℕ, ◌&&◌, Bool, true, false, List, [], ◌∷◌, codes, filter, map, nat_le}
 use Rattle.filters.specs.CellFilters.{is_name_asked}
 use Rattle.filters.specs.declared.journeys.JourneyFilter.{JourneyFilter}
 use Rattle.filters.specs.declared.journeys.JourneyState.{JourneyState}
@@ -11,7 +11,7 @@ use Rattle.sqlite.specs.Held.{Held}
 use Rattle.sqlite.specs.Query.{Query}
 use Rattle.sqlite.specs.Term.{Term, col, op2}
 use Rattle.sqlite_sql.specs.declared.ops.BinaryOp.TheVariants.{Compare}
-use Rattle.sqlite_sql.specs.declared.ops.CompareOp.TheVariants.{Ge, Le}
+use Rattle.sqlite_sql.specs.declared.ops.CompareOp.TheVariants.{Ge, Gt, Le}
 use Rattle.sqlite_value.specs.declared.keys.Collation.TheVariants.{Binary}
 use Rattle.desk_sql.specs.Lists.{IsListed}
 use Rattle.desk_sql.specs.Meanings.{first_unfinished_query, is_equal, journey_project, rising, sorted_rows}
@@ -46,10 +46,19 @@ is_journey_listed f j =
 abbrev pub ListsJourneys : JourneyFilter → Tables → List JourneyRow → Type 0
 ListsJourneys f t listed = IsListed IsByNumber (filter (is_journey_listed f) t.journey) listed
 
--- the texts, by whether an agent is named
-abbrev pub journeys_text : Bool → List ℕ
-journeys_text false = codes "SELECT id, num, agent, steps, tries, pos, phase, target, used FROM journey WHERE phase BETWEEN ?1 AND ?2 ORDER BY id"
-journeys_text true = codes "SELECT id, num, agent, steps, tries, pos, phase, target, used FROM journey WHERE agent = ?1 AND phase BETWEEN ?2 AND ?3 ORDER BY id"
+-- the statements that return journeys: of the unfinished ones above a number, of those of an agent above a number, and of those in
+-- some phases, by whether an agent is named
+pub data JourneyList : Type 0 where
+  UnfinishedAbove : JourneyList
+  OwnedAbove : JourneyList
+  InPhases : (agent : Bool) → JourneyList
+
+-- their texts
+abbrev pub journey_list_text : JourneyList → List ℕ
+journey_list_text UnfinishedAbove = codes "SELECT id, num, agent, steps, tries, pos, phase, target, used FROM journey WHERE id > ?1 AND phase <= 1 ORDER BY id"
+journey_list_text OwnedAbove = codes "SELECT id, num, agent, steps, tries, pos, phase, target, used FROM journey WHERE id > ?1 AND agent = ?2 ORDER BY id"
+journey_list_text (InPhases false) = codes "SELECT id, num, agent, steps, tries, pos, phase, target, used FROM journey WHERE phase BETWEEN ?1 AND ?2 ORDER BY id"
+journey_list_text (InPhases true) = codes "SELECT id, num, agent, steps, tries, pos, phase, target, used FROM journey WHERE agent = ?1 AND phase BETWEEN ?2 AND ?3 ORDER BY id"
 
 -- the phase is not below one parameter, and not above another
 abbrev pub is_phase_between : ℕ → ℕ → List Term
@@ -57,31 +66,17 @@ is_phase_between least most =
     op2 (Compare Ge Binary) (col 1 7) (col 0 least) ∷ op2 (Compare Le Binary) (col 1 7) (col 0 most) ∷ []
 
 -- the tests of the texts
-abbrev pub journey_tests : Bool → List Term
-journey_tests false = is_phase_between 0 1
-journey_tests true = is_equal (col 1 3) (col 0 0) ∷ is_phase_between 1 2
+abbrev pub journey_list_tests : JourneyList → List Term
+journey_list_tests UnfinishedAbove = first_unfinished_query.filter
+journey_list_tests OwnedAbove = op2 (Compare Gt Binary) (col 1 0) (col 0 0) ∷ is_equal (col 1 3) (col 0 1) ∷ []
+journey_list_tests (InPhases false) = is_phase_between 0 1
+journey_list_tests (InPhases true) = is_equal (col 1 3) (col 0 0) ∷ is_phase_between 1 2
 
 -- what the texts mean
-abbrev pub journeys_query : Bool → Query
-journeys_query agent = sorted_rows 6 (journey_tests agent) journey_project ((col 1 0, rising) ∷ [])
-
--- the text of the statement of the unfinished journeys above a number
-abbrev pub unfinished_text : List ℕ
-unfinished_text = codes "SELECT id, num, agent, steps, tries, pos, phase, target, used FROM journey WHERE id > ?1 AND phase <= 1 ORDER BY id"
-
--- the text of any statement, its tests, and what it means: None is that of the unfinished journeys above a number
-abbrev pub journey_list_text : Option Bool → List ℕ
-journey_list_text None = unfinished_text
-journey_list_text (Some agent) = journeys_text agent
-
-abbrev pub journey_list_tests : Option Bool → List Term
-journey_list_tests None = first_unfinished_query.filter
-journey_list_tests (Some agent) = journey_tests agent
-
-abbrev pub journey_list_query : Option Bool → Query
+abbrev pub journey_list_query : JourneyList → Query
 journey_list_query statement = sorted_rows 6 (journey_list_tests statement) journey_project ((col 1 0, rising) ∷ [])
 
 -- these journeys remain of one of the statements
 abbrev pub JourneysRest : {S : Type 0} → Ghosts S → Held S → List JourneyRow → Type 0
 JourneysRest g h later =
-    (statement : Option Bool) × Rests g (journey_list_text statement) (journey_list_query statement) h (map journey_shown later)
+    (statement : JourneyList) × Rests g (journey_list_text statement) (journey_list_query statement) h (map journey_shown later)

@@ -1,4 +1,4 @@
-//! Journeys, one at a time: the unfinished ones above a number, or those that a filter lets through.
+//! Journeys, one at a time: the unfinished ones above a number, those of an agent above a number, or those that a filter lets through.
 
 ghost use Rattle.std.specs.Prelude.{◌≡◌, ◌<◌, ◌^◌, List, IfErr, IfOk, option_map};
 ghost use Rattle.std.specs.Borrow.{sem};
@@ -9,10 +9,11 @@ ghost use Rattle.desk_sql.specs.Causes.{HasReason, IsUp};
 ghost use Rattle.desk_sql.specs.FoundRows.{journey_of};
 ghost use Rattle.desk_sql.specs.Lending.{LeavesIfErr};
 ghost use Rattle.desk_sql.specs.Readable.{Each, IsAgentText};
-ghost use Rattle.desk_sql.specs.RemainingRows.{Hands, ListsUnfinished, Starts};
+ghost use Rattle.desk_sql.specs.RemainingRows.{Hands, ListsOwned, ListsUnfinished, Starts};
 ghost use Rattle.desk_sql.specs.Rows.{JourneyRow};
 ghost use Rattle.sql_lists.specs.JourneyLists.{JourneysRest, ListsJourneys, least_phase, most_phase, state_number};
 
+use commands::Agent;
 use desk_sql::{JourneyFound, read_journey};
 use filters::{JourneyFilter, JourneyState, Phases};
 use sqlite::types::ValueRef;
@@ -57,6 +58,29 @@ pub fn hand_unfinished<S: Alter>(conn: &mut Connection<S>, after: u64) -> Result
     )
 }
 
+/// Starts to read the journeys of an agent above a number, in order of number, finished ones too. If that fails, nothing has
+/// changed.
+pub fn hand_owned<'a, S: Alter>(
+    conn: &'a mut Connection<S>,
+    agent: &Agent,
+    after: u64,
+) -> Result<Rows<'a, S>, Error>
+    requires { after < 2 ^ 63 }
+
+    ensures* fault { sem 𝓛 (LeavesIfErr S.row S.Store conn.entry result) }
+    ensures same_reference { IfOk result (λ it. it.conn.ghost_name ≡ conn.entry.ghost_name) }
+    ensures started { IfOk result (λ it.
+        Starts S.Store conn.old it.conn.now (ListsOwned agent.now after) (JourneysRest S.Store)) }
+{
+    conn.query(
+        "SELECT id, num, agent, steps, tries, pos, phase, target, used FROM journey WHERE id > ?1 AND agent = ?2 ORDER BY id",
+        &[
+            ValueRef::Int(after as i64),
+            ValueRef::Text(agent.as_str().as_bytes()),
+        ],
+    )
+}
+
 /// Starts to read the journeys that a filter lets through, in order of number. If that fails, nothing has changed.
 pub fn hand_journeys<'a, S: Alter>(
     conn: &'a mut Connection<S>,
@@ -82,7 +106,7 @@ pub fn hand_journeys<'a, S: Alter>(
     }
 }
 
-/// Returns the next journey of the rows that `hand_unfinished` or `hand_journeys` started; `None` after the last one.
+/// Returns the next journey of the rows that `hand_unfinished`, `hand_owned` or `hand_journeys` started; `None` after the last one.
 pub fn next_journey<S: Alter>(rows: &mut Rows<'_, S>) -> Result<Option<JourneyFound>, Error>
     ensures same_reference { rows.new.conn.ghost_name ≡ rows.old.conn.ghost_name }
     ensures next { HasCleanDisk (state S.Store rows.new.conn.now) → IfOk result (λ found.

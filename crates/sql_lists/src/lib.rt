@@ -17,4 +17,4 @@ mod journeys;
 pub use cells::{hand_cells, hand_stock, next_cell};
 pub use holders::{HolderFound, hand_holders, next_holder};
 pub use holdings::{HoldingFound, hand_holdings, next_holding};
-pub use journeys::{hand_journeys, hand_unfinished, next_journey};
+pub use journeys::{hand_journeys, hand_owned, hand_unfinished, next_journey};

@@ -13,6 +13,7 @@ pub mod OptionRows
 pub mod PlanReading
 pub mod PlanWriting
 pub mod Cursors
+pub mod BriefRows
 pub mod UnfinishedRows
 pub mod FirstItems
 pub mod ItemRows

@@ -9,12 +9,12 @@ use Rattle.plan.specs.PlanModel.{Planned, StepPlan, numbered, is_plan}
 use Rattle.ledger.specs.History.{is_taken}
 use Rattle.ledger.specs.Ledger.{Journey, journeys, journey_at, history}
 use Rattle.ledger.specs.Answer.{State}
-use Rattle.saga_core.specs.Views.{first_owned, first_unfinished, places_shown}
+use Rattle.saga_core.specs.Views.{first_unfinished, places_shown}
 use Rattle.desk_sql.specs.declared.versions.Version.{Version}
 use Rattle.desk_sql.specs.Versions.{number_of}
 use Rattle.desk_sql.specs.Rows.{Tables, StockRow, JourneyRow, EntryRow}
 use Rattle.desk_sql.specs.Changes.{AreJourneysBelow}
-use Rattle.desk_sql.specs.FoundRows.{IsMeta, answer_of, FindsAnswer, journey_of, FindsJourney, FindsOwned, FindsUnfinished, step_of, FindsSteps, FindsOptions, item_of, FindsItems, FindsNextItem, FindsMarks}
+use Rattle.desk_sql.specs.FoundRows.{IsMeta, answer_of, FindsAnswer, journey_of, FindsJourney, FindsUnfinished, step_of, FindsSteps, FindsOptions, item_of, FindsItems, FindsNextItem, FindsMarks}
 use Rattle.desk_sql.specs.Stock.{is_within, night_of, FindsNights}
 use Rattle.desk_sql.specs.declared.meta.Meta.{Meta}
 use Rattle.desk_sql.specs.declared.answers.KeptAnswer.{KeptAnswer}
@@ -30,7 +30,7 @@ use Rattle.sql_model.proofs.Orders.{Rises}
 use Rattle.sql_model.proofs.Answered.{answer_found}
 use Rattle.sql_model.proofs.FirstItems.{no_item_before}
 use Rattle.sql_model.proofs.JourneyRows.{journey_found, journey_begins, next_above}
-use Rattle.sql_model.proofs.UnfinishedRows.{owned_found, unfinished_found}
+use Rattle.sql_model.proofs.UnfinishedRows.{unfinished_found}
 use Rattle.sql_model.proofs.PlanRows.{steps_found_in_order}
 use Rattle.sql_model.proofs.OptionRows.{is_at, step_rows_at, options_found_in_order}
 use Rattle.sql_model.proofs.ItemRows.{items_found, marks_found}
@@ -64,12 +64,6 @@ module _ {v : Version} (t : Tables) (s : State) (st : StandsIn v t s) (desk : Is
       → Tells IsBriefOf (option_map journey_of found) (first_unfinished s.ledger after)
   unfinished_read after found finds =
       unfinished_found s.ledger t.journey after (option_map journey_of found) st.journey finds
-
-  -- the row found of an agent above a number is that of the agent's first journey there
-  pub owned_read : (agent : List ℕ) (after : ℕ) (found : Option JourneyFound) → FindsOwned agent after t found
-      → Tells IsBriefOf (option_map journey_of found) (first_owned s.ledger agent after)
-  owned_read agent after found finds =
-      owned_found s.ledger t.journey agent after (option_map journey_of found) st.journey finds
 
   -- the event that began a found journey comes before all of its items
   pub begins_read : (id : ℕ) (found : JourneyFound) → FindsJourney id t (Some found)

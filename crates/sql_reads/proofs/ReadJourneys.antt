@@ -3,7 +3,7 @@ use Rattle.std.proofs.Common.{◌≡◌, ℕ, ◌≤◌, ◌<◌, List, [], ◌�
 use Rattle.std.proofs.lemmas.Bool.{and_parts, and_from, ltb-true, lt-ltb}
 use Rattle.std.proofs.lemmas.Option.{slice_get_past}
 use Rattle.commands.specs.declared.items.Cursor.{Cursor}
-use Rattle.saga_core.specs.Views.{first_owned, first_unfinished, brief_of, brief_of_journey, record_of, record_of_journey, cursor_of, marks_of}
+use Rattle.saga_core.specs.Views.{first_unfinished, brief_of, brief_of_journey, record_of, record_of_journey, cursor_of, marks_of}
 use Rattle.saga_core.specs.declared.records.Record.{Record}
 use Rattle.plan.specs.PlanModel.{Planned, step_count}
 use Rattle.std.specs.List.{list_any}
@@ -51,11 +51,6 @@ find_fewer {X} p q (x ∷ xs) fewer none = search (rules, arith, find_fewer p q 
 -- if no journey above a number is unfinished, none is above a greater number
 pub none_above : (l : List Event) (low high : ℕ) → low ≤ high → first_unfinished l low ≡ None → first_unfinished l high ≡ None
 none_above l low high above none = search (rules, arith, find_fewer, and_parts, ltb-true, and_from, lt-ltb)
-
--- if an agent has no journey above a number, it has none above a greater number
-pub none_owned_above : (l : List Event) (agent : List ℕ) (low high : ℕ) → low ≤ high → first_owned l agent low ≡ None
-    → first_owned l agent high ≡ None
-none_owned_above l agent low high above none = search (rules, arith, find_fewer, and_parts, ltb-true, and_from, lt-ltb)
 
 -- no journey has a number above the number of journeys
 pub journey_past : (l : List Event) (id : ℕ) → length (journeys l) < id → journey_at l id ≡ None

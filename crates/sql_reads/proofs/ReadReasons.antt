@@ -1,5 +1,5 @@
 -- The rows of a desk that fits can be read. For the functions of `sql_reads`.
-use Rattle.std.proofs.Common.{◌≡◌, ◌≤◌, ◌<◌, inl, inr, ℕ, zero, suc, List, [], ◌∷◌, Option, Some, None, IsTrue, true, false, length, filter, map, refl, sym, ap, subst, ◌∙◌, arith, IsUtf8, IsSome, IfSome, ◌+◌, slice_get, filter_map, rules}
+use Rattle.std.proofs.Common.{◌≡◌, ◌≤◌, ◌<◌, inl, inr, ℕ, zero, suc, List, [], ◌∷◌, Option, Some, None, IsTrue, true, false, length, map, refl, sym, ap, subst, ◌∙◌, arith, IsUtf8, IsSome, IfSome, ◌+◌, slice_get, filter_map, rules}
 use Rattle.std.specs.List.{AllByRecursion}
 use Rattle.std.proofs.lemmas.Bool.{and_parts, ltb-true}
 use Rattle.sqlite_rules.specs.Lists.{Has}
@@ -10,8 +10,8 @@ use Rattle.commands.specs.declared.items.Item.TheVariants.{Transaction, Compensa
 use Rattle.commands.specs.Names.{is_agent}
 use Rattle.commands.proofs.NameLemmas.{agent_is_short}
 use Rattle.plan.specs.PlanModel.{numbered}
-use Rattle.desk_sql.specs.FoundRows.{is_numbered, is_owned_after, is_unfinished_after, FindsJourney, FindsNextItem, FindsOwned, FindsUnfinished, is_item_after, item_of, journey_of}
-use Rattle.desk_sql.specs.Readable.{HasAgentText, HasMeta, HaveAgentTexts, HaveOwnedTexts}
+use Rattle.desk_sql.specs.FoundRows.{is_numbered, is_unfinished_after, FindsJourney, FindsNextItem, FindsUnfinished, is_item_after, item_of, journey_of}
+use Rattle.desk_sql.specs.Readable.{HasAgentText, HasMeta, HaveAgentTexts}
 use Rattle.desk_sql.specs.Rows.{Tables, EntryRow, JourneyRow}
 use Rattle.desk_sql.specs.declared.journeys.JourneyFound.{JourneyFound}
 use Rattle.desk_sql.specs.declared.journeys.ItemFound.{ItemFound}
@@ -94,11 +94,14 @@ module _ {v : Version} (t : Tables) (s : State) (st : StandsIn v t s) (spelled :
   good_agent : (id : ℕ) (a : Journey) → journey_at s.ledger id ≡ Some a → IsTrue (is_agent a.agent)
   good_agent id a at = subst (λ o. IfSome o (λ (x : Journey). IsTrue (is_agent x.agent))) at (spelled.agents id)
 
-  -- the agent of each row of a journey can be read
-  row_text : (j : JourneyRow) → Has t.journey j → IsUtf8 j.agent
-  row_text j has =
+  -- the agent of each row of a journey has the form of one, and can be read
+  pub row_agent : (j : JourneyRow) → Has t.journey j → IsTrue (is_agent j.agent)
+  row_agent j has =
       let told = journey_told s.ledger j (permutation_from _ t.journey j st.journey has) in
-      subst IsUtf8 (sym told.2.agent) (agent_text told.0.agent (good_agent j.id told.0 told.1))
+      subst (λ x. IsTrue (is_agent x)) (sym told.2.agent) (good_agent j.id told.0 told.1)
+
+  row_text : (j : JourneyRow) → Has t.journey j → IsUtf8 j.agent
+  row_text j has = agent_text j.agent (row_agent j has)
 
   pub has_text : (id : ℕ) → HasAgentText id t
   has_text id j has = row_text j (has_filtered (is_numbered id) t.journey j has).0
@@ -106,15 +109,7 @@ module _ {v : Version} (t : Tables) (s : State) (st : StandsIn v t s) (spelled :
   pub have_texts : (after : ℕ) → HaveAgentTexts after t
   have_texts after j has = row_text j (has_filtered (is_unfinished_after after) t.journey j has).0
 
-  pub have_owned_texts : (agent : List ℕ) (after : ℕ) → HaveOwnedTexts agent after t
-  have_owned_texts agent after j has = row_text j (has_filtered (is_owned_after agent after) t.journey j has).0
-
-  -- a row that is found has an agent's name, tells where its journey is, and has a number of a journey and one of an event
-  pub row_agent : (r : JourneyFound) → Has t.journey (journey_of r) → IsTrue (is_agent (journey_of r).agent)
-  row_agent r has =
-      let told = journey_told s.ledger (journey_of r) (permutation_from _ t.journey (journey_of r) st.journey has) in
-      subst (λ x. IsTrue (is_agent x)) (sym told.2.agent) (good_agent r.id told.0 told.1)
-
+  -- a row that is found tells where its journey is, and has a number of a journey and one of an event
   pub row_cursor : (r : JourneyFound) → Has t.journey (journey_of r) → IsSome (cursor_in (row_of r.cursor))
   row_cursor r has =
       let told = journey_told s.ledger (journey_of r) (permutation_from _ t.journey (journey_of r) st.journey has) in
@@ -123,13 +118,7 @@ module _ {v : Version} (t : Tables) (s : State) (st : StandsIn v t s) (spelled :
   -- so the row is that of a journey
   pub row_told : (r : JourneyFound) → Has t.journey (journey_of r)
       → (IsTrue (is_agent (journey_of r).agent) → IsSome (cursor_in (row_of r.cursor)) → false ≡ true) → ⊥
-  row_told r has there = false_is_not_true (there (row_agent r has) (row_cursor r has))
-
-  pub rows_tell : (after : ℕ) (j : JourneyRow) → Has (filter (is_unfinished_after after) t.journey) j → IsTrue (is_agent j.agent)
-  rows_tell after j has =
-      let there = (has_filtered (is_unfinished_after after) t.journey j has).0 in
-      let told = journey_told s.ledger j (permutation_from _ t.journey j st.journey there) in
-      subst (λ x. IsTrue (is_agent x)) (sym told.2.agent) (good_agent j.id told.0 told.1)
+  row_told r has there = false_is_not_true (there (row_agent (journey_of r) has) (row_cursor r has))
 
   pub row_low : (r : JourneyFound) → Has t.journey (journey_of r) → r.id ≤ most_events
   row_low r has =
@@ -150,12 +139,6 @@ module _ {v : Version} (t : Tables) (s : State) (st : StandsIn v t s) (spelled :
 
   pub unfinished_above : (after : ℕ) (r : JourneyFound) → FindsUnfinished after t (Some r) → after < r.id
   unfinished_above after r finds = search (rules, arith, ltb-true, and_parts, has_filtered)
-
-  pub owned_there : (agent : List ℕ) (after : ℕ) (r : JourneyFound) → FindsOwned agent after t (Some r) → Has t.journey (journey_of r)
-  owned_there agent after r finds = (has_filtered (is_owned_after agent after) t.journey (journey_of r) finds.0).0
-
-  pub owned_above : (agent : List ℕ) (after : ℕ) (r : JourneyFound) → FindsOwned agent after t (Some r) → after < r.id
-  owned_above agent after r finds = search (rules, arith, ltb-true, and_parts, has_filtered)
 
   -- the event of an item that is found is one of the ledger
   pub item_early : (journey after : ℕ) (found : Option ItemFound) → FindsNextItem journey after t found

@@ -1,7 +1,7 @@
 -- What a read of a connection returns of the desk that it keeps.
 use Rattle.std.specs.Prelude.{◌≡◌, ℕ, false, List, map, Option, None, Some, option_map, Result, IfOk, filter, filter_map}
 use Rattle.allotment.specs.declared.places.Held.{Held as HeldPlaces}
-use Rattle.saga_core.specs.Views.{night_said, brief_of, first_owned, first_unfinished, is_unfinished_above, record_of, marks_of, TracesBrief, TracesItems}
+use Rattle.saga_core.specs.Views.{night_said, brief_of, first_unfinished, is_unfinished_above, record_of, marks_of, TracesBrief, TracesItems}
 use Rattle.desk_sql.specs.declared.stock.NightFound.{NightFound}
 use Rattle.sqlite.specs.Store.{Ghosts}
 use Rattle.sqlite.specs.Held.{Held, state}
@@ -96,10 +96,6 @@ IsFirstAbove after s found = found ≡ first_unfinished s.ledger after
 abbrev pub AreUnfinishedAbove : ℕ → State → List Brief → Type 0
 AreUnfinishedAbove after s briefs =
     briefs ≡ filter (is_unfinished_above after) (filter_map (brief_of s.ledger) (numbers s.ledger))
-
--- the journey of this agent with the least number above this one
-abbrev pub IsFirstOwned : List ℕ → ℕ → State → Option Brief → Type 0
-IsFirstOwned agent after s found = found ≡ first_owned s.ledger agent after
 
 -- no journey has this number
 abbrev pub HasNone : {V : Type 0} → ℕ → State → V → Type 0

@@ -1,4 +1,5 @@
 pub mod BriefLists
+pub mod OwnedLists
 pub mod StockLists
 pub mod StockOrder
 pub mod Taken

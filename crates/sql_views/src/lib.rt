@@ -5,9 +5,7 @@
 #![tactic(auto)]
 
 mod brief_lists;
-mod owned_journeys;
 mod stock_lists;
 
-pub use brief_lists::read_unfinished;
-pub use owned_journeys::read_first_owned;
+pub use brief_lists::{read_owned, read_unfinished};
 pub use stock_lists::read_stock;

@@ -2,9 +2,9 @@
 //!
 //! `load NAME CELL PLACES` loads a batch, whose rows are separated by commas; `begin PLAN`, `step ID`, `abort ID P`,
 //! `stop ID` and `save ID` are the other commands. `items ID` asks for a journey's items, `unfinished ID` for the first
-//! unfinished journey above this number, `owned AGENT ID` for the first journey of this agent above it, `count all` for how
-//! many events, journeys and unfinished journeys there are, `free CELL` for the free places of a cell, `cells WANT` for those of a want's
-//! nights, and `stock` for all cells. `@` and a letter or digit represents the cell, or the first five parts of a want,
+//! unfinished journey above this number, `owned AGENT ID MOST` for the journeys of this agent above it, at most so many,
+//! `count all` for how many events, journeys and unfinished journeys there are, `free CELL` for the free places of a cell,
+//! `cells WANT` for those of a want's nights, and `stock` for all cells. `@` and a letter or digit represents the cell, or the first five parts of a want,
 //! that `NAMES` has.
 use allotment::{Cell, Row};
 use memory_book::MemBook;
@@ -126,16 +126,27 @@ fn items(alloc: Global, book: &mut MemBook, id: u64) -> Result<String, Fail> {
     Ok(line)
 }
 
-/// The first journey of an agent above a number, with its agent and its position, or `none`.
+/// The journeys of an agent above a number, at most so many, each with its agent and its state.
 fn owned(alloc: Global, book: &mut MemBook, text: &str) -> Result<String, Fail> {
-    let (agent, after) = text.split_once(' ').ok_or("no number")?;
+    let (agent, numbers) = text.split_once(' ').ok_or("no number")?;
+    let (after, most) = numbers.split_once(' ').ok_or("no second number")?;
     let agent = Agent::parse(agent).ok_or("no agent")?;
-    summary(alloc, book.first_owned(&agent, after.parse()?)?)
+    let mut line = String::new(alloc);
+    for brief in &book.owned(&agent, after.parse()?, most.parse()?)? {
+        if !line.is_empty() {
+            line.push_str(", ")?;
+        }
+        line.push_str(summary(alloc, brief)?.as_str())?;
+    }
+    Ok(line)
 }
 
-/// The first unfinished journey above a number, with its agent and its position, or `none`.
+/// The first unfinished journey above a number, with its agent and its state, or `none`.
 fn unfinished(alloc: Global, book: &mut MemBook, after: u64) -> Result<String, Fail> {
-    summary(alloc, book.first_unfinished(after)?)
+    match book.first_unfinished(after)? {
+        Some(brief) => summary(alloc, &brief),
+        None => Ok(String::from_str(alloc, "none")?),
+    }
 }
 
 /// How many events, journeys and unfinished journeys there are.
@@ -148,11 +159,8 @@ fn counts(alloc: Global, book: &mut MemBook) -> Result<String, Fail> {
     Ok(format!(in alloc; "{events} {journeys} {unfinished}")?)
 }
 
-/// A journey's number, agent and state, or `none`.
-fn summary(alloc: Global, found: Option<Brief>) -> Result<String, Fail> {
-    let Some(brief) = found else {
-        return Ok(String::from_str(alloc, "none")?);
-    };
+/// A journey's number, agent and state.
+fn summary(alloc: Global, brief: &Brief) -> Result<String, Fail> {
     let id = brief.id;
     let mut line = format!(in alloc; "{id} ")?;
     line.push_str(brief.agent.as_str())?;

@@ -53,18 +53,21 @@ fn nothing_is_allotted(rt: HostRuntime) -> Result<(), Fail> {
 }
 
 #[rattlefmt::skip]
-const UNFINISHED: [(&str, &str); 12] = [
+const UNFINISHED: [(&str, &str); 15] = [
     ("unfinished 0",   "none"),
-    ("owned desk 0",   "none"),
+    ("owned desk 0 9", ""),
     ("count all",      "0 0 0"),
     ("begin @1/1/1!0", "journey 1 begun"),
     ("begin @1/1/1!0", "journey 2 begun"),
     ("unfinished 0",   "1 desk run 0"),
     ("unfinished 1",   "2 desk run 0"),
     ("unfinished 2",   "none"),
-    ("owned desk 1",   "2 desk run 0"),
-    ("owned desk 2",   "none"),
-    ("owned ann 0",    "none"),
+    ("owned desk 0 0", ""),
+    ("owned desk 0 1", "1 desk run 0"),
+    ("owned desk 0 2", "1 desk run 0, 2 desk run 0"),
+    ("owned desk 1 9", "2 desk run 0"),
+    ("owned desk 2 9", ""),
+    ("owned ann 0 9",  ""),
     ("count all",      "2 2 2"),
 ];
 
@@ -98,12 +101,12 @@ const TWO_ROOMS: [(&str, &str); 18] = [
     ("unfinished 0",              "1 desk run 1"),
     ("step 1",                    "journey 1 T2.1 ended 2"),
     ("unfinished 0",              "2 desk run 1"),
-    ("owned desk 0",              "1 desk ended 2"),
+    ("owned desk 0 1",            "1 desk ended 2"),
     ("count all",                 "6 2 1"),
     ("step 2",                    "journey 2 B0r back 1 to 0"),
     ("unfinished 1",              "2 desk back 1 to 0"),
     ("step 2",                    "journey 2 C1.1 undone 0"),
-    ("owned desk 1",              "2 desk undone 0"),
+    ("owned desk 0 9",            "1 desk ended 2, 2 desk undone 0"),
     ("count all",                 "8 2 0"),
     ("items 1",                   "T1.1 T2.1"),
     ("items 2",                   "T1.1 B0r C1.1"),

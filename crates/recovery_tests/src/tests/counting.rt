@@ -63,8 +63,8 @@ impl<B: Book> Book for CountingBook<B> {
         self.book.first_unfinished(after)
     }
 
-    fn first_owned(&mut self, agent: &Agent, after: u64) -> Result<Option<Brief>, Fault> {
-        self.book.first_owned(agent, after)
+    fn owned(&mut self, agent: &Agent, after: u64, most: usize) -> Result<Vec<Brief>, Fault> {
+        self.book.owned(agent, after, most)
     }
 
     fn kept(&mut self, agent: &Agent, key: &Key) -> Result<Option<Reply>, Fault> {

@@ -74,7 +74,7 @@ impl Book for FailingBook {
         }
     }
 
-    fn first_owned(&mut self, _agent: &Agent, _after: u64) -> Result<Option<Brief>, Fault> {
+    fn owned(&mut self, _agent: &Agent, _after: u64, _most: usize) -> Result<Vec<Brief>, Fault> {
         self.failed = true;
         Err(Fault::Store)
     }

@@ -1,10 +1,10 @@
 //! The calls of the book over tables. After the store has failed, no call reaches it.
-ghost use Rattle.std.specs.Prelude.{◌≡◌};
+ghost use Rattle.std.specs.Prelude.{◌≡◌, take};
 ghost use Rattle.std.specs.Option.{option_copied};
 ghost use Rattle.commands.specs.Orders.{request_of};
 ghost use Rattle.tables.specs.Asking.{HasAgent};
 ghost use Rattle.ledger.specs.Ledger.{history};
-ghost use Rattle.saga_core.specs.Views.{ShowsCells, IsStock, counts_of, first_owned, first_unfinished, record_of};
+ghost use Rattle.saga_core.specs.Views.{ShowsCells, IsStock, counts_of, first_unfinished, owned_above, record_of};
 ghost use Rattle.saga_core.specs.Views.{TracesBrief, TracesItems, kept_under, unfinished_of};
 
 use crate::books::TableBook;
@@ -15,7 +15,7 @@ use desk_sql::Version;
 use saga_core::{Book, Brief, Counts, Record, Trace};
 use sql_commands::{answer, know_limits, read_kept};
 use sql_reads::{read_cells, read_history, read_journey, read_trace};
-use sql_views::{read_first_owned, read_stock};
+use sql_views::{read_owned, read_stock};
 use sqlite::Alter;
 
 /// The agent of an ask has its form, as each value of its type does. A call does nothing at run time.
@@ -94,20 +94,28 @@ impl<S: Alter> Look<S> for FirstUnfinished {
     }
 }
 
-/// The journey of this agent with the least number above `after`, a finished one too.
+/// The journeys of this agent with numbers above `after`, finished ones too, at most so many.
 #[derive(Drop)]
-struct FirstOwned<'a> {
+struct OwnedAbove<'a> {
     agent: &'a Agent,
     after: u64,
+    most: usize,
 }
 
-impl<'a, S: Alter> Look<S> for FirstOwned<'a> {
-    type Shown = Option<Brief>;
+impl<'a, S: Alter> Look<S> for OwnedAbove<'a> {
+    type Shown = Vec<Brief>;
 
-    ghost shows = { λ look s found. found ≡ first_owned s.ledger look.agent.now look.after };
+    ghost shows = { λ look s briefs.
+        briefs.items ≡ take look.most (owned_above s.ledger look.agent.now look.after) };
 
-    fn look(self, book: &mut TableBook<S>) -> Result<Option<Brief>, Fault> {
-        read_first_owned(&mut book.conn, self.agent, self.after)
+    fn look(self, book: &mut TableBook<S>) -> Result<Vec<Brief>, Fault> {
+        read_owned(
+            book.alloc,
+            &mut book.conn,
+            self.agent,
+            self.after,
+            self.most,
+        )
     }
 }
 
@@ -303,12 +311,12 @@ impl<S: Alter> Book for TableBook<S> {
         self.read(FirstUnfinished { after })
     }
 
-    fn first_owned(&mut self, agent: &Agent, after: u64) -> Result<Option<Brief>, Fault>
-        ensures first { ShowsKept S.Store self.old self.new
-            (λ s found. found ≡ first_owned s.ledger agent.now after) result }
+    fn owned(&mut self, agent: &Agent, after: u64, most: usize) -> Result<Vec<Brief>, Fault>
+        ensures owned { ShowsKept S.Store self.old self.new
+            (λ s briefs. briefs.items ≡ take most (owned_above s.ledger agent.now after)) result }
         ensures reads { Reads S.Store self.old self.new result }
     {
-        self.read(FirstOwned { agent, after })
+        self.read(OwnedAbove { agent, after, most })
     }
 
     fn kept(&mut self, agent: &Agent, key: &Key) -> Result<Option<Reply>, Fault>

@@ -3,9 +3,9 @@ use Rattle.std.proofs.Common.{true, false, None, Some, refl}
 use Rattle.desk_sql.proofs.Beginning.{not_begun}
 use Rattle.desk_sql.proofs.Selecting.{ok_each}
 use Rattle.desk_sql.proofs.Writing.{pos_is}
-use Rattle.sql_lists.specs.JourneyLists.{least_phase, most_phase}
-use Rattle.sql_lists.proofs.JourneyAnswers.{journeys_started, journeys_take, least_small, most_small}
-use Rattle.sql_lists.proofs.ListMeanings.{journeys_means}
+use Rattle.sql_lists.specs.JourneyLists.{InPhases, least_phase, most_phase}
+use Rattle.sql_lists.proofs.JourneyAnswers.{filter_started, journeys_take, least_small, most_small}
+use Rattle.sql_lists.proofs.ListMeanings.{journey_list_means}
 use Rattle.sql_lists.proofs.journeys.hand_journeys.Goals as goal
 
 pub returns-in-None : goal.returns-in-None
@@ -20,14 +20,14 @@ returns-in-None g c =
       (
         refl,
         c.query.follows.holds,
-        not_begun store (journeys_means false) (journeys_take (least_phase f.phases) (most_phase f.phases) None) old
+        not_begun store (journey_list_means (InPhases false)) (journeys_take (least_phase f.phases) (most_phase f.phases) None) old
             c.query.follows.lender-at-none result
             (simp (c.range_of-least.ensures.least, c.range_of-least.ensures.most, pos_is) at c.query.follows.holds-at-none),
       ),
       record {
         fault = tt;
         same_reference = made.same_reference;
-        started = ok_each _ _ _ _ result (λ rows. journeys_started store old rows.conn.now f None c.in-None.is)
+        started = ok_each _ _ _ _ result (λ rows. filter_started store old rows.conn.now f None c.in-None.is)
             (simp (c.range_of-least.ensures.least, c.range_of-least.ensures.most, pos_is) at made.begun) made.mode
             (simp (c.range_of-least.ensures.least, c.range_of-least.ensures.most, pos_is) at made.survives);
       },
@@ -45,14 +45,14 @@ returns-in-Some g c =
       (
         refl,
         c.query-in-Some.follows.holds,
-        not_begun store (journeys_means true) (journeys_take (least_phase f.phases) (most_phase f.phases) (Some c.in-Some.agent)) old
+        not_begun store (journey_list_means (InPhases true)) (journeys_take (least_phase f.phases) (most_phase f.phases) (Some c.in-Some.agent)) old
             c.query-in-Some.follows.lender-at-none result
             (simp (c.range_of-least.ensures.least, c.range_of-least.ensures.most, pos_is, c.as_bytes.ensures.value, c.as_str.ensures.text) at c.query-in-Some.follows.holds-at-none),
       ),
       record {
         fault = tt;
         same_reference = made.same_reference;
-        started = ok_each _ _ _ _ result (λ rows. journeys_started store old rows.conn.now f (Some c.in-Some.agent) c.in-Some.is)
+        started = ok_each _ _ _ _ result (λ rows. filter_started store old rows.conn.now f (Some c.in-Some.agent) c.in-Some.is)
             (simp (c.range_of-least.ensures.least, c.range_of-least.ensures.most, pos_is, c.as_bytes.ensures.value, c.as_str.ensures.text) at made.begun) made.mode
             (simp (c.range_of-least.ensures.least, c.range_of-least.ensures.most, pos_is, c.as_bytes.ensures.value, c.as_str.ensures.text) at made.survives);
       },

@@ -1,5 +1,5 @@
 -- The current row of the query is the first that remained.
-use Rattle.std.proofs.Common.{◌≡◌, Bool, List, Option, Some, None, map, inl, rules}
+use Rattle.std.proofs.Common.{◌≡◌, List, Some, None, map, inl, rules}
 use Rattle.sqlite.specs.Given.{row_if}
 use Rattle.sqlite.specs.Store.{Ghosts}
 use Rattle.sqlite.specs.Held.{Held, state}
@@ -8,16 +8,16 @@ use Rattle.desk_sql.specs.Meanings.{journey_names}
 use Rattle.desk_sql.specs.RemainingRows.{Rests, journey_shown}
 use Rattle.desk_sql.specs.FoundRows.{journey_of}
 use Rattle.desk_sql.specs.Rows.{JourneyRow}
-use Rattle.sql_lists.proofs.HandedJourneys.{journey_back}
+use Rattle.sql_lists.proofs.JourneyAnswers.{journey_back}
 use Rattle.sql_lists.proofs.HandedReasons.{advance_reason}
 use Rattle.sql_lists.proofs.HandedRows.{hands_row, hands_none, row_rests}
-use Rattle.sql_lists.specs.JourneyLists.{JourneysRest, journey_list_query, journey_list_text}
+use Rattle.sql_lists.specs.JourneyLists.{JourneyList, JourneysRest, journey_list_query, journey_list_text}
 use Rattle.sql_lists.proofs.Handed.{hands_weaker}
 use Rattle.sql_lists.proofs.ListMeanings.{journey_list_means}
 use Rattle.sql_lists.proofs.journeys.next_journey.Goals as goal
 
 -- these journeys remain of this statement
-abbrev Remain : {S : Type 0} → Ghosts S → Option Bool → Held S → List JourneyRow → Type 0
+abbrev Remain : {S : Type 0} → Ghosts S → JourneyList → Held S → List JourneyRow → Type 0
 Remain g s h later = Rests g (journey_list_text s) (journey_list_query s) h (map journey_shown later)
 
 pub returns-in_ok-journey-in-Some-clause-next : goal.returns-in_ok-journey-in-Some-clause-next

@@ -1,12 +1,20 @@
 -- The briefs that are taken are those of the state that is kept.
-use Rattle.std.proofs.Common.{refl, rules}
-use Rattle.desk_sql.specs.declared.versions.Version.TheVariants.{Two}
-use Rattle.sql_views.proofs.Taken.{list_read}
+use Rattle.std.proofs.Common.{rules}
+use Rattle.desk_sql.specs.FoundRows.{is_unfinished_after}
+use Rattle.saga_core.specs.Views.{is_unfinished_above}
+use Rattle.sql_reads.proofs.ReadLemmas.{read_less}
+use Rattle.sql_views.proofs.BriefLists.{briefs_read, unfinished_agree, whole_list}
+use Rattle.sql_views.proofs.Taken.{not_begun_read}
 use Rattle.sql_views.proofs.brief_lists.read_unfinished.Goals as goal
+
+-- rows that could not be started
+pub returns-in-Err : goal.returns-in-Err
+returns-in-Err g c = not_begun_read c.in-Err.is c.hand_unfinished.follows.holds-at-none c.fault_of.ensures.memory
 
 pub returns : goal.returns
 returns g c =
+    let after = c.args.after in
     let taken = c.take_briefs.ensures in
-    list_read (search rules) c.in-Ok.ensures.quiet taken.kept.quiet
-    (λ clean began s desk keeps. taken.briefs clean _ (c.in-Ok.ensures.rows Two began s desk keeps _ refl))
-    (λ clean began s desk spelled keeps up store. taken.store clean (c.in-Ok.ensures.good Two began s desk spelled keeps) up store)
+    read_less
+    (briefs_read 18446744073709551615 (is_unfinished_after after) (is_unfinished_above after) (unfinished_agree after) (search rules) c.in-Ok.ensures.started
+    taken.kept.quiet taken.briefs taken.store) (λ s briefs is. whole_list briefs _ is)
