@@ -59,18 +59,14 @@ def failing(said):
     return found
 
 
-def is_clear(why):
-    """Returns whether a function fails for a goal of its own, or for a proof file of its own."""
-    return why == "not proved" or "`search` did not prove" in why or bool(STANDS_ON.search(why))
-
-
 def judged(batch, functions, status, said, usual):
     """Returns why mutants of a batch are rejected, by their names: the first error of the function of each that fails by itself."""
     failed = failing(said)
     own = {it: of for _, of in batch for it in failed if it == of.path or it.startswith(of.closures)}
     if status != 1 or "\nholes=" not in said or failed.keys() != own.keys():
         return {}
-    clear = {of for it, of in own.items() if is_clear(failed[it])}
+    # those that fail for a goal of their own, or for a proof file of their own
+    clear = {of for it, of in own.items() if failed[it] == "not proved" or "`search` did not prove" in failed[it] or STANDS_ON.search(failed[it])}
     errors = {}
     for place in [PLACE.match(it) for it in said.split("\n") if it not in usual and (it.startswith("note: ") or ": error" in it)]:
         if not place:

@@ -15,6 +15,7 @@ TOP = Path(__file__).resolve().parents[1]
 sys.path.append(str(TOP / "scripts/gate"))
 
 from drawing import crates, journey, phases, way
+from drawing.graphs import Bad
 from tables import Tables
 
 FOLDER = "docs/pictures"
@@ -29,7 +30,7 @@ def printed(path, command):
     """What a page says that a command prints, the first time that it stands there."""
     found = re.search(rf"^\$ {re.escape(command)}\n((?:(?!\$ |```).*\n)*)", source(path), re.MULTILINE)
     if not found:
-        raise journey.BadHistory(f"{path} has no '{command}'")
+        raise Bad(f"{path} has no '{command}'")
     return found[1]
 
 
@@ -84,7 +85,7 @@ def main(words):
         if len(words) == 2 and words[0] == "--history":
             sys.stdout.write(journey.picture(words[1]).draw())
             return 0
-    except (journey.BadHistory, phases.BadTable, way.BadList) as why:
+    except Bad as why:
         print(f"pictures.py: {why}", file=sys.stderr)
         return 2 if words[:1] == ["--history"] else 1
     except FileNotFoundError as why:

@@ -1,5 +1,6 @@
 """Runs the desk with its words, its lines or its requests, for the scripts that try it beside hostile files.
 More than 200 lines: the one home of what these scripts share."""
+import contextlib
 import itertools
 import json
 import os
@@ -8,8 +9,9 @@ import resource
 import signal
 import socket
 import subprocess
-import threading
 import time
+from concurrent.futures import ThreadPoolExecutor
+from pathlib import Path
 
 from ports import free_port
 
@@ -161,8 +163,7 @@ class Logged(Desk):
 
     def log(self):
         """The lines so far, each without its head, and those of requests without their milliseconds."""
-        with open(self.name, encoding="utf-8") as lines:
-            found = lines.read().split("\n")
+        found = Path(self.name).read_text(encoding="utf-8").split("\n")
         same("the log ends with a whole line", "", found[-1])
         return [self.told(line) for line in found[:-1]]
 
@@ -187,23 +188,16 @@ FILES = ("trips.db", "trips.db-wal")
 
 
 def read_files(folder):
-    files = {}
-    for name in FILES:
-        if os.path.exists(f"{folder}/{name}"):
-            with open(f"{folder}/{name}", "rb") as file:
-                files[name] = file.read()
-    return files
+    return {name: path.read_bytes() for name in FILES if (path := Path(folder, name)).exists()}
 
 
 def lay(files, folder="cut"):
     """Puts these files on a disk of their own, and no others."""
     os.makedirs(folder, exist_ok=True)
     for name in FILES:
-        if os.path.exists(f"{folder}/{name}"):
-            os.remove(f"{folder}/{name}")
+        Path(folder, name).unlink(missing_ok=True)
     for name, content in files.items():
-        with open(f"{folder}/{name}", "wb") as out:
-            out.write(content)
+        Path(folder, name).write_bytes(content)
 
 
 # What went wrong, which a script prints at its end.
@@ -225,39 +219,25 @@ def holds(what, is_so):
 
 
 def side_by_side(*calls):
-    """Makes these calls at the same time, each a function with its words."""
-    threads = [threading.Thread(target=guarded, args=call) for call in calls]
-    for thread in threads:
-        thread.start()
-    for thread in threads:
-        thread.join()
-
-
-def guarded(call, *words):
-    try:
-        call(*words)
-    except Exception as error:  # what a thread raises is said too
-        same(call.__name__, None, repr(error))
+    """Makes these calls at the same time, each a function with its words; what one raises is said too."""
+    with ThreadPoolExecutor(len(calls)) as pool:
+        made = [(call.__name__, pool.submit(call, *words)) for call, *words in calls]
+    for name, ended in made:
+        same(name, "None", repr(ended.exception()))
 
 
 def peak(process):
     """The most memory that a process has taken, in kB."""
-    with open(f"/proc/{process.pid}/status", encoding="ascii") as lines:
-        return next(int(line.split()[1]) for line in lines if line.startswith("VmHWM"))
+    return int(re.search(r"VmHWM:\s*(\d+)", Path(f"/proc/{process.pid}/status").read_text(encoding="ascii"))[1])
 
 
 def sockets_of(process):
-    """How many sockets a process has, of those that listen and those of connections."""
-    folder = f"/proc/{process.pid}/fd"
-    return sum(is_socket(f"{folder}/{name}") for name in os.listdir(folder))
-
-
-def is_socket(path):
-    """Whether this descriptor is a socket; one that was closed meanwhile is none."""
-    try:
-        return os.readlink(path).startswith("socket:")
-    except FileNotFoundError:
-        return False
+    """How many sockets a process has, of those that listen and those of connections; what is closed meanwhile is none."""
+    count = 0
+    for descriptor in Path(f"/proc/{process.pid}/fd").iterdir():
+        with contextlib.suppress(FileNotFoundError):
+            count += os.readlink(descriptor).startswith("socket:")
+    return count
 
 
 def compact(value):
@@ -299,21 +279,16 @@ def opened(port):
 
 def end_writing(stream):
     """Ends what this side writes, if the desk has not ended the connection already."""
-    try:
+    with contextlib.suppress(OSError):
         stream.shutdown(socket.SHUT_WR)
-    except OSError:
-        pass
 
 
 def rest_of(stream):
     """All that comes until the desk ends the connection, in order or not; then it is closed."""
     text = b""
-    try:
+    with stream, contextlib.suppress(OSError):
         while piece := stream.recv(65536):
             text += piece
-    except OSError:
-        pass
-    stream.close()
     return text
 
 
@@ -328,15 +303,10 @@ class Client:
 
     def ask(self, message):
         """The page that answers this request, or what came of it where the connection ended before."""
-        try:
+        with contextlib.suppress(OSError):
             self.stream.sendall(message)
-            while not is_whole(self.rest):
-                piece = self.stream.recv(65536)
-                if not piece:
-                    break
+            while not is_whole(self.rest) and (piece := self.stream.recv(65536)):
                 self.rest += piece
-        except OSError:
-            pass
         size = page_size(self.rest)
         page, self.rest = self.rest[:size], self.rest[size:]
         return page

@@ -104,6 +104,13 @@ gate() {
   runs "$1" ./check "${@:2}"
 }
 
+# beside NAME COMMAND ..: the command, while there is a file of this name for the toolchain
+beside() {
+  touch "$FAKE/$1"
+  "${@:2}"
+  rm -f "$FAKE/$1"
+}
+
 # tried: of each crate how many mutants were tried
 tried() { cut -d/ -f1 "$FAKE/mutants" 2>/dev/null | sort | uniq -c | awk '{ printf "%s%s %d", (NR > 1 ? ", " : ""), $2, $1 }'; }
 
@@ -134,9 +141,7 @@ land 9 "$landed"
 gate 0 -- "landing 9, compared with $landed" "scripts left out until their turn: long.sh" "1 passed, 0 failed, 1 skipped"
 commit 1
 
-touch "$FAKE/accepts"
-gate 1 --all
-rm "$FAKE/accepts"
+beside accepts gate 1 --all
 gate 0 --all -- "long: whole"
 same "all that there are" "desk 8, high 8, low 8, mid 8, other 8" "$(tried)"
 same "every crate" "low mid high other desk low_tests high_tests bench" "$(proved)"
@@ -189,7 +194,7 @@ echo new >crates/other/proofs/New.antt
 changed other # a new file
 git rm -q -f crates/high/src/lib.rt
 changed high # a file that is gone
-sed -i 's/^high:.*/high: mid other/' crates.txt
+sed -i 's/^high:.*/high: mid low/' crates.txt
 changed high # a crate that stands on another
 echo "kit 2" >"$FAKE/version"
 changed "low mid high other desk low_tests high_tests bench" # another toolchain
@@ -239,9 +244,8 @@ waits='touch "$FAKE/$(basename "$0")"; for _ in {1..100}; do [ ! -e "$FAKE/${OTH
 printf 'declare -A OTHER=([left.sh]=right.sh [right.sh]=left.sh)\n%s\n' "$waits" | tee tests/left.sh >tests/right.sh
 RT_JOBS=3 gate 0 -- "4 passed, 0 failed, 1 skipped"
 rm tests/left.sh tests/right.sh
-touch "$FAKE/linger"
 echo 'rm "$FAKE/linger"' >tests/ends.sh
-gate 0 -- "3 passed, 0 failed, 1 skipped"
+beside linger gate 0 -- "3 passed, 0 failed, 1 skipped"
 rm tests/ends.sh
 
 # ends_gate WHAT FILE [WORD ..]: a gate that is ended once this file has something leaves nothing
@@ -256,12 +260,8 @@ ends_gate() {
   same "$1: the status" 143 $?
   same "$1: what is left" "gate.lock" "$(ls out && ls "$work/rooms")"
 }
-touch "$FAKE/slow"
-ends_gate "a look at the layout that is ended" "$FAKE/laid" --layout
-rm "$FAKE/slow"
-touch "$FAKE/hold"
-ends_gate "a gate that is ended" "$FAKE/crates"
-rm "$FAKE/hold"
+beside slow ends_gate "a look at the layout that is ended" "$FAKE/laid" --layout
+beside hold ends_gate "a gate that is ended" "$FAKE/crates"
 echo 'echo $$ >"$FAKE/script"; sleep 100' >tests/good.sh
 ends_gate "a gate that is ended amid scripts" "$FAKE/script"
 same "a gate that is ended amid scripts: the script" gone "$(kill -0 "$(cat "$FAKE/script")" 2>/dev/null || echo gone)"
@@ -285,13 +285,9 @@ rm begins
 gate 2 --since nowhere
 gate 2 --most
 gate 2 --since
-touch "$FAKE/fails"
-gate 1
-rm "$FAKE/fails"
-touch "$FAKE/accepts"
+beside fails gate 1
 echo changed >crates/low/must-fail/1.edit
-gate 1 -- "mutants: 0 rejected, FAILED:"
-rm "$FAKE/accepts"
+beside accepts gate 1 -- "mutants: 0 rejected, FAILED:"
 git checkout -q crates
 echo 'exit 1' >tests/bad.sh
 gate 1 -- "check: tests/bad.sh FAILED" "2 passed, 1 failed, 1 skipped"
@@ -307,9 +303,7 @@ gate 0 --quick -- "proved, with their tests: low saga_core; tried: 0 mutants" \
 same "a first look: the last line" "check: proved, with their tests: low saga_core. Only run, over a program without proofs: 1 scripts. Left out: $left. \
 ./check is the gate" "$(tail -n 1 "$work/said")"
 same "a first look: what was proved" "low saga_core" "$(proved)"
-touch "$FAKE/fails"
-gate 1 --quick -- "check: NOT proved: what rt says above. Only run"
-rm "$FAKE/fails"
+beside fails gate 1 --quick -- "check: NOT proved: what rt says above. Only run"
 git checkout -q crates.txt tests
 
 # the repository as it is: on one to eight processors everything has its turn, on two within 30 landings

@@ -1,5 +1,6 @@
 """Many clients of one desk at once, over real sockets. Prints what went wrong, and nothing else.
 More than 200 lines: all that waits for 30 seconds waits side by side, in one process."""
+import contextlib
 import os
 import signal
 import socket
@@ -8,10 +9,12 @@ import struct
 import sys
 import threading
 import time
+from concurrent.futures import ThreadPoolExecutor
+from pathlib import Path
 
 from driving import (
-    DESK, PLAN, Client, Desk, Logged, asked, desk, free_port, guarded, holds, is_whole, opened, page_size, peak, request, rest_of,
-    same, side_by_side, sockets_of, waits_for, wrong,
+    DESK, PLAN, Client, Desk, Logged, asked, desk, free_port, holds, is_whole, opened, page_size, peak, request, rest_of, same,
+    side_by_side, sockets_of, waits_for, wrong,
 )
 
 FILE = b"kind,supplier,product,night,places\nflight,AL,A1,2030-06-01,1000\n"
@@ -31,26 +34,12 @@ def post(path, key, body=b"", agent="ann"):
 def is_served(what, port):
     """Another client is served meanwhile, and at once."""
     begun = time.monotonic()
-    client = Client(port)
-    holds(f"{what}: another one is served", body_of(client.ask(STOCK)).rstrip().endswith(b"cells 1"))
+    holds(f"{what}: another one is served", body_of(asked(port, STOCK)).rstrip().endswith(b"cells 1"))
     holds(f"{what}: and at once", time.monotonic() - begun < MEANWHILE)
-    client.close()
-
-
-def seconds_to_end(stream, begun):
-    """After how many seconds the desk ended this connection, of which nothing was read before."""
-    try:
-        while stream.recv(65536):
-            pass
-    except OSError:
-        pass
-    return time.monotonic() - begun
 
 
 def loads(port):
-    client = Client(port)
-    same("the file", b'{"batch":"b1","rows":1}', body_of(client.ask(post("/batches/b1", "k0", FILE))))
-    client.close()
+    same("the file", b'{"batch":"b1","rows":1}', body_of(asked(port, post("/batches/b1", "k0", FILE))))
 
 
 # ---- what waits
@@ -60,7 +49,8 @@ def half_a_head(port):
     stream = opened(port)
     stream.sendall(STOCK[:20])
     is_served("half a head", port)
-    took = seconds_to_end(stream, begun)
+    rest_of(stream)
+    took = time.monotonic() - begun
     holds(f"half a head: ended after 30 seconds, {took:.1f}", 29.5 < took < 45)
 
 
@@ -99,11 +89,9 @@ def never_reads():
     stream.settimeout(5)
     sent = 0
     started = time.monotonic()
-    try:
+    with contextlib.suppress(OSError):
         while sent < 50_000_000:
             sent += stream.send(STOCK * 100)
-    except OSError:
-        pass
     holds(f"never reads: no more is taken in after {sent} bytes", sent < 50_000_000)
     begun = time.monotonic()
     holds("never reads: another one is served", is_whole(Client(greedy.port).ask(UNFINISHED)))
@@ -111,7 +99,7 @@ def never_reads():
     waits_for(lambda: sockets_of(greedy.process) == 1, 200)
     took = time.monotonic() - started
     holds(f"never reads: it is ended 30 seconds after it took no more, {took:.1f}", 29.5 < took < 200)
-    seconds_to_end(stream, begun)
+    rest_of(stream)
     # a trial program keeps freed memory for a while
     if "/out/trial/" not in DESK:
         holds(f"never reads: the desk takes less than 64 MB, {peak(greedy.process)} kB", peak(greedy.process) < 65536)
@@ -146,24 +134,23 @@ def stopped_for_long():
 
 # ---- what does not
 
-def books(port, number, pages):
-    """One agent books, over one connection that is kept open."""
+def books(port, number):
+    """One agent books, over one connection that is kept open; its journey."""
     agent = f"a{number}"
     client = Client(port)
     begun = body_of(client.ask(post("/journeys", "k1", PLAN, agent)))
     journey = begun.partition(b":")[2].rstrip(b"}").decode()
     stepped = body_of(client.ask(post(f"/journeys/{journey}/step", "k2", b"", agent)))
     same(f"the step of {agent}", b'{"item":"T1.1","journey":%s,"pos":1,"state":"ended"}' % journey.encode(), stepped)
-    pages.append(journey)
     for _ in range(20):
         client.ask(request("GET", f"/journeys/{journey}", agent=agent))
     client.close()
+    return journey
 
 
 def ten_book(port):
-    journeys = []
-    side_by_side(*[(books, port, number, journeys) for number in range(10)])
-    same("ten clients: as many journeys", 10, len(set(journeys)))
+    with ThreadPoolExecutor(10) as pool:
+        same("ten clients: as many journeys", 10, len(set(pool.map(books, [port] * 10, range(10)))))
 
 
 def places_taken():
@@ -220,15 +207,13 @@ def stopped_shortly():
 def answered(port, message):
     """Sends a request again and again, over a new connection each time, until its page comes."""
     for _ in range(2400):
-        try:
+        with contextlib.suppress(OSError):
             client = Client(port)
             client.stream.settimeout(5)
             page = client.ask(message)
             client.close()
             if is_whole(page):
                 return body_of(page)
-        except OSError:
-            pass
         time.sleep(0.05)
     return b"no page"
 
@@ -245,17 +230,14 @@ def kills():
     """The desk is killed again and again while ten clients begin journeys: each begins just three."""
     killed = Desk("killed.db")
     journeys = []
-    clients = [threading.Thread(target=retries, args=(killed.port, number, journeys)) for number in range(10)]
-    for client in clients:
-        client.start()
-    count = 0
-    while any(client.is_alive() for client in clients) and count < 12:
-        time.sleep(0.15 + 0.05 * (count % 4))
-        killed.kill()
-        killed = Desk("killed.db", port=killed.port)
-        count += 1
-    for client in clients:
-        client.join()
+    with ThreadPoolExecutor(10) as pool:
+        clients = [pool.submit(retries, killed.port, number, journeys) for number in range(10)]
+        for count in range(12):
+            if all(client.done() for client in clients):
+                break
+            time.sleep(0.15 + 0.05 * (count % 4))
+            killed.kill()
+            killed = Desk("killed.db", port=killed.port)
     same("after the kills: as many journeys as were asked for", 30, len(set(journeys)))
     killed.kill()
     last = desk("run", "killed.db", lines="begin F/AL/A1/2030-06-01/1/1!0\n").out
@@ -273,16 +255,13 @@ def refused_at(what, path):
 
 def unix_socket():
     """The file of the Unix socket: its mode and owner; one that a kill left, one that is in use, and other files."""
-    with open("a_file", "w", encoding="ascii") as file:
-        file.write("as it was")
+    Path("a_file").write_text("as it was", encoding="ascii")
     os.symlink("nowhere", "a_link")
     refused_at("a file at the path", "a_file")
     refused_at("a link at the path", "a_link")
     old = Desk("house.db", "--house", "desk.sock")
     there = os.lstat("desk.sock")
-    same("the file: a socket", True, stat.S_ISSOCK(there.st_mode))
-    same("the file: its mode", 0o600, stat.S_IMODE(there.st_mode))
-    same("the file: its owner", os.getuid(), there.st_uid)
+    same("the file: a socket, its mode and its owner", (stat.S_IFSOCK | 0o600, os.getuid()), (there.st_mode, there.st_uid))
     holds("a request at the path", is_whole(asked("desk.sock", UNFINISHED)))
     holds("a request at the port", is_whole(Client(old.port).ask(UNFINISHED)))
     for _ in range(3):  # clients that go away before they take their pages
@@ -298,9 +277,7 @@ def unix_socket():
     same("a kill leaves the file", True, os.path.exists("desk.sock"))
     new = Desk("house.db", "--house", "desk.sock", "--connections", "2")
     holds("a request at the path after a kill", is_whole(asked("desk.sock", UNFINISHED)))
-    client = Client(new.port)
-    holds("a request at the port after a kill", is_whole(client.ask(UNFINISHED)))
-    client.close()
+    holds("a request at the port after a kill", is_whole(asked(new.port, UNFINISHED)))
     new.ends("a desk with a path")
     same("what an orderly end leaves", [], [name for name in os.listdir(".") if name.startswith("desk.sock")])
 
@@ -314,10 +291,8 @@ def resets_one(port, number):
     stream.sendall(message)
     if number % 3 == 0:
         stream.settimeout(0.2)
-        try:
+        with contextlib.suppress(OSError):
             stream.recv(1)
-        except OSError:
-            pass
     stream.close()
 
 
@@ -326,7 +301,6 @@ def resets():
     torn = Logged("torn.db", "--log")
     loads(torn.port)
     done = threading.Event()
-    served = []
 
     def is_served_on(number):
         client = Client(torn.port)
@@ -336,18 +310,16 @@ def resets():
             same(f"beside resets: client {number}", b"cells 1", body_of(client.ask(STOCK)).rstrip()[-7:])
             holds(f"beside resets: client {number}, at once", time.monotonic() - begun < MEANWHILE)
             count += 1
-        served.append(count)
         client.close()
+        return count
 
-    beside = [threading.Thread(target=guarded, args=(is_served_on, number)) for number in range(3)]
-    for client in beside:
-        client.start()
-    for number in range(400):
-        resets_one(torn.port, number)
-    done.set()
-    for client in beside:
-        client.join()
-    holds(f"beside resets: pages for each, {served}", len(served) == 3 and min(served) > 10)
+    with ThreadPoolExecutor(3) as pool:
+        beside = [pool.submit(is_served_on, number) for number in range(3)]
+        for number in range(400):
+            resets_one(torn.port, number)
+        done.set()
+    served = [client.result() for client in beside]
+    holds(f"beside resets: pages for each, {served}", min(served) > 10)
     client = Client(torn.port)
     begun = {body_of(client.ask(post("/journeys", f"k{number}", PLAN, "rex"))) for number in range(400) if number % 4 > 1}
     same("after resets: a journey for each that began one", 200, len(begun))

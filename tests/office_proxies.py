@@ -1,18 +1,18 @@
-"""Proxies before a desk with its page, by the recipes of OFFICE.md for an office, as printed but for ports, files and passwords.
-More than 200 lines: each proxy has each of its variants."""
+"""Proxies before a desk with its page, by the recipes of OFFICE.md for an office, as printed but for ports, files and passwords."""
 import base64
+import functools
 import http.client
-import os
 import re
 import socket
 import ssl
 import subprocess
 import sys
+from pathlib import Path
 
 from page_driving import wait_until
 from ports import free_port
+from proxies import begins, for_apache
 
-HERE = os.path.dirname(os.path.abspath(__file__))
 TRUSTING = ssl.create_default_context()
 TRUSTING.check_hostname, TRUSTING.verify_mode = False, ssl.CERT_NONE
 ARE = {"ann": "secret-a", "bob": "secret-b"}
@@ -29,25 +29,19 @@ MODULES = (
 )
 
 
-def blocks():
-    """The texts of the page with the recipes."""
-    return re.findall(r"^```text\n(.*?)^```$", printed(), re.MULTILINE | re.DOTALL)
+# the page with the recipes, and its texts
+PRINTED = (Path(__file__).resolve().parents[1] / "docs/OFFICE.md").read_text(encoding="utf-8")
+BLOCKS = re.findall(r"^```text\n(.*?)^```$", PRINTED, re.MULTILINE | re.DOTALL)
 
 
-def printed():
-    """The page with the recipes."""
-    with open(os.path.join(os.path.dirname(HERE), "docs", "OFFICE.md"), encoding="utf-8") as page:
-        return page.read()
-
-
-def recipe(proxy):
-    """The recipe of a proxy, as it is printed."""
-    return next(block for block in blocks() if MARKS[proxy] in block)
+def recipe(mark):
+    """The recipe that has this mark, as it is printed."""
+    return next(block for block in BLOCKS if mark in block)
 
 
 def quoted(begin):
     """What the page has in backticks that begins so."""
-    return re.search(f"`({re.escape(begin)}[^`]*)`", printed())[1]
+    return re.search(f"`({re.escape(begin)}[^`]*)`", PRINTED)[1]
 
 
 def changed(text, *pairs):
@@ -61,10 +55,9 @@ def changed(text, *pairs):
 
 def with_names(proxy, folder):
     """The recipe of a proxy that maps the names of users to agents, as it is printed; for HAProxy in a file of the folder."""
-    text = recipe(proxy)
+    text = recipe(MARKS[proxy])
     if proxy == "haproxy":
-        with open(f"{folder}/agents", "w", encoding="utf-8") as file:
-            file.write(quoted("ann.miller@") + "\n")
+        Path(folder, "agents").write_text(quoted("ann.miller@") + "\n", encoding="utf-8")
         return changed(text, (r"set-header Desk-Agent \S+", quoted("set-header Desk-Agent %[http_auth_user,")))
     if proxy == "nginx":
         text = changed(text, (r"proxy_set_header Desk-Agent [^;]+", quoted("proxy_set_header Desk-Agent $agent")))
@@ -79,7 +72,7 @@ def with_names(proxy, folder):
 def with_certificates(proxy):
     """The recipe of a proxy that asks for certificates in place of passwords, as it is printed."""
     marks = {"haproxy": "ssl_c_used", "nginx": "ssl_verify_client", "apache2": "SSLVerifyClient", "caddy": "client_auth"}
-    text, lines = recipe(proxy), next(block for block in blocks() if marks[proxy] in block)
+    text, lines = recipe(MARKS[proxy]), recipe(marks[proxy])
     if proxy == "haproxy":
         text = changed(text, (r"userlist agents\n(  user .*\n)+", ""), (r"  bind .*\n", ""), (r"  http-request auth .*\n", ""),
                        (r"  http-request del-header Authorization\n", ""), (r"  http-request set-header Desk-Agent .*\n", ""))
@@ -99,7 +92,7 @@ def with_certificates(proxy):
 
 def in_folder(proxy):
     """The recipe of a proxy that serves the page in a folder, as it is printed."""
-    text = recipe(proxy)
+    text = recipe(MARKS[proxy])
     if proxy == "haproxy":
         lines = f"  {quoted('http-request redirect location')}\n  {quoted('http-request replace-path')}\n"
         first = "  http-request set-header Host"
@@ -114,10 +107,10 @@ def in_folder(proxy):
     return changed(text, ("path /health", "path /desk/health"), ("  reverse_proxy", lines + "  reverse_proxy")) + "}\n"
 
 
-def hash_of(proxy, password):
-    words = ["caddy", "hash-password", "--plaintext"] if proxy == "caddy" else ["openssl", "passwd", "-5"]
-    made = subprocess.run([*words, password], check=True, capture_output=True, text=True)
-    return made.stdout.strip()
+@functools.cache
+def hash_of(is_caddy, password):
+    words = ["caddy", "hash-password", "--plaintext"] if is_caddy else ["openssl", "passwd", "-5"]
+    return subprocess.run([*words, password], check=True, capture_output=True, text=True).stdout.strip()
 
 
 class Proxy:
@@ -125,28 +118,20 @@ class Proxy:
 
     def __init__(self, folder, name, desk_port):
         self.folder, self.name, self.desk_port, self.port, self.process = folder, name, desk_port, free_port(), None
-        self.hashes, self.health, self.certificate = {}, "/health", None
-        self.text = recipe(name)
-        self.passwords(ARE)
-        self.start()
+        self.health, self.certificate, self.text = "/health", None, recipe(MARKS[name])
+        self.starts(ARE)
 
-    def hash_of(self, password):
-        if password not in self.hashes:
-            self.hashes[password] = hash_of(self.name, password)
-        return self.hashes[password]
-
-    def passwords(self, of):
-        """Who may come in from now on; the proxy has to be started again for it."""
-        line, names = USER.get(self.name, "{0}:{1}\n"), [(user, self.hash_of(password)) for user, password in of.items()]
-        users = "".join(line.format(*one) for one in names)
+    def starts(self, of):
+        """Begins the proxy, for these users with their passwords."""
+        line = USER.get(self.name, "{0}:{1}\n")
+        users = "".join(line.format(user, hash_of(self.name == "caddy", password)) for user, password in of.items())
         text = self.text.replace("127.0.0.1:8080", f"127.0.0.1:{self.desk_port}").replace(FOLDERS[self.name], self.folder)
         if self.name in USER:
             text = USERS.sub(lambda _: users, text)
         else:
-            with open(f"{self.folder}/agents", "w", encoding="utf-8") as file:
-                file.write(users)
-        with open(f"{self.folder}/{self.name}.conf", "w", encoding="utf-8") as file:
-            file.write(self.alone(text))
+            Path(self.folder, "agents").write_text(users, encoding="utf-8")
+        self.process = begins(self.name, self.folder, self.alone(text), sys.stderr)
+        wait_until(lambda: self.ask(self.health)[0] == 200, f"{self.name} answers")
 
     def alone(self, text):
         """The whole configuration of a proxy that has nothing but this recipe, at its port."""
@@ -156,34 +141,17 @@ class Proxy:
             text = text.replace("listen 443", f"listen 127.0.0.1:{self.port}")
             return f"daemon off; pid {self.folder}/nginx.pid; events {{}} http {{ access_log off;\n{text}}}\n"
         if self.name == "apache2":
-            head = [f"LoadModule {one}_module /usr/lib/apache2/modules/mod_{one}.so" for one in MODULES]
-            head += ["User nobody", "Group nogroup", "ServerName desk", f"ErrorLog {self.folder}/apache2.log",
-                     f"DefaultRuntimeDir {self.folder}", f"PidFile {self.folder}/apache2.pid", f"Listen 127.0.0.1:{self.port}"]
-            return "\n".join([*head, text.replace("*:443", f"*:{self.port}")])
+            return for_apache(self.folder, self.port, MODULES, text.replace("*:443", f"*:{self.port}"))
         # a client that asks for an address, and for no name, gets this site too, unless certificates are asked for
         name = "office.example" if "client_auth" in text else ""
         own = "{\n  admin off\n  auto_https disable_redirects\n  skip_install_trust\n  default_bind 127.0.0.1\n}\n"
         return own + text.replace("office.example {", f"https://{name}:{self.port} {{")
 
-    def start(self):
-        conf = f"{self.folder}/{self.name}.conf"
-        words = {
-            "haproxy": ["haproxy", "-f", conf], "nginx": ["nginx", "-p", self.folder, "-c", conf, "-e", f"{self.folder}/error.log"],
-            "apache2": ["apache2", "-d", self.folder, "-f", conf, "-DFOREGROUND"],
-            "caddy": ["caddy", "run", "--config", conf, "--adapter", "caddyfile"],
-        }
-        self.process = subprocess.Popen(
-            words[self.name], stdin=subprocess.DEVNULL, stdout=sys.stderr, stderr=sys.stderr,
-            env={**os.environ, "XDG_DATA_HOME": f"{self.folder}/caddy", "XDG_CONFIG_HOME": f"{self.folder}/caddy"},
-        )
-        wait_until(lambda: self.ask(self.health)[0] == 200, f"{self.name} answers")
-
     def changes(self, of, text=None):
         """Other passwords, or another recipe, by a proxy that is started again."""
         self.end()
         self.text = text or self.text
-        self.passwords(of)
-        self.start()
+        self.starts(of)
 
     def ask(self, path, user="", password="", **fields):
         """The status and the text of a page."""

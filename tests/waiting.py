@@ -3,6 +3,7 @@
 Standard error is a terminal of this script's own (a pseudo-terminal); the input comes through a pipe, or from that terminal.
 """
 import array
+import contextlib
 import fcntl
 import os
 import pty
@@ -14,32 +15,13 @@ import threading
 import time
 import tty
 
-from driving import DESK, same, waits_for, wrong
+from driving import DESK, PATIENCE, same, waits_for, wrong
 
 LINES = [f"set b{n} F/AL/A{n}/2030-06-01 9\n" for n in range(1, 9)]
 ANSWERS = "".join(f"loaded b{n} 1\n" for n in range(1, 9))
 ROWS = ["kind,supplier,product,night,places\n"] + [f"flight,AL,B{n},2030-06-01,9\n" for n in range(1, 8)]
 PAUSE = 0.6
 AWAY = " " * 48 + "\r"
-
-
-def all_of(descriptor):
-    """What a terminal is shown, to its end."""
-    shown = b""
-    while True:
-        try:
-            more = os.read(descriptor, 4096)
-        except OSError:
-            return shown.decode()
-        if not more:
-            return shown.decode()
-        shown += more
-
-
-def take_all(stream, pieces):
-    """Takes what comes from a stream, to its end, in pieces as they come."""
-    while piece := stream.read1():
-        pieces.append(piece.decode())
 
 
 def is_taken_in(stream):
@@ -50,40 +32,37 @@ def is_taken_in(stream):
 
 
 def run(words, lines, pause, at_terminal=("err",)):
-    """The status, the output and what the terminal was shown, of a run whose input comes line by line."""
+    """The status, the output and what the terminal was shown, of a run whose input comes line by line. All that is shown is less than
+    a terminal and a pipe hold."""
     outer, inner = pty.openpty()
     tty.setraw(inner)
     ends = {name: inner if name in at_terminal else subprocess.PIPE for name in ("in", "out", "err")}
     desk = subprocess.Popen([DESK, *words], stdin=ends["in"], stdout=ends["out"], stderr=ends["err"])
     os.close(inner)
-    shown, output = [], []
-    readers = [threading.Thread(target=lambda: shown.append(all_of(outer)))]
-    if desk.stdout:
-        readers.append(threading.Thread(target=take_all, args=(desk.stdout, output)))
-    for reader in readers:
-        reader.start()
+    output = ""
     for line in lines:
         time.sleep(pause)
         if desk.stdin:
             desk.stdin.write(line.encode())
             desk.stdin.flush()
-            if pause:
-                # a desk that is slow reads it later
-                waits_for(lambda: is_taken_in(desk.stdin))
+            # a desk that is slow reads it later
+            waits_for(lambda: not pause or is_taken_in(desk.stdin))
         else:
             os.write(outer, line.encode())
-    if desk.stdin:
-        desk.stdin.close()
-    else:
-        waits_for(lambda: "".join(output).count("\n") >= len(lines))
+    if not desk.stdin:
+        late = threading.Timer(PATIENCE, desk.kill)
+        late.start()
+        output = b"".join(desk.stdout.readline() for _ in lines).decode()
+        late.cancel()
         time.sleep(0.5)
         desk.kill()
-    status = desk.wait()
-    errors = desk.stderr.read().decode() if desk.stderr else ""
-    for reader in readers:
-        reader.join()
+    rest, errors = (text.decode() if text else "" for text in desk.communicate(timeout=PATIENCE))
+    shown = b""
+    with contextlib.suppress(OSError):
+        while piece := os.read(outer, 4096):
+            shown += piece
     os.close(outer)
-    return status, "".join(output), "".join(shown), errors
+    return desk.returncode, output + rest, shown.decode(), errors
 
 
 def shows_numbers(what, shown, most):

@@ -4,6 +4,7 @@ more than 35 words, pages of more than 300 lines, and decisions that are no reco
 words.py            compares the counts with the limits, and ends with 1 where one is above
 words.py --list     prints each place that counts, page by page
 """
+import collections
 import re
 import sys
 from pathlib import Path
@@ -66,7 +67,7 @@ class Text:
                     yield line, len(words), " ".join(words[:9])
 
     def is_long(self):
-        return self.lines > MOST_LINES and self.name not in RECORDS
+        return self.name.endswith(".md") and self.lines > MOST_LINES and self.name not in RECORDS
 
 
 def parts_of_page(source):
@@ -121,46 +122,34 @@ def bad_decisions():
 
 def texts():
     """All pages of the repository, and the texts of help."""
-    for path in sorted(TOP.glob("*.md")) + sorted((TOP / "docs").glob("*.md")):
-        source = path.read_text(encoding="utf-8")
-        yield Text(str(path.relative_to(TOP)), source, parts_of_page(source))
-    for path in sorted((TOP / "crates/help_texts/src").glob("*.rt")):
-        source = path.read_text(encoding="utf-8")
-        text = Text(str(path.relative_to(TOP)), source, parts_of_help(source))
-        text.lines = 0
-        yield text
+    for pattern, parts_of in (("*.md", parts_of_page), ("docs/*.md", parts_of_page), ("crates/help_texts/src/*.rt", parts_of_help)):
+        for path in sorted(TOP.glob(pattern)):
+            source = path.read_text(encoding="utf-8")
+            yield Text(str(path.relative_to(TOP)), source, parts_of(source))
 
 
-def show():
-    """Prints each place that counts."""
+def places():
+    """Each place that counts: as what, and where it is."""
     for text in texts():
-        for line, found, instead in text.phrases():
-            print(f"{text.name}:{line}: '{found}': {instead}")
-        for line, count, begin in text.sentences():
-            print(f"{text.name}:{line}: {count} words: {begin} ..")
+        yield from (("phrases", f"{text.name}:{line}: '{found}': {instead}") for line, found, instead in text.phrases())
+        yield from (("sentences", f"{text.name}:{line}: {count} words: {begin} ..") for line, count, begin in text.sentences())
         if text.is_long():
-            print(f"{text.name}: {text.lines} lines")
-    for line, why in bad_decisions():
-        print(f"{DECISIONS}:{line}: {why}")
+            yield "pages", f"{text.name}: {text.lines} lines"
+    yield from (("decisions", f"{DECISIONS}:{line}: {why}") for line, why in bad_decisions())
 
 
 def main(words):
     if words == ["--list"]:
-        show()
+        for _, place in places():
+            print(place)
         return 0
     if words:
         print(__doc__.strip(), file=sys.stderr)
         return 2
-    pages = list(texts())
-    counts = {
-        "phrases": sum(len(list(text.phrases())) for text in pages),
-        "sentences": sum(len(list(text.sentences())) for text in pages),
-        "pages": sum(text.is_long() for text in pages),
-        "decisions": len(list(bad_decisions())),
-    }
-    for name, count in counts.items():
-        print(f"{name}: {count}, at most {LIMITS[name]}")
-    return 1 if any(count > LIMITS[name] for name, count in counts.items()) else 0
+    counts = collections.Counter(what for what, _ in places())
+    for what, most in LIMITS.items():
+        print(f"{what}: {counts[what]}, at most {most}")
+    return int(any(counts[what] > most for what, most in LIMITS.items()))
 
 
 if __name__ == "__main__":

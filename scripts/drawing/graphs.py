@@ -31,6 +31,10 @@ path,polygon,ellipse,polyline{fill:none;stroke:var(--line)}.edge polygon{fill:va
 """
 
 
+class Bad(Exception):
+    """What is wrong with what is to be drawn."""
+
+
 def quoted(text):
     """A text as DOT has it; one in <> is read as HTML is."""
     return text if text.startswith("<") else '"' + text.replace('"', '\\"').replace("\n", "\\n") + '"'

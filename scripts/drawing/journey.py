@@ -5,8 +5,9 @@ The history is a line of items, as "desk history" prints them, or all that it pr
 
 import re
 import textwrap
+from collections import namedtuple
 
-from drawing.graphs import Picture, edge, node
+from drawing.graphs import Bad, Picture, edge, node
 
 STEP = "([1-9]|1[0-9]|2[0-4])"
 ITEM = re.compile(rf"T{STEP}\.([1-8])|C{STEP}\.([1-8])|B(0|{STEP[1:-1]})([sra])|S{STEP}")
@@ -26,15 +27,8 @@ MEANINGS = {
 UP, PITCH = 40, 52
 
 
-class BadHistory(Exception):
-    """What is wrong with a history."""
-
-
-class Item:
-    """An item, with the position before it and after it; of a turn, target is where it leads."""
-
-    def __init__(self, word, kind, before, after, target=None):
-        self.word, self.kind, self.before, self.after, self.target = word, kind, before, after, target
+# an item, with the position before it and after it; of a turn, target is where it leads
+Item = namedtuple("Item", "word kind before after target", defaults=[None])
 
 
 class History:
@@ -47,9 +41,9 @@ class History:
             words, self.state = parts["items"].split(), parts.get("state")
             self.steps = [step for step in parts.get("plan", "").rpartition("!")[0].split(";") if step]
             if not STATE.fullmatch(self.state or "run 0"):
-                raise BadHistory(f"{self.state} is no state")
+                raise Bad(f"{self.state} is no state")
             if not PLAN.fullmatch(parts.get("plan", "")):
-                raise BadHistory("the plan is no plan line")
+                raise Bad("the plan is no plan line")
         else:
             words, self.state, self.steps = text.split(), None, []
         self.items, self.standing, self.target = [], [], None
@@ -60,7 +54,7 @@ class History:
         """The item of a word; it has to be one that may come after those before."""
         found = ITEM.fullmatch(word)
         if not found:
-            raise BadHistory(f"{word} is no item")
+            raise Bad(f"{word} is no item")
         step, option, undone, its_option, target, cause, saved = found.groups()
         at = len(self.standing)
         going_back = self.target is not None and self.target < at
@@ -79,7 +73,7 @@ class History:
             return Item(word, "B" + cause, at, at, self.target)
         elif saved and int(saved) == at and not going_back:
             return Item(word, "S", at, at)
-        raise BadHistory(f"{word} cannot come where the journey {where} at {at}")
+        raise Bad(f"{word} cannot come where the journey {where} at {at}")
 
     def highest(self):
         return max([item.after for item in self.items], default=0)

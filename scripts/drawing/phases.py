@@ -2,11 +2,7 @@
 
 import textwrap
 
-from drawing.graphs import Picture, edge, node
-
-
-class BadTable(Exception):
-    """What is wrong with a table."""
+from drawing.graphs import Bad, Picture, edge, node
 
 
 def read(text):
@@ -16,7 +12,7 @@ def read(text):
         cells = [cell.strip() for cell in line.split("|")]
         if line.strip() and not line.startswith("#"):
             if len(cells) != 3 or not all(cells):
-                raise BadTable(f"line {number} is not of the form: from | what | to")
+                raise Bad(f"line {number} is not of the form: from | what | to")
             moves.setdefault((cells[0], cells[2]), []).append(cells[1])
     return moves
 

@@ -7,13 +7,9 @@ meet: from there on the first list is the way of both, and its last item, like t
 import re
 from typing import NamedTuple
 
-from drawing.graphs import Picture, edge, node
+from drawing.graphs import Bad, Picture, edge, node
 
 MEET = "`Book::act`"
-
-
-class BadList(Exception):
-    """What is wrong with a list of a page."""
 
 
 class Step(NamedTuple):
@@ -28,7 +24,7 @@ class Step(NamedTuple):
 def step_of(number, text, crates):
     bold = re.match(r"\*\*(.+?)\.?\*\*", text)
     if not bold:
-        raise BadList(f"item {number} does not begin with words in bold: {text[:40]}")
+        raise Bad(f"item {number} does not begin with words in bold: {text[:40]}")
     return Step(number, bold[1], MEET in text, [name for name in dict.fromkeys(re.findall("`([a-z_]+)`", text)) if name in crates])
 
 
@@ -36,7 +32,7 @@ def steps_under(page, heading, crates):
     """The items of the numbered list under a heading of a page."""
     found = re.search(rf"^## {re.escape(heading)}$(.*?)(?=^## |\Z)", page, re.MULTILINE | re.DOTALL)
     if not found:
-        raise BadList(f"there is no heading '{heading}'")
+        raise Bad(f"there is no heading '{heading}'")
     items = re.findall(r"^(\d+)\. (.*?)(?=^\S|^$|\Z)", found[1], re.MULTILINE | re.DOTALL)
     return [step_of(number, " ".join(text.split()), crates) for number, text in items]
 
@@ -45,7 +41,7 @@ def picture(page, headings, crates):
     """The picture of the two lists under these headings of a page."""
     first, second = (steps_under(page, heading, crates) for heading in headings)
     if not any(step.meets for step in first[1:-1]) or len(second) < 2:
-        raise BadList(f"no item within the first list names {MEET}")
+        raise Bad(f"no item within the first list names {MEET}")
     meet = next(n for n, step in enumerate(first) if n and step.meets)
     shared = first[meet:-1]
     ways = {"a": first[:meet], "b": shared, "c": second[:-1], "d": first[-1:], "e": second[-1:]}

@@ -149,18 +149,14 @@ class Build:
                 shutil.rmtree(path)
             kept = []
         OWN.unlink(missing_ok=True)
-        remove_trials()
+        # the trial programs, which no call needs now; not while a call makes one
+        lock = TOP / "crates/desk/out/trial/lock"
+        if lock.exists():
+            with contextlib.suppress(Busy), locked(lock):
+                shutil.rmtree(lock.parent)
         say(f"the program is {PROGRAM.relative_to(TOP)}, {size(PROGRAM)}; it took {self.minutes():.0f} min")
         if kept:
             say(f"{size(*kept)} are kept to prove less after a change; 'rm -r crates/*/out/incremental crates/*/out/rlib' gives them back")
-
-
-def remove_trials():
-    """Removes the trial programs, which no call needs now; not while a call makes one."""
-    lock = TOP / "crates/desk/out/trial/lock"
-    if lock.exists():
-        with contextlib.suppress(Busy), locked(lock):
-            shutil.rmtree(lock.parent)
 
 
 def main(words):

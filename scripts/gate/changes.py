@@ -43,20 +43,10 @@ def changed_crates(tables, since):
     """Returns the crates with a source, or a line in crates.txt, that is not as in the revision; all where the toolchain is not the one
     that the revision's docs/RUNNING.md names."""
     top = tables.top
-    if not same_toolchain(top, since):
+    version = subprocess.run(["rt", "version"], capture_output=True, text=True, check=True).stdout.strip()
+    if version not in git(top, "show", f"{since}:docs/RUNNING.md"):
         return {*tables.uses}
     files = git(top, "diff", "--no-renames", "--name-only", since, "--", "crates").splitlines() + untracked(top, "crates")
     found = {path.split("/")[1] for path in files if path.split("/")[2:3] and path.split("/")[2] in ("src", "specs", "proofs")}
-    return (found | changed_lines(tables, since)) & {*tables.uses}
-
-
-def changed_lines(tables, since):
-    """Returns the crates whose line of crates.txt is not as in the revision."""
-    old = crate_lines(git(tables.top, "show", f"{since}:crates.txt"))
-    return {name for name, depends in tables.depends.items() if old.get(name) != depends}
-
-
-def same_toolchain(top, since):
-    """Returns whether the toolchain is the one that the revision's docs/RUNNING.md names."""
-    version = subprocess.run(["rt", "version"], capture_output=True, text=True, check=True).stdout.strip()
-    return version in git(top, "show", f"{since}:docs/RUNNING.md")
+    old = crate_lines(git(top, "show", f"{since}:crates.txt"))
+    return {name for name, depends in tables.depends.items() if name in found or old.get(name) != depends}

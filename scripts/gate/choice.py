@@ -52,24 +52,21 @@ def first_look(tables):
 def of_landing(tables, lanes, landing, since):
     """Returns what a gate with so many checks side by side tries at a landing, whose changes are those since a revision."""
     choice = Choice()
-    choice.changed, changed = changed_since(tables, since)
+    try:
+        choice.changed, changed = (changed_crates(tables, since), changed_mutants(tables.top, since)) if since else (set(), set())
+    except Unknown:
+        # history lacks the revision
+        choice.changed, changed = {*tables.uses}, set()
     choice.above = tables.above(choice.changed)
     choice.crates = crates_of(tables, lanes, landing, choice)
     for part in share_of(mutant_turns(tables, lanes), landing):
         choice.mutants.setdefault(part[0], []).extend(mutants_in(tables, part))
     add_changed_mutants(tables, lanes, landing, choice, changed)
     for name in tables.scripts:
-        parts = tables.script_parts(name)
+        # in how many parts gates take it, one at each landing
+        parts = max(1, int(tables.number(name, 1, 1.0)))
         choice.scripts[name] = (part_of_script(parts, landing), parts)
     return choice
-
-
-def changed_since(tables, since):
-    """Returns the crates and the mutants that have changed since a revision: none without one, all crates where history lacks it."""
-    try:
-        return (changed_crates(tables, since), changed_mutants(tables.top, since)) if since else (set(), set())
-    except Unknown:
-        return {*tables.uses}, set()
 
 
 def nearest_first(choice, names):
@@ -96,15 +93,11 @@ def add_changed_mutants(tables, lanes, landing, choice, changed):
     own = [(name, [it for it in found if it in changed]) for name, found in tables.mutants.items()]
     for name, wanted in own + [(name, tables.mutants[name]) for name in nearest_first(choice, tables.uses)]:
         tried = choice.mutants.get(name, [])
-        wanted = [it for it in rotated(wanted, landing) if it not in tried]
+        # the list begins elsewhere at each landing
+        first = 7 * landing % max(1, len(wanted))
+        wanted = [it for it in wanted[first:] + wanted[:first] if it not in tried]
         begin = 0 if tried else tables.proof(name) + LAST_CHECK
         count = min(len(wanted), int((left - begin) / (tables.mutant(name) or 1)))
         if count > 0:
             left -= begin + count * tables.mutant(name)
             choice.mutants[name] = tried + wanted[:count]
-
-
-def rotated(things, by):
-    """Returns a list that begins elsewhere at each landing."""
-    at = 7 * by % len(things) if things else 0
-    return things[at:] + things[:at]

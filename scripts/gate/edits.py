@@ -1,6 +1,5 @@
 """Mutants of a crate: which function's body each changes, which functions reach which, and which mutants may share a check."""
 
-import os
 import re
 from collections import namedtuple
 
@@ -16,16 +15,10 @@ class Stopped(Exception):
     """Nothing can be tried, for the reason that it holds."""
 
 
-def text_of(path):
-    """The text of a file."""
-    with open(path, encoding="utf-8") as it:
-        return it.read()
-
-
 def read_edit(path):
     """An edit with its pairs, each a file, an old text and a new one."""
     file, old, pairs = "", None, []
-    for line in text_of(path).split("\n"):
+    for line in path.read_text(encoding="utf-8").split("\n"):
         if line.startswith("file: "):
             file = line[6:].strip()
         elif line.startswith("old: "):
@@ -33,14 +26,13 @@ def read_edit(path):
         elif line.startswith("new:") and old is not None:
             pairs.append((file, old, line[4:].removeprefix(" ")))
             old = None
-    return Edit(os.path.basename(path), path, pairs)
+    return Edit(path.name, path, pairs)
 
 
 def edits_of(crate, names):
     """The edits of both folders, or those of these names."""
-    folders = [f"{crate}/{it}" for it in ("must-fail", "mutants") if os.path.isdir(f"{crate}/{it}")]
-    paths = [f"{folder}/{it}" for folder in folders for it in sorted(os.listdir(folder)) if it.endswith(".edit")]
-    found = [read_edit(it) for it in paths if not names or os.path.basename(it) in names]
+    paths = [it for folder in ("must-fail", "mutants") for it in sorted((crate / folder).glob("*.edit"))]
+    found = [read_edit(it) for it in paths if not names or it.name in names]
     lacking = set(names) - {it.name for it in found}
     if lacking or len({it.name for it in found}) < len(found):
         raise Stopped(f"no such edit: {', '.join(sorted(lacking))}" if lacking else "an edit's name stands in both folders")
@@ -52,9 +44,9 @@ def texts_of(edit, crate):
     texts, were = {}, {}
     for file, old, new in edit.pairs:
         if file not in texts:
-            if not re.match(r"(src|specs|proofs)/", file) or not os.path.isfile(f"{crate}/{file}"):
+            if not re.match(r"(src|specs|proofs)/", file) or not (crate / file).is_file():
                 return {}
-            texts[file] = were[file] = text_of(f"{crate}/{file}")
+            texts[file] = were[file] = (crate / file).read_text(encoding="utf-8")
         if texts[file].count(old) != 1:
             return {}
         texts[file] = texts[file].replace(old, new)
@@ -63,8 +55,7 @@ def texts_of(edit, crate):
 
 def sources_of(crate):
     """The lines of each source of a crate, by its path in it."""
-    found = [f"{at}/{name}" for at, _, names in os.walk(f"{crate}/src") for name in names if name.endswith(".rt")]
-    return {os.path.relpath(it, crate): text_of(it).split("\n") for it in sorted(found)}
+    return {str(it.relative_to(crate)): it.read_text(encoding="utf-8").split("\n") for it in sorted(crate.glob("src/**/*.rt"))}
 
 
 def changes(edit, sources):
@@ -77,18 +68,14 @@ def changes(edit, sources):
     return {(file, at): line for file, lines in sources.items() for at, line in enumerate(texts[file].split("\n"), 1) if line != lines[at - 1]}
 
 
-def without_arguments(words):
-    """What stands outside angle brackets."""
-    words, before = words.replace("->", ""), None
-    while words != before:
-        words, before = re.sub(r"<[^<>]*>", "", words), words
-    return words
-
-
 def names_of_impl(header):
     """The names by which rattle may call an impl: by its type, its type and trait, and the trait's argument."""
     header = re.sub(r"^impl\b", "", header.split(" where ")[0]).rstrip(" {")
-    names = [it.strip().split("::")[-1] for it in without_arguments(header).split(" for ")]
+    # what stands outside angle brackets
+    words, before = header.replace("->", ""), None
+    while words != before:
+        words, before = re.sub(r"<[^<>]*>", "", words), words
+    names = [it.strip().split("::")[-1] for it in words.split(" for ")]
     argument = re.search(r"\w<(?:\w+::)*(\w+)[^,]*> for ", header)
     base = "".join(reversed(names))
     return [base, base + argument[1]] if argument and len(names) == 2 else [base]
@@ -174,12 +161,12 @@ def in_cycles(functions, sources):
 
 def rests_on_others(crate, of, functions):
     """Whether the proof files of a function, its own and those of the lemmas that they name, name modules of another function."""
-    todo = [f"{at}/{it}" for part in of.folders for at, _, names in os.walk(f"{crate}/{part}") for it in names if it.endswith(".antt")]
+    todo = [it for part in of.folders for it in (crate / part).glob("**/*.antt")]
     seen, others = set(), tuple(part for it in functions.values() if it != of for part in it.folders)
     while todo:
-        for named in {it.replace(".", "/") for it in re.findall(r"\bproofs\.[\w.+]*\w", text_of(todo.pop()))} - seen:
+        for named in {it.replace(".", "/") for it in re.findall(r"\bproofs\.[\w.+]*\w", todo.pop().read_text(encoding="utf-8"))} - seen:
             seen.add(named)
-            todo += [it for it in [f"{crate}/{named}.antt"] if os.path.isfile(it)]
+            todo += [it for it in [crate / f"{named}.antt"] if it.is_file()]
     return any(f"{it}/".startswith(others) for it in seen)
 
 

@@ -1,5 +1,6 @@
 """Tasks side by side: how long they are likely to take, and how those that fill what `rt ci` leaves free are run."""
 
+import contextlib
 import heapq
 import os
 import signal
@@ -31,19 +32,13 @@ class Task:
 
 
 def chains(tasks):
-    """Returns of each task the minutes of the longest chain that begins with it."""
-    after = {}
-    for task in tasks:
+    """Returns of each task the minutes of the longest chain that begins with it. A task stands after those that it waits for."""
+    found, after = {}, {}
+    for task in reversed(tasks):
+        found[task.name] = task.minutes + after.get(task.name, 0)
         for name in task.waits:
-            after.setdefault(name, []).append(task)
-    known = {}
-
-    def chain(task):
-        if task.name not in known:
-            known[task.name] = task.minutes + max((chain(it) for it in after.get(task.name, [])), default=0)
-        return known[task.name]
-
-    return {task.name: chain(task) for task in tasks}
+            after[name] = max(after.get(name, 0), found[task.name])
+    return found
 
 
 def reckoned(tasks, lanes, proving):
@@ -122,12 +117,8 @@ class Fillers:
 def end_group(process):
     """Ends a process and all that it started in its group: asked to first, and made to after five seconds."""
     for sent, seconds in ((signal.SIGTERM, 5), (signal.SIGKILL, None)):
-        try:
+        with contextlib.suppress(ProcessLookupError):
             os.killpg(process.pid, sent)
-        except ProcessLookupError:
-            pass
-        try:
+        with contextlib.suppress(subprocess.TimeoutExpired):
             process.wait(seconds)
             return
-        except subprocess.TimeoutExpired:
-            pass

@@ -1,12 +1,13 @@
 """The prover over a crate with changed sources, in a folder of its own, over the libraries that a copy of the repository holds."""
 
-import os
 import re
 import shutil
 import signal
 import subprocess
 import tempfile
 from pathlib import Path
+
+from rooms import link
 
 PARTS = ("src", "specs", "proofs")
 # A limit of the prover's own, which it meets wherever it checks the same, and which is none of a machine's memory.
@@ -82,10 +83,7 @@ class Prover:
 
 def linked(one, other):
     """Copies a file of the kept work. What was proved, which a check never writes into, only gets a second name."""
-    try:
-        return os.link(one, other) if str(one).endswith(".oantt") else shutil.copy2(one, other)
-    except OSError:
-        return shutil.copy2(one, other)
+    (link if str(one).endswith(".oantt") else shutil.copy2)(one, other)
 
 
 def words_of(tables, name, libraries):

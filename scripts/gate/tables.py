@@ -1,5 +1,6 @@
 """What the gate knows beforehand: the crates of crates.txt, the minutes of docs/minutes.tsv, the mutants and the scripts."""
 
+import sys
 from pathlib import Path
 
 # The minutes of what has no row in docs/minutes.tsv: a proof, a mutant, a script.
@@ -28,16 +29,10 @@ class Tables:
 
     def below(self, *names):
         """Returns these crates and all that they stand on, lowest first."""
-        wanted = set()
-
-        def visit(name):
-            if name not in wanted:
-                wanted.add(name)
-                for used in self.uses[name]:
-                    visit(used)
-
-        for name in names:
-            visit(name)
+        wanted = {*names}
+        for name in reversed(self.uses):
+            if name in wanted:
+                wanted.update(self.uses[name])
         return [name for name in self.uses if name in wanted]
 
     def above(self, names):
@@ -79,10 +74,6 @@ class Tables:
     def script_over_trial(self, name):
         return self.number(name, 2, 0.0) or SLOWER * self.script(name)
 
-    def script_parts(self, name):
-        """Returns in how many parts gates take a script, one at each landing."""
-        return max(1, int(self.number(name, 1, 1.0)))
-
 
 def crate_lines(text):
     """Returns, from the text of crates.txt, what each crate stands on, of this repository and of the kit."""
@@ -95,20 +86,13 @@ def crate_lines(text):
 
 
 def read_crates(path):
-    """Reads crates.txt: returns, lowest first, what each crate stands on of this repository, and its whole line."""
-    lines = crate_lines(path.read_text(encoding="utf-8"))
-    ordered = {}
-
-    def visit(name):
-        if name not in ordered:
-            for used in lines[name]:
-                if used in lines:
-                    visit(used)
-            ordered[name] = [used for used in lines[name] if used in lines]
-
-    for name in lines:
-        visit(name)
-    return ordered, lines
+    """Reads crates.txt, whose lines stand lowest first: returns what each crate stands on of this repository, and its whole line."""
+    lines, uses = crate_lines(path.read_text(encoding="utf-8")), {}
+    for name, depends in lines.items():
+        uses[name] = [used for used in depends if used in lines]
+        if not uses.keys() >= {*uses[name]}:
+            sys.exit(f"crates.txt: {name} stands above a crate that it stands on")
+    return uses, lines
 
 
 def read_minutes(path):

@@ -26,9 +26,10 @@ READING, RUNNING = "(reading)", "(running)"
 
 def all_tasks(gate, choice, results):
     """Returns the tasks of a choice."""
-    proofs = proving_tasks(gate.tables, choice)
-    trial = [trial_task(gate.tables, results)] if choice.over_trial else []
-    return proofs + trial + mutant_tasks(gate, choice, results) + script_tasks(gate, choice, results)
+    trial = Task(("trial", "program"), gate.tables.number("(trial)", 0, 2.0), fills=True, proves=True)
+    trial.words, trial.ended = ["bash", "-c", f"{TRIAL} trial_program", "", str(gate.tables.top)], results.trial_ended
+    filling = [trial] * choice.over_trial + mutant_tasks(gate, choice, results) + script_tasks(gate, choice, results)
+    return proving_tasks(gate.tables, choice) + filling
 
 
 def proving_tasks(tables, choice):
@@ -40,13 +41,6 @@ def proving_tasks(tables, choice):
         if tables.tests(name):
             tasks.append(Task((name, "tests"), tables.tests(name), waits))
     return tasks + [Task(("rt", "running"), tables.number(RUNNING, 0, 1.0), [it.name for it in tasks])]
-
-
-def trial_task(tables, results):
-    """Returns what makes the trial program."""
-    task = Task(("trial", "program"), tables.number("(trial)", 0, 2.0), fills=True, proves=True)
-    task.words, task.ended = ["bash", "-c", f"{TRIAL} trial_program", "", str(tables.top)], results.trial_ended
-    return task
 
 
 def trial_file(tables):
@@ -61,7 +55,8 @@ def mutant_tasks(gate, choice, results):
     tried = Tried(tables, tables.top / "out/tried") if choice.is_whole else None
     for name, mutants in choice.mutants.items():
         if tried and tried.has(name, mutants):
-            results.of_earlier_mutants(name, len(mutants))
+            results.say(f"{len(mutants)} mutants of {name}: each rejected by an earlier run over the same sources")
+            results.rejected += len(mutants)
             continue
         minutes = tables.proof(name) + LAST_CHECK + len(mutants) * tables.mutant(name)
         script = [sys.executable, "-B", str(tables.top / "scripts/mutants.py"), "--libraries", str(gate.copy), name]
@@ -110,11 +105,6 @@ class Results:
         self.rejected += len(mutants)
         if tried:
             tried.add(name, mutants)
-
-    def of_earlier_mutants(self, name, count):
-        """Takes in that an earlier run had each of so many mutants rejected."""
-        self.say(f"{count} mutants of {name}: each rejected by an earlier run over the same sources")
-        self.rejected += count
 
     def trial_ended(self, status, heard, seconds):
         """Takes in the end of making the trial program."""

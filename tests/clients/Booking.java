@@ -11,12 +11,10 @@ import java.nio.charset.StandardCharsets;
 import java.time.Duration;
 
 /**
- * A booking by Java: WAY ORIGIN KEY KEY. A journey is begun and its step done, each twice under its key, and then read.
- * Prints the status and the body of each answer.
+ * A booking by Java: WAY ORIGIN, with its requests on standard input, a line each: METHOD PATH, and of a POST KEY BODY. Prints the
+ * status and the body of each answer.
  */
 class Booking {
-    static final String PLAN = "{\"steps\":[{\"options\":[{\"kind\":\"flight\",\"supplier\":\"AL\",\"product\":\"A1\","
-        + "\"first\":\"2030-06-01\",\"nights\":1,\"count\":1}],\"save\":false}],\"tries\":0}";
     static final HttpClient CLIENT = HttpClient.newBuilder().version(HttpClient.Version.HTTP_1_1).build();
     static String way;
     static String origin;
@@ -31,7 +29,7 @@ class Booking {
             : BodyPublishers.ofByteArray(bytes);
     }
 
-    static String byClient(String method, String path, String key, String body) throws Exception {
+    static void byClient(String method, String path, String key, String body) throws Exception {
         HttpRequest.Builder request = HttpRequest.newBuilder(URI.create(origin + path)).timeout(Duration.ofSeconds(20))
             .header("Desk-Agent", "ann").method(method, published(body));
         if (key != null) {
@@ -39,11 +37,10 @@ class Booking {
         }
         var answer = CLIENT.send(request.build(), BodyHandlers.ofString());
         System.out.println(answer.statusCode() + " " + answer.body());
-        return answer.body();
     }
 
     /** A POST without an output has no length. */
-    static String byConnection(String method, String path, String key, String body) throws IOException {
+    static void byConnection(String method, String path, String key, String body) throws IOException {
         var connection = (HttpURLConnection) URI.create(origin + path).toURL().openConnection();
         connection.setRequestMethod(method);
         connection.setReadTimeout(20_000);
@@ -57,23 +54,21 @@ class Booking {
         }
         int status = connection.getResponseCode();
         var stream = status < 400 ? connection.getInputStream() : connection.getErrorStream();
-        String text = new String(stream.readAllBytes(), StandardCharsets.UTF_8);
-        System.out.println(status + " " + text);
-        return text;
-    }
-
-    static String ask(String method, String path, String key, String body) throws Exception {
-        return way.startsWith("url") ? byConnection(method, path, key, body) : byClient(method, path, key, body);
+        System.out.println(status + " " + new String(stream.readAllBytes(), StandardCharsets.UTF_8));
     }
 
     public static void main(String[] words) throws Exception {
         way = words[0];
         origin = words[1];
-        ask("POST", "/journeys", words[2], PLAN);
-        String begun = ask("POST", "/journeys", words[2], PLAN);
-        String path = "/journeys/" + begun.replaceAll("[^0-9]", "");
-        ask("POST", path + "/step", words[3], "");
-        ask("POST", path + "/step", words[3], "");
-        ask("GET", path, null, null);
+        for (String line : new String(System.in.readAllBytes(), StandardCharsets.UTF_8).lines().toList()) {
+            String[] parts = line.split(" ", -1);
+            String key = parts.length > 2 ? parts[2] : null;
+            String body = parts.length > 2 ? parts[3] : null;
+            if (way.startsWith("url")) {
+                byConnection(parts[0], parts[1], key, body);
+            } else {
+                byClient(parts[0], parts[1], key, body);
+            }
+        }
     }
 }

@@ -1,9 +1,9 @@
-// A booking by Go: WAY ORIGIN KEY KEY. A journey is begun and its step done, each twice under its key, and then read.
-// Prints the status and the body of each answer.
+// A booking by Go: WAY ORIGIN, with its requests on standard input, a line each: METHOD PATH, and of a POST KEY BODY. Prints the
+// status and the body of each answer.
 package main
 
 import (
-	"encoding/json"
+	"bufio"
 	"fmt"
 	"io"
 	"net/http"
@@ -11,8 +11,6 @@ import (
 	"strings"
 	"time"
 )
-
-const plan = `{"steps":[{"options":[{"kind":"flight","supplier":"AL","product":"A1","first":"2030-06-01","nights":1,"count":1}],"save":false}],"tries":0}`
 
 var way, origin = os.Args[1], os.Args[2]
 
@@ -27,7 +25,7 @@ func bodyOf(text string) io.Reader {
 	return io.MultiReader(strings.NewReader(text))
 }
 
-func ask(method, path, key string, body io.Reader) []byte {
+func ask(method, path, key string, body io.Reader) {
 	request, err := http.NewRequest(method, origin+path, body)
 	check(err)
 	request.Header.Set("Desk-Agent", "ann")
@@ -43,7 +41,6 @@ func ask(method, path, key string, body io.Reader) []byte {
 	text, err := io.ReadAll(answer.Body)
 	check(err)
 	fmt.Println(answer.StatusCode, string(text))
-	return text
 }
 
 func check(err error) {
@@ -54,11 +51,12 @@ func check(err error) {
 }
 
 func main() {
-	var begun struct{ Journey int }
-	ask("POST", "/journeys", os.Args[3], bodyOf(plan))
-	check(json.Unmarshal(ask("POST", "/journeys", os.Args[3], bodyOf(plan)), &begun))
-	path := fmt.Sprintf("/journeys/%d", begun.Journey)
-	ask("POST", path+"/step", os.Args[4], bodyOf(""))
-	ask("POST", path+"/step", os.Args[4], bodyOf(""))
-	ask("GET", path, "", nil)
+	for lines := bufio.NewScanner(os.Stdin); lines.Scan(); {
+		words := strings.Split(lines.Text(), " ")
+		if words[0] == "GET" {
+			ask("GET", words[1], "", nil)
+		} else {
+			ask("POST", words[1], words[2], bodyOf(words[3]))
+		}
+	}
 }

@@ -1,10 +1,9 @@
-// A booking by Node: WAY ORIGIN KEY KEY. A journey is begun and its step done, each twice under its key, and then read.
-// Prints the status and the body of each answer.
+// A booking by Node: WAY ORIGIN, with its requests on standard input, a line each: METHOD PATH, and of a POST KEY BODY. Prints the
+// status and the body of each answer.
+import fs from 'node:fs';
 import http from 'node:http';
 
-const [way, origin, beginKey, stepKey] = process.argv.slice(2);
-const option = { kind: 'flight', supplier: 'AL', product: 'A1', first: '2030-06-01', nights: 1, count: 1 };
-const plan = JSON.stringify({ steps: [{ options: [option], save: false }], tries: 0 });
+const [way, origin] = process.argv.slice(2);
 const agent = new http.Agent({ keepAlive: true });
 
 // a body that is handed over as a stream has no length, so it comes in chunks
@@ -45,15 +44,9 @@ function byHttp(method, path, headers, body) {
 
 const ask = way.startsWith('fetch') ? byFetch : byHttp;
 
-async function post(path, key, body) {
-  const [status, text] = await ask('POST', path, { 'Desk-Agent': 'ann', 'Desk-Key': key }, body);
-  console.log(status, text);
-  return text;
+for (const line of fs.readFileSync(0, 'utf8').trimEnd().split('\n')) {
+  const [method, path, key, body] = line.split(' ');
+  const fields = key ? { 'Desk-Agent': 'ann', 'Desk-Key': key } : { 'Desk-Agent': 'ann' };
+  console.log(...await ask(method, path, fields, body));
 }
-
-await post('/journeys', beginKey, plan);
-const { journey } = JSON.parse(await post('/journeys', beginKey, plan));
-await post(`/journeys/${journey}/step`, stepKey, '');
-await post(`/journeys/${journey}/step`, stepKey, '');
-console.log(...await ask('GET', `/journeys/${journey}`, { 'Desk-Agent': 'ann' }));
 agent.destroy();

@@ -1,9 +1,7 @@
 <?php
-// A booking by PHP: WAY ORIGIN KEY KEY. A journey is begun and its step done, each twice under its key, and then read.
-// Prints the status and the body of each answer.
-[, $way, $origin, $begin_key, $step_key] = $argv;
-$option = ['kind' => 'flight', 'supplier' => 'AL', 'product' => 'A1', 'first' => '2030-06-01', 'nights' => 1, 'count' => 1];
-$plan = json_encode(['steps' => [['options' => [$option], 'save' => false]], 'tries' => 0]);
+// A booking by PHP: WAY ORIGIN, with its requests on standard input, a line each: METHOD PATH, and of a POST KEY BODY. Prints the
+// status and the body of each answer.
+[, $way, $origin] = $argv;
 
 // one handle, which keeps its connection open. A POST without fields has no length, so it comes in chunks, after a wait for
 // 100 Continue
@@ -39,20 +37,10 @@ function by_streams(string $method, string $path, array $fields, ?string $body):
     return [(int) explode(' ', $http_response_header[0])[1], $text];
 }
 
-function ask(string $method, string $path, array $fields, ?string $body): string {
-    global $way;
+foreach (file('php://stdin', FILE_IGNORE_NEW_LINES) as $line) {
+    [$method, $path, $key, $body] = explode(' ', $line) + [2 => null, 3 => null];
+    $fields = $key === null ? ['Desk-Agent: ann'] : ['Desk-Agent: ann', "Desk-Key: $key", 'Content-Type: application/json'];
     [$status, $text] = str_starts_with($way, 'curl') ? by_curl($method, $path, $fields, $body)
         : by_streams($method, $path, $fields, $body);
     echo "$status $text\n";
-    return $text;
 }
-
-function post(string $path, string $key, string $body): string {
-    return ask('POST', $path, ['Desk-Agent: ann', "Desk-Key: $key", 'Content-Type: application/json'], $body);
-}
-
-post('/journeys', $begin_key, $plan);
-$journey = json_decode(post('/journeys', $begin_key, $plan))->journey;
-post("/journeys/$journey/step", $step_key, '');
-post("/journeys/$journey/step", $step_key, '');
-ask('GET', "/journeys/$journey", ['Desk-Agent: ann'], null);

@@ -1,16 +1,13 @@
-"""A booking by Python: WAY ORIGIN KEY KEY. A journey is begun and its step done, each twice under its key, and then read.
-Prints the status and the body of each answer.
+"""A booking by Python: WAY ORIGIN, with its requests on standard input, a line each: METHOD PATH, and of a POST KEY BODY. Prints the
+status and the body of each answer.
 """
 import http.client
 import io
-import json
 import sys
 import urllib.request
 from urllib.parse import urlsplit
 
-WAY, ORIGIN, BEGIN_KEY, STEP_KEY = sys.argv[1:]
-PLAN = {"steps": [{"options": [{"kind": "flight", "supplier": "AL", "product": "A1", "first": "2030-06-01", "nights": 1,
-                                "count": 1}], "save": False}], "tries": 0}
+WAY, ORIGIN = sys.argv[1:]
 
 
 def by_http_client():
@@ -61,22 +58,12 @@ WAYS = {
 }
 
 
-def main():
-    client, body_as = WAYS[WAY]
-    ask = client()
-
-    def post(path, key, body):
-        fields = {"Desk-Agent": "ann", "Desk-Key": key, "Content-Type": "application/json"}
-        status, text = ask("POST", path, fields, body_as(body))
-        print(status, text)
-        return text
-
-    for _ in range(2):
-        begun = post("/journeys", BEGIN_KEY, json.dumps(PLAN).encode())
-    journey = json.loads(begun)["journey"]
-    for _ in range(2):
-        post(f"/journeys/{journey}/step", STEP_KEY, b"")
-    print(*ask("GET", f"/journeys/{journey}", {"Desk-Agent": "ann"}, None))
-
-
-main()
+client, body_as = WAYS[WAY]
+ask = client()
+for line in sys.stdin:
+    method, path, *post = line.rstrip("\n").split(" ")
+    fields, text = {"Desk-Agent": "ann"}, None
+    if post:
+        fields.update({"Desk-Key": post[0], "Content-Type": "application/json"})
+        text = body_as(post[1].encode())
+    print(*ask(method, path, fields, text))
