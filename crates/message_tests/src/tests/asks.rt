@@ -13,8 +13,12 @@ const PAGE: &[u8] =
 
 /// What is read of an answer, as a text in a table.
 fn told(alloc: Global, reader: &mut Pieces<'_>) -> Result<String, AllocError> {
-    let mut sink = Sink::new(alloc, 7, REQUEST.len())?;
-    match ask(alloc, "/reports/stock", reader, &mut sink) {
+    asked(alloc, reader, &mut Sink::new(alloc, 7, REQUEST.len())?)
+}
+
+/// What is read of an answer where the request goes into this sink.
+fn asked(alloc: Global, reader: &mut Pieces<'_>, sink: &mut Sink) -> Result<String, AllocError> {
+    match ask(alloc, "/reports/stock", reader, sink) {
         Ok(Answer::Report(text)) => String::from_utf8(text).map_err(|_| AllocError),
         Ok(Answer::NoJourney) => String::from_str(alloc, "no journey"),
         Err(Unanswered::Memory) => Err(AllocError),
@@ -78,23 +82,13 @@ fn a_page_that_is_cut_short_is_no_answer(rt: HostRuntime) -> Result<(), Fail> {
 #[test]
 fn one_request_is_sent(rt: HostRuntime) -> Result<(), Fail> {
     let mut sink = Sink::new(rt.alloc(), 2, REQUEST.len())?;
-    let answer = ask(
-        rt.alloc(),
-        "/reports/stock",
-        &mut Pieces::of(PAGE, 9),
-        &mut sink,
-    );
-    assert!(rt; matches!(answer, Ok(Answer::Report(_))));
+    let whole = asked(rt.alloc(), &mut Pieces::of(PAGE, 9), &mut sink)?;
+    assert!(rt; whole.as_str() == "cells 0\n", "{whole}");
     assert!(rt; sink.taken() == REQUEST);
     for room in 0..REQUEST.len() {
         let mut sink = Sink::new(rt.alloc(), 2, room)?;
-        let answer = ask(
-            rt.alloc(),
-            "/reports/stock",
-            &mut Pieces::of(PAGE, 9),
-            &mut sink,
-        );
-        assert!(rt; matches!(answer, Err(Unanswered::Lost)), "room for {room}");
+        let cut = asked(rt.alloc(), &mut Pieces::of(PAGE, 9), &mut sink)?;
+        assert!(rt; cut.as_str() == "lost", "room for {room}: {cut}");
         assert!(rt; sink.taken() == &REQUEST[..room]);
     }
     Ok(())
