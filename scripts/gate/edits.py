@@ -5,7 +5,8 @@ from collections import namedtuple
 
 # A mutant, with its pairs of a file, an old text and a new one.
 Edit = namedtuple("Edit", "name path pairs")
-# A function: its file, impl and path, the start of its closures' paths, the folders of their proofs, its line and those of its body
+# A function: its file, impl and path, the start of its closures' paths, the folders of their proofs, the line at which it begins, with
+# its attributes, and the first and last of its body
 Function = namedtuple("Function", "file owner path closures folders head first last")
 HEAD = re.compile(r"( *)(?:pub(?:\([^)]*\))? )?fn (\w+)")
 ITEM = re.compile(r"^\s*(?:#!?\[|(?:pub\b.*? )?(?:unsafe |const )*(?:fn|impl|struct|enum|trait|mod|static|const|type|use)\b)|\bmacro_rules\b", re.M)
@@ -98,6 +99,14 @@ def body_after(lines, at, indent):
     return (opens + 1, ends - 1) if ends and lines[opens - 1].endswith("{") else None
 
 
+def top_of(lines, at, indent):
+    """The number of the line at which the attributes of the function of this line begin, or its own, where it has none. What the
+    prover says of a function names the place of its first attribute."""
+    while at > 1 and lines[at - 2].startswith((indent + "#[", indent + ")]")):
+        at = next(it for it in range(at - 1, 0, -1) if lines[it - 1].startswith(indent + "#["))
+    return at
+
+
 def functions_in(name, file, lines):
     """The functions of a file, which `rt fmt` has laid out, free ones and those of impls. One of an impl may have two names."""
     module = [it for it in re.sub(r"(^|/)(lib|main|mod)$", "", file[4:-3]).split("/") if it]
@@ -109,7 +118,8 @@ def functions_in(name, file, lines):
         for owner in owners if span else []:
             rest = [it for it in (owner, head[2]) if it]
             folders = tuple("/".join(["proofs", *module, *it, ""]) for it in (rest, ["fn", *rest]))
-            yield Function(file, owner, "::".join([name, *module, *rest]), "::".join([name, *module, "fn", *rest, ""]), folders, at, *span)
+            path, closures = "::".join([name, *module, *rest]), "::".join([name, *module, "fn", *rest, ""])
+            yield Function(file, owner, path, closures, folders, top_of(lines, at, head[1]), *span)
 
 
 def functions_of(name, sources, proved):
