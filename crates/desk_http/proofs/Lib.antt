@@ -2,6 +2,7 @@ pub mod PlanTextLemmas
 pub mod DemandLemmas
 pub mod WhyLemmas
 pub mod AnswerLemmas
+pub mod ReasonLemmas
 pub mod ServeLemmas
 pub mod AgainLemmas
 pub mod AskLemmas

@@ -1,5 +1,6 @@
--- A worked example: a request that steps a journey, and a state in which it makes an event.
-use Rattle.std.specs.Prelude.{◌≡◌, ℕ, List, [], ◌∷◌, ◌++◌, true, length, nat_lt, codes, Some, refl}
+-- A worked example: a request that steps a journey, a state in which it makes an event, and what it leaves of a book that may act.
+use Rattle.std.specs.Prelude.{◌≡◌, ◌⊎◌, ℕ, List, [], ◌∷◌, ◌++◌, true, length, nat_lt, codes, Some, Ok, Err, refl}
+use Rattle.std.proofs.Common.{subst, inl, inr}
 use Rattle.std.specs.List.{list_all}
 use Rattle.std.specs.Fmt.{digits}
 use Rattle.std.specs.Str.{is_utf8, chars}
@@ -13,13 +14,19 @@ use Rattle.matchit.specs.Seek.{seek, param_step}
 use Rattle.allotment.proofs.ShortLemmas.{is_utf8 as utf8_text}
 use Rattle.commands.specs.Asks.{Asked}
 use Rattle.commands.specs.Request.{Step}
+use Rattle.ledger.specs.Answer.{State, outcome, start}
 use Rattle.ledger.specs.KeyExamples.{ann, ann_began}
 use Rattle.http_messages.specs.Examples.{get_page}
 use Rattle.http_messages.specs.Heads.{IsHead, most_fields, most_head_bytes}
 use Rattle.http_messages.specs.Messages.{Message, Asks, BeginsWithRequest}
 use Rattle.http_pages.specs.Routes.{routes}
+use Rattle.protocols.specs.declared.faults.ServeFault.TheVariants.{Memory, Store}
+use Rattle.saga_core.specs.Runs as runs
+use Rattle.desk_http.specs.Demands.{Carry, SeeStock}
 use Rattle.desk_http.specs.Laws.{MakesEvent}
-use Rattle.desk_http.specs.Pages.{command_in}
+use Rattle.desk_http.specs.Pages.{command_in, state_by}
+use Rattle.desk_http.specs.Reasons.{GoesOnAt, GoesOnBy, ViewsOn}
+use Rattle.desk_http.specs.Worlds.{asks_by}
 use Rattle.desk_http.specs.declared.doors.Door.TheVariants.{Port}
 
 -- ann steps journey 1, under the key k1
@@ -93,3 +100,37 @@ step_message_makes_it = refl
 -- ann has begun the journey, so the step is done
 pub step_makes_an_event : MakesEvent Port ann_began step_message
 step_makes_an_event = record { asked = Step 1; ask = step_ask; asks = step_message_makes_it; made = refl }
+
+-- Reasons. A definition with one more premise, which the step does not meet, is refused here.
+
+-- the command of the step, and the state after it
+abbrev pub step_asks : runs.Asks
+step_asks = (Step 1, Some step_ask) ∷ []
+
+abbrev pub stepped : State
+stepped = (outcome ann_began (Some step_ask) (Step 1)).state
+
+module _ (could can : State → runs.Asks → Type 0) (reason : State → State → Type 0) where
+  pub view_fails_for_a_reason : ViewsOn {T = ℕ} could can reason (Err Store) → could start step_asks → reason start start
+  view_fails_for_a_reason views may = views start step_asks may
+
+  pub stock_fails_for_a_reason : GoesOnBy {T = ℕ} could can reason (Ok SeeStock) (Err Store) → could start step_asks → reason start start
+  stock_fails_for_a_reason goes may = goes start step_asks may
+
+  pub step_fails_for_a_reason :
+      GoesOnBy {T = ℕ} could can reason (Ok (Carry (Step 1) (Some step_ask))) (Err Store) → could ann_began step_asks
+      → reason ann_began stepped
+  step_fails_for_a_reason goes may = goes ann_began [] may
+
+  -- out of memory, it was asked for or not
+  pub step_out_of_memory :
+      GoesOnBy {T = ℕ} could can reason (Ok (Carry (Step 1) (Some step_ask))) (Err Memory) → could ann_began step_asks
+      → can ann_began step_asks ⊎ can ann_began [] ⊎ can stepped []
+  step_out_of_memory (inl still) may = inl (still ann_began step_asks may)
+  step_out_of_memory (inr acts) may = inr (acts ann_began [] may)
+
+  -- once its message was answered, the book may act for no more asks
+  pub step_message_goes_on :
+      (page : ℕ) → GoesOnAt could can reason Port step_message (Ok page) → could ann_began step_asks → can stepped []
+  step_message_goes_on page goes =
+      subst (λ c. could ann_began (asks_by c ++ []) → can (state_by ann_began c) []) step_message_makes_it (goes ann_began [])

@@ -7,5 +7,6 @@ pub mod Monitored
 pub mod Answering
 pub mod Serving
 pub mod Worlds
+pub mod Reasons
 pub mod Laws
 pub mod Examples

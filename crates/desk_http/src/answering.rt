@@ -1,5 +1,5 @@
 //! The page of a message.
-ghost use Rattle.std.specs.Prelude.{◌≡◌, ◌&&◌, ◌||◌, not, ℕ, List, None, is_some, IfErr, IfOk};
+ghost use Rattle.std.specs.Prelude.{◌≡◌, ◌&&◌, ◌||◌, not, ℕ, List, None, Ok, is_some, IfErr, IfOk};
 ghost use Rattle.ledger.specs.Answer.{State};
 ghost use Rattle.saga_core.specs.Calls.{Serves};
 ghost use Rattle.http_messages.specs.Requests.{IsRequest, IsTaken};
@@ -12,6 +12,7 @@ ghost use Rattle.http_messages.specs.declared.requests.Message.TheVariants as ta
 ghost use Rattle.desk_http.specs.Hosts.{refusal_at};
 ghost use Rattle.desk_http.specs.Demands.{demand_of};
 ghost use Rattle.desk_http.specs.Pages.{closes, stops};
+ghost use Rattle.desk_http.specs.Reasons.{GoesOnAt, GoesOnBy, GoesOnUnless};
 ghost use Rattle.desk_http.specs.Monitored.{AsksForMetrics, GetsCounted, ShowsCounted};
 
 use crate::begun::see_begun;
@@ -93,6 +94,10 @@ pub fn answer_to<B: Reporting>(
 
     ensures serves { Serves B.is_sound B.leaves B.has_failed book.old book.new
         ServeFault.Store result }
+    ensures may_act { B.is_sound book.new → (first : B) →
+        (m : sent.Message) → IsTaken message.now m →
+        GoesOnAt (B.may_act first book.old) (B.may_act first book.new) (B.has_reason first book.new)
+        door m result }
 {
     match message {
         Message::NoHead => {
@@ -169,6 +174,11 @@ fn page_of<B: Reporting>(
 
     ensures serves { Serves B.is_sound B.leaves B.has_failed book.old book.new
         ServeFault.Store result }
+    ensures may_act { B.is_sound book.new → (first : B) →
+        (parts : Parts) → (body : List ℕ) → IsRequest request.now parts body →
+        refusal ≡ refusal_at door parts → GoesOnUnless
+        (B.may_act first book.old) (B.may_act first book.new) (B.has_reason first book.new)
+        (refusal_at door parts) (demand_of door parts body) result }
 {
     if let Some(why) = &refusal {
         return Ok(refused_page(alloc, why)?);
@@ -194,6 +204,9 @@ fn meet<B: Reporting>(
 
     ensures serves { Serves B.is_sound B.leaves B.has_failed book.old book.new
         ServeFault.Store result }
+    ensures may_act { B.is_sound book.new → (first : B) → GoesOnBy
+        (B.may_act first book.old) (B.may_act first book.new) (B.has_reason first book.new)
+        (Ok (demand_said demand.now)) result }
 {
     match demand {
         Demand::Carry(command, ask) => {

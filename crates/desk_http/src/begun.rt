@@ -3,10 +3,10 @@ ghost use Rattle.std.specs.Prelude.{◌≡◌, IfOk};
 ghost use Rattle.std.specs.String.{string_bytes};
 ghost use Rattle.serde_json.specs.Written.{compact_text};
 ghost use Rattle.ledger.specs.Answer.{State};
-ghost use Rattle.saga_core.specs.Calls.{Serves};
 ghost use Rattle.http_pages.specs.Pages.{page_said};
 ghost use Rattle.desk_http.specs.Answering.{Shows};
 ghost use Rattle.desk_http.specs.Pages.{begun_page, brief_shown, own_begun, own_brief};
+ghost use Rattle.desk_http.specs.Reasons.{Views};
 
 use crate::doors::Asker;
 use commands::{Key, Refusal, Reply};
@@ -26,8 +26,8 @@ pub(crate) fn see_begun<B: Book>(
         Shows (B.stands book.new) (B.leaves book.new) s (λ page.
         page_said page ≡ begun_page asker.now (own_begun s asker.now key.now)) result }
 
-    ensures serves { Serves B.is_sound B.leaves B.has_failed book.old book.new
-        ServeFault.Store result }
+    ensures views { Views B.is_sound B.leaves B.has_failed B.may_act B.has_reason
+        book.old book.new result }
 {
     let Some(brief) = own_begun(book, asker, key)? else {
         return Ok(refused_page(alloc, &Refusal::NoJourney)?);
@@ -53,8 +53,8 @@ fn own_begun<B: Book>(book: &mut B, asker: &Asker, key: &Key) -> Result<Option<B
         Shows (B.stands book.new) (B.leaves book.new) s
         (λ found. found ≡ own_begun s asker.now key.now) result }
 
-    ensures serves { Serves B.is_sound B.leaves B.has_failed book.old book.new
-        ServeFault.Store result }
+    ensures views { Views B.is_sound B.leaves B.has_failed B.may_act B.has_reason
+        book.old book.new result }
 {
     match book.kept(&asker.owner(), key)? {
         Some(Reply::Begun { id }) => own_brief(book, asker, id),
@@ -68,8 +68,8 @@ fn own_brief<B: Book>(book: &mut B, asker: &Asker, id: u64) -> Result<Option<Bri
         Shows (B.stands book.new) (B.leaves book.new) s
         (λ found. found ≡ own_brief s.ledger asker.now id) result }
 
-    ensures serves { Serves B.is_sound B.leaves B.has_failed book.old book.new
-        ServeFault.Store result }
+    ensures views { Views B.is_sound B.leaves B.has_failed B.may_act B.has_reason
+        book.old book.new result }
 {
     match book.trace(id)? {
         Some(trace) if asker.sees(&trace.brief.agent) => Ok(Some(trace.brief)),

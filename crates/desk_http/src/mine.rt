@@ -3,10 +3,10 @@ ghost use Rattle.std.specs.Prelude.{◌≡◌, IfOk};
 ghost use Rattle.std.specs.String.{string_bytes};
 ghost use Rattle.serde_json.specs.Written.{compact_text};
 ghost use Rattle.ledger.specs.Answer.{State};
-ghost use Rattle.saga_core.specs.Calls.{Serves};
 ghost use Rattle.http_pages.specs.Pages.{page_said, value_page};
 ghost use Rattle.desk_http.specs.Answering.{Shows};
 ghost use Rattle.desk_http.specs.Pages.{mine_of, mine_shown};
+ghost use Rattle.desk_http.specs.Reasons.{Views};
 
 use crate::doors::Asker;
 use http_pages::{Body, Owners, Page, mine_body, shown_page};
@@ -29,8 +29,8 @@ pub(crate) fn see_mine<B: Book>(
         page_said page
         ≡ value_page (mine_shown asker.now (mine_of s.ledger asker.now after))) result }
 
-    ensures serves { Serves B.is_sound B.leaves B.has_failed book.old book.new
-        ServeFault.Store result }
+    ensures views { Views B.is_sound B.leaves B.has_failed B.may_act B.has_reason
+        book.old book.new result }
 {
     let owner = asker.owner();
     let briefs = book.owned(&owner, after, MOST_SHOWN)?;

@@ -5,16 +5,16 @@ ghost use Rattle.desk_http.specs.Answering.{Shows};
 ghost use Rattle.desk_http.specs.DemandValues.{AsksFor, ReadsAs};
 ghost use Rattle.desk_http.specs.Demands.{bare, begin_by, load_of, value_in};
 ghost use Rattle.desk_http.specs.Pages.{journey_page, owner_of, plan_page, own_journey, own_unfinished, told_page, unfinished_shown, ShowsMetrics, ShowsStock};
+ghost use Rattle.desk_http.specs.Reasons.{Views};
 ghost use Rattle.desk_http.specs.Monitored.{ShowsCounted};
 ghost use Rattle.http_pages.specs.Bodies.{agent_data, health_data};
 ghost use Rattle.http_pages.specs.Pages.{page_said, value_page};
 ghost use Rattle.ledger.specs.Answer.{State};
 ghost use Rattle.report_kinds.specs.Texts.{OfReport};
-ghost use Rattle.saga_core.specs.Calls.{Serves};
 ghost use Rattle.saga_core.specs.Views.{counts_of};
 ghost use Rattle.serde_json.specs.Read.{read};
 ghost use Rattle.serde_json.specs.Written.{compact_text};
-ghost use Rattle.std.specs.Prelude.{◌≡◌, IfOk};
+ghost use Rattle.std.specs.Prelude.{◌≡◌, ⊤, IfOk};
 ghost use Rattle.std.specs.String.{string_bytes};
 
 use crate::demands::Unmet;
@@ -47,8 +47,8 @@ pub(crate) fn see_journey<B: Book>(
         Shows (B.stands book.new) (B.leaves book.new) s (λ page.
         page_said page ≡ journey_page s.ledger id (own_journey s.ledger asker.now id)) result }
 
-    ensures serves { Serves B.is_sound B.leaves B.has_failed book.old book.new
-        ServeFault.Store result }
+    ensures views { Views B.is_sound B.leaves B.has_failed B.may_act B.has_reason
+        book.old book.new result }
 {
     match book.trace(id)? {
         Some(trace) if asker.sees(&trace.brief.agent) => {
@@ -70,8 +70,8 @@ pub(crate) fn see_plan<B: Book>(
         Shows (B.stands book.new) (B.leaves book.new) s (λ page.
         page_said page ≡ plan_page (own_journey s.ledger asker.now id)) result }
 
-    ensures serves { Serves B.is_sound B.leaves B.has_failed book.old book.new
-        ServeFault.Store result }
+    ensures views { Views B.is_sound B.leaves B.has_failed B.may_act B.has_reason
+        book.old book.new result }
 {
     let Some(journey) = own_journey(book, asker, id)? else {
         return Ok(refused_page(alloc, &Refusal::NoJourney)?);
@@ -90,8 +90,8 @@ pub(crate) fn own_journey<B: Book>(
         Shows (B.stands book.new) (B.leaves book.new) s
         (λ found. found ≡ own_journey s.ledger asker.now id) result }
 
-    ensures serves { Serves B.is_sound B.leaves B.has_failed book.old book.new
-        ServeFault.Store result }
+    ensures views { Views B.is_sound B.leaves B.has_failed B.may_act B.has_reason
+        book.old book.new result }
 {
     match book.journey(id)? {
         Some(journey) if asker.sees(&journey.agent) => Ok(Some(journey)),
@@ -110,8 +110,8 @@ pub(crate) fn see_unfinished<B: Book>(
         page_said page
         ≡ value_page (unfinished_shown asker.now (own_unfinished s.ledger asker.now))) result }
 
-    ensures serves { Serves B.is_sound B.leaves B.has_failed book.old book.new
-        ServeFault.Store result }
+    ensures views { Views B.is_sound B.leaves B.has_failed B.may_act B.has_reason
+        book.old book.new result }
 {
     let briefs = own_unfinished(book, asker)?;
     let body = body_of(alloc, asker, &briefs)?;
@@ -135,8 +135,8 @@ fn own_unfinished<B: Book>(book: &mut B, asker: &Asker) -> Result<Vec<Brief>, Se
         Shows (B.stands book.new) (B.leaves book.new) s
         (λ briefs. briefs.items ≡ own_unfinished s.ledger asker.now) result }
 
-    ensures serves { Serves B.is_sound B.leaves B.has_failed book.old book.new
-        ServeFault.Store result }
+    ensures views { Views B.is_sound B.leaves B.has_failed B.may_act B.has_reason
+        book.old book.new result }
 {
     let mut briefs = book.unfinished()?;
     briefs.retain(|brief| asker.sees(&brief.agent));
@@ -149,8 +149,8 @@ pub(crate) fn see_stock<B: Book>(alloc: Global, book: &mut B) -> Result<Page, Se
         Shows (B.stands book.new) (B.leaves book.new) s
         (λ page. ShowsStock s.ledger (page_said page)) result }
 
-    ensures serves { Serves B.is_sound B.leaves B.has_failed book.old book.new
-        ServeFault.Store result }
+    ensures views { Views B.is_sound B.leaves B.has_failed B.may_act B.has_reason
+        book.old book.new result }
 {
     let rows = book.stock()?;
     let mut text = Vec::new(alloc);
@@ -170,8 +170,8 @@ pub(crate) fn see_report<B: Reporting>(
         Shows (B.stands book.new) (B.leaves book.new) s (λ page.
         OfReport report.now s.ledger (λ text. page_said page ≡ told_page text)) result }
 
-    ensures serves { Serves B.is_sound B.leaves B.has_failed book.old book.new
-        ServeFault.Store result }
+    ensures views { Views B.is_sound B.leaves B.has_failed B.may_act (λ _ _ _ _. ⊤)
+        book.old book.new result }
 {
     let found = book.report(report)?;
     match found {
@@ -186,8 +186,8 @@ pub(crate) fn see_health<B: Book>(alloc: Global, book: &mut B) -> Result<Page, S
         Shows (B.stands book.new) (B.leaves book.new) s
         (λ page. page_said page ≡ value_page (health_data (counts_of s.ledger))) result }
 
-    ensures serves { Serves B.is_sound B.leaves B.has_failed book.old book.new
-        ServeFault.Store result }
+    ensures views { Views B.is_sound B.leaves B.has_failed B.may_act B.has_reason
+        book.old book.new result }
 {
     let counts = book.counts()?;
     let body = health_body(alloc, counts)?;
@@ -205,8 +205,8 @@ pub(crate) fn see_metrics<B: Book>(
         (λ page. ShowsMetrics s.ledger (page_said page)) result }
     ensures counted { IfOk result (λ page. ShowsCounted metrics.now (page_said page)) }
 
-    ensures serves { Serves B.is_sound B.leaves B.has_failed book.old book.new
-        ServeFault.Store result }
+    ensures views { Views B.is_sound B.leaves B.has_failed B.may_act B.has_reason
+        book.old book.new result }
 {
     let counts = book.counts()?;
     let body = metrics_text(alloc, counts, metrics)?;

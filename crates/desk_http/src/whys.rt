@@ -4,12 +4,12 @@ ghost use Rattle.std.specs.String.{string_bytes};
 ghost use Rattle.serde_json.specs.Written.{compact_text};
 ghost use Rattle.ledger.specs.Answer.{State};
 ghost use Rattle.ledger.specs.Ledger.{history};
-ghost use Rattle.saga_core.specs.Calls.{Serves};
 ghost use Rattle.saga_core.specs.Views.{record_of};
 ghost use Rattle.http_pages.specs.Pages.{page_said};
 ghost use Rattle.outlooks.specs.Outlooks.{IsTaken, latest_option as latest_option_of, nights_ahead as nights_ahead_of};
 ghost use Rattle.desk_http.specs.Answering.{Shows};
 ghost use Rattle.desk_http.specs.Pages.{own_journey, why_page, why_shown};
+ghost use Rattle.desk_http.specs.Reasons.{Views};
 
 use crate::doors::Asker;
 use crate::showing::own_journey;
@@ -32,8 +32,8 @@ pub(crate) fn see_why<B: Book>(
         Shows (B.stands book.new) (B.leaves book.new) s (λ page.
         page_said page ≡ why_page s.ledger id (own_journey s.ledger asker.now id)) result }
 
-    ensures serves { Serves B.is_sound B.leaves B.has_failed book.old book.new
-        ServeFault.Store result }
+    ensures views { Views B.is_sound B.leaves B.has_failed B.may_act B.has_reason
+        book.old book.new result }
 {
     let Some(journey) = own_journey(book, asker, id)? else {
         return Ok(refused_page(alloc, &Refusal::NoJourney)?);
@@ -54,8 +54,8 @@ fn why_of_journey<B: Book>(
         Shows (B.stands book.new) (B.leaves book.new) s
         (λ body. string_bytes body ≡ compact_text (why_shown s.ledger id journey.now)) result }
 
-    ensures serves { Serves B.is_sound B.leaves B.has_failed book.old book.new
-        ServeFault.Store result }
+    ensures views { Views B.is_sound B.leaves B.has_failed B.may_act B.has_reason
+        book.old book.new result }
 {
     let taken = read_taken(book, id, journey)?;
     // A journey has the next step that its plan gives, unless the store did not return what was written.
@@ -72,8 +72,8 @@ fn read_taken<B: Book>(book: &mut B, id: u64, journey: &Record) -> Result<Option
     ensures taken { B.is_sound book.new → (s : State) → B.stands book.old s →
         Shows (B.stands book.new) (B.leaves book.new) s (IsTaken s.ledger id journey.now) result }
 
-    ensures serves { Serves B.is_sound B.leaves B.has_failed book.old book.new
-        ServeFault.Store result }
+    ensures views { Views B.is_sound B.leaves B.has_failed B.may_act B.has_reason
+        book.old book.new result }
 {
     match journey.cursor.phase {
         Phase::Back(_) => read_latest(book, id, journey.cursor.pos),
@@ -87,8 +87,8 @@ fn read_latest<B: Book>(book: &mut B, id: u64, step: usize) -> Result<Option<usi
         Shows (B.stands book.new) (B.leaves book.new) s
         (λ option. option ≡ latest_option_of step (history s.ledger id)) result }
 
-    ensures serves { Serves B.is_sound B.leaves B.has_failed book.old book.new
-        ServeFault.Store result }
+    ensures views { Views B.is_sound B.leaves B.has_failed B.may_act B.has_reason
+        book.old book.new result }
 {
     let items = book.history(id)?;
     latest_of(&items, step)
@@ -115,8 +115,8 @@ fn nights_ahead<B: Book>(
         Shows (B.stands book.new) (B.leaves book.new) s
         (λ nights. nights.items ≡ nights_ahead_of s.ledger next.now) result }
 
-    ensures serves { Serves B.is_sound B.leaves B.has_failed book.old book.new
-        ServeFault.Store result }
+    ensures views { Views B.is_sound B.leaves B.has_failed B.may_act B.has_reason
+        book.old book.new result }
 {
     let Some(next) = next else {
         return Ok(Vec::new(alloc));

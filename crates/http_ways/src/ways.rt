@@ -9,6 +9,7 @@ ghost use Rattle.http_ways.specs.declared.ways.Way.TheVariants.{Profile, Wide};
 ghost use Rattle.ledger.specs.Answer.{State};
 ghost use Rattle.saga_core.specs.Calls.{Serves};
 ghost use Rattle.desk_http.specs.Pages.{closes, stops};
+ghost use Rattle.desk_http.specs.Reasons.{GoesOnAt};
 ghost use Rattle.http_ways.specs.Pages.{AnswersAt, LaysOut, laid_out, shown_text};
 ghost use Rattle.http_ways.specs.Ways.{Said};
 
@@ -199,6 +200,9 @@ pub fn answer_by<B: Reporting>(
 
     ensures serves { Serves B.is_sound B.leaves B.has_failed book.old book.new
         ServeFault.Store result }
+    ensures may_act { B.is_sound book.new → (first : B) → (x : Said) → IsRead arrived.now x →
+        GoesOnAt (B.may_act first book.old) (B.may_act first book.new) (B.has_reason first book.new)
+        door x.meant result }
 {
     match answer_to(alloc, paths, door, &arrived.message, metrics, book) {
         Ok(answer) => lay_out(alloc, paths, door, second, arrived, answer),

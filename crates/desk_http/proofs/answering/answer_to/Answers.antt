@@ -2,7 +2,10 @@
 use Rattle.std.proofs.Common.{subst, false, true}
 use Rattle.std.proofs.lemmas.Result.{err_from_is_err_and}
 use Rattle.http_messages.specs.Requests.{IsTaken}
+use Rattle.http_pages.specs.declared.answers.Page.{Page}
+use Rattle.desk_http.specs.declared.answering.Answer.{Answer}
 use Rattle.desk_http.proofs.AnswerLemmas.{no_head_answered, no_head_closes, no_head_counted, no_head_stops, page_closes, page_stops, request_answered, request_closes, request_counted, request_failed}
+use Rattle.desk_http.proofs.ReasonLemmas.{no_head_goes_on, request_fails, request_goes_on}
 use Rattle.desk_http.proofs.answering.answer_to.Goals as goal
 
 pub returns-in_err-page-in-Asks-clause-answer : goal.returns-in_err-page-in-Asks-clause-answer
@@ -63,3 +66,27 @@ returns-in_ok-page-in-Asks-clause-counted g c =
     c.closes.result (λ m is. subst (λ taken. IsTaken taken m) c.in-Asks.is is) c.in_ok-refusal-in-Asks.ensures.refusal c.closes.ensures.closes
     (record { bytes = c.new-in-Asks.ensures.bytes; closes = c.new-in-Asks.ensures.closes; memory = c.new-in-Asks.ensures.memory })
     c.in_ok-page-in-Asks.ensures.counted
+
+-- bytes that are no head ask the book for nothing
+pub returns-in_ok-page-in-NoHead-clause-may_act : goal.returns-in_ok-page-in-NoHead-clause-may_act
+returns-in_ok-page-in-NoHead-clause-may_act g c = λ sound first m is.
+    let book = g.B.Book in
+    no_head_goes_on (book.may_act first c.args.book.now) (book.has_reason first c.args.book.now) c.args.door m _
+    (subst (λ taken. IsTaken taken m) c.in-NoHead.is is) c.new.ensures.memory
+
+-- a request asks it for its command
+pub returns-in_ok-page-in-Asks-clause-may_act : goal.returns-in_ok-page-in-Asks-clause-may_act
+returns-in_ok-page-in-Asks-clause-may_act g c = λ sound first m is.
+    let book = g.B.Book in
+    request_goes_on (book.may_act first c.args.book.now) (book.may_act first c.page_of.new.book) (book.has_reason first c.page_of.new.book)
+    c.args.door c.in-Asks.request c.in_ok-refusal-in-Asks.refusal m c.in_ok-page-in-Asks.page _ (subst (λ taken. IsTaken taken m) c.in-Asks.is is)
+    c.in_ok-refusal-in-Asks.ensures.refusal (c.in_ok-page-in-Asks.ensures.may_act sound first) c.new-in-Asks.ensures.memory
+
+pub returns-in_err-page-in-Asks-clause-may_act : goal.returns-in_err-page-in-Asks-clause-may_act
+returns-in_err-page-in-Asks-clause-may_act g c = λ sound first m is.
+    let book = g.B.Book in
+    let failed = err_from_is_err_and c.from_residual-in_err-page-in-Asks.result c.from_residual-in_err-page-in-Asks.ensures.1 in
+    rw (failed.1, failed.2)
+    (request_fails (book.may_act first c.args.book.now) (book.may_act first c.page_of.new.book) (book.has_reason first c.page_of.new.book)
+    c.args.door c.in-Asks.request c.in_ok-refusal-in-Asks.refusal Page Answer m c.in_err-page-in-Asks.field-0.0 (subst (λ taken. IsTaken taken m) c.in-Asks.is is)
+    c.in_ok-refusal-in-Asks.ensures.refusal (c.in_err-page-in-Asks.ensures.may_act sound first))

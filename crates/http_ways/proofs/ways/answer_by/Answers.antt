@@ -1,5 +1,7 @@
 -- The page of the profile was laid out, or a fault came.
-use Rattle.desk_http.specs.Pages.{closes, stops}
+use Rattle.desk_http.specs.Pages.{closes, command_in, stops}
+use Rattle.desk_http.specs.Reasons.{reason_in}
+use Rattle.desk_http.proofs.ReasonLemmas.{made_goes_on}
 use Rattle.http_ways.proofs.PageLemmas.{faults_by, laid_by, meant_by}
 use Rattle.http_ways.proofs.ways.answer_by.Goals as goal
 
@@ -25,3 +27,11 @@ returns-in-Err-clause-answer g c = λ sound s stood x is.
     let book = g.B.Book in
     let new = c.answer_to.new.book in
     faults_by (book.stands new) (book.leaves new) s c.args.door c.args.second x c.in-Err.fault (c.in-Err.ensures.answer sound s stood x.meant is.message)
+
+-- the layout asks nothing of the book
+pub returns-in-Ok-clause-may_act : goal.returns-in-Ok-clause-may_act
+returns-in-Ok-clause-may_act g c = λ sound first x is.
+    let book = g.B.Book in
+    let new = c.answer_to.new.book in
+    made_goes_on (book.may_act first c.args.book.now) (book.may_act first new) (reason_in c.args.door x.meant (book.has_reason first new))
+    (command_in c.args.door x.meant) c.in-Ok.answer c.lay_out.result (c.in-Ok.ensures.may_act sound first x.meant is.message) c.lay_out.ensures.memory
