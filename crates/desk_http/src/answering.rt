@@ -73,7 +73,8 @@ impl Answer {
 /// Answers a message that came in at a door: carries out what it asks for, and lays out its page. What was counted is shown
 /// where it asks for that.
 ///
-/// Out of memory, it was carried out or not, and has no page.
+/// Out of memory, it was carried out or not, and has no page. Store has a reason that the book gives; of a report nothing is
+/// said.
 pub fn answer_to<B: Reporting>(
     alloc: Global,
     paths: &Paths,

@@ -35,3 +35,6 @@ returns-in-Ok-clause-may_act g c = λ sound first x is.
     let new = c.answer_to.new.book in
     made_goes_on (book.may_act first c.args.book.now) (book.may_act first new) (reason_in c.args.door x.meant (book.has_reason first new))
     (command_in c.args.door x.meant) c.in-Ok.answer c.lay_out.result (c.in-Ok.ensures.may_act sound first x.meant is.message) c.lay_out.ensures.memory
+
+pub returns-in-Err-clause-may_act : goal.returns-in-Err-clause-may_act
+returns-in-Err-clause-may_act g c = λ sound first x is. c.in-Err.ensures.may_act sound first x.meant is.message
