@@ -4,19 +4,17 @@ use Rattle.ledger.specs.Answer.{State}
 use Rattle.commands.specs.declared.replies.Fault.{Fault}
 use Rattle.commands.specs.declared.replies.Fault.TheVariants as fault
 use Rattle.desk_http.specs.Pages.{closes, state_after, stops}
-use Rattle.desk_http.specs.Reasons.{GoesOnAt}
-use Rattle.desk_http.specs.declared.answering.Answer.{Answer}
 use Rattle.desk_http.specs.declared.doors.Door.{Door}
 use Rattle.http_ways.specs.Pages.{AnswersAt, IsPageAt}
 use Rattle.http_ways.specs.Ways.{Said, Says}
-use Rattle.protocols.specs.Faults.{served_fault}
+use Rattle.saga_core.specs.Runs.{Asks}
 use Rattle.protocols.specs.declared.faults.ServeFault.{ServeFault}
 use Rattle.protocols.specs.declared.faults.ServeFault.TheVariants.{Memory, Read, Store, Write}
-use Rattle.saga_core.specs.Runs.{Asks}
-use Rattle.http_conversations.specs.Answering.{ActsFirst, AnswersFirst, LeadsAs, LeavesAt}
-use Rattle.http_conversations.specs.Exchanges.{Exchange}
+use Rattle.http_conversations.specs.Answering.{AnswersFirst, LeadsAs, LeavesAt}
+use Rattle.http_conversations.specs.Exchanges.{Exchange, since}
 use Rattle.http_conversations.specs.History.{History, TakesFirst, after_answer, after_loss, exchange, stops_by}
 use Rattle.http_conversations.specs.Leading.{GoesOn, GoesOnByOne, fault_by, has_broken}
+use Rattle.http_conversations.specs.Reasons.{HasReasons}
 use Rattle.http_conversations.specs.declared.conversation.Stage.TheVariants.{Open}
 use Rattle.http_conversations.proofs.Steps.{takes_at_most_one, takes_stopping}
 
@@ -118,51 +116,15 @@ module _ {sound : Type 0} {stood stands : State → Type 0} {leaves : State → 
   goes_on (Ok false) h k a = none h.exchanges k.exchanges (ap (λ (j : History). j.exchanges) a.takes) a.leads
   goes_on (Err f) h k a = goes_on_at second f h k a.takes a.leads
 
-  -- by one message at most, which stops the desk, or does not
-  pub turn : (r : Result Bool Fault) (h k : History) → AnswersFirst sound stood stands leaves second r h k
-      → GoesOnByOne sound stood stands leaves (has_broken r) (stops_by r k) h.exchanges k.exchanges
-  turn r h k a = record {
-    goes_on = goes_on r h k a;
-    at_most_one = takes_at_most_one r h k a.takes;
-    stopping = takes_stopping r h k a.takes;
-  }
-
--- What the answer leaves of a book that may act.
-
--- the fault of a page is one of the answer
-leaves_by : (could can : State → Asks → Type 0) (reason : State → State → Type 0) (door : Door) (m : Said) (fault : ServeFault)
-    → GoesOnAt {T = Answer} could can reason door m.meant (Err fault)
-    → GoesOnAt {T = Bool} could can reason door m.meant (Err (served_fault (fault_by fault)))
-leaves_by could can reason door m Memory goes = goes
-leaves_by could can reason door m Store goes = goes
-leaves_by could can reason door m Read goes = inr (λ s later may. absurd (goes s later may))
-leaves_by could can reason door m Write goes = inr (λ s later may. absurd (goes s later may))
-
-module _ {B : Type 0} {sound : Type 0} {could can : B → State → Asks → Type 0} {reason : B → State → State → Type 0}
-    (h k : History) (count : ℕ) (m : Said) (is_open : h.stage ≡ Open) (says : Says h.way (take count h.waiting) m) where
-  -- the message got its page
-  pub acts_for : (answer : Answer) → h.pending ≡ [] → k ≡ after_answer h count answer.bytes.items answer.closes answer.stops
-      → answer.closes ≡ closes h.door m.meant → answer.stops ≡ stops h.door m.meant
-      → (sound → (first : B) → GoesOnAt (could first) (can first) (reason first) h.door m.meant (Ok answer))
-      → ActsFirst sound could can reason (Ok true) h k
-  acts_for answer free is closing stopping goes = record {
-    takes = record {
-      is_open = is_open;
-      free = free;
-      count = count;
-      message = m;
-      is_message = says;
-      page = answer.bytes.items;
-      is = is ∙ ap₂ (λ x y. after_answer h count answer.bytes.items x y) closing stopping;
-    };
-    acts = goes;
-  }
-
-  -- or lost it
-  pub acts_lost : (fault : ServeFault) → k ≡ after_loss h count
-      → (sound → (first : B) → GoesOnAt {T = Answer} (could first) (can first) (reason first) h.door m.meant (Err fault))
-      → ActsFirst sound could can reason (Err (fault_by fault)) h k
-  acts_lost fault is goes = record {
-    takes = inl (record { is_open = is_open; count = count; message = m; is_message = says; is = is });
-    acts = λ is_sound first. leaves_by (could first) (can first) (reason first) h.door m fault (goes is_sound first);
-  }
+-- by one message at most, which stops the desk, or does not
+pub turn : {B : Type 0} {is_sound : B → Type 0} {stands : B → State → Type 0} {leaves : B → State → State → Type 0}
+    {may : B → B → State → Asks → Type 0} {reason : B → B → State → State → Type 0} {old new : B} {second : Option ℕ}
+    (r : Result Bool Fault) (h k : History) → AnswersFirst (is_sound new) (stands old) (stands new) (leaves new) second r h k
+    → HasReasons is_sound may reason old new (has_broken r) (since h.exchanges k.exchanges)
+    → GoesOnByOne is_sound stands leaves may reason old new (has_broken r) (stops_by r k) h.exchanges k.exchanges
+turn r h k a reasons = record {
+  goes_on = goes_on r h k a;
+  at_most_one = takes_at_most_one r h k a.takes;
+  stopping = takes_stopping r h k a.takes;
+  reasons = reasons;
+}

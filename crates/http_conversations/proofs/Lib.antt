@@ -1,5 +1,6 @@
 pub mod Steps
 pub mod CallLemmas
+pub mod ReasonLemmas
 pub mod AnswerSteps
 mod ServeLemmas
 mod NextLemmas

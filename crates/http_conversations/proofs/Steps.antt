@@ -273,9 +273,11 @@ pub since_more : (xs ys zs : List Exchange) → ys ≡ xs ++ zs → since xs ys 
 since_more xs ys zs more = ap (λ t. drop (length xs) t) more ∙ drop-append_seam xs zs
 
 -- nothing was added
+pub since_none : (xs ys : List Exchange) → ys ≡ xs → since xs ys ≡ []
+since_none xs ys same = ap (λ t. drop (length xs) t) same ∙ drop-length xs
+
 pub no_stop : (xs ys : List Exchange) → ys ≡ xs → StopAtLast false (since xs ys)
-no_stop xs ys same =
-    subst (All IsNoStop) (sym (ap (λ t. drop (length xs) t) same ∙ drop-length xs)) (All-nil IsNoStop)
+no_stop xs ys same = subst (All IsNoStop) (sym (since_none xs ys same)) (All-nil IsNoStop)
 
 -- one message got its page
 one_stop : (stop : Bool) (e : Exchange) (m : Said) → Says e.way e.bytes m → IsSome e.page → stops e.door m.meant ≡ stop

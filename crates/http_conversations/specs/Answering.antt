@@ -5,9 +5,6 @@ use Rattle.ledger.specs.Answer.{State}
 use Rattle.commands.specs.declared.replies.Fault.{Fault}
 use Rattle.commands.specs.declared.replies.Fault.TheVariants.{Memory, Store}
 use Rattle.desk_http.specs.Pages.{state_after}
-use Rattle.desk_http.specs.Reasons.{GoesOnAt, MayStillAct}
-use Rattle.protocols.specs.Faults.{served_fault}
-use Rattle.saga_core.specs.Runs.{Asks}
 use Rattle.http_ways.specs.Pages.{IsPageAt}
 use Rattle.http_ways.specs.Reading.{IsRead}
 use Rattle.http_ways.specs.Ways.{Said, Says}
@@ -37,24 +34,6 @@ module _ (sound : Type 0) (stood stands : State → Type 0) (leaves : State → 
     -- what was taken of what waits
     pub takes : TakesFirst result old new
     pub leads : LeadsAs result old new takes
-
--- What the answer leaves of a book that could act for the command of the first message, and for later asks.
-
-module _ {B : Type 0} (sound : Type 0) (could can : B → State → Asks → Type 0) (reason : B → State → State → Type 0) where
-  -- after the message that was taken the book may act for the later asks, or Store has a reason; where none was taken, it may
-  -- act for what it could act for
-  abbrev pub MayActAs : B → (result : Result Bool Fault) (old new : History) → TakesFirst result old new → Type 0
-  MayActAs first (Ok true) old new taken =
-      GoesOnAt {T = Bool} (could first) (can first) (reason first) old.door taken.message.meant (Ok true)
-  MayActAs first (Ok false) old new same = MayStillAct (could first) (can first)
-  MayActAs first (Err fault) old new (inl lost) =
-      GoesOnAt {T = Bool} (could first) (can first) (reason first) old.door lost.message.meant (Err (served_fault fault))
-  MayActAs first (Err fault) old new (inr unseen) = MayStillAct (could first) (can first)
-
-  -- the same of the first message that waits, since each book
-  pub record ActsFirst (result : Result Bool Fault) (old new : History) : Type 0 where
-    pub takes : TakesFirst result old new
-    pub acts : sound → (first : B) → MayActAs first result old new takes
 
 -- the message that was taken was read as this
 pub record SeesLast (arrived : Arrived) (old new : History) : Type 0 where

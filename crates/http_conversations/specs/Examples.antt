@@ -1,9 +1,16 @@
--- A worked conversation, computed. Letters stand for messages, and digits for their pages; `c` closes.
-use Rattle.std.specs.Prelude.{◌≡◌, true, false, [], codes, refl}
+-- A worked conversation, computed. Letters stand for messages, and digits for their pages; `c` closes. And why the store failed
+-- at a message without a head.
+use Rattle.std.specs.Prelude.{◌≡◌, ◌++◌, ℕ, true, false, List, [], ◌∷◌, None, codes, refl}
+use Rattle.std.proofs.Common.{inl}
+use Rattle.ledger.specs.Answer.{State, start}
+use Rattle.saga_core.specs.Runs.{Asks}
 use Rattle.desk_http.specs.declared.doors.Door.TheVariants.{Port}
+use Rattle.http_ways.specs.Ways.{Says, unread}
+use Rattle.http_ways.specs.declared.ways.Layout.TheVariants as layout
 use Rattle.http_ways.specs.declared.ways.Way.TheVariants.{Profile}
-use Rattle.http_conversations.specs.Exchanges.{bytes_of, pages_of}
+use Rattle.http_conversations.specs.Exchanges.{Exchange, bytes_of, pages_of}
 use Rattle.http_conversations.specs.History.{History, after_answer, after_loss, after_received, after_sent, new_history}
+use Rattle.http_conversations.specs.Reasons.{EndsFor, FailsAtLast, Meant, MayGoOn, asks_of}
 
 -- `ac` came in one read, and `a` got the page `12`, one byte of which was handed out
 abbrev pub answered_once : History
@@ -37,3 +44,38 @@ page_lost = after_loss (after_sent answered_once 1) 1
 
 pub pages_without_it : pages_of page_lost.exchanges ≡ codes "12"
 pages_without_it = refl
+
+-- a message without a head, whose page was lost; it asks for nothing
+module _ (bytes : List ℕ) (says : Says Profile bytes (unread layout.Profile)) where
+  abbrev pub without_head : Exchange
+  without_head = record { door = Port; way = Profile; bytes = bytes; went_on = false; page = None }
+
+  abbrev pub no_head : Meant
+  no_head = record { exchange = without_head; message = unread layout.Profile; is_message = says }
+
+  pub it_asks_for_nothing : asks_of (no_head ∷ []) ≡ []
+  it_asks_for_nothing = refl
+
+  -- out of memory, the book may act on as before
+  pub memory_ran_out : (could : State → Asks → Type 0) (reason : State → State → Type 0) → EndsFor could could reason false (without_head ∷ [])
+  memory_ran_out could reason = record { meant = no_head ∷ []; asked = inl (no_head, [], refl, refl, refl); ends = λ s later may. (s, inl refl, may) }
+
+  -- the store failed at it, where a step from a state to the same failed for a reason
+  pub store_failed : (could can : State → Asks → Type 0) (reason : State → State → Type 0)
+      → ((s : State) (later : Asks) → could s later → reason s s) → EndsFor could can reason true (without_head ∷ [])
+  store_failed could can reason fails = record {
+    meant = no_head ∷ [];
+    asked = inl (no_head, [], refl, refl, refl);
+    ends = λ s later may. record { before = []; last = no_head; at_last = refl; at = s; reaches = refl; reason_is = fails s later may };
+  }
+
+-- a book that could act for what the messages ask for, on a new desk, failed for a reason at the last of them
+pub messages_fail_for_a_reason : (could can : State → Asks → Type 0) (reason : State → State → Type 0) (exchanges : List Exchange)
+    (ends : EndsFor could can reason true exchanges) → could start (asks_of ends.meant ++ []) → FailsAtLast reason start ends.meant
+messages_fail_for_a_reason could can reason exchanges ends may = ends.ends start [] may
+
+-- or it may act for what comes later, on a state to which they lead
+pub messages_leave_a_book_that_may_act :
+    (could can : State → Asks → Type 0) (reason : State → State → Type 0) (exchanges : List Exchange) (later : Asks)
+    (ends : EndsFor could can reason false exchanges) → could start (asks_of ends.meant ++ later) → MayGoOn can reason false start ends.meant later
+messages_leave_a_book_that_may_act could can reason exchanges later ends may = ends.ends start later may

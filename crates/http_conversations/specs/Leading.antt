@@ -3,6 +3,7 @@ use Rattle.std.specs.Prelude.{◌≡◌, ◌⊎◌, ◌+◌, ◌≤◌, ℕ, Boo
 use Rattle.ledger.specs.Answer.{State}
 use Rattle.commands.specs.declared.replies.Fault.{Fault}
 use Rattle.commands.specs.declared.replies.Fault.TheVariants.{Memory, Store}
+use Rattle.saga_core.specs.Runs.{Asks}
 use Rattle.protocols.specs.declared.faults.ServeFault.{ServeFault}
 use Rattle.protocols.specs.declared.faults.ServeFault.TheVariants as serve
 use Rattle.desk_http.specs.Pages.{state_after}
@@ -10,6 +11,7 @@ use Rattle.desk_http.specs.declared.doors.Door.{Door}
 use Rattle.http_ways.specs.Pages.{IsPageBy}
 use Rattle.http_ways.specs.Ways.{Said, Says}
 use Rattle.http_conversations.specs.Exchanges.{Exchange, StopAtLast, since}
+use Rattle.http_conversations.specs.Reasons.{HasReasons}
 
 -- the message, which came in at a door, gets its page, and is carried out; where the page was lost, it is carried out or not
 abbrev pub Comes : Door → State → Said → Option (List ℕ) → State → Type 0
@@ -55,12 +57,14 @@ pub record GoesOn (sound : Type 0) (stood stands : State → Type 0) (leaves : S
   pub more : after ≡ before ++ exchanges
   pub ends : sound → (s : State) → stood s → Ends store_failed stands leaves s exchanges
 
--- the same by one exchange at most, which stops the desk, or does not
-pub record GoesOnByOne (sound : Type 0) (stood stands : State → Type 0) (leaves : State → State → Type 0)
-    (store_failed stopped : Bool) (before after : List Exchange) : Type 0 where
-  pub goes_on : GoesOn sound stood stands leaves store_failed before after
+-- The same by one exchange at most, which stops the desk, or does not. Where the store failed at it, there was a reason.
+pub record GoesOnByOne {B : Type 0} (is_sound : B → Type 0) (stands : B → State → Type 0)
+    (leaves : B → State → State → Type 0) (may : B → B → State → Asks → Type 0) (reason : B → B → State → State → Type 0)
+    (old new : B) (store_failed stopped : Bool) (before after : List Exchange) : Type 0 where
+  pub goes_on : GoesOn (is_sound new) (stands old) (stands new) (leaves new) store_failed before after
   pub at_most_one : length after ≤ length before + 1
   pub stopping : StopAtLast stopped (since before after)
+  pub reasons : HasReasons is_sound may reason old new store_failed (since before after)
 
 -- the store failed
 abbrev pub has_broken : {T : Type 0} → Result T Fault → Bool

@@ -2,6 +2,7 @@ pub mod Exchanges
 pub mod History
 pub mod Examples
 pub mod Talks
+pub mod Reasons
 pub mod Leading
 pub mod Conversations
 pub mod Calls

@@ -1,5 +1,5 @@
 //! A conversation, with no socket of its own.
-ghost use Rattle.http_conversations.specs.Answering.{ActsFirst, AnswersFirst, LeavesTaken, Sees};
+ghost use Rattle.http_conversations.specs.Answering.{AnswersFirst, LeavesTaken, Sees};
 ghost use Rattle.http_conversations.specs.Calls.{GivesIfDue, Receives, Sends};
 ghost use Rattle.http_conversations.specs.History.{HasNoTurn, IsQuiet, IsServed, WantsRead, new_history, stops_by};
 ghost use Rattle.http_conversations.specs.Leading.{GoesOnByOne, has_broken};
@@ -91,8 +91,8 @@ impl Conversation {
         ensures answers { AnswersFirst (B.is_sound book.new) (B.stands book.old)
             (B.stands book.new) (B.leaves book.new) second result
             (history self.old) (history self.new) }
-        ensures turn { GoesOnByOne (B.is_sound book.new) (B.stands book.old) (B.stands book.new)
-            (B.leaves book.new) (has_broken result) (stops_by result (history self.new))
+        ensures turn { GoesOnByOne B.is_sound B.stands B.leaves B.may_act B.has_reason
+            book.old book.new (has_broken result) (stops_by result (history self.new))
             (history self.old).exchanges (history self.new).exchanges }
         ensures leaves { LeavesTaken result (history self.old) (history self.new) }
         ensures none { result ≡ Ok false → HasNoTurn (history self.old)
@@ -100,9 +100,6 @@ impl Conversation {
         ensures seen { Sees seen.new (history self.old) (history self.new) }
         ensures serves { Serves B.is_sound B.leaves B.has_failed book.old book.new
             Fault.Store result }
-        ensures may_act { ActsFirst (B.is_sound book.new) (λ first. B.may_act first book.old)
-            (λ first. B.may_act first book.new) (λ first. B.has_reason first book.new) result
-            (history self.old) (history self.new) }
     {
         self.talk.answer(paths, second, metrics, seen, book)
     }

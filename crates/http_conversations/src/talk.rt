@@ -2,10 +2,12 @@
 ghost use Rattle.std.specs.Prelude.{◌≡◌, ◌≢◌, ◌≤◌, [], length, drop, vec_capacity, Ok, false};
 ghost use Rattle.saga_core.specs.Calls.{Serves};
 ghost use Rattle.http_ways.specs.Reading.{IsFirstOfBy};
-ghost use Rattle.http_conversations.specs.Answering.{ActsFirst, AnswersFirst, Sees, SeesLast};
+ghost use Rattle.http_conversations.specs.Answering.{AnswersFirst, Sees, SeesLast};
 ghost use Rattle.http_conversations.specs.Calls.{GivesIfDue, Receives, Sends};
-ghost use Rattle.http_conversations.specs.Leading.{fault_by};
+ghost use Rattle.http_conversations.specs.Exchanges.{since};
+ghost use Rattle.http_conversations.specs.Leading.{fault_by, has_broken};
 ghost use Rattle.http_conversations.specs.History.{HasNoTurn, IsReady, after_answer, after_failure, after_loss, kept, moved_on, new_history};
+ghost use Rattle.http_conversations.specs.Reasons.{HasReasons};
 ghost use Rattle.http_conversations.specs.Talks.{history_of};
 
 use crate::conversation::Stage;
@@ -113,14 +115,14 @@ impl Talk {
         ensures answers { AnswersFirst (B.is_sound book.new) (B.stands book.old)
             (B.stands book.new) (B.leaves book.new) second result
             (history_of self.old) (history_of self.new) }
+        ensures reasons { HasReasons B.is_sound B.may_act B.has_reason book.old book.new
+            (has_broken result)
+            (since (history_of self.old).exchanges (history_of self.new).exchanges) }
         ensures none { result ≡ Ok false → HasNoTurn (history_of self.old)
             × (history_of self.new ≡ history_of self.old) × (book.new ≡ book.old) }
         ensures seen { Sees seen.new (history_of self.old) (history_of self.new) }
         ensures serves { Serves B.is_sound B.leaves B.has_failed book.old book.new
             Fault.Store result }
-        ensures may_act { ActsFirst (B.is_sound book.new) (λ first. B.may_act first book.old)
-            (λ first. B.may_act first book.new) (λ first. B.has_reason first book.new) result
-            (history_of self.old) (history_of self.new) }
     {
         *seen = None;
         if !matches!(self.stage, Stage::Open) || !self.pending.is_empty() {
@@ -156,13 +158,13 @@ impl Talk {
         ensures answers { AnswersFirst (B.is_sound book.new) (B.stands book.old)
             (B.stands book.new) (B.leaves book.new) second result
             (history_of self.old) (history_of self.new) }
+        ensures reasons { HasReasons B.is_sound B.may_act B.has_reason book.old book.new
+            (has_broken result)
+            (since (history_of self.old).exchanges (history_of self.new).exchanges) }
         ensures some { result ≢ Ok false }
         ensures seen { SeesLast arrived.now (history_of self.old) (history_of self.new) }
         ensures serves { Serves B.is_sound B.leaves B.has_failed book.old book.new
             Fault.Store result }
-        ensures may_act { ActsFirst (B.is_sound book.new) (λ first. B.may_act first book.old)
-            (λ first. B.may_act first book.new) (λ first. B.has_reason first book.new) result
-            (history_of self.old) (history_of self.new) }
     {
         match answer_by(self.alloc, paths, self.door, second, arrived, metrics, book) {
             Ok(answer) => {

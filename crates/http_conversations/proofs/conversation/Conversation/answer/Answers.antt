@@ -17,7 +17,7 @@ invariant_of-self g c =
 
 pub returns-clause-turn : goal.returns-clause-turn
 returns-clause-turn g c =
-    turn c.answer.result (history_of c.args.self.now.talk) (history_of c.answer.new.self) c.answer.ensures.answers
+    turn c.answer.result (history_of c.args.self.now.talk) (history_of c.answer.new.self) c.answer.ensures.answers c.answer.ensures.reasons
 
 pub returns-clause-leaves : goal.returns-clause-leaves
 returns-clause-leaves g c =

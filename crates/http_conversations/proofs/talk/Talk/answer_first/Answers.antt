@@ -1,8 +1,13 @@
 -- The message got its page, or lost it.
-use Rattle.std.proofs.Common.{None, Some, ap}
-use Rattle.http_conversations.specs.History.{History}
+use Rattle.std.proofs.Common.{◌∷◌, [], None, Some, Bool, Err, ap, false, refl, subst, sym}
+use Rattle.desk_http.specs.declared.answering.Answer.{Answer}
+use Rattle.http_conversations.specs.History.{History, exchange}
+use Rattle.http_conversations.specs.Leading.{fault_by, has_broken}
+use Rattle.http_conversations.specs.Reasons.{HasReasons}
 use Rattle.http_conversations.specs.Talks.{history_of}
-use Rattle.http_conversations.proofs.AnswerSteps.{acts_for, acts_lost, gets, loses}
+use Rattle.http_conversations.proofs.AnswerSteps.{gets, loses}
+use Rattle.http_conversations.proofs.ReasonLemmas.{answered, lost}
+use Rattle.http_conversations.proofs.Steps.{since_more}
 use Rattle.http_conversations.proofs.talk.Talk.answer_first.Goals as goal
 
 pub returns-in-Ok-clause-answers : goal.returns-in-Ok-clause-answers
@@ -45,19 +50,27 @@ returns-in-Err-clause-seen g c =
       says = first.says;
     }
 
--- the book may act after it, or failed for a reason
-pub returns-in-Ok-clause-may_act : goal.returns-in-Ok-clause-may_act
-returns-in-Ok-clause-may_act g c =
-    let first = c.requires.first in
-    let ready = c.requires.ready in
-    let ok = c.in-Ok.ensures in
-    acts_for (history_of c.args.self.now) (history_of c.keep.new.self) c.args.count first.said ready.is_open first.says c.in-Ok.answer
-    ready.free c.keep.ensures.answered (ok.closes first.said first.is_read) (ok.stops first.said first.is_read)
-    (λ sound since. ok.may_act sound since first.said first.is_read)
+-- where the store failed, it did for a reason
 
-pub returns-in-Err-clause-may_act : goal.returns-in-Err-clause-may_act
-returns-in-Err-clause-may_act g c =
+pub returns-in-Ok-clause-reasons : goal.returns-in-Ok-clause-reasons
+returns-in-Ok-clause-reasons g c =
+    let book = g.B.Book in
     let first = c.requires.first in
+    let h = history_of c.args.self.now in
+    let x = exchange h c.args.count (Some c.in-Ok.answer.bytes.items) in
+    subst (HasReasons book.is_sound book.may_act book.has_reason c.args.book.now c.answer_by.new.book false)
+    (sym (since_more h.exchanges _ (x ∷ []) (ap (λ (k : History). k.exchanges) c.keep.ensures.answered)))
+    (λ sound b. answered _ _ _ (record { exchange = x; message = first.said; is_message = first.says }) c.in-Ok.answer
+    (c.in-Ok.ensures.may_act sound b first.said first.is_read))
+
+pub returns-in-Err-clause-reasons : goal.returns-in-Err-clause-reasons
+returns-in-Err-clause-reasons g c =
+    let book = g.B.Book in
+    let first = c.requires.first in
+    let h = history_of c.args.self.now in
+    let x = exchange h c.args.count None in
     rw c.fault_of.ensures.fault
-    (acts_lost (history_of c.args.self.now) (history_of c.lose.new.self) c.args.count first.said c.requires.ready.is_open first.says
-    c.in-Err.fault c.lose.ensures.lost (λ sound since. c.in-Err.ensures.may_act sound since first.said first.is_read))
+    (subst (HasReasons book.is_sound book.may_act book.has_reason c.args.book.now c.answer_by.new.book (has_broken {T = Bool} (Err (fault_by c.in-Err.fault))))
+    (sym (since_more h.exchanges _ (x ∷ []) (ap (λ (k : History). k.exchanges) c.lose.ensures.lost)))
+    (λ sound b. lost _ _ _ (record { exchange = x; message = first.said; is_message = first.says }) Answer c.in-Err.fault refl
+    (c.in-Err.ensures.may_act sound b first.said first.is_read)))
