@@ -3,8 +3,11 @@ use Rattle.std.proofs.Common.{◌≡◌, Bool, true, false, List, [], ◌∷◌,
 use Rattle.std.proofs.lemmas.List.{length-append}
 use Rattle.std.proofs.Math.Seq.{drop-append-add}
 use Rattle.ledger.specs.Answer.{State}
+use Rattle.saga_core.specs.Runs.{Asks}
 use Rattle.http_conversations.specs.Exchanges.{Exchange, StopAtLast, since}
 use Rattle.http_conversations.specs.Leading.{Ends, GoesOnByOne, Leads}
+use Rattle.http_conversations.specs.Reasons.{HasReasons}
+use Rattle.http_conversations.proofs.ReasonLemmas.{reasons_none}
 use Rattle.http_conversations.proofs.Steps.{no_stop}
 
 pub leads_then : (xs ys : List Exchange) (a b c : State) → Leads a xs b → Leads b ys c → Leads a (xs ++ ys) c
@@ -33,35 +36,42 @@ since_at left old new =
 
 -- One message at most.
 
-module _ {sound : Type 0} {stands : State → Type 0} {leaves : State → State → Type 0} where
+module _ {B : Type 0} {is_sound : B → Type 0} {stands : B → State → Type 0} {leaves : B → State → State → Type 0}
+    {may : B → B → State → Asks → Type 0} {reason : B → B → State → State → Type 0} where
   -- none was answered, and the book stands as it stood
-  pub turn_none : (stopped : Bool) (xs ys : List Exchange) → stopped ≡ false → ys ≡ xs
-      → GoesOnByOne sound stands stands leaves false stopped xs ys
-  turn_none stopped xs ys unstopped same = record {
-    goes_on = record { exchanges = []; more = same ∙ sym (append-nil xs); ends = λ is_sound s was. (s, refl, was) };
+  pub turn_none : {book : B} (stopped : Bool) (xs ys : List Exchange) → stopped ≡ false → ys ≡ xs
+      → GoesOnByOne is_sound stands leaves may reason book book false stopped xs ys
+  turn_none {book} stopped xs ys unstopped same = record {
+    goes_on = record { exchanges = []; more = same ∙ sym (append-nil xs); ends = λ sound s was. (s, refl, was) };
     at_most_one = omega (arith, ap length same);
     stopping = subst (λ t. StopAtLast t (since xs ys)) (sym unstopped) (no_stop xs ys same);
+    reasons = reasons_none is_sound may reason book xs ys same;
   }
 
-module _ {sound : Type 0} {stood stands : State → Type 0} {leaves : State → State → Type 0} {failed : Bool} where
+module _ {B : Type 0} {is_sound : B → Type 0} {stands : B → State → Type 0} {leaves : B → State → State → Type 0}
+    {may : B → B → State → Asks → Type 0} {reason : B → B → State → State → Type 0} {from to : B} {failed : Bool} where
   -- where nothing was answered after it, and as much is said of a stop
   pub turn_as : (stopped turned : Bool) (xs ys zs : List Exchange) → stopped ≡ turned → zs ≡ ys
-      → GoesOnByOne sound stood stands leaves failed turned xs ys → GoesOnByOne sound stood stands leaves failed stopped xs zs
+      → GoesOnByOne is_sound stands leaves may reason from to failed turned xs ys
+      → GoesOnByOne is_sound stands leaves may reason from to failed stopped xs zs
   turn_as stopped turned xs ys zs same kept t =
-      subst (λ b. GoesOnByOne sound stood stands leaves failed b xs zs) (sym same)
-      (subst (GoesOnByOne sound stood stands leaves failed turned xs) (sym kept) t)
+      subst (λ b. GoesOnByOne is_sound stands leaves may reason from to failed b xs zs) (sym same)
+      (subst (GoesOnByOne is_sound stands leaves may reason from to failed turned xs) (sym kept) t)
 
   -- of a seat
   pub turn_at : (stopped : Bool) (left old new before after : List Exchange) → before ≡ left ++ old → after ≡ left ++ new
-      → GoesOnByOne sound stood stands leaves failed stopped old new → GoesOnByOne sound stood stands leaves failed stopped before after
-  turn_at stopped left old new before after was is t = record {
-    goes_on = record {
-      exchanges = t.goes_on.exchanges;
-      more = is ∙ ap (λ l. left ++ l) t.goes_on.more ∙ sym (append_assoc left old t.goes_on.exchanges)
-          ∙ ap (λ l. l ++ t.goes_on.exchanges) (sym was);
-      ends = t.goes_on.ends;
-    };
-    at_most_one = omega (arith, t.at_most_one, ap length was, ap length is, length-append left old, length-append left new);
-    stopping = subst (StopAtLast stopped)
-        (sym (ap (λ l. since l after) was ∙ ap (λ l. since (left ++ old) l) is ∙ since_at left old new)) t.stopping;
-  }
+      → GoesOnByOne is_sound stands leaves may reason from to failed stopped old new
+      → GoesOnByOne is_sound stands leaves may reason from to failed stopped before after
+  turn_at stopped left old new before after was is t =
+      let added : since before after ≡ since old new =
+      ap (λ l. since l after) was ∙ ap (λ l. since (left ++ old) l) is ∙ since_at left old new in record {
+        goes_on = record {
+          exchanges = t.goes_on.exchanges;
+          more = is ∙ ap (λ l. left ++ l) t.goes_on.more ∙ sym (append_assoc left old t.goes_on.exchanges)
+              ∙ ap (λ l. l ++ t.goes_on.exchanges) (sym was);
+          ends = t.goes_on.ends;
+        };
+        at_most_one = omega (arith, t.at_most_one, ap length was, ap length is, length-append left old, length-append left new);
+        stopping = subst (StopAtLast stopped) (sym added) t.stopping;
+        reasons = subst (HasReasons is_sound may reason from to failed) (sym added) t.reasons;
+      }

@@ -5,9 +5,12 @@ use Rattle.std.proofs.lemmas.List.Elements.{All-append, All-map, All-nil}
 use Rattle.std.proofs.lemmas.Bool.{cases_eq}
 use Rattle.std.proofs.lemmas.Grind.{common_steps, get_or-set_at}
 use Rattle.ledger.specs.Answer.{State}
-use Rattle.http_conversations.specs.Exchanges.{Exchange, IsNoStop, StopAtLast}
+use Rattle.saga_core.specs.Runs.{Asks}
+use Rattle.http_conversations.specs.Exchanges.{Exchange, IsNoStop, StopAtLast, since}
 use Rattle.http_conversations.proofs.Steps.{since_more}
 use Rattle.http_conversations.specs.Leading.{Ends, GoesOnByOne}
+use Rattle.http_conversations.specs.Reasons.{HasReasons}
+use Rattle.http_conversations.proofs.ReasonLemmas as why
 use Rattle.http_live.specs.Merging.{IsMerged, Merges, Seated, exchange_of, of_seat, seated_at}
 use Rattle.http_live.proofs.LeadLemmas.{ends_then}
 
@@ -95,38 +98,46 @@ stops_then true xs ys x y =
 
 -- Books that went on.
 
-pub merges_none : (sound : Type 0) (stands : State → Type 0) (leaves : State → State → Type 0) (xs ys : List (List Exchange)) → ys ≡ xs
-    → Merges sound stands stands leaves false false xs ys []
-merges_none sound stands leaves xs ys kept =
-    record {
-      is_merged = merged_none xs ys kept;
-      stopping = All-nil IsNoStop;
-      ends = λ is_sound s stood. (s, refl, stood);
-    }
+module _ {B : Type 0} {is_sound : B → Type 0} {stands : B → State → Type 0} {leaves : B → State → State → Type 0}
+    {may : B → B → State → Asks → Type 0} {reason : B → B → State → State → Type 0} where
+  pub merges_none : {book : B} (xs ys : List (List Exchange)) → ys ≡ xs
+      → Merges is_sound stands leaves may reason book book false false xs ys []
+  merges_none {book} xs ys kept = record {
+    is_merged = merged_none xs ys kept;
+    stopping = All-nil IsNoStop;
+    ends = λ sound s stood. (s, refl, stood);
+    reasons = λ sound first. why.ends_none (may first book) (reason first book);
+  }
 
-pub merges_then : (failed stopped : Bool) (sound0 sound1 : Type 0) (stood between stands : State → Type 0) (leaves0 leaves1 : State → State → Type 0)
-    (xs ys zs : List (List Exchange)) (ms ns : List Seated) → (sound1 → sound0) → Merges sound0 stood between leaves0 false false xs ys ms
-    → Merges sound1 between stands leaves1 failed stopped ys zs ns → Merges sound1 stood stands leaves1 failed stopped xs zs (ms ++ ns)
-merges_then failed stopped sound0 sound1 stood between stands leaves0 leaves1 xs ys zs ms ns back x y = record {
-  is_merged = merged_then xs ys zs ms ns x.is_merged y.is_merged;
-  stopping = subst (StopAtLast stopped) (sym (map-append exchange_of ms ns))
-      (stops_then stopped (map exchange_of ms) (map exchange_of ns) x.stopping y.stopping);
-  ends = λ is_sound s was.
-      let first = x.ends (back is_sound) s was in
-      subst (Ends failed stands leaves1 s) (sym (map-append exchange_of ms ns))
-      (ends_then failed stands leaves1 (map exchange_of ms) (map exchange_of ns) s first.0 first.1 (y.ends is_sound first.0 first.2));
-}
+  pub merges_then : {a b c : B} (failed stopped : Bool) (xs ys zs : List (List Exchange)) (ms ns : List Seated) → (is_sound c → is_sound b)
+      → Merges is_sound stands leaves may reason a b false false xs ys ms
+      → Merges is_sound stands leaves may reason b c failed stopped ys zs ns
+      → Merges is_sound stands leaves may reason a c failed stopped xs zs (ms ++ ns)
+  merges_then {a} {c = c} failed stopped xs ys zs ms ns back x y =
+      let parts : map exchange_of (ms ++ ns) ≡ map exchange_of ms ++ map exchange_of ns = map-append exchange_of ms ns in record {
+        is_merged = merged_then xs ys zs ms ns x.is_merged y.is_merged;
+        stopping = subst (StopAtLast stopped) (sym parts)
+            (stops_then stopped (map exchange_of ms) (map exchange_of ns) x.stopping y.stopping);
+        ends = λ sound s was.
+            let first = x.ends (back sound) s was in
+            subst (Ends failed (stands c) (leaves c) s) (sym parts)
+            (ends_then failed (stands c) (leaves c) (map exchange_of ms) (map exchange_of ns) s first.0 first.1 (y.ends sound first.0 first.2));
+        reasons = subst (HasReasons is_sound may reason a c failed) (sym parts)
+            (λ sound first. why.ends_then failed (map exchange_of ms) (map exchange_of ns) (x.reasons (back sound) first) (y.reasons sound first));
+      }
 
-module _ {X : Type 0} (f : X → List Exchange) {failed stopped : Bool} {sound : Type 0} {stood stands : State → Type 0}
-    {leaves : State → State → Type 0} where
+module _ {X : Type 0} (f : X → List Exchange) {B : Type 0} {is_sound : B → Type 0} {stands : B → State → Type 0} {leaves : B → State → State → Type 0}
+    {may : B → B → State → Asks → Type 0} {reason : B → B → State → State → Type 0} {from to : B} {failed stopped : Bool} where
   -- one seat went on
   pub merges_set : (seats : List X) (i : ℕ) (d new : X) → i < length seats
-      → (x : GoesOnByOne sound stood stands leaves failed stopped (f (slice_index_or seats i d)) (f new))
-      → Merges sound stood stands leaves failed stopped (map f seats) (map f (slice_set seats i new)) (seated_at i x.goes_on.exchanges)
+      → (x : GoesOnByOne is_sound stands leaves may reason from to failed stopped (f (slice_index_or seats i d)) (f new))
+      → Merges is_sound stands leaves may reason from to failed stopped (map f seats) (map f (slice_set seats i new)) (seated_at i x.goes_on.exchanges)
   merges_set seats i d new within x =
-      let more = x.goes_on.exchanges in record {
+      let more = x.goes_on.exchanges in
+      let added : since (f (slice_index_or seats i d)) (f new) ≡ map exchange_of (seated_at i more) =
+      since_more (f (slice_index_or seats i d)) (f new) more x.goes_on.more ∙ sym (exchanges-seated_at i more) in record {
         is_merged = merged_set f seats i d new more within x.goes_on.more;
-        stopping = subst (StopAtLast stopped)
-            (since_more (f (slice_index_or seats i d)) (f new) more x.goes_on.more ∙ sym (exchanges-seated_at i more)) x.stopping;
-        ends = λ is_sound s was. subst (Ends failed stands leaves s) (sym (exchanges-seated_at i more)) (x.goes_on.ends is_sound s was);
+        stopping = subst (StopAtLast stopped) added x.stopping;
+        ends = λ sound s was. subst (Ends failed (stands to) (leaves to) s) (sym (exchanges-seated_at i more)) (x.goes_on.ends sound s was);
+        reasons = subst (HasReasons is_sound may reason from to failed) added x.reasons;
       }

@@ -7,6 +7,7 @@ use Rattle.std.proofs.lemmas.List.Quantifiers.{any-set}
 use Rattle.std.specs.declared.io.traits.Read as Read
 use Rattle.std.specs.declared.io.traits.Write as Write
 use Rattle.ledger.specs.Answer.{State}
+use Rattle.saga_core.specs.Runs.{Asks}
 use Rattle.desk_http.specs.declared.doors.Door.{Door}
 use Rattle.http_ways.specs.declared.ways.Way.{Way}
 use Rattle.http_conversations.specs.Leading.{GoesOnByOne, has_broken}
@@ -37,39 +38,41 @@ module _ {R W : Type 0} {r : Read.Ghosts R} {w : Write.Ghosts W} where
 
 module _ {R W : Type 0} {r : Read.Ghosts R} {w : Write.Ghosts W} {is_at : R → Door → Type 0} {is_by : R → Way → Type 0}
     {is_pair : R → W → Type 0} where
-  module _ {sound : Type 0} {stands : State → Type 0} {leaves : State → State → Type 0} where
+  module _ {B : Type 0} {is_sound : B → Type 0} {stands : B → State → Type 0} {leaves : B → State → State → Type 0}
+      {may : B → B → State → Asks → Type 0} {reason : B → B → State → State → Type 0} where
     -- no message was answered
-    turns_none : (old new : List (Seat R W r w)) → map exchanges_at new ≡ map exchanges_at old → Admits is_at is_by is_pair old new
-        → TakesTurns is_at is_by is_pair sound stands stands leaves false false old new []
+    turns_none : {book : B} (old new : List (Seat R W r w)) → map exchanges_at new ≡ map exchanges_at old → Admits is_at is_by is_pair old new
+        → TakesTurns is_at is_by is_pair is_sound stands leaves may reason book book false false old new []
     turns_none old new kept admits = record {
-      served = merges_none sound stands leaves (map exchanges_at old) (map exchanges_at new) kept;
+      served = merges_none (map exchanges_at old) (map exchanges_at new) kept;
       asked = λ is. cc;
       admits = admits;
     }
 
     -- and nobody came
-    no_turns : (seats : List (Seat R W r w)) → TakesTurns is_at is_by is_pair sound stands stands leaves false false seats seats []
+    no_turns : {book : B} (seats : List (Seat R W r w))
+        → TakesTurns is_at is_by is_pair is_sound stands leaves may reason book book false false seats seats []
     no_turns seats = turns_none seats seats refl (record { doors = λ doors. doors; ways = λ ways. ways; pairs = λ pairs. pairs })
 
     -- one seat has changed, if there is one of that number, and no message was answered
-    turns_quiet : (how : Seat R W r w → Seat R W r w → Type 0) (i : ℕ) (before after : List (Seat R W r w))
+    turns_quiet : {book : B} (how : Seat R W r w → Seat R W r w → Type 0) (i : ℕ) (before after : List (Seat R W r w))
         → ((old new : Seat R W r w) → how old new → exchanges_at new ≡ exchanges_at old)
         → ((d new : Seat R W r w) → i < length before → how (slice_index_or before i d) new → Admits is_at is_by is_pair before (slice_set before i new))
-        → ChangesAt how i before after → TakesTurns is_at is_by is_pair sound stands stands leaves false false before after []
-    turns_quiet how i before after kept admits changes = elim changes [
-      | inl x ↦ subst (λ seats. TakesTurns is_at is_by is_pair sound stands stands leaves false false before seats []) (sym x.is)
+        → ChangesAt how i before after → TakesTurns is_at is_by is_pair is_sound stands leaves may reason book book false false before after []
+    turns_quiet {book} how i before after kept admits changes = elim changes [
+      | inl x ↦ subst (λ seats. TakesTurns is_at is_by is_pair is_sound stands leaves may reason book book false false before seats []) (sym x.is)
           (turns_none before (slice_set before i x.new) (map-set_same exchanges_at before i x.new x.new (kept _ x.new x.so))
           (admits x.new x.new x.within x.so))
-      | inr same ↦ subst (λ seats. TakesTurns is_at is_by is_pair sound stands stands leaves false false before seats []) (sym same.1)
+      | inr same ↦ subst (λ seats. TakesTurns is_at is_by is_pair is_sound stands leaves may reason book book false false before seats []) (sym same.1)
           (no_turns before)
     ]
 
-  module _ {sound : Type 0} {stood stands : State → Type 0} {leaves : State → State → Type 0} {failed : Bool} where
     -- the connection of one seat went on
-    turns_set : (stopped : Bool) (seats : List (Seat R W r w)) (i : ℕ) (d new : Seat R W r w) → i < length seats
-        → (x : GoesOnByOne sound stood stands leaves failed stopped (exchanges_at (slice_index_or seats i d)) (exchanges_at new))
+    turns_set : {from to : B} {failed : Bool} (stopped : Bool) (seats : List (Seat R W r w)) (i : ℕ) (d new : Seat R W r w) → i < length seats
+        → (x : GoesOnByOne is_sound stands leaves may reason from to failed stopped (exchanges_at (slice_index_or seats i d)) (exchanges_at new))
         → arrivals_at new ≡ arrivals_at (slice_index_or seats i d) → (stopped ≡ true → HasStopAt new)
-        → TakesTurns is_at is_by is_pair sound stood stands leaves failed stopped seats (slice_set seats i new) (seated_at i x.goes_on.exchanges)
+        → TakesTurns is_at is_by is_pair is_sound stands leaves may reason from to failed stopped seats (slice_set seats i new)
+        (seated_at i x.goes_on.exchanges)
     turns_set stopped seats i d new within x same stop = record {
       served = merges_set exchanges_at seats i d new within x;
       asked = λ is. any-set HasStopAt seats i new within (stop is);
@@ -77,30 +80,30 @@ module _ {R W : Type 0} {r : Read.Ghosts R} {w : Write.Ghosts W} {is_at : R → 
     }
 
     -- turns after others
-    turns_then : {sound0 : Type 0} {stood0 : State → Type 0} {leaves0 : State → State → Type 0} (stopped : Bool)
-        (before between after : List (Seat R W r w)) (ms ns : List Seated) → (sound → sound0)
-        → TakesTurns is_at is_by is_pair sound0 stood0 stood leaves0 false false before between ms
-        → TakesTurns is_at is_by is_pair sound stood stands leaves failed stopped between after ns
-        → TakesTurns is_at is_by is_pair sound stood0 stands leaves failed stopped before after (ms ++ ns)
-    turns_then stopped before between after ms ns back x y = record {
-      served = merges_then failed stopped _ _ _ _ _ _ _ _ _ _ ms ns back x.served y.served;
+    turns_then : {a b c : B} (failed stopped : Bool) (before between after : List (Seat R W r w)) (ms ns : List Seated) → (is_sound c → is_sound b)
+        → TakesTurns is_at is_by is_pair is_sound stands leaves may reason a b false false before between ms
+        → TakesTurns is_at is_by is_pair is_sound stands leaves may reason b c failed stopped between after ns
+        → TakesTurns is_at is_by is_pair is_sound stands leaves may reason a c failed stopped before after (ms ++ ns)
+    turns_then failed stopped before between after ms ns back x y = record {
+      served = merges_then failed stopped _ _ _ ms ns back x.served y.served;
       asked = y.asked;
       admits = admits_then before between after x.admits y.admits;
     }
 
 module _ {R W T B : Type 0} {r : Read.Ghosts R} {w : Write.Ghosts W} {took : T → Turn R W → T → Type 0}
     {heard : T → ℕ → Standing → T → Type 0} {seen : T → T → Type 0} {is_at : R → Door → Type 0} {is_by : R → Way → Type 0}
-    {is_pair : R → W → Type 0} {is_sound : B → Type 0} {stands : B → State → Type 0} {leaves : B → State → State → Type 0} where
+    {is_pair : R → W → Type 0} {is_sound : B → Type 0} {stands : B → State → Type 0} {leaves : B → State → State → Type 0}
+    {may : B → B → State → Asks → Type 0} {reason : B → B → State → State → Type 0} where
   -- what one turn leaves
   takes_turn : (failed stopped : Bool) (old : Instant r w T B) (added : List Seated) (new : Instant r w T B)
-      → IsTurn took heard seen is_at is_by is_pair is_sound stands leaves failed stopped old added new
-      → TakesTurns is_at is_by is_pair (is_sound new.book) (stands old.book) (stands new.book) (leaves new.book) failed stopped
+      → IsTurn took heard seen is_at is_by is_pair is_sound stands leaves may reason failed stopped old added new
+      → TakesTurns is_at is_by is_pair is_sound stands leaves may reason old.book new.book failed stopped
       old.seats new.seats added
   takes_turn _ _ _ _ _ (came from to before after book i door way reader writer took here read pair changes) =
       turns_quiet _ i before after (λ old new so. so.kept)
       (λ d new within so. admits_one before i d new within reader writer door way so.arrived here read pair) changes
   takes_turn _ _ _ _ _ (went_on from taken shown timed to before after old new i result took shows times seat told back) =
-      subst (λ seats. TakesTurns is_at is_by is_pair (is_sound new) (stands old) (stands new) (leaves new) (has_broken result)
+      subst (λ seats. TakesTurns is_at is_by is_pair is_sound stands leaves may reason old new (has_broken result)
       (turn_stops result) before seats (seated_at i seat.so.turn.goes_on.exchanges)) (sym seat.is)
       (turns_set _ before i seat.new seat.new seat.within seat.so.turn seat.so.ends.arrivals
       (λ is. seat.so.ends.stopped (asked_in_turn result is)))
@@ -111,7 +114,7 @@ module _ {R W T B : Type 0} {r : Read.Ghosts R} {w : Write.Ghosts W} {took : T �
 
   -- after it no book is sound that was not before
   sound_turn : (failed stopped : Bool) (old : Instant r w T B) (added : List Seated) (new : Instant r w T B)
-      → IsTurn took heard seen is_at is_by is_pair is_sound stands leaves failed stopped old added new
+      → IsTurn took heard seen is_at is_by is_pair is_sound stands leaves may reason failed stopped old added new
       → is_sound new.book → is_sound old.book
   sound_turn _ _ _ _ _ (came from to before after book i door way reader writer took here read pair changes) sound = sound
   sound_turn _ _ _ _ _ (went_on from taken shown timed to before after old new i result took shows times seat told back) sound = back sound
@@ -121,19 +124,19 @@ module _ {R W T B : Type 0} {r : Read.Ghosts R} {w : Write.Ghosts W} {took : T �
 
   -- as much is said of a stop
   pub turn_as : {failed stopped other : Bool} {old new : Instant r w T B} → stopped ≡ other
-      → TakesTurn took heard seen is_at is_by is_pair is_sound stands leaves failed stopped old new
-      → TakesTurn took heard seen is_at is_by is_pair is_sound stands leaves failed other old new
-  turn_as {failed} {old} {new} same turn = subst (λ s. TakesTurn took heard seen is_at is_by is_pair is_sound stands leaves failed s old new) same turn
+      → TakesTurn took heard seen is_at is_by is_pair is_sound stands leaves may reason failed stopped old new
+      → TakesTurn took heard seen is_at is_by is_pair is_sound stands leaves may reason failed other old new
+  turn_as {failed} {old} {new} same turn = subst (λ s. TakesTurn took heard seen is_at is_by is_pair is_sound stands leaves may reason failed s old new) same turn
 
   -- no turn
-  pub no_turn : (at : Instant r w T B) → TakesSome took heard seen is_at is_by is_pair is_sound stands leaves false false at at
+  pub no_turn : (at : Instant r w T B) → TakesSome took heard seen is_at is_by is_pair is_sound stands leaves may reason false false at at
   no_turn at = record { instants = []; merged = []; by_turns = none at }
 
   -- one turn more
   pub one_more : {failed stopped : Bool} {first old new : Instant r w T B}
-      → TakesSome took heard seen is_at is_by is_pair is_sound stands leaves false false first old
-      → TakesTurn took heard seen is_at is_by is_pair is_sound stands leaves failed stopped old new
-      → TakesSome took heard seen is_at is_by is_pair is_sound stands leaves failed stopped first new
+      → TakesSome took heard seen is_at is_by is_pair is_sound stands leaves may reason false false first old
+      → TakesTurn took heard seen is_at is_by is_pair is_sound stands leaves may reason failed stopped old new
+      → TakesSome took heard seen is_at is_by is_pair is_sound stands leaves may reason failed stopped first new
   one_more {failed} {stopped} {first} {old} {new} x turn = record {
     instants = x.instants ++ old ∷ [];
     merged = x.merged ++ turn.0;
@@ -142,22 +145,21 @@ module _ {R W T B : Type 0} {r : Read.Ghosts R} {w : Write.Ghosts W} {took : T �
 
   -- what turn after turn leaves
   takes_turns : (failed stopped : Bool) (first : Instant r w T B) (instants : List (Instant r w T B)) (merged : List Seated) (last : Instant r w T B)
-      → ByTurns took heard seen is_at is_by is_pair is_sound stands leaves failed stopped first instants merged last
-      → TakesTurns is_at is_by is_pair (is_sound last.book) (stands first.book) (stands last.book) (leaves last.book) failed stopped
+      → ByTurns took heard seen is_at is_by is_pair is_sound stands leaves may reason failed stopped first instants merged last
+      → TakesTurns is_at is_by is_pair is_sound stands leaves may reason first.book last.book failed stopped
       first.seats last.seats merged
   takes_turns _ _ _ _ _ _ (none first) = no_turns first.seats
   takes_turns _ _ _ _ _ _ (more failed stopped first old new instants merged added earlier turn) =
-      turns_then stopped first.seats old.seats new.seats merged added (sound_turn failed stopped old added new turn)
+      turns_then failed stopped first.seats old.seats new.seats merged added (sound_turn failed stopped old added new turn)
       (takes_turns false false first instants merged old earlier) (takes_turn failed stopped old added new turn)
 
   -- in time the exchanges are one list
   pub in_time : (failed stopped : Bool) (first last : Instant r w T B) → ((u : State) → stands last.book u → leaves last.book u u)
-      → TakesSome took heard seen is_at is_by is_pair is_sound stands leaves failed stopped first last
-      → InTime took heard seen is_at is_by is_pair is_sound stands leaves failed stopped first last
+      → TakesSome took heard seen is_at is_by is_pair is_sound stands leaves may reason failed stopped first last
+      → InTime took heard seen is_at is_by is_pair is_sound stands leaves may reason failed stopped first last
   in_time failed stopped first last settled x =
       let turns = takes_turns failed stopped first x.instants x.merged last x.by_turns in record {
-        worlds = worlds_go_on failed stopped (is_sound last.book) (stands first.book) (stands last.book) (leaves last.book)
-            (map exchanges_at first.seats) (map exchanges_at last.seats) x.merged settled turns.served;
+        worlds = worlds_go_on failed stopped (map exchanges_at first.seats) (map exchanges_at last.seats) x.merged settled turns.served;
         instants = x.instants;
         by_turns = x.by_turns;
         turns = turns;
@@ -165,9 +167,9 @@ module _ {R W T B : Type 0} {r : Read.Ghosts R} {w : Write.Ghosts W} {took : T �
 
   -- what was answered before a turn leads to its instant, and what is answered in it and after it leads on
   pub in_order : (failed stopped : Bool) (first : Instant r w T B) (instants : List (Instant r w T B)) (merged : List Seated) (last : Instant r w T B)
-      → ByTurns took heard seen is_at is_by is_pair is_sound stands leaves failed stopped first instants merged last
+      → ByTurns took heard seen is_at is_by is_pair is_sound stands leaves may reason failed stopped first instants merged last
       → (now : Instant r w T B) → Contains instants now
-      → IsInOrder took heard seen is_at is_by is_pair is_sound stands leaves failed stopped first now last merged
+      → IsInOrder took heard seen is_at is_by is_pair is_sound stands leaves may reason failed stopped first now last merged
   in_order _ _ _ _ _ _ (none first) now (k, below, is) = absurd (elim below [ ])
   in_order _ _ _ _ _ _ (more failed stopped first old new instants merged added earlier turn) now among =
       let back = sound_turn failed stopped old added new turn in
@@ -180,10 +182,10 @@ module _ {R W T B : Type 0} {r : Read.Ghosts R} {w : Write.Ghosts W} {took : T �
               parts = ap (λ l. l ++ added) x.parts ∙ append_assoc x.earlier x.later added;
               sound = λ sound. x.sound (back sound);
               answered = x.answered;
-              follows = merges_then failed stopped _ _ _ _ _ _ _ _ _ _ x.later added back x.follows follows;
+              follows = merges_then failed stopped _ _ _ x.later added back x.follows follows;
             })
         | inr is ↦
-            subst (λ m. IsInOrder took heard seen is_at is_by is_pair is_sound stands leaves failed stopped first m new (merged ++ added)) is
+            subst (λ m. IsInOrder took heard seen is_at is_by is_pair is_sound stands leaves may reason failed stopped first m new (merged ++ added)) is
             (record {
               earlier = merged;
               later = added;

@@ -3,6 +3,7 @@ use Rattle.std.proofs.Common.{◌≡◌, ◌∙◌, ℕ, Bool, true, false, List
 use Rattle.ledger.specs.Answer.{State, start}
 use Rattle.ledger.specs.World.{Moment, after}
 use Rattle.saga_core.specs.Runs as runs
+use Rattle.saga_core.specs.Runs.{Asks}
 use Rattle.saga_core.specs.Worlds.{EndsAmong, KeepLimits, StandsAtEnd}
 use Rattle.saga_core.proofs.WorldLemmas.{KeepLimits-append, ends-cut, ends-with}
 use Rattle.desk_http.specs.Pages.{command_in, state_after}
@@ -143,14 +144,17 @@ goes_on_by true stands leaves w xs settled here e =
     }
 
 -- what the seats' exchanges merge to is how each world goes on
-abbrev pub worlds_go_on : (failed stopped : Bool) (sound : Type 0) (stood stands : State → Type 0) (leaves : State → State → Type 0)
-    (xs ys : List (List Exchange)) (merged : List Seated) → ((u : State) → stands u → leaves u u)
-    → Merges sound stood stands leaves failed stopped xs ys merged → WorldsGoOn sound stood stands leaves failed stopped xs ys
-worlds_go_on failed stopped sound stood stands leaves xs ys merged settled m = record {
+abbrev pub worlds_go_on : {B : Type 0} {is_sound : B → Type 0} {stands : B → State → Type 0} {leaves : B → State → State → Type 0}
+    {may : B → B → State → Asks → Type 0} {reason : B → B → State → State → Type 0}
+    {from to : B} (failed stopped : Bool) (xs ys : List (List Exchange)) (merged : List Seated) → ((u : State) → stands to u → leaves to u u)
+    → Merges is_sound stands leaves may reason from to failed stopped xs ys merged
+    → WorldsGoOn is_sound stands leaves may reason from to failed stopped xs ys
+worlds_go_on {stands = stands} {leaves = leaves} {from = from} {to = to} failed stopped xs ys merged settled m = record {
   merged = merged;
   is_merged = m.is_merged;
   stopping = m.stopping;
-  worlds = λ is_sound w here.
-      goes_on_by {stood = stood} failed stands leaves w (map exchange_of merged) settled here
-      (m.ends is_sound (after start w) here.stands_there);
+  worlds = λ sound w here.
+      goes_on_by {stood = stands from} failed (stands to) (leaves to) w (map exchange_of merged) settled here
+      (m.ends sound (after start w) here.stands_there);
+  reasons = m.reasons;
 }

@@ -3,6 +3,7 @@ use Rattle.std.specs.Prelude.{◌≡◌, ◌⊎◌, ℕ, ◌<◌, ◌≤◌, Boo
 use Rattle.std.specs.declared.io.traits.Read as Read
 use Rattle.std.specs.declared.io.traits.Write as Write
 use Rattle.ledger.specs.Answer.{State}
+use Rattle.saga_core.specs.Runs.{Asks}
 use Rattle.commands.specs.declared.replies.Fault.{Fault}
 use Rattle.commands.specs.declared.replies.Fault.TheVariants.{Store}
 use Rattle.desk_http.specs.declared.doors.Door.{Door}
@@ -82,9 +83,11 @@ module _ {R W : Type 0} {r : Read.Ghosts R} {w : Write.Ghosts W} where
     pub none : new.connection ≡ None
 
   -- The connection, if there is one, went on by one message at most, which leads the book on. Its page waits, or was lost.
-  pub record GoesOn (sound : Type 0) (stood stands : State → Type 0) (leaves : State → State → Type 0)
+  pub record GoesOn {B : Type 0} (is_sound : B → Type 0) (stands : B → State → Type 0) (leaves : B → State → State → Type 0)
+      (may : B → B → State → Asks → Type 0) (reason : B → B → State → State → Type 0) (from to : B)
       (result : Result Standing Fault) (old new : Seat R W r w) : Type 0 where
-    pub turn : GoesOnByOne sound stood stands leaves (has_broken result) (turn_stops result) (exchanges_at old) (exchanges_at new)
+    pub turn : GoesOnByOne is_sound stands leaves may reason from to (has_broken result) (turn_stops result) (exchanges_at old)
+        (exchanges_at new)
     pub ends : EndsTurnAt result old new
     pub gains : IfOk result (λ standing. Gains standing (pending_at new) (exchanges_at old) (exchanges_at new))
 
@@ -115,11 +118,12 @@ module _ {R W : Type 0} {r : Read.Ghosts R} {w : Write.Ghosts W} where
     pub pairs : ArePairs is_pair old → ArePairs is_pair new
 
   -- turns were taken, by which these exchanges were added
-  pub record TakesTurns (is_at : R → Door → Type 0) (is_by : R → Way → Type 0) (is_pair : R → W → Type 0) (sound : Type 0)
-      (stood stands : State → Type 0) (leaves : State → State → Type 0) (store_failed stopped : Bool) (old new : List (Seat R W r w))
-      (merged : List Seated) : Type 0 where
+  pub record TakesTurns (is_at : R → Door → Type 0) (is_by : R → Way → Type 0) (is_pair : R → W → Type 0) {B : Type 0}
+      (is_sound : B → Type 0) (stands : B → State → Type 0) (leaves : B → State → State → Type 0)
+      (may : B → B → State → Asks → Type 0) (reason : B → B → State → State → Type 0) (from to : B)
+      (store_failed stopped : Bool) (old new : List (Seat R W r w)) (merged : List Seated) : Type 0 where
     -- the book went on by them
-    pub served : Merges sound stood stands leaves store_failed stopped (map exchanges_at old) (map exchanges_at new) merged
+    pub served : Merges is_sound stands leaves may reason from to store_failed stopped (map exchanges_at old) (map exchanges_at new) merged
     -- where they ended so, the house asked the desk to stop
     pub asked : stopped ≡ true → HasStopAmong new
     pub admits : Admits is_at is_by is_pair old new

@@ -4,6 +4,7 @@ use Rattle.std.specs.List.{Contains}
 use Rattle.std.specs.declared.io.traits.Read as Read
 use Rattle.std.specs.declared.io.traits.Write as Write
 use Rattle.ledger.specs.Answer.{State}
+use Rattle.saga_core.specs.Runs.{Asks}
 use Rattle.commands.specs.declared.replies.Fault.{Fault}
 use Rattle.desk_http.specs.declared.doors.Door.{Door}
 use Rattle.http_ways.specs.declared.ways.Way.{Way}
@@ -40,7 +41,8 @@ IsTold heard seen at (Err fault) old new = new ≡ old
 
 module _ {R W T B : Type 0} {r : Read.Ghosts R} {w : Write.Ghosts W} (took : T → Turn R W → T → Type 0)
     (heard : T → ℕ → Standing → T → Type 0) (seen : T → T → Type 0) (is_at : R → Door → Type 0) (is_by : R → Way → Type 0)
-    (is_pair : R → W → Type 0) (is_sound : B → Type 0) (stands : B → State → Type 0) (leaves : B → State → State → Type 0) where
+    (is_pair : R → W → Type 0) (is_sound : B → Type 0) (stands : B → State → Type 0) (leaves : B → State → State → Type 0)
+    (may : B → B → State → Asks → Type 0) (reason : B → B → State → State → Type 0) where
   -- One turn, from an instant to the next: whether the store failed in it, whether the house asked the desk to stop, and which
   -- exchanges were added.
   pub data IsTurn : Bool → Bool → Instant r w T B → List Seated → Instant r w T B → Type 0 where
@@ -52,7 +54,7 @@ module _ {R W T B : Type 0} {r : Read.Ghosts R} {w : Write.Ghosts W} (took : T �
     -- The connection of a seat went on. Before it the source of turns was shown what was received, and asked for the time.
     went_on : (from taken shown timed to : T) (before after : List (Seat R W r w)) (old new : B) (at : ℕ) (result : Result Standing Fault)
         → took from (Ready at) taken → Sees seen taken shown → Sees seen shown timed
-        → (seat : ChangesOne (GoesOn (is_sound new) (stands old) (stands new) (leaves new) result) at before after)
+        → (seat : ChangesOne (GoesOn is_sound stands leaves may reason old new result) at before after)
         → IsTold heard seen at result timed to → (is_sound new → is_sound old)
         → IsTurn (has_broken result) (turn_stops result) (instant from before old) (seated_at at seat.so.turn.goes_on.exchanges)
         (instant to after new)
@@ -86,11 +88,11 @@ module _ {R W T B : Type 0} {r : Read.Ghosts R} {w : Write.Ghosts W} (took : T �
 
   -- Turns were taken one after another. The exchanges that they added, in order, are those by which each world goes on.
   pub record InTime (failed stopped : Bool) (first last : Instant r w T B) : Type 0 where
-    pub worlds : WorldsGoOn (is_sound last.book) (stands first.book) (stands last.book) (leaves last.book) failed stopped
+    pub worlds : WorldsGoOn is_sound stands leaves may reason first.book last.book failed stopped
         (map exchanges_at first.seats) (map exchanges_at last.seats)
     pub instants : List (Instant r w T B)
     pub by_turns : ByTurns failed stopped first instants worlds.merged last
-    pub turns : TakesTurns is_at is_by is_pair (is_sound last.book) (stands first.book) (stands last.book) (leaves last.book) failed stopped
+    pub turns : TakesTurns is_at is_by is_pair is_sound stands leaves may reason first.book last.book failed stopped
         first.seats last.seats worlds.merged
 
   -- What was answered by an instant comes before what was answered after it: the former leads the book to where it stood at that
@@ -100,26 +102,27 @@ module _ {R W T B : Type 0} {r : Read.Ghosts R} {w : Write.Ghosts W} (took : T �
     pub later : List Seated
     pub parts : merged ≡ earlier ++ later
     pub sound : is_sound last.book → is_sound now.book
-    pub answered : Merges (is_sound now.book) (stands first.book) (stands now.book) (leaves now.book) false false
+    pub answered : Merges is_sound stands leaves may reason first.book now.book false false
         (map exchanges_at first.seats) (map exchanges_at now.seats) earlier
-    pub follows : Merges (is_sound last.book) (stands now.book) (stands last.book) (leaves last.book) failed stopped
+    pub follows : Merges is_sound stands leaves may reason now.book last.book failed stopped
         (map exchanges_at now.seats) (map exchanges_at last.seats) later
 
 module _ {R W T B : Type 0} (r : Read.Ghosts R) (w : Write.Ghosts W) (took : T → Turn R W → T → Type 0)
     (heard : T → ℕ → Standing → T → Type 0) (seen : T → T → Type 0) (is_at : R → Door → Type 0) (is_by : R → Way → Type 0)
-    (is_pair : R → W → Type 0) (is_sound : B → Type 0) (stands : B → State → Type 0) (leaves : B → State → State → Type 0) where
+    (is_pair : R → W → Type 0) (is_sound : B → Type 0) (stands : B → State → Type 0) (leaves : B → State → State → Type 0)
+    (may : B → B → State → Asks → Type 0) (reason : B → B → State → State → Type 0) where
   -- So it is at each instant at which a turn was taken: what was answered before is seen by whatever is answered in that turn and
   -- after it.
   abbrev pub EachInstantIsInOrder : Type 0
   EachInstantIsInOrder =
       (failed stopped : Bool) (first now last : Instant r w T B) (instants : List (Instant r w T B)) (merged : List Seated)
-      → ByTurns took heard seen is_at is_by is_pair is_sound stands leaves failed stopped first instants merged last → Contains instants now
-      → IsInOrder took heard seen is_at is_by is_pair is_sound stands leaves failed stopped first now last merged
+      → ByTurns took heard seen is_at is_by is_pair is_sound stands leaves may reason failed stopped first instants merged last → Contains instants now
+      → IsInOrder took heard seen is_at is_by is_pair is_sound stands leaves may reason failed stopped first now last merged
 
   -- so it is at the second of two turns
   abbrev pub SecondSeesTheFirst : Type 0
   SecondSeesTheFirst =
       (first now last : Instant r w T B) (xs ys : List Seated)
-      → IsTurn took heard seen is_at is_by is_pair is_sound stands leaves false false first xs now
-      → IsTurn took heard seen is_at is_by is_pair is_sound stands leaves false false now ys last
-      → IsInOrder took heard seen is_at is_by is_pair is_sound stands leaves false false first now last (xs ++ ys)
+      → IsTurn took heard seen is_at is_by is_pair is_sound stands leaves may reason false false first xs now
+      → IsTurn took heard seen is_at is_by is_pair is_sound stands leaves may reason false false now ys last
+      → IsInOrder took heard seen is_at is_by is_pair is_sound stands leaves may reason false false first now last (xs ++ ys)

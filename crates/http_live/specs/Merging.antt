@@ -1,8 +1,10 @@
 -- The exchanges of many seats, as one list in the order in which they were carried out.
 use Rattle.std.specs.Prelude.{◌≡◌, ℕ, ◌<◌, Bool, List, [], ◌∷◌, ◌++◌, length, map, slice_index_or, All, if◌then◌else◌, ◌==◌}
 use Rattle.ledger.specs.Answer.{State}
+use Rattle.saga_core.specs.Runs.{Asks}
 use Rattle.http_conversations.specs.Exchanges.{Exchange, StopAtLast}
 use Rattle.http_conversations.specs.Leading.{Ends}
+use Rattle.http_conversations.specs.Reasons.{HasReasons}
 
 -- an exchange, and the seat that it came from
 abbrev pub Seated : Type 0
@@ -28,9 +30,11 @@ pub record IsMerged (before after : List (List Exchange)) (merged : List Seated)
       → slice_index_or after at [] ≡ slice_index_or before at [] ++ of_seat at merged
 
 -- A book went on by these exchanges, those of all seats, merged, in each state that it stood for, while it is sound. The last
--- of them stops the desk, or none does.
-pub record Merges (sound : Type 0) (stood stands : State → Type 0) (leaves : State → State → Type 0)
+-- of them stops the desk, or none does. Where the store failed at the last, there was a reason.
+pub record Merges {B : Type 0} (is_sound : B → Type 0) (stands : B → State → Type 0) (leaves : B → State → State → Type 0)
+    (may : B → B → State → Asks → Type 0) (reason : B → B → State → State → Type 0) (old new : B)
     (store_failed stopped : Bool) (before after : List (List Exchange)) (merged : List Seated) : Type 0 where
   pub is_merged : IsMerged before after merged
   pub stopping : StopAtLast stopped (map exchange_of merged)
-  pub ends : sound → (s : State) → stood s → Ends store_failed stands leaves s (map exchange_of merged)
+  pub ends : is_sound new → (s : State) → stands old s → Ends store_failed (stands new) (leaves new) s (map exchange_of merged)
+  pub reasons : HasReasons is_sound may reason old new store_failed (map exchange_of merged)

@@ -4,6 +4,7 @@ use Rattle.std.specs.declared.io.traits.Read as Read
 use Rattle.std.specs.declared.io.traits.Write as Write
 use Rattle.commands.specs.declared.replies.Fault.{Fault}
 use Rattle.ledger.specs.Answer.{State}
+use Rattle.saga_core.specs.Runs.{Asks}
 use Rattle.desk_http.specs.declared.doors.Door.{Door}
 use Rattle.http_ways.specs.declared.ways.Way.{Way}
 use Rattle.http_conversations.specs.Exchanges.{Exchange}
@@ -33,22 +34,24 @@ StopsAs (Ok ending) stopped = IsStoppedAs ending stopped
 StopsAs (Err fault) stopped = stopped ≡ false
 
 -- Each world at whose end the book stood goes on by the exchanges of all seats, merged. Where serving ended so, the last of
--- them stopped the desk; no other did.
-pub record WorldsEnd (sound : Type 0) (stood stands : State → Type 0) (leaves : State → State → Type 0)
+-- them stopped the desk; no other did. Where the store failed, there was a reason.
+pub record WorldsEnd {B : Type 0} (is_sound : B → Type 0) (stands : B → State → Type 0) (leaves : B → State → State → Type 0)
+    (may : B → B → State → Asks → Type 0) (reason : B → B → State → State → Type 0) (old new : B)
     (result : Result Ending Fault) (before after : List (List Exchange)) : Type 0 where
   pub stopped : Bool
   pub stops_as : StopsAs result stopped
-  pub worlds : WorldsGoOn sound stood stands leaves (has_broken result) stopped before after
+  pub worlds : WorldsGoOn is_sound stands leaves may reason old new (has_broken result) stopped before after
 
 -- The same of seats that had no exchange before. Each connection of them came by the door and the way of its reader, with the
 -- writer of the same peer.
 pub record GoOnByTurns {R W : Type 0} (r : Read.Ghosts R) (w : Write.Ghosts W) (is_at : R → Door → Type 0)
-    (is_by : R → Way → Type 0) (is_pair : R → W → Type 0) (sound : Type 0) (stood stands : State → Type 0)
-    (leaves : State → State → Type 0) (result : Result Ending Fault) : Type 0 where
+    (is_by : R → Way → Type 0) (is_pair : R → W → Type 0) {B : Type 0} (is_sound : B → Type 0) (stands : B → State → Type 0)
+    (leaves : B → State → State → Type 0) (may : B → B → State → Asks → Type 0) (reason : B → B → State → State → Type 0)
+    (old new : B) (result : Result Ending Fault) : Type 0 where
   pub seats : List (Seat R W r w)
   pub doors : AreAtTheirDoors is_at seats
   pub ways : AreReadByTheirWays is_by seats
   pub pairs : ArePairs is_pair seats
   pub before : List (List Exchange)
   pub none : All (λ exchanges. exchanges ≡ []) before
-  pub goes_on : WorldsEnd sound stood stands leaves result before (map exchanges_at seats)
+  pub goes_on : WorldsEnd is_sound stands leaves may reason old new result before (map exchanges_at seats)

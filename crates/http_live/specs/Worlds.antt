@@ -11,6 +11,7 @@ use Rattle.desk_http.specs.declared.doors.Door.{Door}
 use Rattle.http_ways.specs.Pages.{IsPageBy}
 use Rattle.http_ways.specs.Ways.{Said, Says}
 use Rattle.http_conversations.specs.Exchanges.{Exchange, StopAtLast}
+use Rattle.http_conversations.specs.Reasons.{HasReasons}
 use Rattle.http_live.specs.Merging.{IsMerged, Seated, exchange_of}
 
 -- a message that is meant, with the door at which it came in
@@ -70,11 +71,13 @@ GoesOnBy false stands leaves w exchanges = EndsWithExchanges stands leaves w exc
 GoesOnBy true stands leaves w exchanges = EndsAmongExchanges stands leaves w exchanges
 
 -- Each world at whose end the book stood goes on by the exchanges of all seats, merged, of which the last stops the desk,
--- or none does.
-pub record WorldsGoOn (sound : Type 0) (stood stands : State → Type 0) (leaves : State → State → Type 0)
+-- or none does. Where the store failed at the last, there was a reason.
+pub record WorldsGoOn {B : Type 0} (is_sound : B → Type 0) (stands : B → State → Type 0) (leaves : B → State → State → Type 0)
+    (may : B → B → State → Asks → Type 0) (reason : B → B → State → State → Type 0) (old new : B)
     (store_failed stopped : Bool) (before after : List (List Exchange)) : Type 0 where
   pub merged : List Seated
   pub is_merged : IsMerged before after merged
   pub stopping : StopAtLast stopped (map exchange_of merged)
-  pub worlds : sound → (w : List Moment) → StandsAtEnd stood w
-      → GoesOnBy store_failed stands leaves w (map exchange_of merged)
+  pub worlds : is_sound new → (w : List Moment) → StandsAtEnd (stands old) w
+      → GoesOnBy store_failed (stands new) (leaves new) w (map exchange_of merged)
+  pub reasons : HasReasons is_sound may reason old new store_failed (map exchange_of merged)

@@ -98,8 +98,8 @@ impl<R: Read + Drop, W: Write + Drop> Connection<R, W> {
     ) -> Result<Standing, Fault>
         requires small { length buffer.old ≤ MOST_READ }
 
-        ensures turn { GoesOnByOne (B.is_sound book.new) (B.stands book.old) (B.stands book.new)
-            (B.leaves book.new) (has_broken result) (turn_stops result)
+        ensures turn { GoesOnByOne B.is_sound B.stands B.leaves B.may_act B.has_reason
+            book.old book.new (has_broken result) (turn_stops result)
             (exchanges_with self.old) (exchanges_with self.new) }
         ensures ends { EndsTurn result self.old self.new }
         ensures gains { IfOk result (λ standing. Gains standing
@@ -166,8 +166,8 @@ impl<R: Read + Drop, W: Write + Drop> Connection<R, W> {
         seen: &mut Option<Arrived>,
         book: &mut B,
     ) -> Result<bool, Fault>
-        ensures turn { GoesOnByOne (B.is_sound book.new) (B.stands book.old) (B.stands book.new)
-            (B.leaves book.new) (has_broken result) (stops_by result (history self.new.conversation))
+        ensures turn { GoesOnByOne B.is_sound B.stands B.leaves B.may_act B.has_reason
+            book.old book.new (has_broken result) (stops_by result (history self.new.conversation))
             (exchanges_with self.old) (exchanges_with self.new) }
         ensures none { result ≡ Ok false → HasNoTurn (history self.old.conversation)
             × (history self.new.conversation ≡ history self.old.conversation) }

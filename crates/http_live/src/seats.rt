@@ -110,8 +110,8 @@ impl<R: Read + Drop, W: Write + Drop> Seat<R, W> {
     ) -> Result<Standing, Fault>
         requires small { length buffer.old ≤ MOST_READ }
 
-        ensures turn { GoesOnByOne (B.is_sound book.new) (B.stands book.old) (B.stands book.new)
-            (B.leaves book.new) (has_broken result) (turn_stops result)
+        ensures turn { GoesOnByOne B.is_sound B.stands B.leaves B.may_act B.has_reason
+            book.old book.new (has_broken result) (turn_stops result)
             (exchanges_at self.old) (exchanges_at self.new) }
         ensures ends { EndsTurnAt result self.old self.new }
         ensures gains { IfOk result (λ standing. Gains standing (pending_at self.new)

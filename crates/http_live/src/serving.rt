@@ -35,7 +35,7 @@ pub fn serve_many<T: Turns, B: Reporting>(
     book: &mut Ready<B>,
 ) -> Result<Ending, Fault>
     ensures in_time { InTime T.took T.heard T.seen T.is_at T.is_by T.is_pair B.is_sound B.stands
-        B.leaves (has_broken result) (has_stopped result)
+        B.leaves B.may_act B.has_reason (has_broken result) (has_stopped result)
         (instant turns.old seats.old book.old) (instant turns.new seats.new book.new) }
     ensures over { result ≡ Ok Ending.NoTurn → T.is_over turns.new }
 
@@ -64,7 +64,7 @@ fn serve_turns<T: Turns, B: Reporting>(
     requires small { length buffer.old ≤ MOST_READ }
 
     ensures turns { TakesSome T.took T.heard T.seen T.is_at T.is_by T.is_pair B.is_sound B.stands
-        B.leaves (has_broken result) (has_stopped result)
+        B.leaves B.may_act B.has_reason (has_broken result) (has_stopped result)
         (instant turns.old seats.old book.old) (instant turns.new seats.new book.new) }
     ensures over { result ≡ Ok Ending.NoTurn → T.is_over turns.new }
 
@@ -93,7 +93,7 @@ fn take_turn<T: Turns, B: Reporting>(
     requires small { length buffer.old ≤ MOST_READ }
 
     ensures turn { TakesTurn T.took T.heard T.seen T.is_at T.is_by T.is_pair B.is_sound B.stands
-        B.leaves (has_broken result) (ends_stopped result)
+        B.leaves B.may_act B.has_reason (has_broken result) (ends_stopped result)
         (instant turns.old seats.old book.old) (instant turns.new seats.new book.new) }
     ensures over { result ≡ Ok (Some Ending.NoTurn) → T.is_over turns.new }
 

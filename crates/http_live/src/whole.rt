@@ -24,8 +24,7 @@ pub fn serve_to_end<T: Turns, B: Reporting>(
     book: &mut Ready<B>,
 ) -> Result<Ending, Fault>
     ensures goes_on { GoOnByTurns ⟦<T::Reader as Read>⟧ ⟦<T::Writer as Write>⟧ T.is_at T.is_by
-        T.is_pair (B.is_sound book.new) (B.stands book.old) (B.stands book.new)
-        (B.leaves book.new) result }
+        T.is_pair B.is_sound B.stands B.leaves B.may_act B.has_reason book.old book.new result }
     ensures over { IfOk result (EndsOver (T.is_over turns.new)) }
 
     ensures memory { result ≡ Err Fault.Memory →
@@ -46,8 +45,8 @@ fn serve_seats<T: Turns, B: Reporting>(
     book: &mut Ready<B>,
 ) -> Result<Ending, Fault>
     ensures admits { Admits T.is_at T.is_by T.is_pair seats.old seats.new }
-    ensures worlds { WorldsEnd (B.is_sound book.new) (B.stands book.old) (B.stands book.new)
-        (B.leaves book.new) result (map exchanges_at seats.old) (map exchanges_at seats.new) }
+    ensures worlds { WorldsEnd B.is_sound B.stands B.leaves B.may_act B.has_reason book.old
+        book.new result (map exchanges_at seats.old) (map exchanges_at seats.new) }
     ensures over { IfOk result (EndsOver (T.is_over turns.new)) }
 
     ensures memory { result ≡ Err Fault.Memory →

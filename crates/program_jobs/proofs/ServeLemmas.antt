@@ -35,6 +35,7 @@ use Rattle.program_ends.specs.declared.ended.Ended.{Ended}
 use Rattle.program_ends.specs.declared.ends.End.{End}
 use Rattle.program_ends.specs.declared.ends.End.TheVariants as finish
 use Rattle.program_ends.specs.declared.faults.ProgramFault.TheVariants as program
+use Rattle.tables.specs.Acting.{HasReasonSince, MayActSince}
 use Rattle.tables.specs.BookTerms.{LeavesBook, StandsBook}
 use Rattle.tables.specs.Making.{LetsGo}
 use Rattle.tables.specs.declared.books.TableBook.{TableBook}
@@ -130,8 +131,8 @@ module _ {S : Type 0} (g : Ghosts S) (b : TableBook S g) (new : Held S) where
       (e : End) (ended : Ended)
       → (HasCleanDisk (state g first.conn) → (s : State) → StandsBook g b s → StandsBook g first s)
       → (HasCleanDisk (state g last.conn) → HasCleanDisk (state g first.conn))
-      → GoOnByTurns r w t.is_at t.is_by t.is_pair (HasCleanDisk (state g last.conn)) (StandsBook g first) (StandsBook g last)
-      (LeavesBook g last) served
+      → GoOnByTurns r w t.is_at t.is_by t.is_pair (λ b. HasCleanDisk (state g b.conn)) (StandsBook g) (LeavesBook g) (MayActSince g)
+      (HasReasonSince g) first last served
       → IfOk served (EndsOver (t.is_over guests)) → Appends held holds (ready_line port) → LetsGo g last new
       → failed ≡ has_failed guests → e ≡ end_of_serving failed served → IsFrom e ended
       → ServesDesk g (CameFrom r w t has_failed) port b new held holds ended

@@ -11,7 +11,6 @@ use Rattle.http_live.proofs.whole.serve_to_end.Goals as goal
 
 pub returns-in_default-clause-goes_on : goal.returns-in_default-clause-goes_on
 returns-in_default-clause-goes_on g c =
-    let book = g.B.Book in
     let b = c.args.book.now in record {
       seats = [];
       doors = All-nil _;
@@ -22,8 +21,7 @@ returns-in_default-clause-goes_on g c =
       goes_on = record {
         stopped = false;
         stops_as = refl;
-        worlds = worlds_go_on false false (book.is_sound b) (book.stands b) (book.stands b) (book.leaves b) [] [] [] (g.met.B.Book.settled b)
-            (merges_none (book.is_sound b) (book.stands b) (book.leaves b) [] [] refl);
+        worlds = worlds_go_on false false [] [] [] (g.met.B.Book.settled b) (merges_none [] [] refl);
       };
     }
 
