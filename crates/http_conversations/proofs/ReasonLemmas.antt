@@ -30,7 +30,7 @@ module _ (could can : State → Asks → Type 0) (reason : State → State → T
   of_one s later may = subst (λ asks. could s (asks ++ later)) (append-nil (asks_with m)) may
 
   -- it was asked for, and leaves the book so
-  one_asked : (failed : Bool) → ((s : State) (later : Asks) → could s (asks_with m ++ later) → MayGoOn can reason failed s (m ∷ []) later)
+  one_asked : (failed : Bool) → ((s : State) (later : Asks) → could s (asks_with m ++ later) → MayGoOn can reason failed s (m.exchange ∷ []) (m ∷ []) later)
       → EndsFor could can reason failed (m.exchange ∷ [])
   one_asked failed goes = record {
     meant = m ∷ [];
@@ -55,7 +55,7 @@ module _ (could can : State → Asks → Type 0) (reason : State → State → T
     ])
   ]
   lost T Store none on =
-      one_asked true (λ s later may. record { before = []; last = m; at_last = refl; at = s; reaches = refl; reason_is = on s later may })
+      one_asked true (λ s later may. record { before = []; last = m; at_last = refl; earlier = []; is_last = refl; at = s; reaches = refl; reason_is = on s later may })
   lost T Read none on = one_asked false (λ s later may. absurd (on s later may))
   lost T Write none on = one_asked false (λ s later may. absurd (on s later may))
 
@@ -77,13 +77,16 @@ reaches_then s t u (m ∷ ms) ns x y = elim x [
   | inr lost ↦ inr (lost.0, reaches_then s t u ms ns lost.1 y)
 ]
 
-goes_on_then : (can : State → Asks → Type 0) (reason : State → State → Type 0) (failed : Bool) (s t : State) (ms ns : List Meant) (later : Asks)
-    → Reaches s ms t → MayGoOn can reason failed t ns later → MayGoOn can reason failed s (ms ++ ns) later
-goes_on_then can reason false s t ms ns later x y = (y.0, reaches_then s t y.0 ms ns x y.1, y.2)
-goes_on_then can reason true s t ms ns later x y = record {
+goes_on_then : (can : State → Asks → Type 0) (reason : State → State → Type 0) (failed : Bool) (s t : State) (xs ys : List Exchange)
+    (ms ns : List Meant) (later : Asks) → Reaches s ms t → MayGoOn can reason failed t ys ns later
+    → MayGoOn can reason failed s (xs ++ ys) (ms ++ ns) later
+goes_on_then can reason false s t xs ys ms ns later x y = (y.0, reaches_then s t y.0 ms ns x y.1, y.2)
+goes_on_then can reason true s t xs ys ms ns later x y = record {
   before = ms ++ y.before;
   last = y.last;
   at_last = ap (λ l. ms ++ l) y.at_last ∙ sym (append_assoc ms y.before (y.last ∷ []));
+  earlier = xs ++ y.earlier;
+  is_last = ap (λ l. xs ++ l) y.is_last ∙ sym (append_assoc xs y.earlier (y.last.exchange ∷ []));
   at = y.at;
   reaches = reaches_then s t y.at ms y.before x y.reaches;
   reason_is = y.reason_is;
@@ -98,5 +101,5 @@ ends_then {could} {can = can} {reason = reason} failed xs ys x y = record {
       let asks = ap (λ l. l ++ later) (flat_map-append asks_with x.meant y.meant)
       ∙ append_assoc (asks_of x.meant) (asks_of y.meant) later in
       let first = x.ends s (asks_of y.meant ++ later) (subst (could s) asks may) in
-      goes_on_then can reason failed s first.0 x.meant y.meant later first.1 (y.ends first.0 later first.2);
+      goes_on_then can reason failed s first.0 xs ys x.meant y.meant later first.1 (y.ends first.0 later first.2);
 }

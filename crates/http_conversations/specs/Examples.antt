@@ -66,16 +66,16 @@ module _ (bytes : List ℕ) (says : Says Profile bytes (unread layout.Profile)) 
   store_failed could can reason fails = record {
     meant = no_head ∷ [];
     asked = inl (no_head, [], refl, refl, refl);
-    ends = λ s later may. record { before = []; last = no_head; at_last = refl; at = s; reaches = refl; reason_is = fails s later may };
+    ends = λ s later may. record { before = []; last = no_head; at_last = refl; earlier = []; is_last = refl; at = s; reaches = refl; reason_is = fails s later may };
   }
 
 -- a book that could act for what the messages ask for, on a new desk, failed for a reason at the last of them
 pub messages_fail_for_a_reason : (could can : State → Asks → Type 0) (reason : State → State → Type 0) (exchanges : List Exchange)
-    (ends : EndsFor could can reason true exchanges) → could start (asks_of ends.meant ++ []) → FailsAtLast reason start ends.meant
+    (ends : EndsFor could can reason true exchanges) → could start (asks_of ends.meant ++ []) → FailsAtLast reason start exchanges ends.meant
 messages_fail_for_a_reason could can reason exchanges ends may = ends.ends start [] may
 
 -- or it may act for what comes later, on a state to which they lead
 pub messages_leave_a_book_that_may_act :
     (could can : State → Asks → Type 0) (reason : State → State → Type 0) (exchanges : List Exchange) (later : Asks)
-    (ends : EndsFor could can reason false exchanges) → could start (asks_of ends.meant ++ later) → MayGoOn can reason false start ends.meant later
+    (ends : EndsFor could can reason false exchanges) → could start (asks_of ends.meant ++ later) → MayGoOn can reason false start exchanges ends.meant later
 messages_leave_a_book_that_may_act could can reason exchanges later ends may = ends.ends start later may

@@ -40,26 +40,30 @@ abbrev pub Reaches : State → List Meant → State → Type 0
 Reaches s [] t = t ≡ s
 Reaches s (m ∷ later) t = Reaches (state_with s m) later t ⊎ ((m.exchange.page ≡ None) × Reaches s later t)
 
--- there was a reason why the step of the last message failed, from a state to which those before it lead; of a report none is said
-pub record FailsAtLast (reason : State → State → Type 0) (s : State) (meant : List Meant) : Type 0 where
+-- there was a reason why the step of the last exchange failed, from a state to which the messages before it lead; of a report
+-- none is said
+pub record FailsAtLast (reason : State → State → Type 0) (s : State) (exchanges : List Exchange) (meant : List Meant) : Type 0 where
   pub before : List Meant
   pub last : Meant
   pub at_last : meant ≡ before ++ last ∷ []
+  pub earlier : List Exchange
+  pub is_last : exchanges ≡ earlier ++ last.exchange ∷ []
   pub at : State
   pub reaches : Reaches s before at
   pub reason_is : reason_in last.exchange.door last.message.meant reason at (state_with at last)
 
 -- unless the store failed, the book may act for later asks on a state to which the messages lead; if it did, there was a reason
-abbrev pub MayGoOn : (State → Asks → Type 0) → (State → State → Type 0) → Bool → State → List Meant → Asks → Type 0
-MayGoOn can reason false s meant later = (t : State) × Reaches s meant t × can t later
-MayGoOn can reason true s meant later = FailsAtLast reason s meant
+abbrev pub MayGoOn : (State → Asks → Type 0) → (State → State → Type 0) → Bool → State → List Exchange → List Meant → Asks → Type 0
+MayGoOn can reason false s exchanges meant later = (t : State) × Reaches s meant t × can t later
+MayGoOn can reason true s exchanges meant later = FailsAtLast reason s exchanges meant
 
 -- what the messages of exchanges leave of a book that could act for what they ask for, and for later asks
 pub record EndsFor (could can : State → Asks → Type 0) (reason : State → State → Type 0) (store_failed : Bool)
     (exchanges : List Exchange) : Type 0 where
   pub meant : List Meant
   pub asked : AreAsked exchanges meant
-  pub ends : (s : State) (later : Asks) → could s (asks_of meant ++ later) → MayGoOn can reason store_failed s meant later
+  pub ends : (s : State) (later : Asks) → could s (asks_of meant ++ later)
+      → MayGoOn can reason store_failed s exchanges meant later
 
 -- the same of a book that is still sound, with the reasons since each first book
 abbrev pub HasReasons : {B : Type 0} → (B → Type 0) → (B → B → State → Asks → Type 0) → (B → B → State → State → Type 0)
