@@ -3,3 +3,4 @@ pub mod Asking
 pub mod Doing
 pub mod Ends
 pub mod Explaining
+pub mod Listening

@@ -40,12 +40,14 @@ pub fn do_action<S: Start, E: Environment, R: Read, O: Write, N: Write>(
 ) -> (Ended, Option<Left<FileFrom<S>>>)
     ensures did { DidAction ⟦<FileStore<FileFrom<S>> as Store>⟧ (E.bytes_of environment.old)
         (CameFrom ⟦<<E::Guests as Turns>::Reader as Read>⟧
-        ⟦<<E::Guests as Turns>::Writer as Write>⟧ ⟦<E::Guests as Turns>⟧ E.has_failed)
+        ⟦<<E::Guests as Turns>::Writer as Write>⟧ ⟦<E::Guests as Turns>⟧ E.has_failed
+        (E.listens_for environment.old))
         (streams (R.remaining reader.old) (R.remaining reader.new) (O.contents out.old)
         (O.contents out.new) (N.contents notes.old) (N.contents notes.new)) result.0 action.now }
     ensures ran { RanAction (image_at S.Start) (E.bytes_of environment.old)
         (CameFrom ⟦<<E::Guests as Turns>::Reader as Read>⟧
-        ⟦<<E::Guests as Turns>::Writer as Write>⟧ ⟦<E::Guests as Turns>⟧ E.has_failed)
+        ⟦<<E::Guests as Turns>::Writer as Write>⟧ ⟦<E::Guests as Turns>⟧ E.has_failed
+        (E.listens_for environment.old))
         (streams (R.remaining reader.old) (R.remaining reader.new) (O.contents out.old)
         (O.contents out.new) (N.contents notes.old) (N.contents notes.new)) action.now result.1 }
 {
@@ -84,7 +86,8 @@ pub(crate) fn do_at_file<E: Environment, R: Read, O: Write, N: Write>(
 ) -> Ended
     ensures did { DidAction ⟦<FileStore<File> as Store>⟧ (E.bytes_of environment.old)
         (CameFrom ⟦<<E::Guests as Turns>::Reader as Read>⟧
-        ⟦<<E::Guests as Turns>::Writer as Write>⟧ ⟦<E::Guests as Turns>⟧ E.has_failed)
+        ⟦<<E::Guests as Turns>::Writer as Write>⟧ ⟦<E::Guests as Turns>⟧ E.has_failed
+        (E.listens_for environment.old))
         (streams (R.remaining reader.old) (R.remaining reader.new) (O.contents out.old)
         (O.contents out.new) (N.contents notes.old) (N.contents notes.new)) result action.now }
     ensures ends { (job : Job) (socket : Option Socket) → IsActionOf job socket action.now →

@@ -1,7 +1,9 @@
 //! The surroundings of a job on this host: its files, and who comes to its sockets.
+ghost use Rattle.std.specs.Prelude.{◌≡◌};
 
-use crate::actions::Served;
+use crate::actions::served_of;
 use crate::listening::bind;
+use command_line::Job;
 use http_sockets::{Sockets, log_opening};
 use program_ends::{Ended, ProgramFault};
 use program_jobs::Environment;
@@ -13,17 +15,19 @@ use std::io::{ErrorKind, Read};
 #[derive(Drop)]
 pub(crate) struct Host<'a> {
     rt: &'a HostRuntime,
-    served: Served<'a>,
+    job: &'a Job,
     /// The sockets at which somebody was served.
     dismissed: Option<Sockets<'a>>,
 }
 
 impl<'a> Host<'a> {
     /// This host, before anybody is served.
-    pub(crate) fn new(rt: &'a HostRuntime, served: Served<'a>) -> Host<'a> {
+    pub(crate) fn new(rt: &'a HostRuntime, job: &'a Job) -> Host<'a>
+        ensures job { result.job.now ≡ job.now }
+    {
         Host {
             rt,
-            served,
+            job,
             dismissed: None,
         }
     }
@@ -38,8 +42,11 @@ impl<'a> Host<'a> {
 
 impl<'a> Environment for Host<'a> {
     ghost use Rattle.http_sockets.specs.Ends.{is_failed};
+    ghost use Rattle.cli.specs.Listening.{ServesJob};
 
     type Guests = Sockets<'a>;
+
+    ghost listens_for = { λ host. ServesJob host.job.now };
 
     ghost has_failed = { is_failed };
 
@@ -57,10 +64,11 @@ impl<'a> Environment for Host<'a> {
     }
 
     fn listen(&mut self, alloc: Global, port: u16, recovered: u64) -> Result<Sockets<'a>, Ended> {
-        if let Some(form) = self.served.log {
+        let served = served_of(self.job);
+        if let Some(form) = served.log {
             log_opening(self.rt, alloc, form, recovered);
         }
-        bind(self.rt, alloc, port, self.served)
+        bind(self.rt, alloc, port, served)
     }
 
     fn dismiss(&mut self, guests: Sockets<'a>) -> bool {

@@ -1,6 +1,8 @@
 //! Listening on a port of this host, and at a Unix socket.
-ghost use Rattle.std.specs.Prelude.{IfErr};
+ghost use Rattle.std.specs.Prelude.{◌≡◌, IfErr, IfOk};
+ghost use Rattle.http_sockets.specs.Options.{options_of};
 ghost use Rattle.program_jobs.specs.Serving.{IsUnheard};
+ghost use Rattle.cli.specs.Listening.{IsForBrowsers, ServesAs, ShowsPage, logged, widened};
 
 use crate::actions::Served;
 use agents_page::{PAGE, POLICY};
@@ -19,6 +21,7 @@ pub(crate) fn bind<'a>(
     port: u16,
     served: Served<'a>,
 ) -> Result<Sockets<'a>, Ended>
+    ensures serves { IfOk result (λ sockets. ServesAs served.entry (options_of sockets)) }
     ensures end { IfErr result (λ ended. IsUnheard ended.end) }
 {
     let limits = Limits {
@@ -54,6 +57,9 @@ fn has_socket(rt: &HostRuntime, house: Option<&str>) -> bool {
 
 /// The sockets, with the way of reading HTTP, the log and the page that are asked for.
 fn equipped<'a>(sockets: Sockets<'a>, served: Served<'_>) -> Result<Sockets<'a>, Ended>
+    ensures options { IfOk result (λ equipped. ShowsPage served.entry.page
+        (logged served.entry.log (widened served.entry.wide (options_of sockets.entry)))
+        (options_of equipped)) }
     ensures end { IfErr result (λ ended. IsUnheard ended.end) }
 {
     with_page(
@@ -63,7 +69,9 @@ fn equipped<'a>(sockets: Sockets<'a>, served: Served<'_>) -> Result<Sockets<'a>,
 }
 
 /// The sockets, which read HTTP as libraries, proxies and pools speak it if that is asked for.
-fn widened(sockets: Sockets<'_>, wide: bool) -> Sockets<'_> {
+fn widened(sockets: Sockets<'_>, wide: bool) -> Sockets<'_>
+    ensures options { options_of result ≡ widened wide (options_of sockets.entry) }
+{
     let mut sockets = sockets;
     if wide {
         sockets.widen();
@@ -73,22 +81,32 @@ fn widened(sockets: Sockets<'_>, wide: bool) -> Sockets<'_> {
 
 /// The sockets, which serve the page for browsers if that is asked for.
 fn with_page(sockets: Sockets<'_>, page: bool) -> Result<Sockets<'_>, Ended>
+    ensures options { IfOk result (λ shown. ShowsPage page (options_of sockets.entry)
+        (options_of shown)) }
     ensures end { IfErr result (λ ended. IsUnheard ended.end) }
 {
     let mut sockets = sockets;
-    let shown = HtmlPage {
-        text: PAGE,
-        policy: POLICY,
-    };
-    if page && sockets.show(shown).is_err() {
+    if page && sockets.show(page_for_browsers()).is_err() {
         sockets.end();
         return Err(Ended::from(End::Fault(ProgramFault::Net)));
     }
     Ok(sockets)
 }
 
+/// The page for browsers.
+fn page_for_browsers() -> HtmlPage
+    ensures page { IsForBrowsers result }
+{
+    HtmlPage {
+        text: PAGE,
+        policy: POLICY,
+    }
+}
+
 /// The sockets, which write the log in this form if that is asked for.
-fn with_log(sockets: Sockets<'_>, log: Option<LogForm>) -> Sockets<'_> {
+fn with_log(sockets: Sockets<'_>, log: Option<LogForm>) -> Sockets<'_>
+    ensures options { options_of result ≡ logged log (options_of sockets.entry) }
+{
     let mut sockets = sockets;
     if let Some(form) = log {
         sockets.log(form);

@@ -14,8 +14,9 @@ ghost use Rattle.cli.specs.Actions.{IsActionOf};
 ghost use Rattle.cli.specs.Doing.{DidAction, DidCall, EndsCall, ExplainsEnd, Performs, TellsEnd, unknown_files};
 ghost use Rattle.cli.specs.Explaining.{TellsExplained};
 ghost use Rattle.cli.specs.Ends.{HasBadId, ReadsFor, TellsOf};
+ghost use Rattle.cli.specs.Listening.{ServesJob};
 
-use crate::actions::{Action, action_of, served_of};
+use crate::actions::{Action, action_of};
 use crate::doing::do_at_file;
 use crate::hosts::Host;
 use command_line::Call;
@@ -46,7 +47,8 @@ pub fn perform<R: Read, O: Write, E: Write>(
 
     ensures does { Performs ⟦<FileStore<File> as Store>⟧
         (CameFrom ⟦<<Sockets<'static> as Turns>::Reader as Read>⟧
-        ⟦<<Sockets<'static> as Turns>::Writer as Write>⟧ ⟦<Sockets<'static> as Turns>⟧ is_failed)
+        ⟦<<Sockets<'static> as Turns>::Writer as Write>⟧ ⟦<Sockets<'static> as Turns>⟧ is_failed
+        (ServesJob call.job))
         (TellsEnd (E.contents err.old) (E.contents err.new))
         call.job call.socket (R.remaining reader.old) (R.remaining reader.new)
         (O.contents out.old) (O.contents out.new) result }
@@ -79,7 +81,8 @@ pub fn perform_explained<R: Read, O: Write, E: Write>(
 
     ensures does { Performs ⟦<FileStore<File> as Store>⟧
         (CameFrom ⟦<<Sockets<'static> as Turns>::Reader as Read>⟧
-        ⟦<<Sockets<'static> as Turns>::Writer as Write>⟧ ⟦<Sockets<'static> as Turns>⟧ is_failed)
+        ⟦<<Sockets<'static> as Turns>::Writer as Write>⟧ ⟦<Sockets<'static> as Turns>⟧ is_failed
+        (ServesJob call.job))
         (ExplainsEnd (E.contents err.old) (E.contents err.new))
         call.job call.socket (R.remaining reader.old) (R.remaining reader.new)
         (O.contents out.old) (O.contents out.new) result }
@@ -105,7 +108,8 @@ fn carry_out<R: Read, O: Write, N: Write>(
 ) -> Ended
     ensures did { DidCall ⟦<FileStore<File> as Store>⟧
         (CameFrom ⟦<<Sockets<'static> as Turns>::Reader as Read>⟧
-        ⟦<<Sockets<'static> as Turns>::Writer as Write>⟧ ⟦<Sockets<'static> as Turns>⟧ is_failed)
+        ⟦<<Sockets<'static> as Turns>::Writer as Write>⟧ ⟦<Sockets<'static> as Turns>⟧ is_failed
+        (ServesJob call.job))
         call.job call.socket
         (streams (R.remaining reader.old) (R.remaining reader.new) (O.contents out.old)
         (O.contents out.new) (N.contents notes.old) (N.contents notes.new)) result }
@@ -131,7 +135,8 @@ fn do_here<R: Read, O: Write, N: Write>(
 ) -> Ended
     ensures did { DidAction ⟦<FileStore<File> as Store>⟧ unknown_files
         (CameFrom ⟦<<Sockets<'static> as Turns>::Reader as Read>⟧
-        ⟦<<Sockets<'static> as Turns>::Writer as Write>⟧ ⟦<Sockets<'static> as Turns>⟧ is_failed)
+        ⟦<<Sockets<'static> as Turns>::Writer as Write>⟧ ⟦<Sockets<'static> as Turns>⟧ is_failed
+        (ServesJob call.now.job))
         (streams (R.remaining reader.old) (R.remaining reader.new) (O.contents out.old)
         (O.contents out.new) (N.contents notes.old) (N.contents notes.new)) result action.now }
     ensures ends { (job : Job) (socket : Option Socket) → IsActionOf job socket action.now →
@@ -139,7 +144,7 @@ fn do_here<R: Read, O: Write, N: Write>(
         (O.contents out.old) (O.contents out.new) (N.contents notes.old)
         (N.contents notes.new)) result }
 {
-    let mut host = Host::new(rt, served_of(&call.job));
+    let mut host = Host::new(rt, &call.job);
     let ended = do_at_file(rt, alloc, call, action, &mut host, reader, out, notes);
     host.end();
     ended

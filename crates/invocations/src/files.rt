@@ -38,12 +38,14 @@ pub fn do_over_file<S: Start, E: Environment, R: Read, O: Write, N: Write>(
 ) -> (Ended, Left<FileFrom<S>>)
     ensures did { Did ⟦<FileStore<FileFrom<S>> as Store>⟧ (E.bytes_of environment.old)
         (CameFrom ⟦<<E::Guests as Turns>::Reader as Read>⟧
-        ⟦<<E::Guests as Turns>::Writer as Write>⟧ ⟦<E::Guests as Turns>⟧ E.has_failed) task.now
+        ⟦<<E::Guests as Turns>::Writer as Write>⟧ ⟦<E::Guests as Turns>⟧ E.has_failed
+        (E.listens_for environment.old)) task.now
         (streams (R.remaining reader.old) (R.remaining reader.new) (O.contents out.old)
         (O.contents out.new) (N.contents notes.old) (N.contents notes.new)) result.0 }
     ensures ran { RanOver (image_at S.Start) result.1 (E.bytes_of environment.old)
         (CameFrom ⟦<<E::Guests as Turns>::Reader as Read>⟧
-        ⟦<<E::Guests as Turns>::Writer as Write>⟧ ⟦<E::Guests as Turns>⟧ E.has_failed)
+        ⟦<<E::Guests as Turns>::Writer as Write>⟧ ⟦<E::Guests as Turns>⟧ E.has_failed
+        (E.listens_for environment.old))
         (streams (R.remaining reader.old) (R.remaining reader.new) (O.contents out.old)
         (O.contents out.new) (N.contents notes.old) (N.contents notes.new)) task.now }
 {

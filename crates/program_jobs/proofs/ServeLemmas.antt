@@ -127,7 +127,7 @@ module _ {S : Type 0} (g : Ghosts S) (b : TableBook S g) (new : Held S) where
         exchanges_served (state g new) (LeavesBook g last) clean gone.left (StandsBook g last) w held true exchanges (goes clean w here))
 
   pub guests_served : {T R W : Type 0} (r : Read.Ghosts R) (w : Write.Ghosts W) (t : Turns.Ghosts T R W) (has_failed : T → Bool)
-      (port : ℕ) (held holds : Option (List ℕ)) (first last : TableBook S g) (guests : T) (served : Result Ending Fault) (failed : Bool)
+      (listened_for : T → Type 0) (began : T) → listened_for began → (port : ℕ) (held holds : Option (List ℕ)) (first last : TableBook S g) (guests : T) (served : Result Ending Fault) (failed : Bool)
       (e : End) (ended : Ended)
       → (HasCleanDisk (state g first.conn) → (s : State) → StandsBook g b s → StandsBook g first s)
       → (HasCleanDisk (state g last.conn) → HasCleanDisk (state g first.conn))
@@ -135,15 +135,17 @@ module _ {S : Type 0} (g : Ghosts S) (b : TableBook S g) (new : Held S) where
       (HasReasonSince g) first last served
       → IfOk served (EndsOver (t.is_over guests)) → Appends held holds (ready_line port) → LetsGo g last new
       → failed ≡ has_failed guests → e ≡ end_of_serving failed served → IsFrom e ended
-      → ServesDesk g (CameFrom r w t has_failed) port b new held holds ended
-  guests_served r w t has_failed port held holds first last guests served failed e ended stays back on over told gone same ends from =
+      → ServesDesk g (CameFrom r w t has_failed listened_for) port b new held holds ended
+  guests_served r w t has_failed listened_for began listened port held holds first last guests served failed e ended stays back on over told gone same ends from =
       let worlds = on.goes_on.worlds in
       let end = end_of_serving (has_failed guests) served in
       let is : IsFrom end ended = subst (λ x. IsFrom x ended) (ends ∙ ap (λ f. end_of_serving f served) same) from in
-      subst (ServesDesk g (CameFrom r w t has_failed) port b new held holds) (sym is)
+      subst (ServesDesk g (CameFrom r w t has_failed listened_for) port b new held holds) (sym is)
       (inr (record {
         exchanges = map exchange_of worlds.merged;
         came = record {
+          began = began;
+          listened = listened;
           seats = on.seats;
           doors = on.doors;
           ways = on.ways;

@@ -80,10 +80,12 @@ module _ {R W : Type 0} {r : Read.Ghosts R} {w : Write.Ghosts W} where
 
 -- Who came to a desk that served until this end, and the exchanges with them, in the order in which they were carried out: those of
 -- seats that had none before, merged. Each connection came by the door and the way of its reader, with the writer of the same peer,
--- which was sent its pages.
+-- which was sent its pages. `listened_for` says what is known of the source of their turns as listening began.
 -- Serving ended for a reason, and where the administrator stopped it, by the last exchange.
-pub record CameFrom {T R W : Type 0} (r : Read.Ghosts R) (w : Write.Ghosts W) (t : Turns.Ghosts T R W) (has_failed : T → Bool) (e : End)
-    (exchanges : List Exchange) : Type 0 where
+pub record CameFrom {T R W : Type 0} (r : Read.Ghosts R) (w : Write.Ghosts W) (t : Turns.Ghosts T R W) (has_failed : T → Bool)
+    (listened_for : T → Type 0) (e : End) (exchanges : List Exchange) : Type 0 where
+  pub began : T
+  pub listened : listened_for began
   pub seats : List (Seat R W r w)
   pub doors : AreAtTheirDoors t.is_at seats
   pub ways : AreReadByTheirWays t.is_by seats

@@ -5,7 +5,7 @@ use std::alloc::Global;
 
 /// The surroundings of a job: the allotment files that can be named, and who comes to a desk that serves.
 pub trait Environment {
-    ghost use Rattle.std.specs.Prelude.{◌≡◌, ℕ, Bool, List, Option, None, IfErr, IfOk};
+    ghost use Rattle.std.specs.Prelude.{◌≡◌, ⊤, ℕ, Bool, List, Option, None, IfErr, IfOk};
     ghost use Rattle.program_jobs.specs.Serving.{IsUnheard};
     ghost use Rattle.program_jobs.specs.Sources.{ArePrefixOf, IsFaultOfFile};
 
@@ -14,6 +14,9 @@ pub trait Environment {
 
     /// The bytes of the file of this name, where they are known.
     ghost bytes_of: { Self → List ℕ → Option (List ℕ) } = { λ _ _. None };
+
+    /// What is known of those who come, once somebody listens for them.
+    ghost listens_for: { Self → Self.Guests → Type 0 } = { λ _ _. ⊤ };
 
     /// The system failed to report what happens, so that nobody comes any more.
     ghost has_failed: { Self.Guests → Bool };
@@ -25,6 +28,7 @@ pub trait Environment {
 
     /// Begins to listen at this port, for a desk whose opening recovered so many events.
     fn listen(&mut self, alloc: Global, port: u16, recovered: u64) -> Result<Self::Guests, Ended>
+        ensures listens { IfOk result (listens_for self.old) }
         ensures end { IfErr result (λ ended. IsUnheard ended.end) };
 
     /// Takes back who was served, so that nobody is left waiting once the store is closed. Returns whether the system failed.

@@ -35,7 +35,8 @@ pub fn do_job<S: Alter + Drop, E: Environment, R: Read, O: Write, N: Write>(
         (streams (R.remaining reader.old) (R.remaining reader.new) (O.contents out.old)
         (O.contents out.new) (N.contents notes.old) (N.contents notes.new))
         (E.bytes_of environment.old) (CameFrom ⟦<<E::Guests as Turns>::Reader as Read>⟧
-        ⟦<<E::Guests as Turns>::Writer as Write>⟧ ⟦<E::Guests as Turns>⟧ E.has_failed)
+        ⟦<<E::Guests as Turns>::Writer as Write>⟧ ⟦<E::Guests as Turns>⟧ E.has_failed
+        (E.listens_for environment.old))
         task.now result.1 }
     ensures leaves { Leaves S.Store conn result.0 }
 {

@@ -37,7 +37,8 @@ pub(crate) fn serve_over<S: Alter + Drop, E: Environment, O: Write, N: Write>(
 
     ensures serves { Serves S.Store
         (CameFrom ⟦<<E::Guests as Turns>::Reader as Read>⟧
-        ⟦<<E::Guests as Turns>::Writer as Write>⟧ ⟦<E::Guests as Turns>⟧ E.has_failed) port
+        ⟦<<E::Guests as Turns>::Writer as Write>⟧ ⟦<E::Guests as Turns>⟧ E.has_failed
+        (E.listens_for environment.old)) port
         conn result.0 (O.contents out.old) (O.contents out.new) (N.contents notes.old)
         (N.contents notes.new) result.1 }
     ensures leaves { Leaves S.Store conn result.0 }
@@ -53,7 +54,7 @@ pub(crate) fn serve_over<S: Alter + Drop, E: Environment, O: Write, N: Write>(
     }
 }
 
-/// Does the same over a recovered desk. Returns its connection, and the end.
+/// Does the same over a recovered desk. Who was served is then dismissed. Returns the connection of the desk, and the end.
 fn serve_ready<S: Alter + Drop, E: Environment, O: Write>(
     alloc: Global,
     desk: Ready<TableBook<S>>,
@@ -64,43 +65,28 @@ fn serve_ready<S: Alter + Drop, E: Environment, O: Write>(
 ) -> (Connection<S>, Ended)
     ensures serves { ServesDesk S.Store
         (CameFrom ⟦<<E::Guests as Turns>::Reader as Read>⟧
-        ⟦<<E::Guests as Turns>::Writer as Write>⟧ ⟦<E::Guests as Turns>⟧ E.has_failed) port
+        ⟦<<E::Guests as Turns>::Writer as Write>⟧ ⟦<E::Guests as Turns>⟧ E.has_failed
+        (E.listens_for environment.old)) port
         desk result.0 (O.contents out.old) (O.contents out.new) result.1 }
     ensures leaves { LeavesDesk S.Store desk result.0 }
 {
     match environment.listen(alloc, port, made) {
-        Ok(guests) => serve_guests(alloc, desk, port, guests, environment, out),
+        Ok(guests) => {
+            let mut desk = desk;
+            let mut guests = guests;
+            match open_to_guests(alloc, port, &mut desk, out) {
+                Ok(()) => {
+                    let served = serve_to_end(alloc, &mut guests, &mut desk);
+                    let has_failed = environment.dismiss(guests);
+                    let_go(desk, end_of_serving(has_failed, served))
+                }
+                Err(fault) => {
+                    let _ = environment.dismiss(guests);
+                    let_go(desk, End::Fault(fault))
+                }
+            }
+        }
         Err(ended) => (desk.into_inner().into_store(), ended),
-    }
-}
-
-/// Serves these guests, who are then dismissed. Returns the connection of the desk, and the end.
-fn serve_guests<S: Alter + Drop, E: Environment, O: Write>(
-    alloc: Global,
-    desk: Ready<TableBook<S>>,
-    port: u16,
-    guests: E::Guests,
-    environment: &mut E,
-    out: &mut O,
-) -> (Connection<S>, Ended)
-    ensures serves { ServesDesk S.Store
-        (CameFrom ⟦<<E::Guests as Turns>::Reader as Read>⟧
-        ⟦<<E::Guests as Turns>::Writer as Write>⟧ ⟦<E::Guests as Turns>⟧ E.has_failed) port
-        desk result.0 (O.contents out.old) (O.contents out.new) result.1 }
-    ensures leaves { LeavesDesk S.Store desk result.0 }
-{
-    let mut desk = desk;
-    let mut guests = guests;
-    match open_to_guests(alloc, port, &mut desk, out) {
-        Ok(()) => {
-            let served = serve_to_end(alloc, &mut guests, &mut desk);
-            let has_failed = environment.dismiss(guests);
-            let_go(desk, end_of_serving(has_failed, served))
-        }
-        Err(fault) => {
-            let _ = environment.dismiss(guests);
-            let_go(desk, End::Fault(fault))
-        }
     }
 }
 
