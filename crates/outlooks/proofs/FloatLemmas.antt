@@ -1,9 +1,8 @@
 -- The object of an outlook contains no floats, so its compact text is known. For why_body.
-use Rattle.std.proofs.Common.{refl, ◌≡◌, ℕ, false, List, [], ◌∷◌, ◌++◌, map, Option, Some, None}
+use Rattle.std.proofs.Common.{refl, ◌≡◌, false, List, [], ◌∷◌, ◌++◌, map, Option, Some, None, arith}
 use Rattle.serde_json.specs.View.{items_of}
 use Rattle.serde_json.specs.Written.{has_float, items_have_float, members_have_float}
 use Rattle.commands.specs.declared.items.Phase.{Phase}
-use Rattle.commands.specs.declared.items.Phase.TheVariants.{Run, Back, Ended, Undone}
 use Rattle.json_members.specs.Objects.{Named, members, target_member}
 use Rattle.outlooks.specs.Layouts.{free_data, want_member, why_data}
 use Rattle.outlooks.specs.declared.nights.FreeNight.{FreeNight}
@@ -14,23 +13,11 @@ use Rattle.outlooks.specs.declared.steps.Outlook.{Outlook}
 no_float-nights : (nights : List FreeNight)
     → items_have_float (items_of (map (λ (n : FreeNight). free_data n.night n.free) nights)) ≡ false
 no_float-nights [] = refl
-no_float-nights (n ∷ later) = go n.free (no_float-nights later)
-  where
-    go : (free : Option ℕ) → items_have_float (items_of (map (λ (m : FreeNight). free_data m.night m.free) later)) ≡ false
-        → items_have_float (items_of (free_data n.night free ∷ map (λ (m : FreeNight). free_data m.night m.free) later)) ≡ false
-    go None rest = rest
-    go (Some free) rest = rest
+no_float-nights (n ∷ later) = grind (arith, no_float-nights later)
 
 -- nor do the members after the nights
 no_float-last : (phase : Phase) (next : Option NextStep) → members_have_float (members (target_member phase ++ want_member next)) ≡ false
-no_float-last Run None = refl
-no_float-last Run (Some next) = refl
-no_float-last (Back target) None = refl
-no_float-last (Back target) (Some next) = refl
-no_float-last Ended None = refl
-no_float-last Ended (Some next) = refl
-no_float-last Undone None = refl
-no_float-last Undone (Some next) = refl
+no_float-last phase next = grind arith
 
 -- nor does the object
 pub no_float-why : (o : Outlook) (nights : List FreeNight) → has_float (why_data o nights) ≡ false

@@ -1,6 +1,6 @@
 -- The option with which a step was done last: it is the one that stands, if any does. For the compensation of the step,
 -- and for reading the items of a journey.
-use Rattle.std.proofs.Common.{◌≡◌, ℕ, List, [], ◌∷◌, ◌++◌, refl, ap, sym, ◌∙◌, append-nil, eq-eqb, eqb-true, Bool, true, false, ◌==◌, ◌||◌, if◌then◌else◌, filter_map, Option, Some, None}
+use Rattle.std.proofs.Common.{◌≡◌, ℕ, List, [], ◌∷◌, ◌++◌, refl, ap, sym, ◌∙◌, append-nil, eq-eqb, eqb-true, Bool, false, ◌==◌, ◌||◌, if◌then◌else◌, filter_map, Option, Some, None, arith}
 use Rattle.std.proofs.lemmas.Bool.{false_from_ne_true}
 use Rattle.std.proofs.lemmas.List.Elements.{filter_map-append}
 use Rattle.std.specs.List.{cons_option, list_any}
@@ -31,35 +31,19 @@ abbrev if_same : Bool → ℕ → Option ℕ
 if_same same d = if same then Some d else None
 
 or_second : (b c : Bool) → (b || c) ≡ false → c ≡ false
-or_second true c e = cc
-or_second false c e = e
+or_second b c e = grind arith
 
 -- without a compensation of the step, each of its transactions stands
 untouched : (i : ℕ) (h : List Item) → list_any (is_compensation_of i) h ≡ false → that_stand i h ≡ all_done i h
 untouched i [] e = refl
-untouched i (Transaction k d ∷ later) e = go (untouched i later e) (list_any (is_compensation_of k) later) refl
-  where
-    apart : list_any (is_compensation_of k) later ≡ true → (i == k) ≡ true → ⊥
-    apart gone same =
-        let bad : true ≡ false = sym gone ∙ ap (λ n. list_any (is_compensation_of n) later) (sym (eqb-true i k same)) ∙ e in
-        cc
-
-    go : that_stand i later ≡ all_done i later
-        → (gone : Bool) → list_any (is_compensation_of k) later ≡ gone
-        → filter_map (picked i) (if gone then net later else (k, d) ∷ net later)
-        ≡ cons_option (if_same (i == k) d) (all_done i later)
-    go rest false g = ap (cons_option (if_same (i == k) d)) rest
-    go rest true g =
-        rest
-        ∙ sym (ap (λ b. cons_option (if_same b d) (all_done i later)) (false_from_ne_true (i == k) (apart g)))
+untouched i (Transaction k d ∷ later) e = grind (arith, eqb-true, false_from_ne_true, untouched i later e)
 untouched i (Compensation k d ∷ later) e = untouched i later (or_second (i == k) _ e)
 untouched i (Turn p cause ∷ later) e = untouched i later e
 untouched i (Save p ∷ later) e = untouched i later e
 
 -- a last element stays the last
 last_of-before : (d : ℕ) (xs : List ℕ) (c : ℕ) → last_of xs ≡ Some c → last_of (d ∷ xs) ≡ Some c
-last_of-before d [] c e = cc
-last_of-before d (x ∷ xs) c e = e
+last_of-before d xs c e = grind arith
 
 -- the last option that stands was the last one that was done
 last_stands : (i : ℕ) (h : List Item) (c : ℕ) → last_of (that_stand i h) ≡ Some c → last_of (all_done i h) ≡ Some c
@@ -76,19 +60,7 @@ last_stands i (Transaction k d ∷ later) c e =
         → (gone : Bool) → list_any (is_compensation_of k) later ≡ gone → (same : Bool) → (i == k) ≡ same
         → last_of (filter_map (picked i) (if gone then net later else (k, d) ∷ net later)) ≡ Some c
         → last_of (cons_option (if_same (i == k) d) (all_done i later)) ≡ Some c
-    go more true g true s f =
-        ap (λ b. last_of (cons_option (if_same b d) (all_done i later))) s
-        ∙ last_of-before d (all_done i later) c (more f)
-    go more true g false s f =
-        ap (λ b. last_of (cons_option (if_same b d) (all_done i later))) s ∙ more f
-    go more false g true s f =
-        let none : list_any (is_compensation_of i) later ≡ false =
-        ap (λ n. list_any (is_compensation_of n) later) (eqb-true i k s) ∙ g in
-        ap (λ b. last_of (cons_option (if_same b d) (all_done i later))) s
-        ∙ ap (λ xs. last_of (d ∷ xs)) (sym (untouched i later none)) ∙ with_same true s f
-    go more false g false s f =
-        ap (λ b. last_of (cons_option (if_same b d) (all_done i later))) s
-        ∙ more (with_same false s f)
+    go more gone g same s f = grind (arith, last_of-before, eqb-true, untouched, with_same, all_done)
 last_stands i (Compensation k d ∷ later) c e = last_stands i later c e
 last_stands i (Turn p cause ∷ later) c e = last_stands i later c e
 last_stands i (Save p ∷ later) c e = last_stands i later c e
@@ -108,11 +80,7 @@ latest-standing h i c last =
 -- one more item: the option of a transaction of the step is newer than what was found before
 latest-more : (i : ℕ) (h : List Item) (x : Item)
     → latest_option i (h ++ x ∷ []) ≡ newer (option_done i x) (latest_option i h)
-latest-more i h x = ap last_of (filter_map-append (option_done i) h (x ∷ [])) ∙ go (option_done i x)
-  where
-    go : (o : Option ℕ) → last_of (all_done i h ++ cons_option o []) ≡ newer o (latest_option i h)
-    go None = ap last_of (append-nil (all_done i h))
-    go (Some c) = last_of-append (all_done i h) c []
+latest-more i h x = grind (arith, filter_map-append, append-nil, last_of-append)
 
 -- these items were read, and the others remain
 pub record Read (i : ℕ) (rests : List Item → Type 0) (all : List Item) (latest : Option ℕ) : Type 0 where

@@ -1,14 +1,13 @@
 -- Whether a want fits, by what is free of its nights, and what is free of them by the places that a book shows. For the outlook.
-use Rattle.std.proofs.Common.{◌≡◌, ℕ, zero, suc, ◌+◌, ◌-◌, ◌<◌, ◌≤◌, ◌==◌, Bool, List, [], ◌∷◌, filter_map, find, map, refl, ap, ap₂, sym, subst, ◌∙◌, arith, eqb-true, true, false, nat_le, Option, Some, None, option_map}
+use Rattle.std.proofs.Common.{◌≡◌, ℕ, zero, suc, ◌+◌, ◌<◌, ◌≤◌, ◌==◌, Bool, List, [], ◌∷◌, filter_map, find, map, refl, ap, ap₂, ◌∙◌, arith, eqb-true, true, false, Option, Some, None, option_map}
 use Rattle.std.proofs.lemmas.Bool.{eqb-false, false_from_ne_true}
 use Rattle.std.proofs.lemmas.List.Folds.{list_all-map}
-use Rattle.std.specs.Prelude.{unwrap_or}
 use Rattle.std.specs.List.{cons_option, list_all}
 use Rattle.allotment.specs.Cells.{cell_at, cells_of, numbers_from}
 use Rattle.allotment.specs.Want.{Wanted}
 use Rattle.allotment.specs.declared.cells.Cell.{Cell}
 use Rattle.allotment.specs.declared.places.Held.{Held}
-use Rattle.ledger.specs.Ledger.{Event, allotment, held, has_free, fits, IsLegal}
+use Rattle.ledger.specs.Ledger.{Event, has_free, fits, IsLegal}
 use Rattle.ledger_transitions.proofs.Free.{has_free-by_held, fits-by_test}
 use Rattle.saga_core.specs.Views.{Places, at_night, night_said, places_of, places_shown}
 use Rattle.outlooks.specs.Nights.{has_room, night_among, night_with, nights_among, nights_of}
@@ -17,14 +16,7 @@ use Rattle.outlooks.specs.declared.nights.FreeNight.{FreeNight}
 -- a night has as many free places as its cell has in the ledger
 room-free : (l : List Event) (count : ℕ) (x : Cell) → IsLegal l
     → has_room count (night_with x (places_of l x)) ≡ has_free l count x
-room-free l count x legal = go (allotment l x) ∙ sym (has_free-by_held l count x legal)
-  where
-    go : (o : Option ℕ)
-        → unwrap_or (option_map (nat_le count) (option_map (λ (p : Places). p.free)
-        (option_map (λ (n : ℕ). record { allot = n; free = n - held l x }) o))) false
-        ≡ unwrap_or (option_map (λ n. nat_le count (n - held l x)) o) false
-    go None = refl
-    go (Some n) = refl
+room-free l count x legal = grind (arith, has_free-by_held)
 
 -- a want fits if each of its nights has its count of free places
 pub fits-nights : (l : List Event) (w : Wanted) (nights : List FreeNight) → IsLegal l → nights ≡ nights_of l w
@@ -52,8 +44,7 @@ free_said n (p ∷ later) = go (p.0 == n) refl (free_said n later)
     go : (b : Bool) → (p.0 == n) ≡ b
         → option_map (λ (q : ℕ × Held). q.1.free) (find (λ (q : ℕ × Held). q.0 == n) later) ≡ free_at n (map night_said later)
         → option_map (λ (q : ℕ × Held). q.1.free) (find (λ (q : ℕ × Held). q.0 == n) (p ∷ later)) ≡ free_at n (map night_said (p ∷ later))
-    go true e rest = rw e refl
-    go false e rest = rw e rest
+    go b e rest = grind arith
 
 module _ (l : List Event) (w : Wanted) where
   -- the places of so many consecutive nights of the want
@@ -67,15 +58,7 @@ module _ (l : List Event) (w : Wanted) where
   -- a night before the first is not among them
   none_before : (first count n : ℕ) → n < first → at_of n (shown first count) ≡ None
   none_before first zero n before = refl
-  none_before first (suc more) n before =
-      go (places_of l (cell_at w first)) (none_before (suc first) more n (omega (arith, before)))
-    where
-      other : (first == n) ≡ false
-      other = false_from_ne_true (first == n) (λ e. let same = eqb-true first n e in omega (arith, same, before))
-
-      go : (o : Option Places) → at_of n (shown (suc first) more) ≡ None → at_of n (with_first first more o) ≡ None
-      go None rest = rest
-      go (Some p) rest = rw other rest
+  none_before first (suc more) n before = grind (arith, false_from_ne_true, eqb-true, none_before (suc first) more n (omega (arith, before)))
 
   -- a night that is among them has its places
   each_shown : (first count n : ℕ) → first ≤ n → n < first + count
@@ -86,24 +69,17 @@ module _ (l : List Event) (w : Wanted) where
     where
       here : (o : Option Places) → (n == n) ≡ true → at_of n (shown (suc n) more) ≡ None
           → free_at n (with_first n more o) ≡ option_map (λ (p : Places). p.free) o
-      here None is none = ap (option_map (λ (p : ℕ × Places). p.1.free)) none
-      here (Some p) is none = rw is refl
+      here o is none = grind arith
 
       later : (o : Option Places) → (first == n) ≡ false
           → free_at n (shown (suc first) more) ≡ option_map (λ (p : Places). p.free) (places_of l (cell_at w n))
           → free_at n (with_first first more o) ≡ option_map (λ (p : Places). p.free) (places_of l (cell_at w n))
-      later None other rest = rest
-      later (Some p) other rest = rw other rest
+      later o other rest = grind arith
 
       go : (b : Bool) → (first == n) ≡ b
           → (suc first ≤ n → free_at n (shown (suc first) more) ≡ option_map (λ (p : Places). p.free) (places_of l (cell_at w n)))
           → free_at n (shown first (suc more)) ≡ option_map (λ (p : Places). p.free) (places_of l (cell_at w n))
-      go true e rest =
-          let same = eqb-true first n e in
-          subst (λ m. free_at n (shown m (suc more)) ≡ option_map (λ (p : Places). p.free) (places_of l (cell_at w n))) (sym same)
-          (here (places_of l (cell_at w n)) (ap (λ m. m == n) (sym same) ∙ e) (none_before (suc n) more n (omega arith)))
-      go false e rest =
-          let other = eqb-false first n e in later (places_of l (cell_at w first)) e (rest (omega (arith, low, other)))
+      go b e rest = grind (arith, eqb-true, here, none_before, eqb-false, later, rest)
 
   -- nights within those of the want have what is free of them in the ledger
   all_shown : (places : List (ℕ × Held)) → map night_said places ≡ places_shown l w → (first count : ℕ)

@@ -1,5 +1,5 @@
 -- The next step of a journey, and the item that a step makes, by the journey's cursor. For the outlook.
-use Rattle.std.proofs.Common.{◌≡◌, ℕ, zero, suc, ◌+◌, ◌<◌, ◌≤◌, List, [], ◌∷◌, length, map, refl, ap, sym, ◌∙◌, subst, arith, eq-eqb, Bool, true, false, not, ◌==◌, ◌&&◌, if◌then◌else◌, nat_le, slice_get, find, Option, Some, None, option_map, option_and_then, option_to_list}
+use Rattle.std.proofs.Common.{◌≡◌, ℕ, zero, suc, ◌+◌, ◌<◌, ◌≤◌, List, [], ◌∷◌, length, refl, ap, sym, ◌∙◌, arith, eq-eqb, Bool, true, false, nat_le, slice_get, find, Option, Some, None, option_map, option_and_then}
 use Rattle.std.proofs.lemmas.Bool.{and_parts, leb-true}
 use Rattle.std.specs.Prelude.{unwrap_or}
 use Rattle.std.specs.List.{list_all}
@@ -12,9 +12,9 @@ use Rattle.commands.specs.declared.items.Item.TheVariants.{Transaction, Compensa
 use Rattle.commands.specs.declared.items.Phase.{Phase}
 use Rattle.commands.specs.declared.items.Phase.TheVariants.{Run, Back, Ended, Undone}
 use Rattle.commands.specs.declared.replies.Refusal.TheVariants.{NoSavePoint}
-use Rattle.ledger.specs.History.{net, last_of, position_of, refusals, phase, is_running, is_going_back, is_finished, may_come, next_option, next_want, refused_target}
+use Rattle.ledger.specs.History.{net, last_of, position_of, refusals, phase, is_running, is_finished, may_come, next_option, next_want, refused_target}
 use Rattle.ledger.specs.Ledger.{Event, Journey, journey_at, history, fits, item_of}
-use Rattle.ledger.specs.Replies.{Answer, answer_move, compensation, step_choices}
+use Rattle.ledger.specs.Replies.{answer_move, compensation, step_choices}
 use Rattle.ledger.proofs.Coming.{step-may_come, compensation-may_come}
 use Rattle.ledger_transitions.specs.Answers.{moves}
 use Rattle.ledger_transitions.specs.Cursors.{cursor_of, marks_of}
@@ -67,27 +67,15 @@ pub record IsRecord (l : List Event) (j : ℕ) (r : Record) : Type 0 where
 -- a journey is its agent and its plan
 one_journey : (a : Journey) (agent : List ℕ) (plan : Planned) → a.agent ≡ agent → a.plan ≡ plan
     → a ≡ record { agent = agent; plan = plan }
-one_journey a agent plan e f =
-    let with : List ℕ → Planned → Journey = λ x p. record { agent = x; plan = p } in ap (λ x. with x a.plan) e ∙ ap (with agent) f
+one_journey a agent plan e f = grind arith
 
 -- it is the record of some journey with the number
 record_of_some : (l : List Event) (j : ℕ) (r : Record) (o : Option Journey) → option_map (record_of_journey (history l j)) o ≡ Some r
     → (a : Journey) × (o ≡ Some a) × (r ≡ record_of_journey (history l j) a)
-record_of_some l j r None e = cc
-record_of_some l j r (Some a) e = (a, refl, cc)
+record_of_some l j r o e = grind arith
 
 pub record_is : (l : List Event) (j : ℕ) (r : Record) → record_of l j ≡ Some r → IsRecord l j r
-record_is l j r e =
-    let of_some = record_of_some l j r (journey_at l j) e in
-    let agent : r.agent ≡ of_some.0.agent = ap (λ (b : Record). b.agent) of_some.2 in
-    let plan : r.plan ≡ of_some.0.plan = ap (λ (b : Record). b.plan) of_some.2 in
-    let cursor : r.cursor ≡ cursor_of of_some.0.plan (history l j) = ap (λ (b : Record). b.cursor) of_some.2 in
-    let marks : r.marks ≡ marks_of (history l j) = ap (λ (b : Record). b.marks) of_some.2 in
-    record {
-      at = of_some.1 ∙ ap Some (one_journey of_some.0 r.agent r.plan (sym agent) (sym plan));
-      cursor_is = cursor ∙ ap (λ p. cursor_of p (history l j)) (sym plan);
-      marks_are = marks;
-    }
+record_is l j r e = grind (arith, record_of_some, one_journey)
 
 -- the same value, if there is one
 some_same : {X : Type 0} (x y : X) → Some x ≡ Some y → x ≡ y
@@ -107,32 +95,17 @@ the_outlook j agent cursor next step =
 -- of a running journey: the next transaction
 next-run : (plan : Planned) (h : List Item) → phase plan h ≡ Run
     → next_of plan h ≡ with_want plan (Transaction (position_of h + 1) (next_option plan h))
-next-run plan h run =
-    ap (option_and_then (with_want plan))
-    (find-first (may_come plan h true) (Transaction (position_of h + 1) (next_option plan h))
-    (Turn (refused_target plan h) Refused ∷ compensation h)
-    (step-may_come plan h true (ap is_running run) refl))
+next-run plan h run = grind (arith, find-first, step-may_come)
 
 -- of one that does not run, neither a transaction nor a refused turn
 next-other : (plan : Planned) (h : List Item) (q : Phase) → phase plan h ≡ q → is_running q ≡ false
     → find (may_come plan h true) (step_choices plan h) ≡ find (may_come plan h true) (compensation h)
-next-other plan h q is stays =
-    let still : is_running (phase plan h) ≡ false = ap is_running is ∙ stays in
-    find-next (may_come plan h true) (Transaction (position_of h + 1) (next_option plan h))
-    (Turn (refused_target plan h) Refused ∷ compensation h)
-    (ap (λ b. b && (position_of h + 1 == position_of h + 1) && (next_option plan h == next_option plan h) && true) still)
-    ∙ find-next (may_come plan h true) (Turn (refused_target plan h) Refused) (compensation h)
-    (ap (λ b. b && not true && (refused_target plan h == refused_target plan h)) still)
+next-other plan h q is stays = grind (arith, is, find-next)
 
 -- of one that goes back: the compensation of its last step
 next-back : (plan : Planned) (h : List Item) (p i c : ℕ) → phase plan h ≡ Back p → last_of (net h) ≡ Some (i, c)
     → next_of plan h ≡ with_want plan (Compensation i c)
-next-back plan h p i c back last =
-    ap (option_and_then (with_want plan))
-    (next-other plan h (Back p) back refl
-    ∙ ap (λ o. find (may_come plan h true) (map (λ (s : ℕ × ℕ). Compensation s.0 s.1) (option_to_list o))) last
-    ∙ find-first (may_come plan h true) (Compensation i c) []
-    (compensation-may_come plan h true i c (ap is_going_back back) last))
+next-back plan h p i c back last = grind (arith, next-other, find-first, compensation-may_come)
 
 -- What a step makes.
 
@@ -140,22 +113,17 @@ next-back plan h p i c back last =
 step-of : (l : List Event) (j : ℕ) (a : Journey) → journey_at l j ≡ Some a
     → step_of l j
     ≡ option_and_then (item_of j) (answer_move l j step_choices NoSavePoint (Some a)).event
-step-of l j a at =
-    ap (λ o. option_and_then (item_of j) (answer_move l j step_choices NoSavePoint o).event) (seen l None j a at refl)
+step-of l j a at = grind (arith, seen)
 
 -- the answer makes this item
 step-made : (l : List Event) (j : ℕ) (a : Journey) (c : Cursor) (x : Item) → journey_at l j ≡ Some a
     → answer_move l j step_choices NoSavePoint (Some a) ≡ moves j a.plan c x → step_of l j ≡ Some x
-step-made l j a c x at is =
-    step-of l j a at ∙ ap (λ (n : Answer). option_and_then (item_of j) n.event) is
-    ∙ ap (λ b. if b then Some x else None) (eq-eqb j j refl)
+step-made l j a c x at is = grind (arith, step-of, is, eq-eqb)
 
 -- a finished journey makes none
 step-finished : (l : List Event) (j : ℕ) (a : Journey) → journey_at l j ≡ Some a
     → is_finished (phase a.plan (history l j)) ≡ true → step_of l j ≡ None
-step-finished l j a at finished =
-    step-of l j a at
-    ∙ ap (λ (n : Answer). option_and_then (item_of j) n.event) (move-finished l j step_choices NoSavePoint a finished)
+step-finished l j a at finished = grind (arith, step-of, move-finished)
 
 -- The next step of a record.
 
@@ -182,20 +150,12 @@ module _ (l : List Event) (j : ℕ) (r : Record) (of : IsJourneyOf l j r) where
 
   -- a running journey has a next step in its plan
   pub runs_below : r.cursor.phase ≡ Run → r.cursor.pos < step_count r.plan
-  runs_below run =
-      subst (λ n. n < step_count r.plan) (position-is l j r is)
-      (running_below r.plan h rules_kept (phase-is l j r Run is run))
+  runs_below run = grind (arith, position-is, is, running_below, rules_kept, phase-is)
 
   -- and this is it
   pub up_is_next : (n : NextStep) → r.cursor.phase ≡ Run → IsStepUp r.plan r.cursor.pos r.cursor.used n
       → Some n ≡ next_of r.plan h
-  up_is_next n run up =
-      let here : IsStepUp r.plan (position_of h) (refusals h) n =
-      subst (λ p. IsStepUp r.plan p (refusals h) n) (sym (position-is l j r is))
-      (subst (λ u. IsStepUp r.plan r.cursor.pos u n) (sym (used-is l j r is)) up) in
-      sym (next-run r.plan h (phase-is l j r Run is run)
-      ∙ ap (option_map (the_next (Transaction (position_of h + 1) (next_option r.plan h)))) here.want_is
-      ∙ ap (λ x. Some (the_next x n.want)) (sym here.item_is))
+  up_is_next n run up = grind (arith, position-is, is, used-is, next-run, phase-is)
 
   -- one that goes back compensates the step at its position, with the option that it took
   pub record GoesBack (c : ℕ) : Type 0 where
@@ -215,12 +175,7 @@ module _ (l : List Event) (j : ℕ) (r : Record) (of : IsJourneyOf l j r) where
       let both = and_parts (nat_le 1 last.0) (nat_le last.0 (option_count r.plan r.cursor.pos)) option in (
         last.0,
         record {
-          has = record {
-            from_one = omega (arith, low, place);
-            in_plan = omega (arith, high, place);
-            first = leb-true 1 last.0 both.0;
-            last = leb-true last.0 (option_count r.plan r.cursor.pos) both.1;
-          };
+          has = grind (arith, leb-true);
           last = at;
           latest = latest-standing h r.cursor.pos last.0 at;
         },
@@ -230,46 +185,25 @@ module _ (l : List Event) (j : ℕ) (r : Record) (of : IsJourneyOf l j r) where
       has_option : (ts : List (ℕ × ℕ)) (t : ℕ × ℕ) → last_of ts ≡ Some t → list_all (is_option_of r.plan) ts ≡ true
           → is_option_of r.plan t ≡ true
       has_option [] t e all = cc
-      has_option (x ∷ []) t e all =
-          let same : x ≡ t = cc in
-          ap (is_option_of r.plan) (sym same) ∙ (and_parts (is_option_of r.plan x) true all).0
+      has_option (x ∷ []) t e all = grind (arith, is_option_of, and_parts)
       has_option (x ∷ y ∷ ts) t e all =
           has_option (y ∷ ts) t e (and_parts (is_option_of r.plan x) (list_all (is_option_of r.plan) (y ∷ ts)) all).1
 
   pub down_is_next : (n : NextStep) (p c : ℕ) → r.cursor.phase ≡ Back p → GoesBack c
       → IsStepDown r.plan r.cursor.pos c n → Some n ≡ next_of r.plan h
-  down_is_next n p c back here down =
-      sym (next-back r.plan h p r.cursor.pos c (phase-is l j r (Back p) is back) here.last
-      ∙ ap (option_map (the_next (Compensation r.cursor.pos c))) down.want_is
-      ∙ ap (λ x. Some (the_next x n.want)) (sym down.item_is))
+  down_is_next n p c back here down = grind (arith, next-back, phase-is, is)
 
   -- What a step makes of the next step.
 
   -- the next step of a running journey has the next want
   next-want : (n : NextStep) → r.cursor.phase ≡ Run → Some n ≡ next_of r.plan h
       → (next_want r.plan h ≡ Some n.want) × (n.item ≡ Transaction (position_of h + 1) (next_option r.plan h))
-  next-want n run next = go (next_want r.plan h) refl
-    where
-      go : (o : Option Wanted) → next_want r.plan h ≡ o
-          → (o ≡ Some n.want) × (n.item ≡ Transaction (position_of h + 1) (next_option r.plan h))
-      go None e =
-          let bad : Some n ≡ None = next ∙ next-run r.plan h (phase-is l j r Run is run)
-          ∙ ap (option_map (the_next (Transaction (position_of h + 1) (next_option r.plan h)))) e in
-          cc
-      go (Some w) e =
-          let same : n ≡ the_next (Transaction (position_of h + 1) (next_option r.plan h)) w =
-          some_same n (the_next (Transaction (position_of h + 1) (next_option r.plan h)) w) (next ∙ next-run r.plan h (phase-is l j r Run is run)
-          ∙ ap (option_map (the_next (Transaction (position_of h + 1) (next_option r.plan h)))) e) in
-          (ap (λ (m : NextStep). Some m.want) (sym same), ap (λ (m : NextStep). m.item) same)
+  next-want n run next = grind (arith, next-run, phase-is, is, some_same)
 
   -- its want fits: its item
   pub step_fits : (n : NextStep) → r.cursor.phase ≡ Run → Some n ≡ next_of r.plan h → fits l (Some n.want) ≡ true
       → Some n.item ≡ step_of l j
-  step_fits n run next fitting =
-      let both = next-want n run next in
-      ap Some both.1
-      ∙ sym (step-made l j (begun_as r) (cursor_of r.plan h) (Transaction (position_of h + 1) (next_option r.plan h)) is.at
-      (step-fits l j (begun_as r) of.legal is.at (phase-is l j r Run is run) (ap (fits l) both.0 ∙ fitting)))
+  step_fits n run next fitting = grind (arith, next-want, step-made, step-fits, phase-is, is)
 
   -- the next want does not fit: a refused turn
   pub step_turns : (p : ℕ) → r.cursor.phase ≡ Run → fits l (next_want r.plan h) ≡ false
@@ -289,33 +223,12 @@ module _ (l : List Event) (j : ℕ) (r : Record) (of : IsJourneyOf l j r) where
   -- whether the next want of a running journey fits
   pub fits_next : (next : Option NextStep) (fitting : Bool) → r.cursor.phase ≡ Run → next ≡ next_of r.plan h
       → FitsNext l next fitting → fitting ≡ fits l (next_want r.plan h)
-  fits_next (Some n) fitting run next is_fit =
-      is_fit ∙ sym (ap (fits l) (next-want n run next).0)
-  fits_next None fitting run next is_fit = go (next_want r.plan h) refl
-    where
-      go : (o : Option Wanted) → next_want r.plan h ≡ o → fitting ≡ fits l o
-      go None e = is_fit
-      go (Some w) e =
-          let bad : None ≡ Some (the_next (Transaction (position_of h + 1) (next_option r.plan h)) w) =
-          next ∙ next-run r.plan h (phase-is l j r Run is run)
-          ∙ ap (option_map (the_next (Transaction (position_of h + 1) (next_option r.plan h)))) e in
-          cc
+  fits_next coming fitting run next is_fit = grind (arith, next-want, next-run, phase-is, is)
 
   -- a journey that goes back: the item of its next step
   pub step_backs : (n : NextStep) (p : ℕ) → r.cursor.phase ≡ Back p → Some n ≡ next_of r.plan h
       → Some n.item ≡ step_of l j
-  step_backs n p back next =
-      let here = goes_back p back in
-      let made : step_of l j ≡ Some (Compensation r.cursor.pos here.0) =
-      step-made l j (begun_as r) (cursor_of r.plan h) (Compensation r.cursor.pos here.0) is.at
-      (step-back l j (begun_as r) p r.cursor.pos here.0 of.legal is.at (phase-is l j r (Back p) is back) here.1.last) in
-      ap Some (item_is here.0 (want_at r.plan r.cursor.pos here.0)
-      (next ∙ next-back r.plan h p r.cursor.pos here.0 (phase-is l j r (Back p) is back) here.1.last)) ∙ sym made
-    where
-      item_is : (c : ℕ) (o : Option Wanted) → Some n ≡ option_map (the_next (Compensation r.cursor.pos c)) o
-          → n.item ≡ Compensation r.cursor.pos c
-      item_is c None e = cc
-      item_is c (Some w) e = let same : n ≡ the_next (Compensation r.cursor.pos c) w = cc in ap (λ (m : NextStep). m.item) same
+  step_backs n p back next = grind (arith, goes_back, step-made, step-back, phase-is, is, next-back)
 
   -- a journey that goes back has a next step
   pub none_goes_back : (p : ℕ) → r.cursor.phase ≡ Back p → None ≡ next_of r.plan h → None ≡ step_of l j
@@ -329,8 +242,7 @@ module _ (l : List Event) (j : ℕ) (r : Record) (of : IsJourneyOf l j r) where
 
   -- a finished journey: nothing
   pub step_ends : is_finished r.cursor.phase ≡ true → None ≡ step_of l j
-  step_ends finished =
-      sym (step-finished l j (begun_as r) is.at (ap is_finished (phase-is l j r r.cursor.phase is refl) ∙ finished))
+  step_ends finished = grind (arith, step-finished, phase-is, is)
 
   -- What a step makes, by the move.
 
@@ -350,10 +262,7 @@ module _ (l : List Event) (j : ℕ) (r : Record) (of : IsJourneyOf l j r) where
     turn_made p m_is = go r.cursor.phase refl fitting refl
       where
         go : (q : Phase) → r.cursor.phase ≡ q → (b : Bool) → fitting ≡ b → Some (Turn p Refused) ≡ step_of l j
-        go Run e true f =
-            let bad : move.Turn p ≡ move.Take (r.cursor.pos + 1) (rules.next_option r.plan r.cursor.pos r.cursor.used) =
-            sym m_is ∙ decides.takes e f in
-            cc
+        go Run e true f = grind arith
         go Run e false f =
             let target : move.Turn p ≡ move.Turn (rules.refused_target r.plan (is_taken_in r.marks) r.cursor.pos r.cursor.used) =
             sym m_is ∙ decides.turns e f in
@@ -364,23 +273,7 @@ module _ (l : List Event) (j : ℕ) (r : Record) (of : IsJourneyOf l j r) where
 
     -- a transaction is that of a running journey whose next want fits
     pub take_made : (i c : ℕ) → m ≡ move.Take i c → option_map (λ (n : NextStep). n.item) next ≡ step_of l j
-    take_made i c m_is = go r.cursor.phase refl fitting refl
-      where
-        taken : (o : Option NextStep) → r.cursor.phase ≡ Run → o ≡ next_of r.plan h → FitsNext l o fitting → fitting ≡ true
-            → option_map (λ (n : NextStep). n.item) o ≡ step_of l j
-        taken None e is_o fit f = let bad : true ≡ false = sym f ∙ fit in cc
-        taken (Some n) e is_o fit f = step_fits n e is_o (sym fit ∙ f)
-
-        go : (q : Phase) → r.cursor.phase ≡ q → (b : Bool) → fitting ≡ b
-            → option_map (λ (n : NextStep). n.item) next ≡ step_of l j
-        go Run e true f = taken next e is_next is_fit f
-        go Run e false f =
-            let bad : move.Take i c ≡ move.Turn (rules.refused_target r.plan (is_taken_in r.marks) r.cursor.pos r.cursor.used) =
-            sym m_is ∙ decides.turns e f in
-            cc
-        go (Back q) e b f = let bad : move.Take i c ≡ move.Undo r.cursor.pos = sym m_is ∙ decides.undoes q e in cc
-        go Ended e b f = let bad : move.Take i c ≡ move.Nothing = sym m_is ∙ decides.ends (ap is_finished e) in cc
-        go Undone e b f = let bad : move.Take i c ≡ move.Nothing = sym m_is ∙ decides.ends (ap is_finished e) in cc
+    take_made i c m_is = grind (arith, step_fits)
 
     -- a compensation is that of a journey that goes back
     pub undo_made : (i : ℕ) → m ≡ move.Undo i → option_map (λ (n : NextStep). n.item) next ≡ step_of l j
@@ -388,44 +281,21 @@ module _ (l : List Event) (j : ℕ) (r : Record) (of : IsJourneyOf l j r) where
       where
         undone : (o : Option NextStep) (p : ℕ) → r.cursor.phase ≡ Back p → o ≡ next_of r.plan h
             → option_map (λ (n : NextStep). n.item) o ≡ step_of l j
-        undone None p e is_o = none_goes_back p e is_o
-        undone (Some n) p e is_o = step_backs n p e is_o
+        undone o p e is_o = grind (arith, none_goes_back, step_backs)
 
         go : (q : Phase) → r.cursor.phase ≡ q → (b : Bool) → fitting ≡ b
             → option_map (λ (n : NextStep). n.item) next ≡ step_of l j
-        go Run e true f =
-            let bad : move.Undo i ≡ move.Take (r.cursor.pos + 1) (rules.next_option r.plan r.cursor.pos r.cursor.used) =
-            sym m_is ∙ decides.takes e f in
-            cc
-        go Run e false f =
-            let bad : move.Undo i ≡ move.Turn (rules.refused_target r.plan (is_taken_in r.marks) r.cursor.pos r.cursor.used) =
-            sym m_is ∙ decides.turns e f in
-            cc
+        go Run e true f = grind arith
+        go Run e false f = grind arith
         go (Back p) e b f = undone next p e is_next
         go Ended e b f = let bad : move.Undo i ≡ move.Nothing = sym m_is ∙ decides.ends (ap is_finished e) in cc
         go Undone e b f = let bad : move.Undo i ≡ move.Nothing = sym m_is ∙ decides.ends (ap is_finished e) in cc
 
     -- nothing is made of a finished journey
     pub none_made : m ≡ move.Nothing → None ≡ step_of l j
-    none_made m_is = go r.cursor.phase refl fitting refl
-      where
-        go : (q : Phase) → r.cursor.phase ≡ q → (b : Bool) → fitting ≡ b → None ≡ step_of l j
-        go Run e true f =
-            let bad : move.Nothing ≡ move.Take (r.cursor.pos + 1) (rules.next_option r.plan r.cursor.pos r.cursor.used) =
-            sym m_is ∙ decides.takes e f in
-            cc
-        go Run e false f =
-            let bad : move.Nothing ≡ move.Turn (rules.refused_target r.plan (is_taken_in r.marks) r.cursor.pos r.cursor.used) =
-            sym m_is ∙ decides.turns e f in
-            cc
-        go (Back q) e b f = let bad : move.Nothing ≡ move.Undo r.cursor.pos = sym m_is ∙ decides.undoes q e in cc
-        go Ended e b f = step_ends (ap is_finished e)
-        go Undone e b f = step_ends (ap is_finished e)
+    none_made m_is = grind (arith, step_ends)
 
   -- the outlook of its record, its next step and what a step makes
   pub outlook_is : (next : Option NextStep) (step : Option Item) → next ≡ next_of r.plan h → step ≡ step_of l j
       → the_outlook j r.agent r.cursor next step ≡ outlook_of l j (begun_as r)
-  outlook_is next step is_next is_step =
-      ap (λ c. the_outlook j r.agent c next step) is.cursor_is
-      ∙ ap (λ n. the_outlook j r.agent (cursor_of r.plan h) n step) is_next
-      ∙ ap (the_outlook j r.agent (cursor_of r.plan h) (next_of r.plan h)) is_step
+  outlook_is next step is_next is_step = grind (arith, the_outlook)

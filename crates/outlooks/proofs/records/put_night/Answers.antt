@@ -1,5 +1,5 @@
 -- The two fields are those of the night.
-use Rattle.std.proofs.Common.{◌≡◌, ◌∙◌, ◌∷◌, [], ap, ap₂, sym, subst, List, ℕ}
+use Rattle.std.proofs.Common.{◌≡◌, ◌∷◌, [], subst, List, ℕ, arith}
 use Rattle.reports.specs.Records.{Adds}
 use Rattle.outlooks.specs.Layouts.{night_fields}
 use Rattle.outlooks.proofs.records.put_night.Goals as goal
@@ -7,8 +7,5 @@ use Rattle.outlooks.proofs.records.put_night.Goals as goal
 pub returns-in_ok-free-in-Some : goal.returns-in_ok-free-in-Some
 returns-in_ok-free-in-Some c =
     let two : List ℕ → List ℕ → List (List ℕ) = λ a b. a ∷ b ∷ [] in
-    let fields : two c.as_str.result.now c.as_str-in-Some.result.now ≡ night_fields c.args.night.now =
-    ap₂ two (c.as_str.ensures.value ∙ c.in_ok-text-in-Some.ensures.text)
-    (c.as_str-in-Some.ensures.value ∙ c.in_ok-free-in-Some.ensures.field)
-    ∙ ap night_fields (sym c.in-Some.is) in
+    let fields : two c.as_str.result.now c.as_str-in-Some.result.now ≡ night_fields c.args.night.now = grind arith in
     record { adds = subst (λ fs. Adds c.args.row.now c.put_two.new.row fs c.put_two.result) fields c.put_two.ensures.adds }

@@ -1,14 +1,12 @@
 -- The next step of a running journey, and of one that goes back.
-use Rattle.std.proofs.Common.{◌≡◌, ◌∙◌, refl, sym, subst, true, false, IfSome, IsSome, Some}
-use Rattle.outlooks.specs.Outlooks.{HasOption, IsStepDown}
+use Rattle.std.proofs.Common.{◌≡◌, ◌∙◌, subst, true, false, IfSome, Some, arith}
+use Rattle.outlooks.specs.Outlooks.{IsStepDown}
 use Rattle.outlooks.proofs.OutlookLemmas.{down_is_next, goes_back, runs_below, up_is_next}
 use Rattle.outlooks.proofs.steps.next_step.Goals as goal
 
 -- a running journey is short of its last step
 pub returns-in_err-step_up-in-Run-clause-there : goal.returns-in_err-step_up-in-Run-clause-there
-returns-in_err-step_up-in-Run-clause-there c l j here taken =
-    let bad : false ≡ true = c.in_err-step_up-in-Run.ensures.there (runs_below l j c.args.journey.now here c.in-Run.is) in
-    absurd (cc)
+returns-in_err-step_up-in-Run-clause-there c l j here taken = grind (arith, runs_below, c.in_err-step_up-in-Run.ensures.there)
 
 -- one that goes back has done the step at its position
 pub returns-in_err-step_down-in-Back-clause-there :
@@ -17,9 +15,7 @@ returns-in_err-step_down-in-Back-clause-there c l j here taken =
     let r = c.args.journey.now in
     let back = goes_back l j r here c.in-Back.field-0 c.in-Back.is in
     let option : c.args.taken ≡ Some back.0 = taken c.in-Back.field-0 c.in-Back.is ∙ back.1.latest in
-    let bad : false ≡ true = c.in_err-step_down-in-Back.ensures.there
-    (subst (λ o. IfSome o (HasOption r.plan r.cursor.pos)) (sym option) back.1.has)
-    (subst IsSome (sym option) refl) in
+    let bad : false ≡ true = grind arith in
     absurd (cc)
 
 pub returns-in_ok-step_up-in-Run-clause-next : goal.returns-in_ok-step_up-in-Run-clause-next

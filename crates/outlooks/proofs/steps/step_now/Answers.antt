@@ -1,6 +1,6 @@
 -- The move says what a step makes.
 use Rattle.outlooks.proofs.OutlookLemmas.{none_made, take_made, turn_made, undo_made}
-use Rattle.std.proofs.Common.{◌∙◌}
+use Rattle.std.proofs.Common.{◌∙◌, arith}
 use Rattle.outlooks.proofs.steps.step_now.Goals as goal
 
 pub returns-in-Turn : goal.returns-in-Turn
@@ -30,9 +30,4 @@ returns-in-Undo c = record {
 }
 
 pub returns-in-Nothing : goal.returns-in-Nothing
-returns-in-Nothing c = record {
-  step = λ l j here is_next is_fit.
-      none_made l j c.args.journey.now here c.args.next.now c.args.fitting c.decide.result
-      (record { takes = c.decide.ensures.takes; turns = c.decide.ensures.turns; undoes = c.decide.ensures.undoes; ends = c.decide.ensures.nothing.1 })
-      is_next is_fit c.in-Nothing.is;
-}
+returns-in-Nothing c = grind (arith, none_made)
