@@ -1,8 +1,7 @@
 -- The rows of the journeys that are asked for. For `brief_rows`.
-use Rattle.std.proofs.Common.{◌≡◌, suc, List, filter, refl, ap, nat_le, ◌&&◌}
+use Rattle.std.proofs.Common.{◌≡◌, suc, List, filter, ap, nat_le, ◌&&◌, arith}
 use Rattle.std.specs.List.Sorted.{IsPermutation}
 use Rattle.commands.specs.declared.items.Phase.{Phase}
-use Rattle.commands.specs.declared.items.Phase.TheVariants.{Run, Back, Ended, Undone}
 use Rattle.ledger.specs.History.{phase}
 use Rattle.ledger.specs.Ledger.{Event, history}
 use Rattle.saga_core.specs.declared.records.Brief.{Brief}
@@ -12,7 +11,6 @@ use Rattle.filters.specs.JourneyFilters.{asked_of, is_journey_asked, is_phase_as
 use Rattle.filters.specs.declared.journeys.JourneyFilter.{JourneyFilter}
 use Rattle.filters.specs.declared.journeys.JourneyState.TheVariants as state
 use Rattle.filters.specs.declared.journeys.Phases.{Phases}
-use Rattle.filters.specs.declared.journeys.Phases.TheVariants.{All, Unfinished, Only}
 use Rattle.sql_lists.specs.JourneyLists.{is_journey_listed, least_phase, most_phase}
 use Rattle.sql_model.specs.Briefs.{TellBriefs}
 use Rattle.sql_model.specs.ExpectedRows.{phase_number, journeys_called}
@@ -22,30 +20,7 @@ use Rattle.sql_model.proofs.Orders.{Rises}
 -- a phase is in the range of numbers where it is asked for
 phases_same : (phases : Phases) (p : Phase)
     → (nat_le (least_phase phases) (phase_number p) && nat_le (phase_number p) (most_phase phases)) ≡ is_phase_asked phases p
-phases_same All Run = refl
-phases_same All (Back target) = refl
-phases_same All Ended = refl
-phases_same All Undone = refl
-phases_same Unfinished Run = refl
-phases_same Unfinished (Back target) = refl
-phases_same Unfinished Ended = refl
-phases_same Unfinished Undone = refl
-phases_same (Only state.Run) Run = refl
-phases_same (Only state.Run) (Back target) = refl
-phases_same (Only state.Run) Ended = refl
-phases_same (Only state.Run) Undone = refl
-phases_same (Only state.Back) Run = refl
-phases_same (Only state.Back) (Back target) = refl
-phases_same (Only state.Back) Ended = refl
-phases_same (Only state.Back) Undone = refl
-phases_same (Only state.Ended) Run = refl
-phases_same (Only state.Ended) (Back target) = refl
-phases_same (Only state.Ended) Ended = refl
-phases_same (Only state.Ended) Undone = refl
-phases_same (Only state.Undone) Run = refl
-phases_same (Only state.Undone) (Back target) = refl
-phases_same (Only state.Undone) Ended = refl
-phases_same (Only state.Undone) Undone = refl
+phases_same phases p = grind arith
 
 -- the rows of the journeys that are asked for are those of their briefs
 pub asked_told : (f : JourneyFilter) (l : List Event) (t : Tables) (shown : List Brief) → IsPermutation (journeys_called l) t.journey

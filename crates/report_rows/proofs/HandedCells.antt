@@ -1,5 +1,5 @@
 -- The cells that are asked for, in their only order. For `cell_rows`.
-use Rattle.std.proofs.Common.{◌≡◌, inl, inr, ℕ, List, [], ◌∷◌, map, filter, cond, ◌==◌, ◌&&◌, Bool, true, false, Option, Some, None, refl, ap, ◌∙◌, arith, nat_le}
+use Rattle.std.proofs.Common.{◌≡◌, inl, inr, ℕ, List, [], ◌∷◌, map, filter, cond, Bool, true, false, Option, refl, ◌∙◌, arith, nat_le}
 use Rattle.std.specs.Ordering.{is_lt}
 use Rattle.std.proofs.lemmas.Bool.{and_parts}
 use Rattle.std.proofs.lemmas.Bool.Decides.{nat_tests}
@@ -8,10 +8,9 @@ use Rattle.sqlite_rules.specs.Lists.{Has}
 use Rattle.sqlite_rules.proofs.ListLemmas.{has_filtered, has_kept}
 use Rattle.sqlite_rules.proofs.ProbeLemmas.{mapped_has}
 use Rattle.allotment.specs.Limits.{first_night, last_night}
-use Rattle.allotment.specs.Cells.{kind_number}
 use Rattle.allotment.specs.declared.cells.Cell.{Cell}
 use Rattle.allotment.specs.declared.codes.Kind.{Kind}
-use Rattle.filters.specs.CellFilters.{is_cell_of, is_from, is_name_asked, is_to, last_day}
+use Rattle.filters.specs.CellFilters.{is_cell_of, is_to, last_day}
 use Rattle.filters.specs.declared.cells.CellFilter.{CellFilter}
 use Rattle.sql_lists.specs.CellLists.{is_row_asked}
 use Rattle.allotment.specs.declared.places.Held.{Held}
@@ -29,23 +28,17 @@ use Rattle.sql_reads.proofs.GoodStock.{good_row}
 use Rattle.report_rows.proofs.HandedStock.{in_order_strict, listed_row, one_order, row_listed}
 
 to_same : (last : Option ℕ) (night : ℕ) → nat_le night last_night ≡ true → nat_le night (last_day last) ≡ is_to last night
-to_same None night low = grind (arith, nat_tests, low)
-to_same (Some last) night low = refl
+to_same last night low = grind (arith, nat_tests)
 
 kept_same : (v w : Bool) (c : Cell × Held) (rs : List StockRow) (cs : List (Cell × Held)) → v ≡ w → rs ≡ map stock_row_of cs
     → cond v (stock_row_of c ∷ rs) rs ≡ map stock_row_of (cond w (c ∷ cs) cs)
-kept_same true true c rs cs e more = ap (λ xs. stock_row_of c ∷ xs) more
-kept_same true false c rs cs e more = cc
-kept_same false true c rs cs e more = cc
-kept_same false false c rs cs e more = more
+kept_same v w c rs cs e more = grind arith
 
 module _ (l : List Event) (stock : List StockRow) (stand : StockStands l stock) (cells : List (Cell × Held)) (is : IsStock l cells) where
   -- a row is one of those that are asked for where its cell is
   each_asked : (kind : Kind) (f : CellFilter) (c : Cell × Held) → nat_le c.0.night last_night ≡ true
       → is_row_asked kind f (stock_row_of c) ≡ is_cell_of kind f c.0
-  each_asked kind f c low =
-      ap (λ b. (kind_number c.0.kind == kind_number kind) && (is_name_asked f.supplier c.0.supplier && (is_name_asked f.product c.0.product && b)))
-      (ap (λ b. is_from f.from c.0.night && b) (to_same f.to c.0.night low))
+  each_asked kind f c low = grind (arith, to_same)
 
   rows_asked : (kind : Kind) (f : CellFilter) (some : List (Cell × Held)) → ((c : Cell × Held) → Has some c → nat_le c.0.night last_night ≡ true)
       → filter (is_row_asked kind f) (map stock_row_of some) ≡ map stock_row_of (filter (λ (c : Cell × Held). is_cell_of kind f c.0) some)

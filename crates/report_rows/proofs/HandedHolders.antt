@@ -1,22 +1,19 @@
 -- The rows of the holders of a cell, in their only order. For `holder_rows`.
-use Rattle.std.proofs.Common.{◌≡◌, ◌⊎◌, inl, inr, ℕ, suc, ◌<◌, ◌≤◌, List, [], ◌∷◌, map, filter, Bool, refl, sym, ap, ap₂, subst, ◌∙◌, arith, flat_map}
+use Rattle.std.proofs.Common.{◌≡◌, ◌⊎◌, inl, inr, ℕ, suc, ◌<◌, ◌≤◌, List, [], ◌∷◌, map, filter, Bool, refl, sym, ap, ap₂, ◌∙◌, arith, flat_map}
 use Rattle.std.specs.List.{AllByRecursion}
 use Rattle.std.specs.List.Sorted.{IsPermutation}
 use Rattle.sqlite_trees.specs.Tree.{IsAscending}
 use Rattle.sqlite_trees.proofs.ListLemmas.{IsPermutation-filter, all-append, all-flat_map, all-map, all_of, all_weaker, ascending-append, ascending-filter, ascending-map, ascending_weaker}
 use Rattle.sqlite_rules.specs.Lists.{Has}
 use Rattle.sqlite_rules.proofs.ListLemmas.{all_has}
-use Rattle.allotment.specs.Want.{Wanted}
 use Rattle.allotment.specs.declared.cells.Cell.{Cell}
 use Rattle.plan.specs.PlanModel.{Planned, StepPlan}
 use Rattle.ledger.specs.Ledger.{Event, IsLegal, Journey, history, journeys}
 use Rattle.desk_sql.specs.Rows.{StepRow, Tables}
-use Rattle.desk_sql.specs.FoundRows.{IsByPlace}
 use Rattle.desk_sql.specs.RemainingRows.{IsOnlyOrder}
 use Rattle.desk_sql.proofs.Members.{permutation_from, permutation_to}
 use Rattle.sql_lists.specs.HolderLists.{IsByStep, ListsHolders, is_row_held}
-use Rattle.sql_lists.specs.declared.holders.HolderFound.{HolderFound}
-use Rattle.sql_model.specs.ExpectedRows.{counted_from, is_standing, option_row, option_rows, step_rows, steps_called}
+use Rattle.sql_model.specs.ExpectedRows.{counted_from, is_standing, option_rows, step_rows, steps_called}
 use Rattle.sql_model.proofs.Numbering.{counted_rises}
 use Rattle.sql_model.proofs.Orders.{ascending_where, pairs-permutation}
 use Rattle.holder_reports.specs.Holders.{holders_of}
@@ -30,19 +27,12 @@ module _ {A X : Type 0} (R : X → X → Type 0) (key : X → ℕ) (lower : (a b
     (own : (p : ℕ × A) → AllByRecursion (λ x. key x ≡ p.0) (f p)) (each : (p : ℕ × A) → IsAscending R (f p)) where
   above : (n : ℕ) (ps : List A) → AllByRecursion (λ x. n ≤ key x) (flat_map f (counted_from n ps))
   above n [] = tt
-  above n (p ∷ ps) =
-      all-append (λ x. n ≤ key x) (f (n, p)) (flat_map f (counted_from (suc n) ps))
-      (all_weaker (λ x. key x ≡ n) (λ x. n ≤ key x) (λ x is. omega arith) (f (n, p)) (own (n, p)))
-      (all_weaker (λ x. suc n ≤ key x) (λ x. n ≤ key x) (λ x low. omega arith) (flat_map f (counted_from (suc n) ps)) (above (suc n) ps))
+  above n (p ∷ ps) = grind (arith, all-append, all_weaker, above (suc n) ps)
 
   -- elements that ascend under each number ascend in all
   rise : (n : ℕ) (ps : List A) → IsAscending R (flat_map f (counted_from n ps))
   rise n [] = tt
-  rise n (p ∷ ps) =
-      ascending-append R (f (n, p)) (flat_map f (counted_from (suc n) ps)) (each (n, p)) (rise (suc n) ps)
-      (all_weaker (λ x. key x ≡ n) (λ x. AllByRecursion (R x) (flat_map f (counted_from (suc n) ps)))
-      (λ x is. all_weaker (λ y. suc n ≤ key y) (R x) (λ y high. lower x y (omega arith)) (flat_map f (counted_from (suc n) ps)) (above (suc n) ps))
-      (f (n, p)) (own (n, p)))
+  rise n (p ∷ ps) = grind (arith, ascending-append, all_weaker, above, rise (suc n) ps)
 
 -- The rows of all plans.
 
@@ -55,25 +45,14 @@ abbrev pub IsBefore : StepRow → StepRow → Type 0
 IsBefore a b = (a.journey < b.journey) ⊎ ((a.journey ≡ b.journey) × IsPlacedBefore a b)
 
 module _ (taken : ℕ → ℕ → Bool) (id : ℕ) where
-  abbrev row_at : ℕ → Bool → ℕ × Wanted → StepRow
-  row_at k m w = option_row id k m w.0 (taken k w.0) w.1
-
   options_rise : (s : ℕ × StepPlan) → IsAscending IsPlacedBefore (option_rows taken id s.0 s.1)
-  options_rise s =
-      ascending-map IsPlacedBefore (row_at s.0 s.1.is_marked) (counted_from 1 s.1.options)
-      (ascending_weaker (λ (p q : ℕ × Wanted). p.0 < q.0) (λ (p q : ℕ × Wanted). IsPlacedBefore (row_at s.0 s.1.is_marked p) (row_at s.0 s.1.is_marked q))
-      (λ p q low. inr (refl, low)) (counted_from 1 s.1.options) (counted_rises 1 s.1.options))
+  options_rise s = grind (arith, ascending-map, ascending_weaker, counted_rises)
 
   options_placed : (s : ℕ × StepPlan) → AllByRecursion (λ (r : StepRow). r.place ≡ s.0) (option_rows taken id s.0 s.1)
-  options_placed s =
-      all-map (λ (r : StepRow). r.place ≡ s.0) (row_at s.0 s.1.is_marked) (counted_from 1 s.1.options)
-      (all_of (λ w. (row_at s.0 s.1.is_marked w).place ≡ s.0) (λ w. refl) (counted_from 1 s.1.options))
+  options_placed s = grind (arith, all-map, all_of)
 
   steps_own : (plan : Planned) → AllByRecursion (λ (r : StepRow). r.journey ≡ id) (step_rows taken id plan)
-  steps_own plan =
-      all-flat_map (λ (r : StepRow). r.journey ≡ id) (λ (s : ℕ × StepPlan). option_rows taken id s.0 s.1) (counted_from 1 plan.steps)
-      (all_of _ (λ s. all-map (λ (r : StepRow). r.journey ≡ id) (row_at s.0 s.1.is_marked) (counted_from 1 s.1.options)
-      (all_of _ (λ w. refl) (counted_from 1 s.1.options))) (counted_from 1 plan.steps))
+  steps_own plan = grind (arith, all-flat_map, all_of, all-map)
 
   steps_rise : (plan : Planned) → IsAscending IsBefore (step_rows taken id plan)
   steps_rise plan =
@@ -93,35 +72,19 @@ called_rise l =
 -- One order.
 
 not_both : (a b : StepRow) → IsBefore a b → IsByStep b a → ⊥
-not_both a b (inl low) (inl high) = omega arith
-not_both a b (inl low) (inr tied) = let same = tied.0 in omega arith
-not_both a b (inr tied) (inl high) = let same = tied.0 in omega arith
-not_both a b (inr one) (inr two) = placed one.1 two.1
-  where
-    placed : IsPlacedBefore a b → IsByPlace b a → ⊥
-    placed (inl low) (inl high) = omega arith
-    placed (inl low) (inr tied) = let same = tied.0 in omega arith
-    placed (inr tied) (inl high) = let same = tied.0 in omega arith
-    placed (inr below) (inr tied) = let low = below.1 in let high = tied.1 in omega arith
+not_both a b before behind = grind arith
 
 by_step : (a b : StepRow) → IsBefore a b → IsByStep a b
-by_step a b (inl low) = inl low
-by_step a b (inr tied) = inr (tied.0, placed tied.1)
-  where
-    placed : IsPlacedBefore a b → IsByPlace a b
-    placed (inl low) = inl low
-    placed (inr below) = inr (below.0, (let low = below.1 in omega arith))
+by_step a b before = grind arith
 
 abbrev AreApart : StepRow → StepRow → Type 0
 AreApart a b = IsBefore a b ⊎ IsBefore b a
 
 turned : (a b : StepRow) → AreApart a b → AreApart b a
-turned a b (inl before) = inr before
-turned a b (inr behind) = inl behind
+turned a b apart = grind arith
 
 strict_of : (a b : StepRow) → IsByStep a b → AreApart a b → IsBefore a b
-strict_of a b up (inl before) = before
-strict_of a b up (inr behind) = absurd (not_both b a behind up)
+strict_of a b up apart = grind (arith, not_both)
 
 strict : (ys : List StepRow) → IsAscending IsByStep ys → IsAscending AreApart ys → IsAscending IsBefore ys
 strict [] up apart = tt
@@ -153,10 +116,7 @@ one_rising (x ∷ xs) (y ∷ ys) p q a b =
     (λ r h. elim (b r (inr h)) [ inl e ↦ absurd (past y ys q.0 r h (e ∙ first)) | inr k ↦ k ]))
   where
     past : (z : StepRow) (zs : List StepRow) → AllByRecursion (IsBefore z) zs → (r : StepRow) → Has zs r → r ≡ z → ⊥
-    past z zs up r h e =
-        let before : IsBefore z r = all_has _ zs r up h in
-        let self : IsBefore z z = subst (λ (s : StepRow). IsBefore z s) e before in
-        not_before z z self self
+    past z zs up r h e = grind (arith, all_has, not_before)
 
 module _ (x : Cell) (l : List Event) (t : Tables) (called : IsPermutation (steps_called l) t.step) where
   abbrev held_rows : List StepRow
@@ -180,9 +140,4 @@ module _ (x : Cell) (l : List Event) (t : Tables) (called : IsPermutation (steps
 
 -- a row determines its holder
 pub holder_same : (h k : Holder) → found_of h ≡ found_of k → h ≡ k
-holder_same h k e =
-    let journey : h.journey ≡ k.journey = ap (λ (f : HolderFound). f.journey) e in
-    let step : h.step ≡ k.step = ap (λ (f : HolderFound). f.place) e in
-    let option : h.option ≡ k.option = ap (λ (f : HolderFound). f.opt) e in
-    let places : h.places ≡ k.places = ap (λ (f : HolderFound). f.places) e in
-    rw (journey, step, option, places) refl
+holder_same h k e = grind arith

@@ -1,5 +1,5 @@
 -- The rows of the holders of cells, night by night, in their only order. For `start_holdings`.
-use Rattle.std.proofs.Common.{◌≡◌, ◌≢◌, ℕ, suc, ◌+◌, ◌<◌, ◌≤◌, ◌-◌, ◌^◌, ◌==◌, ◌&&◌, List, [], ◌∷◌, ◌++◌, map, filter, Bool, true, false, Some, is_lt, refl, sym, ap, ap₂, subst, ◌∙◌, arith, flat_map, nat_le}
+use Rattle.std.proofs.Common.{◌≡◌, ◌≢◌, ℕ, suc, ◌+◌, ◌<◌, ◌≤◌, ◌-◌, ◌^◌, ◌==◌, ◌&&◌, List, [], ◌∷◌, ◌++◌, map, filter, Bool, true, Some, is_lt, refl, sym, ap, ap₂, subst, ◌∙◌, arith, flat_map, nat_le}
 use Rattle.std.specs.List.{AllByRecursion, list_all}
 use Rattle.std.specs.List.Sorted.{IsPermutation}
 use Rattle.std.proofs.lemmas.Bool.{and_from, and_parts, leb-true}
@@ -23,14 +23,14 @@ use Rattle.desk_sql.specs.RemainingRows.{IsOnlyOrder}
 use Rattle.desk_sql.proofs.Members.{permutation_from, permutation_to}
 use Rattle.sql_model.specs.ExpectedRows.{counted_from, is_standing, journeys_called, option_row, option_rows, step_rows, steps_called}
 use Rattle.sql_model.specs.Reading.{stock_row_of}
-use Rattle.sql_model.specs.Standing.{StockStands, is_same_stock}
+use Rattle.sql_model.specs.Standing.{StockStands}
 use Rattle.sql_model.proofs.Numbering.{counted_stands}
 use Rattle.sql_model.proofs.Orders.{pairs-permutation}
 use Rattle.sql_model.proofs.RecordRows.{plan_good}
 use Rattle.sql_lists.specs.HolderLists.{is_row_held}
 use Rattle.sql_lists.specs.HoldingLists.{IsByNight, Joined, holding_of as row_shown, is_held_in, is_joined, is_stock_asked, join, joined, joined_cmp}
 use Rattle.holder_reports.specs.Holders.{holders_of}
-use Rattle.holder_reports.specs.Holdings.{by_night, cells_asked, holdings_in, holdings_of}
+use Rattle.holder_reports.specs.Holdings.{cells_asked, holdings_in, holdings_of}
 use Rattle.holder_reports.specs.declared.holdings.Holding.{Holding}
 use Rattle.report_rows.specs.HoldingsLeft.{holding_short, holding_told}
 use Rattle.report_rows.proofs.HandedHolders.{IsBefore, called_rise, not_before}
@@ -163,9 +163,7 @@ module _ (l : List Event) (legal : IsLegal l) where
     -- The one order.
 
     cells_apart : IsAscending ◌≢◌ t.stock
-    cells_apart =
-        ascending_weaker (λ (a b : StockRow). is_same_stock a b ≡ false) ◌≢◌
-        (λ a b off e. let bad : true ≡ false = sym (same_self a) ∙ ap (is_same_stock a) e ∙ off in absurd (cc)) t.stock stand.once
+    cells_apart = grind (arith, ascending_weaker, same_self)
 
     options_apart : IsAscending ◌≢◌ t.step
     options_apart =
@@ -174,9 +172,7 @@ module _ (l : List Event) (legal : IsLegal l) where
         let self : IsBefore a a = subst (IsBefore a) (sym e) before in not_before a a self self) (steps_called l) (called_rise l))
 
     journeys_apart : IsAscending ◌≢◌ t.journey
-    journeys_apart =
-        ascending_weaker (λ (a b : JourneyRow). a.id < b.id) ◌≢◌
-        (λ a b low e. let same = ap (λ (j : JourneyRow). j.id) e in absurd (omega (arith, low, same))) t.journey rise
+    journeys_apart = grind (arith, ascending_weaker)
 
     expected_rises : IsAscending IsJoinedBefore expected
     expected_rises =
@@ -200,9 +196,4 @@ module _ (l : List Event) (legal : IsLegal l) where
     -- they are shown as the holders of the cells that are asked for
     pub holdings_told : (holdings : List Holding) → holdings ≡ holdings_in l (cells_asked f all)
         → map holding_short (map row_shown expected) ≡ map holding_told holdings
-    holdings_told holdings are =
-        cells_told chosen
-        ∙ ap (λ xs. map holding_told (flat_map (holdings_of l) xs))
-        (nightly_same (filter (λ (r : Listed). is_cell_asked f r.0) all)
-        ∙ ap by_night (sym (filter-map (is_cell_asked f) (λ (r : Listed). r.0) all)))
-        ∙ ap (map holding_told) (sym are)
+    holdings_told holdings are = grind (arith, cells_told, nightly_same, filter-map)

@@ -1,8 +1,7 @@
 -- The rows of the stock, in their only order. For `cell_rows`.
-use Rattle.std.proofs.Common.{◌≡◌, inl, inr, ℕ, ◌≤◌, List, [], ◌∷◌, map, find, true, false, Option, Some, None, refl, sym, ap, ap₂, subst, ◌∙◌, eqb-true, eq-eqb, option_map}
+use Rattle.std.proofs.Common.{◌≡◌, inl, inr, ℕ, ◌≤◌, List, [], ◌∷◌, map, find, true, false, Option, Some, None, refl, sym, ap, ap₂, subst, ◌∙◌, eqb-true, eq-eqb, option_map, arith}
 use Rattle.std.specs.Ordering.{is_lt, ordering_reverse}
 use Rattle.std.specs.declared.cmp.Ordering.{Ordering}
-use Rattle.std.specs.declared.cmp.Ordering.TheVariants.{Less, Equal, Greater}
 use Rattle.std.specs.Cmp.{IsTotalOrder}
 use Rattle.std.specs.List.{AllByRecursion}
 use Rattle.std.proofs.Math.Bridge.{le_prop}
@@ -41,15 +40,11 @@ not_before : (r : StockRow) → is_lt (stock_cmp r r) ≡ true → ⊥
 not_before r e = go (stock_cmp r r) (stock_total.antisymm r r) e
   where
     go : (o : Ordering) → o ≡ ordering_reverse o → is_lt o ≡ true → ⊥
-    go Less f g = cc
-    go Equal f g = cc
-    go Greater f g = cc
+    go o f g = grind arith
 
 -- a row is of the same cell as itself
 pub same_self : (r : StockRow) → is_same_stock r r ≡ true
-same_self r =
-    and_from _ _ (and_from _ _ (and_from _ _ (eq-eqb r.kind r.kind refl) ((bytes_eq-Decides r.supplier r.supplier).1 refl)) ((bytes_eq-Decides r.product r.product).1 refl))
-    (eq-eqb r.night r.night refl)
+same_self r = grind (arith, and_from, eq-eqb, bytes_eq-Decides)
 
 -- a list in which no element is before an earlier one is the list in which each is before all later ones
 pub one_order : (xs ys : List StockRow) → IsAscending IsByCell xs → AreApart is_same_stock xs
@@ -71,26 +66,14 @@ one_order (x ∷ xs) (y ∷ ys) up apart strict a b =
     (λ r h. elim (b r (inr h)) [ inl e ↦ absurd (again r h (e ∙ first)) | inr k ↦ k ]))
   where
     twice : (r : StockRow) → Has xs r → r ≡ x → ⊥
-    twice r h e =
-        let off = all_has _ xs r apart.0 h in
-        let bad : true ≡ false = sym (same_self x) ∙ ap (is_same_stock x) (sym e) ∙ off in cc
+    twice r h e = grind (arith, all_has, same_self)
 
     again : (r : StockRow) → Has ys r → r ≡ y → ⊥
     again r h e = not_before y (ap (λ s. is_lt (stock_cmp y s)) (sym e) ∙ all_has _ ys r strict.0 h)
 
 -- a row of this cell with these places is the row that both give
 row_is : (x : Cell) (h : Held) (r : StockRow) → is_stock_of x r ≡ true → places_said h ≡ places_told r → stock_row_of (x, h) ≡ r
-row_is x h r on places =
-    let three = and_parts _ _ on in
-    let two = and_parts _ _ three.0 in
-    let one = and_parts _ _ two.0 in
-    let kind : kind_number x.kind ≡ r.kind = eqb-true _ _ one.0 in
-    let supplier : x.supplier ≡ r.supplier = (bytes_eq-Decides x.supplier r.supplier).0 one.1 in
-    let product : x.product ≡ r.product = (bytes_eq-Decides x.product r.product).0 two.1 in
-    let night : x.night ≡ r.night = eqb-true _ _ three.1 in
-    let allot : h.allot ≡ r.allot = ap (λ (p : Places). p.allot) places in
-    let free : h.free ≡ r.free = ap (λ (p : Places). p.free) places in
-    rw (kind, supplier, product, night, allot, free) refl
+row_is x h r on places = grind (arith, and_parts, eqb-true, bytes_eq-Decides)
 
 pub in_order_strict : (cells : List (Cell × Held)) → are_in_order cells ≡ true
     → IsAscending (λ (r s : StockRow). is_lt (stock_cmp r s) ≡ true) (map stock_row_of cells)
@@ -116,9 +99,7 @@ one_of_cell (x ∷ cells) order c d (inr h) (inr k) e = one_of_cell cells (and_p
 
 -- the test of a cell is reflexive
 self_cell : (x : Cell) → is_cell x x ≡ true
-self_cell x =
-    and_from _ _ (and_from _ _ (and_from _ _ (eq-eqb (kind_number x.kind) (kind_number x.kind) refl) ((bytes_eq-Decides x.supplier x.supplier).1 refl)) ((bytes_eq-Decides x.product x.product).1 refl))
-    (eq-eqb x.night x.night refl)
+self_cell x = grind (arith, and_from, eq-eqb, bytes_eq-Decides)
 
 -- the places that the list has of a cell are those of one of its elements
 listed_there : (cells : List (Cell × Held)) (x : Cell) (p : Places) → places_at cells x ≡ Some p
@@ -190,8 +171,6 @@ held_same h k allot free =
 pub cell_same : (c d : Cell × Held) → stock_row_of c ≡ stock_row_of d → c ≡ d
 cell_same c d e =
     let kind : kind_number c.0.kind ≡ kind_number d.0.kind = ap (λ (r : StockRow). r.kind) e in
-    let cell : c.0 ≡ d.0 = is_cell-same c.0 d.0
-    (and_from _ _ (and_from _ _ (and_from _ _ (eq-eqb _ _ kind) ((bytes_eq-Decides c.0.supplier d.0.supplier).1 (ap (λ (r : StockRow). r.supplier) e)))
-    ((bytes_eq-Decides c.0.product d.0.product).1 (ap (λ (r : StockRow). r.product) e))) (eq-eqb _ _ (ap (λ (r : StockRow). r.night) e))) in
+    let cell : c.0 ≡ d.0 = grind (arith, is_cell-same, and_from, eq-eqb, bytes_eq-Decides) in
     let places : c.1 ≡ d.1 = held_same c.1 d.1 (ap (λ (r : StockRow). r.allot) e) (ap (λ (r : StockRow). r.free) e) in
     ap (λ x. (x, c.1)) cell ∙ ap (λ h. (d.0, h)) places

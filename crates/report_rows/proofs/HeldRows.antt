@@ -1,5 +1,5 @@
 -- The rows of options that hold places of a cell, of a legal ledger, are its holders. For `holder_rows`.
-use Rattle.std.proofs.Common.{◌≡◌, ◌≢◌, ℕ, zero, suc, ◌+◌, ◌<◌, ◌≤◌, ◌==◌, ◌&&◌, ◌||◌, List, [], ◌∷◌, ◌++◌, map, filter, cond, length, if◌then◌else◌, Bool, true, false, Option, Some, None, inl, inr, refl, sym, ap, ap₂, ◌∙◌, arith, eq-eqb, eqb-true, bytes_eq, filter_map, flat_map, nat_le, nat_lt, slice_get, option_map, option_and_then}
+use Rattle.std.proofs.Common.{◌≡◌, ◌≢◌, ℕ, zero, suc, ◌+◌, ◌<◌, ◌≤◌, ◌==◌, ◌&&◌, ◌||◌, List, [], ◌∷◌, ◌++◌, map, filter, cond, length, if◌then◌else◌, Bool, true, false, Option, Some, None, refl, sym, ap, ap₂, ◌∙◌, arith, eq-eqb, eqb-true, bytes_eq, filter_map, flat_map, nat_le, nat_lt, slice_get, option_map}
 use Rattle.std.specs.Prelude.{unwrap_or}
 use Rattle.std.specs.List.{cons_option, list_any}
 use Rattle.std.proofs.lemmas.Bool.{and_from, and_parts, cases_Bool, eqb-false, ne_eqb, or_cases}
@@ -12,7 +12,6 @@ use Rattle.allotment.specs.Cells.{cell_at, is_cell, kind_number, numbers_from, w
 use Rattle.allotment.specs.declared.cells.Cell.{Cell}
 use Rattle.plan.specs.PlanModel.{Planned, StepPlan, numbered, want_at}
 use Rattle.commands.specs.declared.items.Item.{Item}
-use Rattle.ledger.specs.History.{net}
 use Rattle.ledger.specs.Ledger.{Event, IsLegal, Journey, history, journey_at, journeys}
 use Rattle.ledger_transitions.proofs.Histories.{Follows, follows}
 use Rattle.desk_sql.specs.Rows.{StepRow}
@@ -27,18 +26,13 @@ use Rattle.report_rows.specs.HoldersLeft.{found_of}
 
 -- two tests that imply each other are equal
 same_test : (a b : Bool) → (a ≡ true → b ≡ true) → (b ≡ true → a ≡ true) → a ≡ b
-same_test true b forth back = sym (forth refl)
-same_test false true forth back = back refl
-same_test false false forth back = refl
+same_test a b forth back = grind (arith, forth)
 
 eqb_turned : (a b : ℕ) → (a == b) ≡ (b == a)
 eqb_turned a b = grind (arith, nat_tests)
 
 bytes_turned : (a b : List ℕ) → bytes_eq a b ≡ bytes_eq b a
-bytes_turned a b =
-    same_test (bytes_eq a b) (bytes_eq b a)
-    (λ e. (bytes_eq-Decides b a).1 (sym ((bytes_eq-Decides a b).0 e)))
-    (λ e. (bytes_eq-Decides a b).1 (sym ((bytes_eq-Decides b a).0 e)))
+bytes_turned a b = grind (arith, same_test, bytes_eq-Decides)
 
 low_of : (a b : ℕ) → nat_le a b ≡ true → a ≤ b
 low_of a b t = grind (arith, nat_tests)
@@ -54,59 +48,19 @@ of_below a b t = grind (arith, nat_tests)
 
 -- a night is one of the numbers from the first on
 night_among : (first nights night : ℕ) → list_any (λ n. night == n) (numbers_from first nights) ≡ is_night_of first nights night
-night_among first zero night =
-    same_test false (is_night_of first 0 night) (λ e. absurd (cc))
-    (λ e.
-    let both = and_parts (nat_le first night) (nat_lt night (first + 0)) e in
-    let low = low_of first night both.0 in
-    let high = below_of night (first + 0) both.1 in
-    absurd (omega arith))
+night_among first zero night = grind (arith, same_test, and_parts, low_of, below_of)
 night_among first (suc more) night =
-    ap (λ b. (night == first) || b) (night_among (suc first) more night)
-    ∙ same_test ((night == first) || is_night_of (suc first) more night) (is_night_of first (suc more) night) forth back
-  where
-    forth : ((night == first) || is_night_of (suc first) more night) ≡ true → is_night_of first (suc more) night ≡ true
-    forth e = elim (or_cases (night == first) (is_night_of (suc first) more night) e) [
-      | inl is ↦ (let same = eqb-true _ _ is in
-          and_from _ _ (of_low first night (omega arith)) (of_below night (first + suc more) (omega arith)))
-      | inr later ↦ (let both = and_parts (nat_le (suc first) night) (nat_lt night (suc first + more)) later in
-          let low = low_of (suc first) night both.0 in
-          let high = below_of night (suc first + more) both.1 in
-          and_from _ _ (of_low first night (omega arith)) (of_below night (first + suc more) (omega arith)))
-    ]
-
-    back : is_night_of first (suc more) night ≡ true → ((night == first) || is_night_of (suc first) more night) ≡ true
-    back e =
-        let both = and_parts (nat_le first night) (nat_lt night (first + suc more)) e in
-        let low = low_of first night both.0 in
-        let high = below_of night (first + suc more) both.1 in
-        elim (cases_Bool (night == first)) [
-          | inl is ↦ ap (λ v. v || is_night_of (suc first) more night) is
-          | inr off ↦ (let other = eqb-false _ _ off in
-              ap (λ v. v || is_night_of (suc first) more night) off
-              ∙ and_from _ _ (of_low (suc first) night (omega (arith, low, other))) (of_below night (suc first + more) (omega arith)))
-        ]
+    grind (arith, same_test, or_cases, eqb-true, and_from, of_low, of_below, and_parts, low_of, below_of, cases_Bool, eqb-false, night_among (suc first) more night)
 
 -- a test that does not depend on the element stands before all of them
 any_before : (p : Bool) (x : Cell) (w : Wanted) (ns : List ℕ)
     → ((n : ℕ) → is_cell x (cell_at w n) ≡ (p && (x.night == n)))
     → list_any (is_cell x) (map (cell_at w) ns) ≡ (p && list_any (λ n. x.night == n) ns)
-any_before p x w [] each = none p
-  where
-    none : (p : Bool) → false ≡ (p && false)
-    none true = refl
-    none false = refl
-any_before p x w (n ∷ ns) each = ap₂ ◌||◌ (each n) (any_before p x w ns each) ∙ out p (x.night == n) (list_any (λ n. x.night == n) ns)
-  where
-    out : (p a b : Bool) → ((p && a) || (p && b)) ≡ (p && (a || b))
-    out true a b = refl
-    out false a b = refl
+any_before p x w [] each = grind arith
+any_before p x w (n ∷ ns) each = grind (arith, any_before p x w ns each, each)
 
 and_joined : (a b c d : Bool) → (a && b && c && d) ≡ (a && (b && (c && d)))
-and_joined true true true d = refl
-and_joined true true false d = refl
-and_joined true false c d = refl
-and_joined false b c d = refl
+and_joined a b c d = grind arith
 
 row_wants : (x : Cell) (w : Wanted)
     → ((kind_number w.kind == kind_number x.kind)
@@ -123,14 +77,11 @@ row_wants x w =
     ∙ three k s p (list_any (λ n. x.night == n) (numbers_from w.first w.nights)) ∙ sym among
   where
     three : (a b c d : Bool) → (a && (b && (c && d))) ≡ ((a && (b && c)) && d)
-    three true true c d = refl
-    three true false c d = refl
-    three false b c d = refl
+    three a b c d = grind arith
 
 row_held : (x : Cell) (id step : ℕ) (m : Bool) (c : ℕ) (taken : Bool) (w : Wanted)
     → is_row_held x (option_row id step m c taken w) ≡ (taken && wants_cell w x)
-row_held x id step m c true w = row_wants x w
-row_held x id step m c false w = refl
+row_held x id step m c taken w = grind (arith, row_wants)
 
 -- The options of a step.
 
@@ -139,18 +90,12 @@ module _ (x : Cell) (id k : ℕ) (m : Bool) (taken : ℕ → Bool) where
   abbrev row_at : ℕ × Wanted → StepRow
   row_at w = option_row id k m w.0 (taken w.0) w.1
 
-  abbrev found_at : ℕ → Wanted → HolderFound
-  found_at o w = record { journey = id; place = k; opt = o; places = w.count }
-
   abbrev held : ℕ → List Wanted → List HolderFound
   held n ws = map holder_of (filter (is_row_held x) (map row_at (counted_from n ws)))
 
   -- a row that is not held is left out
   left_out : (n : ℕ) (w : Wanted) (ws : List Wanted) → taken n ≡ false → held n (w ∷ ws) ≡ held (suc n) ws
-  left_out n w ws off =
-      let none : is_row_held x (row_at (n, w)) ≡ false = row_held x id k m n (taken n) w ∙ ap (λ b. b && wants_cell w x) off in
-      ap (λ b. map holder_of (cond b (row_at (n, w) ∷ filter (is_row_held x) (map row_at (counted_from (suc n) ws)))
-      (filter (is_row_held x) (map row_at (counted_from (suc n) ws))))) none
+  left_out n w ws off = grind (arith, row_held)
 
   none_held : (n : ℕ) (ws : List Wanted) → ((c : ℕ) → n ≤ c → taken c ≡ false) → held n ws ≡ []
   none_held n [] off = refl
@@ -161,8 +106,7 @@ module _ (x : Cell) (id k : ℕ) (m : Bool) (taken : ℕ → Bool) where
   one_held : (n i c : ℕ) (ws : List Wanted) → n + i ≡ c → taken c ≡ true → ((d : ℕ) → d ≢ c → taken d ≡ false)
       → held n ws ≡ map found_of (cons_option (holder_if x id (k, c) (slice_get ws i)) [])
   one_held n i c [] is on off = refl
-  one_held n (suc i) c (w ∷ ws) is on off =
-      left_out n w ws (off n (λ e. omega arith)) ∙ one_held (suc n) i c ws (omega arith) on off
+  one_held n (suc i) c (w ∷ ws) is on off = grind (arith, left_out, one_held (suc n) i c ws (omega arith) on off, off)
   one_held n zero c (w ∷ ws) is on off =
       let here : n ≡ c = omega arith in
       let test : is_row_held x (row_at (n, w)) ≡ wants_cell w x
@@ -175,9 +119,7 @@ module _ (x : Cell) (id k : ℕ) (m : Bool) (taken : ℕ → Bool) where
           → map holder_of (cond v (row_at (n, w) ∷ filter (is_row_held x) (map row_at (counted_from (suc n) ws)))
           (filter (is_row_held x) (map row_at (counted_from (suc n) ws))))
           ≡ map found_of (cons_option (if v then Some (record { journey = id; step = k; option = c; places = w.count }) else None) [])
-      go true here none =
-          ap (λ o. found_at o w ∷ held (suc n) ws) here ∙ ap (λ more. found_at c w ∷ more) none
-      go false here none = none
+      go v here none = grind arith
 
 -- The steps of a plan.
 
@@ -197,8 +139,7 @@ none_stands n k c (t ∷ ts) are above =
 
 cons_apart : (o : Option Holder) (rest : List Holder)
     → map found_of (cons_option o rest) ≡ map found_of (cons_option o []) ++ map found_of rest
-cons_apart None rest = refl
-cons_apart (Some h) rest = refl
+cons_apart o rest = grind arith
 
 module _ (x : Cell) (id : ℕ) (plan : Planned) (taken : ℕ → ℕ → Bool) where
   -- the rows of the steps from this number on, and those that are held
@@ -210,9 +151,7 @@ module _ (x : Cell) (id : ℕ) (plan : Planned) (taken : ℕ → ℕ → Bool) w
 
   held_cut : (k : ℕ) (s : StepPlan) (steps : List StepPlan)
       → held_from k (s ∷ steps) ≡ held x id k s.is_marked (taken k) 1 s.options ++ held_from (suc k) steps
-  held_cut k s steps =
-      ap (map holder_of) (filter-append (is_row_held x) (option_rows taken id k s) (rows_from (suc k) steps))
-      ∙ map-append holder_of (filter (is_row_held x) (option_rows taken id k s)) (filter (is_row_held x) (rows_from (suc k) steps))
+  held_cut k s steps = grind (arith, filter-append, map-append)
 
   abbrev holders_among : List (ℕ × ℕ) → List Holder
   holders_among ts = filter_map (λ (t : ℕ × ℕ). holder_if x id t (want_at plan t.0 t.1)) ts
@@ -221,14 +160,7 @@ module _ (x : Cell) (id : ℕ) (plan : Planned) (taken : ℕ → ℕ → Bool) w
   first_held : (k : ℕ) (s : StepPlan) (c : ℕ) → numbered plan.steps k ≡ Some s → taken k c ≡ true
       → ((d : ℕ) → d ≢ c → taken k d ≡ false)
       → held x id k s.is_marked (taken k) 1 s.options ≡ map found_of (cons_option (holder_if x id (k, c) (want_at plan k c)) [])
-  first_held k s c at on off =
-      by_number c on off
-      ∙ ap (λ (o : Option StepPlan). map found_of (cons_option (holder_if x id (k, c) (option_and_then (λ (p : StepPlan). numbered p.options c) o)) [])) (sym at)
-    where
-      by_number : (c : ℕ) → taken k c ≡ true → ((d : ℕ) → d ≢ c → taken k d ≡ false)
-          → held x id k s.is_marked (taken k) 1 s.options ≡ map found_of (cons_option (holder_if x id (k, c) (numbered s.options c)) [])
-      by_number zero on off = none_held x id k s.is_marked (taken k) 1 s.options (λ d above. off d (λ e. omega arith))
-      by_number (suc i) on off = one_held x id k s.is_marked (taken k) 1 i (suc i) s.options (omega arith) on off
+  first_held k s c at on off = grind (arith, none_held, one_held)
 
   told_from : (k : ℕ) (steps : List StepPlan) (ts : List (ℕ × ℕ))
       → map (λ (t : ℕ × ℕ). t.0) ts ≡ numbers_from k (length ts)
@@ -265,15 +197,12 @@ module _ (x : Cell) (id : ℕ) (plan : Planned) (taken : ℕ → ℕ → Bool) w
       ∙ ap₂ ◌++◌ own later ∙ sym (held_cut k s steps)
     where
       or_none : (b : Bool) → ((true && b) || false) ≡ b
-      or_none true = refl
-      or_none false = refl
+      or_none b = grind arith
 
 -- the rows of a journey that are held are its holders
 journey_told : (x : Cell) (id : ℕ) (plan : Planned) (h : List Item) → Follows plan h
     → map found_of (holders_by plan h x id) ≡ map holder_of (filter (is_row_held x) (step_rows (is_standing h) id plan))
-journey_told x id plan h f =
-    told_from x id plan (is_standing h) 1 plan.steps (net h) f.stands (λ i c above. refl) f.within
-    (λ i. ap (numbered plan.steps) (let e : 1 + i ≡ suc i = omega arith in e))
+journey_told x id plan h f = grind (arith, told_from)
 
 -- All journeys.
 

@@ -1,6 +1,5 @@
 -- Rows that are joined of three tables, night by night: they differ, and they have one order. For the holders of cells.
-use Rattle.std.proofs.Common.{◌≡◌, ◌≢◌, inl, inr, ℕ, ◌<◌, ◌==◌, List, [], ◌∷◌, map, filter, Bool, true, false, Ordering, Less, Equal, Greater, is_lt, refl, sym, ap, ap₂, subst, ◌∙◌, arith, eqb-true, flat_map, nat_cmp}
-use Rattle.std.specs.List.{AllByRecursion}
+use Rattle.std.proofs.Common.{◌≡◌, ◌≢◌, inl, inr, ℕ, ◌<◌, ◌==◌, List, [], ◌∷◌, map, filter, Bool, true, false, Ordering, Less, Equal, is_lt, refl, sym, ap, ap₂, subst, ◌∙◌, arith, eqb-true, flat_map, nat_cmp}
 use Rattle.std.specs.Ordering.{ordering_reverse, ordering_then}
 use Rattle.std.specs.Cmp.{IsTotalOrder}
 use Rattle.std.proofs.lemmas.Bool.Decides.{nat_tests}
@@ -12,7 +11,7 @@ use Rattle.sqlite_rules.proofs.ListLemmas.{all_from, all_has, has_either, has_fi
 use Rattle.desk_sql.specs.Rows.{JourneyRow, StepRow, StockRow}
 use Rattle.sql_lists.specs.HoldingLists.{Joined, join, joined, joined_cmp, night_cmp, step_cmp}
 use Rattle.sql_model.proofs.Orders.{ascending_where}
-use Rattle.report_rows.proofs.HandedHolders.{IsBefore, IsPlacedBefore}
+use Rattle.report_rows.proofs.HandedHolders.{IsBefore}
 
 -- Lists of lists.
 
@@ -35,26 +34,14 @@ module _ {A X : Type 0} (Q : A → A → Type 0) (R : X → X → Type 0) (key :
     (cross : (x y : X) → Q (key x) (key y) → R x y) where
   pub flat_pairs : (all : List A) → IsAscending Q all → IsAscending R (flat_map f all)
   flat_pairs [] up = tt
-  flat_pairs (a ∷ all) up =
-      ascending-append R (f a) (flat_map f all) (each a) (flat_pairs all up.1)
-      (all_from (λ x. AllByRecursion (R x) (flat_map f all)) (f a) (λ x h.
-      all_from (R x) (flat_map f all) (λ y k.
-      let it = has_one_of f all y k in
-      let first : key x ≡ a = own a x h in
-      let second : key y ≡ it.0 = own it.0 y it.2 in
-      cross x y (subst (λ b. Q b (key y)) (sym first) (subst (Q a) (sym second) (all_has (Q a) all it.0 up.0 it.1))))))
+  flat_pairs (a ∷ all) up = grind (arith, ascending-append, all_from, has_one_of, all_has, flat_pairs all up.1)
 
 -- One order.
 
 module _ {X : Type 0} (cmp : X → X → Ordering) (total : IsTotalOrder cmp) where
   -- no element is before itself
   not_before : (x : X) → is_lt (cmp x x) ≡ true → ⊥
-  not_before x e = go (cmp x x) (total.antisymm x x) e
-    where
-      go : (o : Ordering) → o ≡ ordering_reverse o → is_lt o ≡ true → ⊥
-      go Less f g = cc
-      go Equal f g = cc
-      go Greater f g = cc
+  not_before x e = grind arith
 
   -- different elements in which none is before an earlier one are the list in which each is before all later ones
   pub one_order : (xs ys : List X) → IsAscending (λ a b. is_lt (cmp b a) ≡ false) xs → IsAscending ◌≢◌ xs
@@ -95,9 +82,7 @@ pub joined_total : IsTotalOrder joined_cmp
 joined_total = then_total (on_total (λ (r : Joined). r.cell) night_total) (on_total (λ (r : Joined). r.step) step_total)
 
 less_is : (o : Ordering) → is_lt o ≡ true → o ≡ Less
-less_is Less e = refl
-less_is Equal e = cc
-less_is Greater e = cc
+less_is o e = grind arith
 
 number_less : (a b : ℕ) → a < b → nat_cmp a b ≡ Less
 number_less a b low = grind (arith, nat_tests)
@@ -109,29 +94,11 @@ cell_same : (c : StockRow) → night_cmp c c ≡ Equal
 cell_same c = go (night_cmp c c) (night_total.antisymm c c)
   where
     go : (o : Ordering) → o ≡ ordering_reverse o → o ≡ Equal
-    go Less e = cc
-    go Equal e = refl
-    go Greater e = cc
+    go o e = grind arith
 
 -- an earlier option is before a later one
 step_before : (a b : StepRow) → IsBefore a b → is_lt (step_cmp a b) ≡ true
-step_before a b before = go before
-  where
-    others : Ordering
-    others = ordering_then (nat_cmp a.place b.place) (nat_cmp a.opt b.opt)
-
-    placed : IsPlacedBefore a b → is_lt others ≡ true
-    placed (inl low) = ap (λ o. is_lt (ordering_then o (nat_cmp a.opt b.opt))) (number_less a.place b.place low)
-    placed (inr same) =
-        ap (λ n. is_lt (ordering_then (nat_cmp n b.place) (nat_cmp a.opt b.opt))) same.0
-        ∙ ap (λ o. is_lt (ordering_then o (nat_cmp a.opt b.opt))) (number_same b.place)
-        ∙ ap is_lt (number_less a.opt b.opt same.1)
-
-    go : IsBefore a b → is_lt (ordering_then (nat_cmp a.journey b.journey) others) ≡ true
-    go (inl low) = ap (λ o. is_lt (ordering_then o others)) (number_less a.journey b.journey low)
-    go (inr tied) =
-        ap (λ n. is_lt (ordering_then (nat_cmp n b.journey) others)) tied.0
-        ∙ ap (λ o. is_lt (ordering_then o others)) (number_same b.journey) ∙ placed tied.1
+step_before a b before = grind (arith, number_less, number_same)
 
 abbrev pub IsNightBefore : StockRow → StockRow → Type 0
 IsNightBefore a b = is_lt (night_cmp a b) ≡ true
@@ -145,9 +112,7 @@ cell_before a b e = ap (λ o. is_lt (ordering_then o (step_cmp a.step b.step))) 
 
 -- of one cell those of an earlier option are
 option_before : (c : StockRow) (a b : Joined) → a.cell ≡ c → b.cell ≡ c → IsBefore a.step b.step → IsJoinedBefore a b
-option_before c a b first second before =
-    ap₂ (λ x y. is_lt (ordering_then (night_cmp x y) (step_cmp a.step b.step))) first second
-    ∙ ap (λ o. is_lt (ordering_then o (step_cmp a.step b.step))) (cell_same c) ∙ step_before a.step b.step before
+option_before c a b first second before = grind (arith, cell_same, step_before)
 
 -- The rows that are joined.
 
@@ -175,9 +140,7 @@ module _ (test : StockRow → StepRow → JourneyRow → Bool) (steps : List Ste
   of_cell c = flat_map (of_option c) steps
 
   has_cell : (c : StockRow) (x : Joined) → Has (of_cell c) x → x.cell ≡ c
-  has_cell c x h =
-      let it = has_one_of (of_option c) steps x h in
-      ap (λ (y : Joined). y.cell) (paired c it.0 (filter (test c it.0) journeys) x it.2)
+  has_cell c x h = grind (arith, has_one_of, paired)
 
   pub joined_apart : (stock : List StockRow) → IsAscending ◌≢◌ stock → IsAscending ◌≢◌ (joined test stock steps journeys)
   joined_apart stock apart =
@@ -193,21 +156,11 @@ module _ (test : StockRow → StepRow → JourneyRow → Bool) (steps : List Ste
 module _ (journeys : List JourneyRow) (rise : IsAscending (λ (a b : JourneyRow). a.id < b.id) journeys) where
   -- at most one journey belongs to an option
   own_once : (R : Joined → Joined → Type 0) (c : StockRow) (s : StepRow) → IsAscending R (with_own journeys c s)
-  own_once R c s =
-      let p = λ (j : JourneyRow). j.id == s.journey in
-      ascending-map R (join c s) (filter p journeys)
-      (ascending_where (λ (a b : JourneyRow). a.id < b.id) (λ a b. R (join c s a) (join c s b)) (filter p journeys)
-      (λ a b h k low.
-      let one = eqb-true _ _ (has_filtered p journeys a h).1 in
-      let two = eqb-true _ _ (has_filtered p journeys b k).1 in
-      absurd (omega (arith, low, one, two)))
-      (ascending-filter (λ (a b : JourneyRow). a.id < b.id) p journeys rise))
+  own_once R c s = grind (arith, ascending-map, ascending_where, eqb-true, has_filtered, ascending-filter)
 
   module _ (holds : StockRow → StepRow → Bool) (steps : List StepRow) where
     own_cell : (c : StockRow) (x : Joined) → Has (with_held holds steps journeys c) x → x.cell ≡ c
-    own_cell c x h =
-        let it = has_one_of (with_own journeys c) (filter (holds c) steps) x h in
-        ap (λ (y : Joined). y.cell) (paired c it.0 (filter (λ (j : JourneyRow). j.id == it.0.journey) journeys) x it.2)
+    own_cell c x h = grind (arith, has_one_of, paired, holds)
 
     -- pairs of them are related as the options are
     held_pairs : (R : Joined → Joined → Type 0) (Q : StepRow → StepRow → Type 0) (c : StockRow)

@@ -1,5 +1,5 @@
 -- The cells of a stock, night by night, and their order then. For the rows of the holders of cells.
-use Rattle.std.proofs.Common.{◌≡◌, inl, inr, ℕ, ◌<◌, ◌≤◌, ◌-◌, ◌==◌, List, [], ◌∷◌, map, if◌then◌else◌, Bool, true, false, Ordering, Less, Equal, Greater, is_lt, refl, sym, ap, subst, ◌∙◌, arith, eqb-true, nat_le, nat_cmp}
+use Rattle.std.proofs.Common.{◌≡◌, inl, inr, ℕ, ◌<◌, ◌≤◌, List, [], ◌∷◌, map, if◌then◌else◌, true, Ordering, Less, Equal, is_lt, refl, sym, ap, subst, ◌∙◌, arith, eqb-true, nat_le, nat_cmp}
 use Rattle.std.specs.List.{AllByRecursion}
 use Rattle.std.specs.Ordering.{ordering_then}
 use Rattle.std.specs.Cmp.Lexicographic.{slice_cmp}
@@ -33,12 +33,7 @@ nightly (x ∷ later) = put x (nightly later)
 -- the cells alone are put so too
 put_same : (x : Listed) (ys : List Listed) → map (λ (r : Listed). r.0) (put x ys) ≡ put_by_night x.0 (map (λ (r : Listed). r.0) ys)
 put_same x [] = refl
-put_same x (y ∷ later) = go (put_same x later) (nat_le x.0.night y.0.night)
-  where
-    go : map (λ (r : Listed). r.0) (put x later) ≡ put_by_night x.0 (map (λ (r : Listed). r.0) later) → (v : Bool) → map (λ (r : Listed). r.0) (if v then x ∷ y ∷ later else y ∷ put x later)
-        ≡ (if v then x.0 ∷ y.0 ∷ map (λ (r : Listed). r.0) later else y.0 ∷ put_by_night x.0 (map (λ (r : Listed). r.0) later))
-    go same true = refl
-    go same false = ap (λ more. y.0 ∷ more) same
+put_same x (y ∷ later) = grind (arith, put_same x later)
 
 -- the cells alone are those that the report names, in its order
 pub nightly_same : (xs : List Listed) → map (λ (r : Listed). r.0) (nightly xs) ≡ by_night (map (λ (r : Listed). r.0) xs)
@@ -48,23 +43,12 @@ nightly_same (x ∷ later) = put_same x (nightly later) ∙ ap (put_by_night x.0
 -- what is there after a cell was put is that cell, or was there
 has_put : (x : Listed) (ys : List Listed) (z : Listed) → Has (put x ys) z → Has (x ∷ ys) z
 has_put x [] z h = h
-has_put x (y ∷ later) z h = go (has_put x later z) (nat_le x.0.night y.0.night) h
-  where
-    go : (Has (put x later) z → Has (x ∷ later) z) → (v : Bool) → Has (if v then x ∷ y ∷ later else y ∷ put x later) z → Has (x ∷ y ∷ later) z
-    go rest true h = h
-    go rest false (inl e) = inr (inl e)
-    go rest false (inr more) = elim (rest more) [ inl e ↦ inl e | inr there ↦ inr (inr there) ]
+has_put x (y ∷ later) z h = grind (arith, has_put x later z)
 
 -- and the other way round
 put_has : (x : Listed) (ys : List Listed) (z : Listed) → Has (x ∷ ys) z → Has (put x ys) z
 put_has x [] z h = h
-put_has x (y ∷ later) z h = go (put_has x later z) (nat_le x.0.night y.0.night) h
-  where
-    go : (Has (x ∷ later) z → Has (put x later) z) → (v : Bool) → Has (x ∷ y ∷ later) z → Has (if v then x ∷ y ∷ later else y ∷ put x later) z
-    go rest true h = h
-    go rest false (inl e) = inr (rest (inl e))
-    go rest false (inr (inl e)) = inl e
-    go rest false (inr (inr there)) = inr (rest (inr there))
+put_has x (y ∷ later) z h = grind (arith, put_has x later z)
 
 -- sorting by nights adds no cell
 pub has_nightly : (xs : List Listed) (z : Listed) → Has (nightly xs) z → Has xs z
@@ -107,35 +91,15 @@ night_first x y low = ap (λ o. is_lt (ordering_then o (others_cmp x y))) (numbe
 -- what is before another, if their nights are the same, is so without them
 without_night : (a b c : Ordering) → is_lt (ordering_then a (ordering_then b (ordering_then c Equal))) ≡ true
     → is_lt (ordering_then a (ordering_then b c)) ≡ true
-without_night Less b c e = refl
-without_night Greater b c e = cc
-without_night Equal Less c e = refl
-without_night Equal Greater c e = cc
-without_night Equal Equal Less e = refl
-without_night Equal Equal Equal e = cc
-without_night Equal Equal Greater e = cc
+without_night a b c e = grind arith
 
 -- a cell before another, and of no later night, is before it night by night
 nightly_before : (x y : Listed) → x.0.night ≤ y.0.night → IsCellBefore x y → IsNightly x y
-nightly_before x y low before = elim (cases_Bool (x.0.night == y.0.night)) [
-  | inl is ↦ (let same : x.0.night ≡ y.0.night = eqb-true _ _ is in
-      let kinds = nat_cmp (kind_number x.0.kind) (kind_number y.0.kind) in
-      let suppliers = slice_cmp nat_cmp x.0.supplier y.0.supplier in
-      let products = slice_cmp nat_cmp x.0.product y.0.product in
-      let none : nat_cmp x.0.night y.0.night ≡ Equal = ap (λ n. nat_cmp n y.0.night) same ∙ number_same y.0.night in
-      ap (λ o. is_lt (ordering_then o (ordering_then kinds (ordering_then suppliers products)))) none
-      ∙ without_night kinds suppliers products
-      (ap (λ o. is_lt (ordering_then kinds (ordering_then suppliers (ordering_then products o)))) (sym none) ∙ before))
-  | inr off ↦ night_first x y (grind (arith, nat_tests, low, off))
-]
+nightly_before x y low before = grind (arith, cases_Bool, eqb-true, number_same, without_night, night_first, nat_tests)
 
 -- the night of what comes later is no earlier
 night_low : (x y : Listed) → IsNightly x y → x.0.night ≤ y.0.night
-night_low x y before = elim (cases_Bool (nat_le x.0.night y.0.night)) [
-  | inl low ↦ leb-true _ _ low
-  | inr high ↦ absurd (let more : nat_cmp x.0.night y.0.night ≡ Greater = grind (arith, nat_tests, high) in
-      let bad : false ≡ true = ap (λ o. is_lt (ordering_then o (others_cmp x y))) (sym more) ∙ before in cc)
-]
+night_low x y before = grind (arith, cases_Bool, leb-true, nat_tests)
 
 -- a cell that comes before all of them in the stock's order is put into the report's order
 put_rises : (x : Listed) (ys : List Listed) → AllByRecursion (IsCellBefore x) ys → IsAscending IsNightly ys → IsAscending IsNightly (put x ys)

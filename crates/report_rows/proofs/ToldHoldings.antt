@@ -1,6 +1,6 @@
 -- The rows of one cell's options, each with the row of its journey, are shown as the holders of the cell. For the rows of
 -- the holders of cells.
-use Rattle.std.proofs.Common.{◌≡◌, ℕ, zero, suc, ◌+◌, ◌-◌, ◌==◌, List, [], ◌∷◌, ◌++◌, map, filter, cond, Bool, false, Option, Some, None, refl, sym, ap, ap₂, ◌∙◌, arith, eq-eqb, filter_map, flat_map, option_map, slice_get}
+use Rattle.std.proofs.Common.{◌≡◌, ℕ, zero, suc, ◌+◌, ◌==◌, List, [], ◌∷◌, ◌++◌, map, filter, cond, Bool, false, Option, Some, None, refl, sym, ap, ap₂, ◌∙◌, arith, eq-eqb, filter_map, flat_map, option_map, slice_get}
 use Rattle.std.specs.List.{cons_option}
 use Rattle.std.proofs.lemmas.Bool.{ne_eqb}
 use Rattle.std.proofs.lemmas.List.{map-append}
@@ -47,16 +47,10 @@ module _ (l : List Event) (k : ℕ) where
       let is : c ≡ b = cc in
       ap (λ v. cond v (row_in l (n, c) ∷ filter is_own (map (row_in l) (counted_from (suc n) bs))) (filter is_own (map (row_in l) (counted_from (suc n) bs)))) (eq-eqb n k here)
       ∙ ap₂ ◌∷◌ (ap (λ m. row_in l (m, c)) here ∙ ap (λ d. row_in l (k, d)) is) (none_own (suc n) bs (λ i d f more. omega arith))
-  one_own n (suc i) (c ∷ bs) b e same =
-      let other : (n == k) ≡ false = ne_eqb n k (λ f. omega arith) in
-      ap (λ v. cond v (row_in l (n, c) ∷ filter is_own (map (row_in l) (counted_from (suc n) bs))) (filter is_own (map (row_in l) (counted_from (suc n) bs)))) other
-      ∙ one_own (suc n) i bs b e (omega arith)
+  one_own n (suc i) (c ∷ bs) b e same = grind (arith, ne_eqb, row_in, one_own (suc n) i bs b e (omega arith))
 
 state_same : (p : Phase) → phase_number p ≡ state_number (state_of p)
-state_same phase.Run = refl
-state_same (phase.Back target) = refl
-state_same phase.Ended = refl
-state_same phase.Undone = refl
+state_same p = grind arith
 
 module _ (l : List Event) (c : Listed) where
   abbrev pub shorts : List Joined → List HoldingShort
@@ -116,5 +110,4 @@ module _ (l : List Event) (c : Listed) where
     where
       apart : (o : Option Holding) → map holding_told (cons_option o (filter_map (holding_of l c.0) hs))
           ≡ map holding_told (cons_option o []) ++ map holding_told (filter_map (holding_of l c.0) hs)
-      apart None = refl
-      apart (Some x) = refl
+      apart o = grind arith
