@@ -1,5 +1,5 @@
 -- After a head and its body the next message is looked for, whatever the body stands for. For the laws.
-use Rattle.std.proofs.Common.{◌≡◌, ◌∙◌, ap, sym, subst, refl, ℕ, ◌+◌, ◌-◌, Bool, true, false, ◌==◌, List, [], ◌∷◌, ◌++◌, length, take, arith, append-nil, append_assoc, Result, Ok, Some, IsTrue, eqb-true}
+use Rattle.std.proofs.Common.{◌≡◌, ◌∙◌, ap, sym, subst, refl, ℕ, ◌+◌, ◌-◌, true, false, List, [], ◌∷◌, ◌++◌, length, take, arith, append-nil, append_assoc, Result, Ok, Some, IsTrue, ◌≤◌}
 use Rattle.std.proofs.Math.Seq.{take-append-add}
 use Rattle.std.proofs.lemmas.List.{append_cancel_left}
 use Rattle.std.proofs.lemmas.List.Elements.{recursion_from_All}
@@ -7,7 +7,7 @@ use Rattle.httparse.specs.Grammar.{IsToken, LineEnd, RequestHead, crlf, is_token
 use Rattle.httparse.proofs.GrammarLemmas.{print_request-append, request_unique}
 use Rattle.http_messages.specs.Heads.{IsHead, most_head_bytes, parts_of}
 use Rattle.http_messages.specs.Messages.{first_told}
-use Rattle.http_messages.proofs.ToldLemmas.{head_is_told}
+use Rattle.http_messages.proofs.ToldLemmas.{head_is_told, quiet_byte, quiet_of}
 use Rattle.http_messages.specs.declared.framing.BodyKind.{BodyKind}
 use Rattle.http_messages.specs.declared.framing.BodyKind.TheVariants.{Sized, Chunked}
 use Rattle.http_messages.specs.declared.framing.Unframed.{Unframed}
@@ -17,15 +17,9 @@ use Rattle.http_messages.specs.Wide.{Asks, BeginsWith, begins_no_method, has_no_
 use Rattle.http_messages.proofs.BodyLemmas.{one_body}
 
 -- a token has no line end
-kept_out : (b c : ℕ) (t : Bool) → (b == c) ≡ t → is_token_byte c ≡ false → is_token_byte b ≡ true → t ≡ false
-kept_out b c t e none some = grind (arith, eqb-true)
-
 begins_a_method : (b : ℕ) (later : List ℕ) → is_token_byte b ≡ true → begins_no_method (b ∷ later) ≡ false
 begins_a_method b later token =
-    cc (
-      kept_out b 13 (b == 13) refl (unfold is_token_byte in refl) token,
-      kept_out b 10 (b == 10) refl (unfold is_token_byte in refl) token,
-    )
+    let quiet = quiet_byte b (quiet_of is_token_byte (unfold is_token_byte in refl) (unfold is_token_byte in refl) b token) in cc
 
 -- after empty lines a method begins
 after_blank : (ends : List LineEnd) (method later : List ℕ) → IsToken method → begins_no_method (print_blank ends ++ (method ++ later)) ≡ false
@@ -46,11 +40,11 @@ pub body_more : (kind : BodyKind) (text body rest : List ℕ) → IsBody kind te
 body_more (Sized count) text body rest is = grind (arith, append-nil)
 body_more Chunked text body rest is = grind (arith, append_assoc)
 
--- the bytes that a head may have, of a stream that begins with one: the head, and some of what follows it
-reach : (front more : List ℕ) (h : RequestHead) → IsHead front h
+-- of more bytes, those that a head may have are the first ones and some of what follows them
+pub reach : (front more : List ℕ) → length front ≤ most_head_bytes
     → take most_head_bytes (front ++ more) ≡ front ++ take (most_head_bytes - length front) more
-reach front more h is =
-    let all : most_head_bytes ≡ length front + (most_head_bytes - length front) = omega (arith, is.short) in
+reach front more short =
+    let all : most_head_bytes ≡ length front + (most_head_bytes - length front) = omega (arith, short) in
     ap (λ n. take n (front ++ more)) all ∙ take-append-add front more (most_head_bytes - length front)
 
 -- a head begins with a method
@@ -60,8 +54,8 @@ method_here front more h is = grind (arith, reach, method_first)
 pub same_front : (stream f g : List ℕ) → first_told stream ≡ Some f → first_told stream ≡ Some g → f ≡ g
 same_front stream f g one other = cc
 
-pub same_kind : (kind other : BodyKind) (found : Result BodyKind Unframed) → found ≡ Ok kind → found ≡ Ok other → kind ≡ other
-same_kind kind other found one two = cc
+pub same_kind : {kind other : BodyKind} {found : Result BodyKind Unframed} → found ≡ Ok kind → found ≡ Ok other → kind ≡ other
+same_kind {kind} {other} {found} one two = cc
 
 module _ (front text body rest : List ℕ) (h : RequestHead) (kind : BodyKind)
     (is : IsHead front h) (framed : head_kind (parts_of h) ≡ Ok kind) (is_body : IsBody kind text body []) where
@@ -89,10 +83,8 @@ module _ (front text body rest : List ℕ) (h : RequestHead) (kind : BodyKind)
       let its = begins.2 in
       let f : its.front ≡ front = same_front stream its.front front its.begins.first (head_is_told front (text ++ rest) h is) in
       let same : k ≡ h = (request_unique front k h [] [] (subst (λ z. IsHead z k) f its.is_head).reads is.reads).0 in
-      let kinds : begins.0 ≡ kind = same_kind begins.0 kind (head_kind (parts_of h)) (ap (λ z. head_kind (parts_of z)) (sym same) ∙ its.framed) framed in
-      let after : begins.1 ≡ text ++ rest =
-      append_cancel_left front begins.1 (text ++ rest) (ap (λ z. z ++ begins.1) (sym f) ∙ sym its.begins.whole) in
-      let there : IsBody kind (text ++ rest) other left =
-      subst (λ z. IsBody z (text ++ rest) other left) kinds (subst (λ s. IsBody begins.0 s other left) after begins.3) in
+      let kinds : begins.0 ≡ kind = same_kind (ap (λ z. head_kind (parts_of z)) (sym same) ∙ its.framed) framed in
+      let after : begins.1 ≡ text ++ rest = append_cancel_left front _ _ (ap (λ z. z ++ begins.1) (sym f) ∙ sym its.begins.whole) in
+      let there : IsBody kind (text ++ rest) other left = rw (kinds, after) at begins.3 in
       let bodies = one_body kind (text ++ rest) other body left rest there (body_more kind text body rest is_body) in
       (same, bodies.0, bodies.1)

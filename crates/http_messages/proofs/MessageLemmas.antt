@@ -10,10 +10,7 @@ pub same_split : (a b x y : List ℕ) → length a ≡ length b → a ++ x ≡ b
 same_split [] [] x y l e = (refl, e)
 same_split [] (c ∷ b) x y l e = absurd (omega arith)
 same_split (c ∷ a) [] x y l e = absurd (omega arith)
-same_split (c ∷ a) (d ∷ b) x y l e =
-    let heads : c ≡ d = cc in
-    let more = same_split a b x y (omega arith) cc in
-    (ap (λ z. z ∷ a) heads ∙ ap (λ z. d ∷ z) more.0, more.1)
+same_split (c ∷ a) (d ∷ b) x y l e = grind (arith, same_split a b x y (omega arith) cc)
 
 same_front : (stream f g : List ℕ) → first_told stream ≡ Some f → first_told stream ≡ Some g → f ≡ g
 same_front stream f g d e = cc

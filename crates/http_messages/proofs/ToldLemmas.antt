@@ -1,11 +1,12 @@
 -- A head is decided where it ends, and not before.
-use Rattle.std.proofs.Common.{◌≡◌, ℕ, zero, suc, ◌-◌, ◌<◌, ◌≤◌, Bool, true, false, not, ◌&&◌, ◌||◌, ◌==◌, List, [], ◌∷◌, ◌++◌, map, length, take, drop, refl, sym, ap, subst, ◌∙◌, arith, append_assoc, flat_map, find, nat_eq, bytes_eq, if◌then◌else◌, IsTrue, Some, None, take-append-drop, length-append}
+use Rattle.std.proofs.Common.{◌≡◌, ℕ, zero, suc, ◌-◌, ◌<◌, ◌≤◌, Bool, true, false, not, ◌&&◌, ◌||◌, ◌==◌, List, [], ◌∷◌, ◌++◌, map, length, take, drop, refl, sym, ap, subst, ◌∙◌, arith, append_assoc, flat_map, find, nat_eq, bytes_eq, if◌then◌else◌, IsTrue, Some, None, take-append-drop, length-append, append-nil}
 use Rattle.allotment.proofs.TestLemmas.{bytes_eq_self, same_bytes}
 use Rattle.std.proofs.Math.Seq.{drop-append_seam}
 use Rattle.http_messages.specs.Heads.{IsHead, most_head_bytes}
 use Rattle.std.specs.List.{list_any, list_all, ends_with, AllByRecursion}
 use Rattle.std.proofs.lemmas.Bool.{eqb-true, or_right, or_left, or_from, not-true, and_parts, and_from}
 use Rattle.std.proofs.lemmas.List.Elements.{recursion_from_All}
+use Rattle.std.proofs.lemmas.List.{length-take-le}
 use Rattle.httparse.specs.Grammar.{RequestHead, Field, IsField, LineEnd, crlf, lf, print_end, print_blank, print_field, print_version, print_request, is_token_byte, is_uri_byte, is_value_byte, IsRequestHead}
 use Rattle.http_messages.specs.Messages.{ends_in_empty_line, is_newline, fronts, is_told, first_told}
 use Rattle.http_messages.specs.Places.{is_told_place, next_place, walk}
@@ -40,7 +41,7 @@ is_quiet b = not (is_newline b)
 quiet_cases : (r l : Bool) → not (r || l) ≡ true → ((r || l) ≡ false) × (l ≡ false) × (r ≡ false)
 quiet_cases r l e = grind arith
 
-quiet_byte : (b : ℕ) → is_quiet b ≡ true → (is_newline b ≡ false) × ((b == 10) ≡ false) × ((b == 13) ≡ false)
+pub quiet_byte : (b : ℕ) → is_quiet b ≡ true → (is_newline b ≡ false) × ((b == 10) ≡ false) × ((b == 13) ≡ false)
 quiet_byte b e = quiet_cases (b == 13) (b == 10) e
 
 within_run : (x : List ℕ) → list_all is_quiet x ≡ true → Leads Within x Within
@@ -81,7 +82,7 @@ last_run lf = record { is_calm = refl; ends = refl }
 kept_out : (test : ℕ → Bool) (b c : ℕ) (t : Bool) → (b == c) ≡ t → test c ≡ false → test b ≡ true → t ≡ false
 kept_out test b c t e none some = grind (arith, eqb-true)
 
-quiet_of : (test : ℕ → Bool) → test 13 ≡ false → test 10 ≡ false → (b : ℕ) → test b ≡ true → is_quiet b ≡ true
+pub quiet_of : (test : ℕ → Bool) → test 13 ≡ false → test 10 ≡ false → (b : ℕ) → test b ≡ true → is_quiet b ≡ true
 quiet_of test cr line b e = cc (kept_out test b 13 (b == 13) refl cr e, kept_out test b 10 (b == 10) refl line e)
 
 all_quiet : (test : ℕ → Bool) → test 13 ≡ false → test 10 ≡ false → (x : List ℕ) → AllByRecursion (λ b. IsTrue (test b)) x → list_all is_quiet x ≡ true
@@ -182,10 +183,6 @@ told_there t e = grind (arith, and_parts, told_by)
 
 -- A head is decided where it ends.
 
-append_empty : (t : List ℕ) → t ++ [] ≡ t
-append_empty [] = refl
-append_empty (x ∷ t) = ap (λ z. x ∷ z) (append_empty t)
-
 any_left : (x y : List ℕ) → list_any is_quiet x ≡ true → list_any is_quiet (x ++ y) ≡ true
 any_left [] y e = cc
 any_left (b ∷ x) y e = or_again (is_quiet b) (list_any is_quiet x) (list_any is_quiet (x ++ y)) (any_left x y) e
@@ -247,7 +244,7 @@ fits_next : (s : Place) (b : ℕ) (u : List ℕ) → Fits s u → Fits (next_pla
 fits_next s b u h = grind (arith, at_first, in_line, after_lf, after_cr)
 
 fits_run : (s : Place) (u x : List ℕ) → Fits s u → Fits (walk s x) (u ++ x)
-fits_run s u [] h = subst (λ z. Fits s z) (sym (append_empty u)) h
+fits_run s u [] h = subst (λ z. Fits s z) (sym (append-nil u)) h
 fits_run s u (b ∷ x) h = subst (λ z. Fits (walk (next_place s b) x) z) (append_assoc u (b ∷ []) x) (fits_run (next_place s b) (u ++ b ∷ []) x (fits_next s b u h))
 
 pub told_at_end : (x : List ℕ) → walk Before x ≡ Told → ends_in_empty_line x ≡ true
@@ -259,11 +256,6 @@ find_map_by : (t : Bool) (test : List ℕ → Bool) (b : ℕ) (g : List ℕ) (fs
     → (find (λ x. test (b ∷ x)) fs ≡ Some f → find test (map (λ x. b ∷ x) fs) ≡ Some (b ∷ f))
     → (if t then Some g else find (λ x. test (b ∷ x)) fs) ≡ Some f → (if t then Some (b ∷ g) else find test (map (λ x. b ∷ x) fs)) ≡ Some (b ∷ f)
 find_map_by t test b g fs f h e = grind arith
-
-length-take_le : (k : ℕ) (x : List ℕ) → k < length x → length (take k x) ≡ k
-length-take_le zero x l = refl
-length-take_le (suc k) [] l = absurd (omega arith)
-length-take_le (suc k) (b ∷ x) l = ap (λ z. suc z) (length-take_le k x (omega arith))
 
 find_map : (test : List ℕ → Bool) (b : ℕ) (fs : List (List ℕ)) (f : List ℕ) → find (λ x. test (b ∷ x)) fs ≡ Some f → find test (map (λ x. b ∷ x) fs) ≡ Some (b ∷ f)
 find_map test b [] f e = cc
@@ -284,9 +276,9 @@ not_long n b e l = grind (arith, eqb-true)
 
 pub head_is_told : (front rest : List ℕ) (h : RequestHead) → IsHead front h → first_told (front ++ rest) ≡ Some front
 head_is_told front rest h g =
-    let leads = subst (λ z. Leads Before z Told) (sym (g.reads.1 ∙ append_empty (print_request h))) (head_run h g.reads.0) in
+    let leads = subst (λ z. Leads Before z Told) (sym (g.reads.1 ∙ append-nil (print_request h))) (head_run h g.reads.0) in
     find_front is_told front rest (or_left _ _ (told_at_end front leads.ends))
     (λ k l.
-    let short : length (take k front) ≡ k = length-take_le k front l in
+    let short : length (take k front) ≡ k = length-take-le k front (omega arith) in
     or_from _ _ (not_empty_line (take k front) _ refl (calm_front Before front k leads.is_calm l))
     (not_long (length (take k front)) _ refl (omega (arith, g.short))))

@@ -18,7 +18,7 @@ use Rattle.http_messages.specs.declared.framing.BodyKind.TheVariants.{Chunked, S
 use Rattle.http_messages.specs.declared.framing.Unframed.{Unframed}
 use Rattle.http_messages.proofs.BodyLemmas.{begins}
 use Rattle.http_messages.proofs.WideLemmas.{fronts, head_or_none, kind_same, not_both, not_framed_both}
-use Rattle.http_messages.proofs.LawLemmas.{same_kind}
+use Rattle.http_messages.proofs.LawLemmas.{reach, same_kind}
 use Rattle.http_messages.specs.WideHeads.{IsDeniedFront}
 use Rattle.http_messages.specs.Fields.{parts_in}
 use Rattle.http_messages.specs.declared.heads.Head.{Head}
@@ -26,7 +26,6 @@ use Rattle.http_messages.specs.WideReading.{AsksAt, IsFirstOf, IsOpen, IsWideReq
 use Rattle.http_messages.specs.declared.wide_messages.WideMessage.TheVariants as taken
 use Rattle.http_messages.specs.declared.wide_messages.WideRequest.{WideRequest}
 use Rattle.std.specs.List.{list_any}
-use Rattle.std.proofs.Math.Seq.{take-append-add}
 use Rattle.std.proofs.lemmas.Bool.{cases_lt, and_parts}
 use Rattle.http_messages.proofs.HeadLemmas.{first_of_told}
 use Rattle.http_messages.proofs.ToldLemmas.{not_long}
@@ -52,13 +51,6 @@ visible_more : (bytes more : List ℕ) → list_any (λ b. not (is_newline b)) b
     → begins_no_method (bytes ++ more) ≡ begins_no_method bytes
 visible_more [] more some = cc
 visible_more (byte ∷ later) more some = visible_by (is_newline byte) byte later more refl (visible_more later more) some
-
--- of more bytes, those that a head may have are the old ones and some of the new
-reach : (bytes more : List ℕ) → length bytes ≤ most_head_bytes
-    → take most_head_bytes (bytes ++ more) ≡ bytes ++ take (most_head_bytes - length bytes) more
-reach bytes more short =
-    let all : most_head_bytes ≡ length bytes + (most_head_bytes - length bytes) = omega (arith, short) in
-    ap (λ n. take n (bytes ++ more)) all ∙ take-append-add bytes more (most_head_bytes - length bytes)
 
 -- bytes that begin no method begin none with more after them
 no_method_stays : (bytes more : List ℕ) → has_no_method bytes ≡ true → has_no_method (bytes ++ more) ≡ true
@@ -176,7 +168,7 @@ never_no_body input never more body rest is = never more body rest ((begins Chun
 
 -- After a head.
 
-module _ (bytes : List ℕ) (end : ℕ) (at : IsToldAt bytes end) (some : has_no_method bytes ≡ false) where
+module _ {bytes : List ℕ} {end : ℕ} (at : IsToldAt bytes end) (some : has_no_method bytes ≡ false) where
   abbrev pub front : List ℕ
   front = take end bytes
 
@@ -188,11 +180,9 @@ module _ (bytes : List ℕ) (end : ℕ) (at : IsToldAt bytes end) (some : has_no
   begins_no_head none more = (front, after ++ more, front_stays bytes more end at some, none, refl)
 
   pub front_here : BeginsWithFront bytes front after
-  front_here =
-      subst (λ s. BeginsWithFront s front after) (append-nil bytes)
-      (subst (λ s. BeginsWithFront (bytes ++ []) front s) (append-nil after) (front_stays bytes [] end at some))
+  front_here = rw (append-nil bytes, append-nil after) at (front_stays bytes [] end at some)
 
-  module _ (h : RequestHead) (is : IsHead front h) (kind : Result BodyKind Unframed) (framed : head_kind (parts_of h) ≡ kind) where
+  module _ {h : RequestHead} (is : IsHead front h) {kind : Result BodyKind Unframed} (framed : head_kind (parts_of h) ≡ kind) where
     pub begins_head : (more : List ℕ) → BeginsWithHead (bytes ++ more) h kind (after ++ more)
     begins_head more = record { front = front; begins = front_stays bytes more end at some; is_head = is; framed = framed }
 
@@ -200,70 +190,64 @@ module _ (bytes : List ℕ) (end : ℕ) (at : IsToldAt bytes end) (some : has_no
     head_here = record { front = front; begins = front_here; is_head = is; framed = framed }
 
   -- a head whose body is not read
-  pub begins_unread : (h : RequestHead) → IsHead front h → (why : Unframed) → head_kind (parts_of h) ≡ Err why
+  pub begins_unread : {h : RequestHead} → IsHead front h → {why : Unframed} → head_kind (parts_of h) ≡ Err why
       → (more : List ℕ) → BeginsWith (bytes ++ more) (Unread h why) []
-  begins_unread h is why framed more = (after ++ more, begins_head h is (Err why) framed more, refl)
+  begins_unread is framed more = (after ++ more, begins_head is framed more, refl)
 
   -- a head with chunks that are no body
-  pub begins_bad : (h : RequestHead) → IsHead front h → head_kind (parts_of h) ≡ Ok Chunked → HasNoBody Chunked after
+  pub begins_bad : {h : RequestHead} → IsHead front h → head_kind (parts_of h) ≡ Ok Chunked → HasNoBody Chunked after
       → (more : List ℕ) → BeginsWith (bytes ++ more) (BadBody h) []
-  begins_bad h is framed none more = (
+  begins_bad is framed none more = (
     after ++ more,
-    begins_head h is (Ok Chunked) framed more,
-    λ later body rest is_body. none (more ++ later) body rest (subst (λ s. IsBody Chunked s body rest) (append_assoc after more later) is_body),
+    begins_head is framed more,
+    λ later body rest is_body. none (more ++ later) body rest (rw append_assoc at is_body),
     refl,
   )
 
   -- a head with its body
-  pub begins_asks : (h : RequestHead) → IsHead front h → (kind : BodyKind) → head_kind (parts_of h) ≡ Ok kind
+  pub begins_asks : {h : RequestHead} → IsHead front h → {kind : BodyKind} → head_kind (parts_of h) ≡ Ok kind
       → (body rest : List ℕ) → ((more : List ℕ) → IsBody kind (after ++ more) body (rest ++ more))
       → (more : List ℕ) → BeginsWith (bytes ++ more) (Asks h body) (rest ++ more)
-  begins_asks h is kind framed body rest is_body more = (kind, after ++ more, begins_head h is (Ok kind) framed more, is_body more)
+  begins_asks {h} is {kind} framed body rest is_body more = (kind, after ++ more, begins_head is framed more, is_body more)
 
   -- a head whose body is not whole
-  pub open_with_head : (h : RequestHead) → IsHead front h → (kind : BodyKind) → head_kind (parts_of h) ≡ Ok kind
+  pub open_with_head : {h : RequestHead} → IsHead front h → {kind : BodyKind} → head_kind (parts_of h) ≡ Ok kind
       → ((body rest : List ℕ) → ¬ (IsBody kind after body rest)) → IsOpen bytes
-  open_with_head h is kind framed none NoMethod rest begins = absurd (not_both (has_no_method bytes) begins.0 some)
-  open_with_head h is kind framed none NoHead rest begins =
-      absurd (head_or_none bytes begins.0 begins.1 h (Ok kind) after begins.2 begins.3 (head_here h is (Ok kind) framed))
-  open_with_head h is kind framed none (Unread k why) rest begins =
-      absurd (not_framed_both kind why (head_kind (parts_of h)) framed
-      (kind_same bytes h k after begins.0 (Ok kind) (Err why) (head_here h is (Ok kind) framed) begins.1))
-  open_with_head h is kind framed none (BadBody k) rest begins = refl
-  open_with_head h is kind framed none (Asks k body) rest begins =
-      let here = head_here h is (Ok kind) framed in
-      let there = (fronts bytes h k after begins.1 (Ok kind) (Ok begins.0) here begins.2).1 in
-      let kinds : begins.0 ≡ kind =
-      same_kind begins.0 kind (head_kind (parts_of h)) (kind_same bytes h k after begins.1 (Ok kind) (Ok begins.0) here begins.2) framed in
-      absurd (none body rest (subst (λ z. IsBody z after body rest) kinds (subst (λ s. IsBody begins.0 s body rest) (sym there) begins.3)))
+  open_with_head is framed none NoMethod rest begins = absurd (not_both begins.0 some)
+  open_with_head is framed none NoHead rest begins = absurd (head_or_none begins.2 begins.3 (head_here is framed))
+  open_with_head is framed none (Unread k why) rest begins = absurd (not_framed_both framed (kind_same (head_here is framed) begins.1))
+  open_with_head is framed none (BadBody k) rest begins = refl
+  open_with_head {h} is {kind} framed none (Asks k body) rest begins =
+      let kinds : begins.0 ≡ kind = same_kind (kind_same (head_here is framed) begins.2) framed in
+      absurd (none body rest (rw (kinds, ← (fronts (head_here is framed) begins.2).1) at begins.3))
 
 -- What is taken.
 
 pub takes_no_method : (bytes : List ℕ) → has_no_method bytes ≡ true → IsFirstOf bytes taken.NoMethod (length bytes)
 takes_no_method bytes none = grind (arith, begins, no_method_stays)
 
-module _ (bytes : List ℕ) (end : ℕ) (at : IsToldAt bytes end) (some : has_no_method bytes ≡ false) where
+module _ {bytes : List ℕ} {end : ℕ} (at : IsToldAt bytes end) (some : has_no_method bytes ≡ false) where
   -- a prefix that is no head
   pub takes_no_head : (why : Denial) → IsDeniedFront (take end bytes) why → IsFirstOf bytes (taken.Denied why) (length bytes)
   takes_no_head why denied = record {
     sent = NoHead;
-    is_taken = record { front = take end bytes; first = (front_here bytes end at some).first; why = denied.why };
+    is_taken = record { front = take end bytes; first = (front_here at some).first; why = denied.why };
     within = omega arith;
-    begins = begins_no_head bytes end at some denied.is_none;
+    begins = begins_no_head at some denied.is_none;
   }
 
-  module _ (h : RequestHead) (is : IsHead (take end bytes) h) where
+  module _ {h : RequestHead} (is : IsHead (take end bytes) h) where
     -- a head whose body is not read
-    pub takes_unread : (reason : Unframed) → head_kind (parts_of h) ≡ Err reason
+    pub takes_unread : {reason : Unframed} → head_kind (parts_of h) ≡ Err reason
         → IsFirstOf bytes (taken.Denied (denial_of reason)) (length bytes)
-    takes_unread reason framed = record {
+    takes_unread {reason} framed = record {
       sent = Unread h reason;
       is_taken = refl;
       within = omega arith;
-      begins = begins_unread bytes end at some h is reason framed;
+      begins = begins_unread at some is framed;
     }
 
-    module _ (kind : BodyKind) (framed : head_kind (parts_of h) ≡ Ok kind) (fits : IsWithinLimit kind) where
+    module _ {kind : BodyKind} (framed : head_kind (parts_of h) ≡ Ok kind) (fits : IsWithinLimit kind) where
       -- chunks that are no body
       pub takes_bad : NeverEnds (first_reading kind) (drop end bytes) → IsFirstOf bytes (taken.Denied BadHead) (length bytes)
       takes_bad never = bad_by kind framed fits never
@@ -275,7 +259,7 @@ module _ (bytes : List ℕ) (end : ℕ) (at : IsToldAt bytes end) (some : has_no
             sent = BadBody h;
             is_taken = inl refl;
             within = omega arith;
-            begins = begins_bad bytes end at some h is framed (never_no_body (drop end bytes) never);
+            begins = begins_bad at some is framed (never_no_body (drop end bytes) never);
           }
 
       -- chunks with too much data
@@ -289,40 +273,34 @@ module _ (bytes : List ℕ) (end : ℕ) (at : IsToldAt bytes end) (some : has_no
               let large = exceeds_large (drop end bytes) past in
               record {
                 sent = BadBody h;
-                is_taken = inr (refl, record { after = drop end bytes; begins = head_here bytes end at some h is (Ok Chunked) framed; large = large });
+                is_taken = inr (refl, record { after = drop end bytes; begins = head_here at some is framed; large = large });
                 within = omega arith;
-                begins = begins_bad bytes end at some h is framed (large_never (drop end bytes) large);
+                begins = begins_bad at some is framed (large_never (drop end bytes) large);
               }
 
       -- a request, whole
-      pub takes_asks : (r : WideRequest) (new : Reading) (count : ℕ) → Ends (first_reading kind) (drop end bytes) new count
+      pub takes_asks : {r : WideRequest} {new : Reading} {count : ℕ} → Ends (first_reading kind) (drop end bytes) new count
           → IsWideRequest r h new.body → IsFirstOf bytes (taken.Asks r) (end + count)
-      takes_asks r new count ends asks = record {
+      takes_asks {r} {new} {count} ends asks = record {
         sent = Asks h new.body;
         is_taken = asks;
         within = omega (arith, ends.within, at.within, length-drop end bytes);
-        begins = λ more. subst (λ rest. BeginsWith (bytes ++ more) (Asks h new.body) (rest ++ more)) (drop-drop count end bytes)
-            (begins_asks bytes end at some h is kind framed new.body (drop count (drop end bytes))
-            (λ later. (begins kind (drop end bytes ++ later) new.body (drop count (drop end bytes) ++ later)).1 (ends.whole later)) more);
+        begins = λ more. rw (drop-drop count end bytes) at (begins_asks at some is framed new.body (drop count (drop end bytes))
+            (λ later. (begins kind (drop end bytes ++ later) new.body _).1 (ends.whole later)) more);
       }
 
       -- a body that is not whole
-      pub is_open : (new : Reading) (count : ℕ) → Goes (first_reading kind) (drop end bytes) new count → IsOpen bytes
-      is_open new count goes =
-          open_with_head bytes end at some h is kind framed
+      pub is_open : {new : Reading} {count : ℕ} → Goes (first_reading kind) (drop end bytes) new count → IsOpen bytes
+      is_open goes =
+          open_with_head at some is framed
           (λ body rest is_body. goes.unfinished body rest ((begins kind (drop end bytes) body rest).0 is_body))
 
 -- what is asked by the places of a head is what the head asks
-pub asks_of : (front : List ℕ) (head : Head) (h : RequestHead) (body : List ℕ) (r : WideRequest) → parts_in front head ≡ parts_of h
+pub asks_of : {front : List ℕ} {head : Head} {h : RequestHead} {body : List ℕ} {r : WideRequest} → parts_in front head ≡ parts_of h
     → AsksAt front head body r → IsWideRequest r h body
-asks_of prefix head h body r same asks = grind arith
+asks_of {front} {head} {h} {body} {r} same asks = grind arith
 
 -- a body that ends is short
-pub ends_short : (kind : BodyKind) (input : List ℕ) (new : Reading) (count : ℕ) → Ends (first_reading kind) input new count
+pub ends_short : (kind : BodyKind) {input : List ℕ} {new : Reading} {count : ℕ} → Ends (first_reading kind) input new count
     → length new.body ≤ most_bytes
-ends_short kind input new count ends = (ends.whole []).short
-
--- what a new reader finds in the bytes after a head
-pub at_first : (P : Reading → List ℕ → Type 0) (r : Reading) (kind : BodyKind) (bytes : List ℕ) (end : ℕ) → r ≡ first_reading kind
-    → P r (take (length bytes - end) (drop end bytes)) → P (first_reading kind) (drop end bytes)
-at_first P r kind bytes end first found = grind (arith, take_all, length-drop)
+ends_short kind ends = (ends.whole []).short

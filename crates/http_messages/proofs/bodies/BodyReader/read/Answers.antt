@@ -1,16 +1,15 @@
 -- Each step goes on where the one before ended.
-use Rattle.std.proofs.Common.{◌≡◌, ◌∙◌, ap, sym, subst, drop, arith, length-drop, Err, ℕ, ◌+◌, ◌≤◌, List, [], ◌++◌, length, inl, inr, append-nil, drop-drop}
+use Rattle.std.proofs.Common.{◌≡◌, ◌∙◌, ap, sym, drop, arith, length-drop, Err, ℕ, ◌+◌, ◌≤◌, List, [], ◌++◌, length, inl, inr, append-nil, drop-drop}
 use Rattle.std.proofs.lemmas.List.{take_rest}
 use Rattle.std.proofs.lemmas.Result.{err_from_is_err_and}
-use Rattle.http_messages.specs.Bodies.{Ends, Exceeds, Goes, Moves, NeverEnds, Awaits, Reading}
+use Rattle.http_messages.specs.Bodies.{Ends, Goes, Moves, NeverEnds, Reading}
 use Rattle.http_messages.proofs.bodies.BodyReader.read.Goals as goal
-use Rattle.http1.specs.Decoder.{AwaitsTrailers}
 
 -- nothing was used yet
 moves_none : (r : Reading) (input : List ℕ) → Moves r input r 0
 moves_none r input = grind arith
 
-module _ (a b : Reading) (input : List ℕ) (m : ℕ) (first : Moves a input b m) where
+module _ {a b : Reading} {input : List ℕ} {m : ℕ} (first : Moves a input b m) where
   -- the bytes after both parts
   after : (n : ℕ) → drop n (drop m input) ≡ drop (m + n) input
   after n = drop-drop n m input
@@ -19,39 +18,31 @@ module _ (a b : Reading) (input : List ℕ) (m : ℕ) (first : Moves a input b m
   inside : (n : ℕ) → n ≤ length (drop m input) → m + n ≤ length input
   inside n less = omega (arith, less, first.within, length-drop m input)
 
-  moves_more : (c : Reading) (n : ℕ) → Moves b (drop m input) c n → Moves a input c (m + n)
-  moves_more c n second = record {
+  moves_more : {c : Reading} {n : ℕ} → Moves b (drop m input) c n → Moves a input c (m + n)
+  moves_more {c} {n} second = record {
     within = inside n second.within;
-    back = λ more body rest waits. first.back more body rest
-        (second.back more body rest (subst (λ left. Awaits c (left ++ more) body rest) (sym (after n)) waits));
-    forth = λ more body rest waits. subst (λ left. Awaits c (left ++ more) body rest) (after n)
-        (second.forth more body rest (first.forth more body rest waits));
-    exceeds = λ past. first.exceeds (second.exceeds (subst (λ left. Exceeds c left) (sym (after n)) past));
+    back = λ more body rest waits. first.back more body rest (second.back more body rest (rw (after n) waits));
+    forth = λ more body rest waits. rw (after n) at (second.forth more body rest (first.forth more body rest waits));
+    exceeds = λ past. first.exceeds (second.exceeds (rw (after n) past));
   }
 
   -- and the rest does not suffice
-  goes_more : (c : Reading) (n : ℕ) → Goes b (drop m input) c n → Goes a input c (m + n)
-  goes_more c n second = record {
-    moves = moves_more c n second.moves;
+  goes_more : {c : Reading} {n : ℕ} → Goes b (drop m input) c n → Goes a input c (m + n)
+  goes_more {c} {n} second = record {
+    moves = moves_more second.moves;
     used = elim second.used [
       | inl all ↦ inl (omega (arith, all, first.within, length-drop m input))
-      | inr trailers ↦ inr (subst (λ left. AwaitsTrailers c.waits (length left)) (after n) trailers)
+      | inr trailers ↦ inr (rw (after n) at trailers)
     ];
-    unfinished = λ body rest waits. second.unfinished body rest (bare (first.forth [] body rest (full waits)));
+    unfinished = λ body rest waits. second.unfinished body rest
+        (rw (append-nil (drop m input)) at (first.forth [] body rest (rw (append-nil input) waits)));
   }
-    where
-      full : {body rest : List ℕ} → Awaits a input body rest → Awaits a (input ++ []) body rest
-      full {body} {rest} waits = subst (λ s. Awaits a s body rest) (sym (append-nil input)) waits
-
-      bare : {body rest : List ℕ} → Awaits b (drop m input ++ []) body rest → Awaits b (drop m input) body rest
-      bare {body} {rest} waits = subst (λ s. Awaits b s body rest) (append-nil (drop m input)) waits
 
   -- and the body ends
-  ends_more : (c : Reading) (n : ℕ) → Ends b (drop m input) c n → Ends a input c (m + n)
-  ends_more c n second = record {
+  ends_more : {c : Reading} {n : ℕ} → Ends b (drop m input) c n → Ends a input c (m + n)
+  ends_more {c} {n} second = record {
     within = inside n second.within;
-    whole = λ more. first.back more c.body (drop (m + n) input ++ more)
-        (subst (λ left. Awaits b (drop m input ++ more) c.body (left ++ more)) (after n) (second.whole more));
+    whole = λ more. first.back more c.body (drop (m + n) input ++ more) (rw (after n) at (second.whole more));
   }
 
   -- and no body begins so
@@ -65,33 +56,17 @@ loop-count-init c = moves_none c.args.self.now c.args.input.now
 -- the rest does not suffice
 pub returns-in-Waits-clause-reads : goal.returns-in-Waits-clause-reads
 returns-in-Waits-clause-reads c =
-    let before = c.loop-count.self in
-    let input = c.args.input.now in
-    let used = c.loop-count.used in
-    let count = c.in-Waits.count in
-    goes_more c.args.self.now before input used c.loop-count.invariant c.step.new.self count
-    (subst (λ given. Goes before given c.step.new.self count) (take_rest input used) (rw c.in-Waits.is at c.in_ok-count.ensures.steps))
+    goes_more c.loop-count.invariant (rw take_rest at (rw c.in-Waits.is at c.in_ok-count.ensures.steps))
 
 -- the body ends
 pub returns-in-Ended-clause-reads : goal.returns-in-Ended-clause-reads
 returns-in-Ended-clause-reads c =
-    let before = c.loop-count.self in
-    let input = c.args.input.now in
-    let used = c.loop-count.used in
-    let count = c.in-Ended.count in
-    ends_more c.args.self.now before input used c.loop-count.invariant c.step.new.self count
-    (subst (λ given. Ends before given c.step.new.self count) (take_rest input used) (rw c.in-Ended.is at c.in_ok-count.ensures.steps))
+    ends_more c.loop-count.invariant (rw take_rest at (rw c.in-Ended.is at c.in_ok-count.ensures.steps))
 
 -- more was used
 pub loop-count-preserved : goal.loop-count-preserved
 loop-count-preserved c =
-    let before = c.loop-count.self in
-    let input = c.args.input.now in
-    let used = c.loop-count.used in
-    let count = c.in-Took.count in
-    let found = rw c.in-Took.is at c.in_ok-count.ensures.steps in
-    moves_more c.args.self.now before input used c.loop-count.invariant c.step.new.self count
-    (subst (λ given. Moves before given c.step.new.self count) (take_rest input used) found.1)
+    moves_more c.loop-count.invariant (rw take_rest at ((rw c.in-Took.is at c.in_ok-count.ensures.steps).1))
 
 -- fewer bytes are left
 pub loop-count-smaller : goal.loop-count-smaller
@@ -104,8 +79,5 @@ returns-in_err-count-clause-too_large c large = grind (arith, err_from_is_err_an
 -- what never ends now never ended
 pub returns-in_err-count-clause-malformed : goal.returns-in_err-count-clause-malformed
 returns-in_err-count-clause-malformed c bad =
-    let before = c.loop-count.self in
     let failed = err_from_is_err_and c.from_residual.result c.from_residual.ensures.1 in
-    never_more c.args.self.now before c.args.input.now c.loop-count.used c.loop-count.invariant
-    (subst (λ given. NeverEnds before given) (take_rest c.args.input.now c.loop-count.used)
-    (c.in_err-count.ensures.malformed (ap Err (sym failed.2 ∙ cc))))
+    never_more c.loop-count.invariant (rw take_rest at (c.in_err-count.ensures.malformed (ap Err (sym failed.2 ∙ cc))))
