@@ -1,5 +1,5 @@
 -- The marks of a month's days, of which one after another is set. For the line of a calendar.
-use Rattle.std.proofs.Common.{◌≡◌, ◌∙◌, ap, sym, refl, ℕ, zero, suc, ◌+◌, ◌<◌, true, false, List, [], ◌∷◌, ◌++◌, append_assoc, length, map, get_or, arith, ◌==◌, Bool, if◌then◌else◌, reverse, set, Some, None}
+use Rattle.std.proofs.Common.{◌≡◌, ◌∙◌, ap, sym, refl, ℕ, zero, suc, ◌+◌, ◌<◌, List, [], ◌∷◌, ◌++◌, append_assoc, length, map, get_or, arith, ◌==◌, Bool, if◌then◌else◌, reverse, set, Some}
 use Rattle.std.specs.List.{slice_get}
 use Rattle.std.proofs.lemmas.Bool.{eqb-true, eqb-false}
 use Rattle.std.proofs.lemmas.List.{ext_get_or, get_or-set_other, get_or-set_same, map-append, reverse-append}
@@ -30,13 +30,7 @@ shows_more marks month row place long inside is shown = λ day small. by day sma
   where
     by : (day : ℕ) → day < 31 → (same : Bool) → day_in_month row.0 == day + 1 ≡ same
         → get_or (set marks place (mark_of row.1)) day blank ≡ (if same then mark_of row.1 else mark_on month (day + 1))
-    by day small true same =
-        let here : day ≡ place = omega (arith, is, eqb-true (day_in_month row.0) (day + 1) same) in
-        let within : place < length marks = omega (arith, long, inside) in
-        ap (λ d. get_or (set marks place (mark_of row.1)) d blank) here ∙ get_or-set_same marks place (mark_of row.1) blank within
-    by day small false same =
-        let apart = eqb-false (day_in_month row.0) (day + 1) same in
-        get_or-set_other marks place day (mark_of row.1) blank (λ here. apart (omega (arith, is, here))) ∙ shown day small
+    by day small here same = grind (arith, eqb-true, get_or-set_same, eqb-false, get_or-set_other)
 
 -- the days that have their marks are the row of the month
 pub shows_all : (marks : List ℕ) (month : List Places) → length marks ≡ 31 → Shows marks month → marks ≡ marks_of month
@@ -73,12 +67,5 @@ line_parts product month marks = simp append_assoc
 -- the line of a month is that of its first cell
 pub row_by_first : (month : List Places) (row : Places) → Some row ≡ slice_get month 0
     → calendar_row month ≡ calendar_line row.0 (marks_of month)
-row_by_first [] row is = absurd (some_is_none row is)
-  where
-    some_is_none : (x : Places) → Some x ≡ None → ⊥
-    some_is_none x is = cc
-row_by_first (first ∷ later) row is =
-    ap (λ (r : Places). calendar_line r.0 (marks_of (first ∷ later))) (same first row is)
-  where
-    same : (x y : Places) → Some y ≡ Some x → x ≡ y
-    same x y is = cc
+row_by_first [] row is = grind arith
+row_by_first (first ∷ later) row is = grind arith

@@ -1,12 +1,12 @@
 -- Months that are read one cell after another. For reading a month.
-use Rattle.std.proofs.Common.{◌≡◌, ◌∙◌, ap, sym, subst, refl, ℕ, ◌+◌, ◌≤◌, true, false, cond, List, [], ◌∷◌, ◌++◌, append_assoc, arith, Option, Some, None, if◌then◌else◌, nat_lt, ◌==◌, ◌&&◌}
+use Rattle.std.proofs.Common.{◌≡◌, refl, ℕ, ◌+◌, ◌≤◌, true, false, List, [], ◌∷◌, ◌++◌, append_assoc, arith, Option, Some, None}
 use Rattle.std.proofs.lemmas.Bool.{and_parts, ltb-true}
 use Rattle.allotment.specs.Nights.{date_of}
 use Rattle.allotment.specs.declared.cells.Cell.{Cell}
 use Rattle.saga_core.specs.RowSources.{Hands, HandsFirst}
 use Rattle.filters.specs.CellFilters.{is_cell_asked}
 use Rattle.filters.specs.declared.cells.CellFilter.{CellFilter}
-use Rattle.month_reports.specs.Months.{asked_of, AskedRest, before_first, goes_on, is_followed, is_later_day, is_product, months_of, MonthsRest, Places}
+use Rattle.month_reports.specs.Months.{asked_of, AskedRest, before_first, goes_on, is_followed, months_of, MonthsRest, Places}
 
 -- these cells are in the first of these months, before its other cells
 abbrev pub before : List Places → List (List Places) → List (List Places)
@@ -16,13 +16,11 @@ before cells (month ∷ others) = (cells ++ month) ∷ others
 -- one cell more before the first month
 before-before_first : (cells : List Places) (row : Places) (months : List (List Places))
     → before cells (before_first row months) ≡ before (cells ++ row ∷ []) months
-before-before_first cells row [] = refl
-before-before_first cells row (month ∷ others) = ap (λ m. m ∷ others) (sym (append_assoc cells (row ∷ []) month))
+before-before_first cells row months = grind (arith, append_assoc)
 
 -- the cell alone before the first month
 before-one : (row : Places) (months : List (List Places)) → before_first row months ≡ before (row ∷ []) months
-before-one row [] = refl
-before-one row (month ∷ others) = refl
+before-one row months = grind arith
 
 -- these cells, of which this is the last, are the beginning of a month: whatever follows is in it or after it
 pub record Begins (cells : List Places) (last : Cell) : Type 0 where
@@ -31,27 +29,12 @@ pub record Begins (cells : List Places) (last : Cell) : Type 0 where
 
 -- the first cell begins a month
 pub begins_one : (row : Places) → Begins (row ∷ []) row.0
-begins_one row =
-    record {
-      joins = λ next joined.
-          ap (λ b. if b then before_first row (months_of next) else (row ∷ []) ∷ months_of next) joined
-          ∙ before-one row (months_of next);
-      ends = λ next apart. ap (λ b. if b then before_first row (months_of next) else (row ∷ []) ∷ months_of next) apart;
-    }
+begins_one row = grind (arith, before-one)
 
 -- a cell that goes on with the month is in it
 pub begins_more : (cells : List Places) (last : Cell) (row : Places)
     → Begins cells last → goes_on last row.0 ≡ true → Begins (cells ++ row ∷ []) row.0
-begins_more cells last row begun follows =
-    record {
-      joins = λ next joined.
-          ap months_of (append_assoc cells (row ∷ []) next) ∙ begun.joins (row ∷ next) follows
-          ∙ ap (λ b. before cells (if b then before_first row (months_of next) else (row ∷ []) ∷ months_of next)) joined
-          ∙ before-before_first cells row (months_of next);
-      ends = λ next apart.
-          ap months_of (append_assoc cells (row ∷ []) next) ∙ begun.joins (row ∷ next) follows
-          ∙ ap (λ b. before cells (if b then before_first row (months_of next) else (row ∷ []) ∷ months_of next)) apart;
-    }
+begins_more cells last row begun follows = grind (arith, append_assoc, before-before_first, begun.joins)
 
 -- the cells that were read are the beginning of a month, and the others remain
 pub record Reading (rested rests : List Places → Type 0) (first : Places) (cells : List Places) : Type 0 where
@@ -65,21 +48,7 @@ reads_one rests first = record { rest = λ later is. (later, is, refl) }
 pub reads_more : (rested between rests : List Places → Type 0) (first : Places) (cells : List Places) (row : Places)
     → Reading rested between first cells → Hands between rests (Some row)
     → Reading rested rests first (cells ++ row ∷ [])
-reads_more rested between rests first cells row reading hands =
-    record { rest = λ later is. let now = reading.rest later is in by later now.0 now.1 now.2 }
-  where
-    none_is_some : {A : Type 0} (x : A) → Some x ≡ None → ⊥
-    none_is_some x is = cc
-
-    same : {A : Type 0} (x y : A) → Some x ≡ Some y → y ≡ x
-    same x y is = cc
-
-    by : (later others : List Places) → between others → first ∷ later ≡ cells ++ others
-        → (left : List Places) × rests left × (first ∷ later ≡ (cells ++ row ∷ []) ++ left)
-    by later [] rest cut = absurd (none_is_some row (hands [] rest).0)
-    by later (next ∷ left) rest cut =
-        let told = hands (next ∷ left) rest in
-        (left, told.1, cut ∙ ap (λ x. cells ++ x ∷ left) (same row next told.0) ∙ sym (append_assoc cells (row ∷ []) left))
+reads_more rested between rests first cells row reading hands = grind (arith, append_assoc, reading.rest)
 
 -- the source has no more cells: the month is the last
 pub hands_last : (rested between rests : List Places → Type 0) (first : Places) (cells : List Places) (last : Cell)
@@ -89,16 +58,10 @@ hands_last rested between rests first cells last reading begun hands = λ months
     let now = reading.rest rest.0 rest.1 in
     by rest.0 months rest.2 now.0 now.1 now.2
   where
-    none_is_some : {A : Type 0} (x : A) → None ≡ Some x → ⊥
-    none_is_some x is = cc
-
     by : (later : List Places) (months : List (List Places)) → months ≡ months_of (first ∷ later)
         → (others : List Places) → between others → first ∷ later ≡ cells ++ others
         → HandsFirst (MonthsRest rests None) (Some cells) months
-    by later months is (next ∷ left) rest cut = absurd (none_is_some next (hands (next ∷ left) rest).0)
-    by later months is [] rest cut =
-        let whole : months ≡ cells ∷ [] = is ∙ ap months_of cut ∙ begun.ends [] refl in
-        subst (HandsFirst (MonthsRest rests None) (Some cells)) (sym whole) (refl, (refl, (hands [] rest).1))
+    by later months is others rest cut = grind (arith, hands, begun.ends)
 
 -- the next cell does not go on with the month: it begins the next one
 pub hands_month : (rested between rests : List Places → Type 0) (first : Places) (cells : List Places) (last : Cell) (row : Places)
@@ -108,43 +71,20 @@ hands_month rested between rests first cells last row reading begun hands apart 
     let now = reading.rest rest.0 rest.1 in
     by rest.0 months rest.2 now.0 now.1 now.2
   where
-    none_is_some : {A : Type 0} (x : A) → Some x ≡ None → ⊥
-    none_is_some x is = cc
-
-    same : {A : Type 0} (x y : A) → Some x ≡ Some y → y ≡ x
-    same x y is = cc
-
     by : (later : List Places) (months : List (List Places)) → months ≡ months_of (first ∷ later)
         → (others : List Places) → between others → first ∷ later ≡ cells ++ others
         → HandsFirst (MonthsRest rests (Some row)) (Some cells) months
-    by later months is [] rest cut = absurd (none_is_some row (hands [] rest).0)
-    by later months is (next ∷ left) rest cut =
-        let told = hands (next ∷ left) rest in
-        let here = same row next told.0 in
-        let whole : months ≡ cells ∷ months_of (row ∷ left) =
-        is ∙ ap months_of (cut ∙ ap (λ x. cells ++ x ∷ left) here) ∙ begun.ends (row ∷ left) apart in
-        subst (HandsFirst (MonthsRest rests (Some row)) (Some cells)) (sym whole) (refl, (left, told.1, refl))
+    by later months is others rest cut = grind (arith, hands, begun.ends)
 
 -- the first cell of all was read: the months of all remain
 pub first_read : (rested rests : List Places → Type 0) (found : Option Places) (all : List Places)
     → rested all → Hands rested rests found → MonthsRest rests found (months_of all)
-first_read rested rests found [] rest hands =
-    let told = hands [] rest in
-    subst (λ (f : Option Places). MonthsRest rests f []) (sym told.0) (refl, told.1)
-first_read rested rests found (row ∷ later) rest hands =
-    let told = hands (row ∷ later) rest in
-    subst (λ (f : Option Places). MonthsRest rests f (months_of (row ∷ later))) (sym told.0) (later, told.1, refl)
+first_read rested rests found all rest hands = grind (arith, hands)
 
 -- the day of a cell that goes on with a month is later
 pub later_day : (last next : Cell) (n : ℕ) → goes_on last next ≡ true → n ≤ (date_of last.night).1.1
     → n + 1 ≤ (date_of next.night).1.1
-later_day last next n follows small =
-    let x = date_of last.night in
-    let y = date_of next.night in
-    let dated = (and_parts (is_product last next) (is_later_day x y) follows).1 in
-    let in_year = (and_parts (x.0 == y.0) ((x.1.0 == y.1.0) && nat_lt x.1.1 y.1.1) dated).1 in
-    let later = ltb-true x.1.1 y.1.1 (and_parts (x.1.0 == y.1.0) (nat_lt x.1.1 y.1.1) in_year).1 in
-    omega (arith, small, later)
+later_day last next n follows small = grind (arith, and_parts, ltb-true)
 
 -- a number is at most what a greater one is at most
 pub at_most : (n m most : ℕ) → n ≤ m → m ≤ most → n ≤ most
@@ -164,26 +104,11 @@ passes_none f rests = record { rest = λ all rest. (all, rest, refl) }
 pub asked_none : (f : CellFilter) (rested between rests : List Places → Type 0)
     → Passing f rested between → Hands between rests None
     → Hands (AskedRest f rested) (AskedRest f rests) None
-asked_none f rested between rests passing hands = λ asked rest.
-    let now = passing.rest rest.0 rest.1 in
-    by asked now.0 now.1 (rest.2 ∙ now.2)
-  where
-    none_is_some : {A : Type 0} (x : A) → None ≡ Some x → ⊥
-    none_is_some x is = cc
-
-    by : (asked later : List Places) → between later → asked ≡ asked_of f later → HandsFirst (AskedRest f rests) None asked
-    by asked (next ∷ left) rest is = absurd (none_is_some next (hands (next ∷ left) rest).0)
-    by asked [] rest is = subst (HandsFirst (AskedRest f rests) None) (sym is) (refl, ([], (hands [] rest).1, refl))
+asked_none f rested between rests passing hands = grind (arith, passing.rest)
 
 -- a cell was returned
 module _ (f : CellFilter) (rested between rests : List Places → Type 0) (row : Places)
     (passing : Passing f rested between) (hands : Hands between rests (Some row)) where
-  none_is_some : {A : Type 0} (x : A) → Some x ≡ None → ⊥
-  none_is_some x is = cc
-
-  same : {A : Type 0} (x y : A) → Some x ≡ Some y → y ≡ x
-  same x y is = cc
-
   -- it is the first of those that remained
   pub first_of : (all : List Places) → rested all → (left : List Places) × rests left × (asked_of f all ≡ asked_of f (row ∷ left))
   first_of all rest =
@@ -192,24 +117,13 @@ module _ (f : CellFilter) (rested between rests : List Places → Type 0) (row :
     where
       by : (later : List Places) → between later → asked_of f all ≡ asked_of f later
           → (left : List Places) × rests left × (asked_of f all ≡ asked_of f (row ∷ left))
-      by [] rest is = absurd (none_is_some row (hands [] rest).0)
-      by (next ∷ left) rest is =
-          let told = hands (next ∷ left) rest in
-          (left, told.1, is ∙ ap (λ x. asked_of f (x ∷ left)) (same row next told.0))
+      by [] rest is = let none : Some row ≡ None = (hands [] rest).0 in absurd (cc)
+      by (next ∷ left) rest is = grind (arith, hands (next ∷ left) rest)
 
   -- it is not asked for: it is passed over
   pub passes_more : is_cell_asked f row.0 ≡ false → Passing f rested rests
-  passes_more refused =
-      record {
-        rest = λ all rest.
-            let first = first_of all rest in
-            (first.0, first.1, first.2 ∙ ap (λ b. cond b (row ∷ asked_of f first.0) (asked_of f first.0)) refused);
-      }
+  passes_more refused = grind (arith, first_of)
 
   -- it is asked for: it is the first of those
   pub asked_some : is_cell_asked f row.0 ≡ true → Hands (AskedRest f rested) (AskedRest f rests) (Some row)
-  asked_some passed = λ asked rest.
-      let first = first_of rest.0 rest.1 in
-      let is : asked ≡ row ∷ asked_of f first.0 =
-      rest.2 ∙ first.2 ∙ ap (λ b. cond b (row ∷ asked_of f first.0) (asked_of f first.0)) passed in
-      subst (HandsFirst (AskedRest f rests) (Some row)) (sym is) (refl, (first.0, first.1, refl))
+  asked_some passed = grind (arith, first_of)

@@ -1,8 +1,8 @@
 -- What stands between two cells of one product and one month. For the law of months.
-use Rattle.std.proofs.Common.{◌≡◌, ◌∙◌, ap, sym, subst, refl, ℕ, ◌+◌, ◌-◌, ◌<◌, ◌≤◌, Bool, true, false, cond, List, [], ◌∷◌, arith, ◌==◌, ◌&&◌, nat_lt, bytes_eq, if◌then◌else◌}
+use Rattle.std.proofs.Common.{◌≡◌, ◌∙◌, ap, sym, subst, refl, ℕ, ◌+◌, ◌-◌, ◌<◌, ◌≤◌, Bool, true, false, List, [], ◌∷◌, arith, ◌==◌, ◌&&◌, nat_lt, bytes_eq, if◌then◌else◌}
 use Rattle.std.specs.Ordering.{is_eq, is_lt, nat_cmp, on, ordering_then, then_cmp}
 use Rattle.std.specs.declared.cmp.Ordering.{Ordering}
-use Rattle.std.specs.declared.cmp.Ordering.TheVariants.{Less, Equal, Greater}
+use Rattle.std.specs.declared.cmp.Ordering.TheVariants.{Less, Equal}
 use Rattle.std.specs.Cmp.{IsTotalOrder, tied_then, unsigned_ties}
 use Rattle.std.specs.Cmp.Lexicographic.{slice_cmp, texts_ties}
 use Rattle.std.proofs.lemmas.Bool.{and_from, and_parts, both_ways, eq-eqb, eqb-true, false≢true, lt-ltb, ltb-false, ltb-true}
@@ -37,11 +37,7 @@ cell_cmp-product x y =
   where
     joined : (a b p n : Ordering)
         → ordering_then a (ordering_then b (ordering_then p n)) ≡ ordering_then (ordering_then a (ordering_then b p)) n
-    joined Less b p n = refl
-    joined Equal Less p n = refl
-    joined Equal Equal p n = refl
-    joined Equal Greater p n = refl
-    joined Greater b p n = refl
+    joined a b p n = grind arith
 
 -- products that compare as equal are one
 is_product-equal : (x y : Cell) → is_product x y ≡ is_eq (product_cmp x y)
@@ -58,22 +54,11 @@ is_product-equal x y =
 
 -- a night that compares as less is earlier
 earlier : (m n : ℕ) → is_lt (nat_cmp m n) ≡ true → m < n
-earlier m n less = by (nat_lt m n) (m == n) refl less
-  where
-    by : (b c : Bool) → nat_lt m n ≡ b
-        → is_lt (cond b Less (cond c Equal Greater)) ≡ true → m < n
-    by true c is less = ltb-true m n is
-    by false true is less = absurd (false≢true less)
-    by false false is less = absurd (false≢true less)
+earlier m n less = grind (arith, ltb-true, false≢true)
 
 -- a cell of the same product that comes later is of a later night
 later_night : (x y : Cell) → is_lt (cell_cmp x y) ≡ true → is_product x y ≡ true → x.night < y.night
-later_night x y less same = by (product_cmp x y) refl (ap is_lt (sym (cell_cmp-product x y)) ∙ less)
-  where
-    by : (o : Ordering) → product_cmp x y ≡ o → is_lt (ordering_then o (nat_cmp x.night y.night)) ≡ true → x.night < y.night
-    by Less is less = absurd (both_ways (is_product x y) (is_product-equal x y ∙ ap is_eq is) same)
-    by Equal is less = earlier x.night y.night less
-    by Greater is less = absurd (false≢true less)
+later_night x y less same = grind (arith, cell_cmp-product, both_ways, is_product-equal, earlier, false≢true)
 
 -- a cell between two cells of one product is of it too, and its night is between theirs
 pub record IsBetween (x y z : Cell) : Type 0 where
@@ -92,30 +77,14 @@ between x y z first second same =
     by : (o p : Ordering) → product_cmp x y ≡ o → product_cmp y z ≡ p
         → is_lt (ordering_then o (nat_cmp x.night y.night)) ≡ true
         → is_lt (ordering_then p (nat_cmp y.night z.night)) ≡ true → IsBetween x y z
-    by Less Less a b e f = absurd (apart (product_total.trans x y z a b))
-    by Less Equal a b e f = absurd (apart (sym (alike_right product_total y z x b) ∙ a))
-    by Equal Less a b e f = absurd (apart (product_total.congr x y z a ∙ b))
-    by Equal Equal a b e f =
-        record {
-          product = is_product-equal x y ∙ ap is_eq a;
-          after = earlier x.night y.night e;
-          before = earlier y.night z.night f;
-        }
-    by Less Greater a b e f = absurd (false≢true f)
-    by Equal Greater a b e f = absurd (false≢true f)
-    by Greater p a b e f = absurd (false≢true e)
+    by o p a b e f = grind (arith, apart, alike_right, product_total, is_product-equal, earlier, false≢true)
 
 -- Dates.
 
 -- the months are counted from the first one on
 month_from : (first : ℕ) (ms : List ℕ) (over : ℕ) → first ≤ (month_and_day first ms over).0
 month_from first [] over = omega arith
-month_from first (days ∷ later) over = by (nat_lt over days) (month_from (first + 1) later (over - days))
-  where
-    by : (b : Bool) → first + 1 ≤ (month_and_day (first + 1) later (over - days)).0
-        → first ≤ (if b then (first, over + 1) else month_and_day (first + 1) later (over - days)).0
-    by true after = omega arith
-    by false after = omega (arith, after)
+month_from first (days ∷ later) over = grind (arith, month_from (first + 1) later (over - days))
 
 -- a day between two days of a month is a later day of this month than the first one
 days_between : (first : ℕ) (ms : List ℕ) (a b c : ℕ) → a < b → b ≤ c
@@ -138,12 +107,7 @@ days_between first (days ∷ later) a b c less most same =
         ≡ (if t then (first, b + 1) else month_and_day (first + 1) later (b - days)).0)
         × ((if s then (first, a + 1) else month_and_day (first + 1) later (a - days)).1
         < (if t then (first, b + 1) else month_and_day (first + 1) later (b - days)).1)
-    by true true u x y z next same = (refl, omega (arith, less))
-    by true false true x y z next same = absurd (omega (arith, ltb-true c days z, ltb-false b days y, most))
-    by true false false x y z next same = absurd (omega (arith, month_from (first + 1) later (c - days), same))
-    by false true u x y z next same = absurd (omega (arith, ltb-false a days x, ltb-true b days y, less))
-    by false false true x y z next same = absurd (omega (arith, ltb-false a days x, ltb-true c days z, less, most))
-    by false false false x y z next same = next (ltb-false a days x) same
+    by s t u x y z next same = grind (arith, ltb-true, ltb-false, month_from)
 
 -- the month and the day of a day, where its year is known
 abbrev in_year : ℕ → ℕ → ℕ × ℕ
@@ -179,22 +143,11 @@ pub record AreOfMonth (x y : Cell) : Type 0 where
   pub month : (date_of x.night).1.0 ≡ (date_of y.night).1.0
 
 of_month : (x y : Cell) → is_same_month x y ≡ true → AreOfMonth x y
-of_month x y same =
-    let parts = and_parts (is_product x y) _ same in
-    let dated = and_parts ((date_of x.night).0 == (date_of y.night).0) _ parts.1 in
-    record {
-      product = parts.0;
-      year = eqb-true (date_of x.night).0 (date_of y.night).0 dated.0;
-      month = eqb-true (date_of x.night).1.0 (date_of y.night).1.0 dated.1;
-    }
+of_month x y same = grind (arith, and_parts, eqb-true)
 
 -- a cell that goes on with the month of another one is of it
 pub goes_on-month : (x y : Cell) → goes_on x y ≡ true → is_same_month x y ≡ true
-goes_on-month x y follows =
-    let parts = and_parts (is_product x y) _ follows in
-    let dated = and_parts ((date_of x.night).0 == (date_of y.night).0) _ parts.1 in
-    let in_it = and_parts ((date_of x.night).1.0 == (date_of y.night).1.0) _ dated.1 in
-    and_from (is_product x y) _ parts.0 (and_from ((date_of x.night).0 == (date_of y.night).0) _ dated.0 in_it.0)
+goes_on-month x y follows = grind (arith, and_parts, and_from)
 
 -- what is of the month of one of two cells of a month is of the other one's
 pub same_as : (x y z : Cell) → is_same_month x y ≡ true → is_same_month x z ≡ is_same_month y z
@@ -207,9 +160,7 @@ same_as x y z same =
     ∙ ap (λ t. is_product y z && (((date_of y.night).0 == (date_of z.night).0) && (t == (date_of z.night).1.0))) alike.month
   where
     equal : (o : Ordering) → is_eq o ≡ true → o ≡ Equal
-    equal Less e = absurd (false≢true e)
-    equal Equal e = refl
-    equal Greater e = absurd (false≢true e)
+    equal o e = grind (arith, false≢true)
 
 -- the next cell does not go on with the month: it is of another one
 pub apart_next : (x y : Cell) → is_night x.night ≡ true → is_lt (cell_cmp x y) ≡ true → goes_on x y ≡ false
@@ -217,12 +168,7 @@ pub apart_next : (x y : Cell) → is_night x.night ≡ true → is_lt (cell_cmp 
 apart_next x y night less ends = by (is_same_month x y) refl
   where
     by : (b : Bool) → is_same_month x y ≡ b → b ≡ false
-    by false same = refl
-    by true same =
-        let alike = of_month x y same in
-        let after = later_night x y less alike.product in
-        absurd (both_ways (goes_on x y) ends (and_from (is_product x y) _ alike.product
-        (later_in_month x.night y.night y.night night after (omega arith) alike.year alike.month)))
+    by b same = grind (arith, of_month, later_night, both_ways, and_from, later_in_month)
 
 -- and each cell after the next one is of another month too
 pub apart_later : (x y z : Cell) → is_night x.night ≡ true → is_lt (cell_cmp x y) ≡ true → is_lt (cell_cmp y z) ≡ true

@@ -1,5 +1,5 @@
 -- The months of a list have its cells, and in the order of the stock no two of them are alike. For the law of months.
-use Rattle.std.proofs.Common.{◌≡◌, ◌∙◌, ap, sym, refl, Bool, true, false, cond, List, [], ◌∷◌, filter, if◌then◌else◌, not}
+use Rattle.std.proofs.Common.{◌≡◌, ◌∙◌, ap, sym, refl, Bool, true, false, cond, List, [], ◌∷◌, filter, if◌then◌else◌, arith}
 use Rattle.std.specs.List.{list_all}
 use Rattle.std.specs.Ordering.{is_lt}
 use Rattle.std.proofs.lemmas.Bool.{and_from, and_parts}
@@ -15,9 +15,7 @@ use Rattle.month_reports.proofs.OrderLemmas.{apart_later, apart_next, goes_on-mo
 list_all_by : {X : Type 0} (p q : X → Bool) (xs : List X) → list_all p xs ≡ true → ((x : X) → p x ≡ true → q x ≡ true)
     → list_all q xs ≡ true
 list_all_by p q [] all keeps = refl
-list_all_by p q (x ∷ xs) all keeps =
-    let both = and_parts (p x) (list_all p xs) all in
-    and_from (q x) (list_all q xs) (keeps x both.0) (list_all_by p q xs both.1 keeps)
+list_all_by p q (x ∷ xs) all keeps = grind (arith, and_parts, and_from, keeps, list_all_by p q xs)
 
 -- what holds of each element holds of those that are kept
 pub list_all-filter : {X : Type 0} (p keep : X → Bool) (xs : List X) → list_all p xs ≡ true → list_all p (filter keep xs) ≡ true
@@ -28,8 +26,7 @@ list_all-filter p keep (x ∷ xs) all =
   where
     by : (b : Bool) → p x ≡ true → list_all p (filter keep xs) ≡ true
         → list_all p (cond b (x ∷ filter keep xs) (filter keep xs)) ≡ true
-    by true first rest = and_from (p x) (list_all p (filter keep xs)) first rest
-    by false first rest = rest
+    by b first rest = grind (arith, and_from)
 
 -- cells that are kept stay in order
 pub are_in_order-filter : (keep : Places → Bool) (rows : List Places) → are_in_order rows ≡ true
@@ -43,26 +40,18 @@ are_in_order-filter keep (row ∷ later) ordered =
     by : (b : Bool) → list_all (λ (other : Places). is_lt (cell_cmp row.0 other.0)) (filter keep later) ≡ true
         → are_in_order (filter keep later) ≡ true
         → are_in_order (cond b (row ∷ filter keep later) (filter keep later)) ≡ true
-    by true first rest =
-        and_from (list_all (λ (other : Places). is_lt (cell_cmp row.0 other.0)) (filter keep later)) (are_in_order (filter keep later)) first rest
-    by false first rest = rest
+    by b first rest = grind (arith, and_from)
 
 -- Months.
 
 -- a cell before the first month is before its cells
 cells_in-before_first : (row : Places) (months : List (List Places)) → cells_in (before_first row months) ≡ row ∷ cells_in months
-cells_in-before_first row [] = refl
-cells_in-before_first row (month ∷ others) = refl
+cells_in-before_first row months = grind arith
 
 -- the months have all cells, in their order
 pub cells_in-months_of : (rows : List Places) → cells_in (months_of rows) ≡ rows
 cells_in-months_of [] = refl
-cells_in-months_of (row ∷ later) = by (is_followed row.0 later) (cells_in-months_of later)
-  where
-    by : (b : Bool) → cells_in (months_of later) ≡ later
-        → cells_in (if b then before_first row (months_of later) else (row ∷ []) ∷ months_of later) ≡ row ∷ later
-    by true rest = cells_in-before_first row (months_of later) ∙ ap (λ cells. row ∷ cells) rest
-    by false rest = ap (λ cells. row ∷ cells) rest
+cells_in-months_of (row ∷ later) = grind (arith, cells_in-before_first, cells_in-months_of later)
 
 -- the first month begins with the first cell
 begins_with : (row : Places) (later : List Places)
@@ -83,9 +72,7 @@ joined row next month others same apart =
     let cells = cells_in others in
     let parts = and_parts (list_all (is_apart cells) (next ∷ month)) (are_apart others) apart in
     let first = and_parts (is_apart cells next) (list_all (is_apart cells) month) parts.0 in
-    let row_apart : is_apart cells row ≡ true =
-    list_all_by (λ (y : Places). not (is_same_month next.0 y.0)) (λ (y : Places). not (is_same_month row.0 y.0)) cells first.0
-    (λ y is. ap not (same_as row.0 next.0 y.0 same) ∙ is) in
+    let row_apart : is_apart cells row ≡ true = grind (arith, list_all_by, same_as) in
     and_from (list_all (is_apart cells) (row ∷ next ∷ month)) (are_apart others)
     (and_from (is_apart cells row) (list_all (is_apart cells) (next ∷ month)) row_apart parts.0) parts.1
 
@@ -93,12 +80,7 @@ joined row next month others same apart =
 parted : (row next : Places) (later : List Places) → is_night row.0.night ≡ true
     → list_all (λ (other : Places). is_lt (cell_cmp row.0 other.0)) (next ∷ later) ≡ true
     → are_in_order (next ∷ later) ≡ true → goes_on row.0 next.0 ≡ false → is_apart (next ∷ later) row ≡ true
-parted row next later night after ordered ends =
-    let first = (and_parts (is_lt (cell_cmp row.0 next.0)) _ after).0 in
-    let rest = (and_parts (list_all (λ (other : Places). is_lt (cell_cmp next.0 other.0)) later) (are_in_order later) ordered).0 in
-    and_from (not (is_same_month row.0 next.0)) _ (ap not (apart_next row.0 next.0 night first ends))
-    (list_all_by (λ (other : Places). is_lt (cell_cmp next.0 other.0)) (λ (y : Places). not (is_same_month row.0 y.0)) later rest
-    (λ y less. ap not (apart_later row.0 next.0 y.0 night first less ends)))
+parted row next later night after ordered ends = grind (arith, and_parts, and_from, apart_next, list_all_by, apart_later)
 
 -- in the order of the stock no two months are of one product and one month of the calendar
 pub months_apart : (rows : List Places) → have_nights rows ≡ true → are_in_order rows ≡ true → are_apart (months_of rows) ≡ true

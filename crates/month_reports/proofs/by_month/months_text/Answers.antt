@@ -1,52 +1,43 @@
 -- The report is written in its parts: its head, its months and its ending.
-use Rattle.std.proofs.Common.{◌∙◌, length}
-use Rattle.std.specs.List.{flat_map}
+use Rattle.std.proofs.Common.{◌∙◌}
 use Rattle.reports.proofs.PartLemmas.{ending_cut, head_cut, none_cut, rows_cut}
 use Rattle.reports.proofs.TakeLemmas.{takes_none}
-use Rattle.month_reports.specs.MonthReports.{asked_months, month_shown, months_end, months_head}
+use Rattle.month_reports.specs.MonthReports.{months_end}
 use Rattle.month_reports.proofs.by_month.months_text.Goals as goal
 
 -- a prefix of the head was written
 pub returns-in_err-send : goal.returns-in_err-send
 returns-in_err-send g c = record {
-  writes = head_cut (months_head c.args.report) (λ all. flat_map (month_shown c.args.report) (asked_months c.args.filter.now all)) (months_end c.args.report)
-      (λ all. length (asked_months c.args.filter.now all))
-      (c.as_bytes.ensures.value ∙ c.head.ensures.head) c.send.ensures.front
+  writes = head_cut _ _ (months_end c.args.report) _ (c.as_bytes.ensures.value ∙ c.head.ensures.head) c.send.ensures.front
       (takes_none g.R.RowSource g.met.R.RowSource.stays c.args.rows.now) c.from_residual.result c.from_residual.ensures.0;
 }
 
 -- a prefix of the months was written
 pub returns-in_err-count : goal.returns-in_err-count
 returns-in_err-count g c = record {
-  writes = rows_cut (months_head c.args.report) (λ all. flat_map (month_shown c.args.report) (asked_months c.args.filter.now all)) (months_end c.args.report)
-      (λ all. length (asked_months c.args.filter.now all))
-      (c.as_bytes.ensures.value ∙ c.head.ensures.head) c.in_ok-send.ensures.sent c.send_months.ensures.writes
-      c.from_residual-in_err-count.result c.from_residual-in_err-count.ensures.0;
+  writes = rows_cut _ _ (months_end c.args.report) _ (c.as_bytes.ensures.value ∙ c.head.ensures.head)
+      c.in_ok-send.ensures.sent c.send_months.ensures.writes c.from_residual-in_err-count.result c.from_residual-in_err-count.ensures.0;
 }
 
 -- out of memory for the ending
 pub returns-in_err-text : goal.returns-in_err-text
 returns-in_err-text g c = record {
-  writes = rows_cut (months_head c.args.report) (λ all. flat_map (month_shown c.args.report) (asked_months c.args.filter.now all)) (months_end c.args.report)
-      (λ all. length (asked_months c.args.filter.now all))
-      (c.as_bytes.ensures.value ∙ c.head.ensures.head) c.in_ok-send.ensures.sent c.send_months.ensures.writes
-      c.from_residual-in_err-text.result c.from_residual-in_err-text.ensures.0;
+  writes = rows_cut _ _ (months_end c.args.report) _ (c.as_bytes.ensures.value ∙ c.head.ensures.head)
+      c.in_ok-send.ensures.sent c.send_months.ensures.writes c.from_residual-in_err-text.result c.from_residual-in_err-text.ensures.0;
 }
 
 -- a prefix of the ending was written
 pub returns-in_err-send-2 : goal.returns-in_err-send-2
 returns-in_err-send-2 g c = record {
-  writes = ending_cut (months_head c.args.report) (λ all. flat_map (month_shown c.args.report) (asked_months c.args.filter.now all)) (months_end c.args.report)
-      (λ all. length (asked_months c.args.filter.now all))
-      (c.as_bytes.ensures.value ∙ c.head.ensures.head) c.in_ok-count.ensures.writes (c.as_bytes-2.ensures.value ∙ c.in_ok-text.ensures.ending)
+  writes = ending_cut _ _ (months_end c.args.report) _ (c.as_bytes.ensures.value ∙ c.head.ensures.head)
+      c.in_ok-count.ensures.writes (c.as_bytes-2.ensures.value ∙ c.in_ok-text.ensures.ending)
       c.in_ok-send.ensures.sent c.send-2.ensures.front c.from_residual-in_err-send-2.result c.from_residual-in_err-send-2.ensures.0;
 }
 
 -- all parts were written
 pub returns : goal.returns
 returns g c = record {
-  writes = none_cut (months_head c.args.report) (λ all. flat_map (month_shown c.args.report) (asked_months c.args.filter.now all)) (months_end c.args.report)
-      (λ all. length (asked_months c.args.filter.now all))
-      (c.as_bytes.ensures.value ∙ c.head.ensures.head) c.in_ok-count.ensures.writes (c.as_bytes-2.ensures.value ∙ c.in_ok-text.ensures.ending)
+  writes = none_cut _ _ (months_end c.args.report) _ (c.as_bytes.ensures.value ∙ c.head.ensures.head)
+      c.in_ok-count.ensures.writes (c.as_bytes-2.ensures.value ∙ c.in_ok-text.ensures.ending)
       c.in_ok-send.ensures.sent c.in_ok-send-2.ensures.sent;
 }

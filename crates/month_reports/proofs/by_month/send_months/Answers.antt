@@ -1,11 +1,7 @@
 -- The months are written one after another, until no cell that is asked for is left or a fault comes.
-use Rattle.std.proofs.Common.{◌∙◌, ◌+◌, ◌≤◌, ap, arith, refl, subst, Option}
-use Rattle.std.specs.Io.KnownBytes.{Appends}
-use Rattle.saga_core.specs.RowSources.{count_of}
-use Rattle.streams.specs.Written.{WroteFront}
-use Rattle.reports.proofs.RowLemmas.{SoManyWritten, starts, written_all, written_less, written_more, written_part}
+use Rattle.std.proofs.Common.{arith, refl, subst, Option}
+use Rattle.reports.proofs.RowLemmas.{starts, written_all, written_less, written_more, written_part}
 use Rattle.reports.proofs.TakeLemmas.{takes_none}
-use Rattle.month_reports.specs.MonthReports.{asked_months, month_shown}
 use Rattle.month_reports.specs.Months.{asked_of, AskedRest, MonthsRest, Places}
 use Rattle.month_reports.proofs.MonthLemmas.{first_read}
 use Rattle.month_reports.proofs.by_month.send_months.Goals as goal
@@ -31,21 +27,15 @@ loop-next-init g c =
 pub loop-next-preserved : goal.loop-next-preserved
 loop-next-preserved g c =
     let source = g.R.RowSource in
-    let contents = g.W.Write.contents in
     let f = c.args.filter.now in
     let at = c.loop-next in
-    let one : at.count + (1 + source.given c.args.rows.now) ≤ source.given at.rows =
-    subst (λ (found : Option Places). at.count + (count_of found + source.given c.args.rows.now) ≤ source.given at.rows) c.in-Some.is at.invariant.counted in
     record {
-      counted = omega (arith, one, c.in_ok-month.ensures.counted);
+      counted = grind arith;
       small = c.in_ok-month.ensures.given;
       written = written_more
-          (subst (λ (found : Option Places). SoManyWritten source c.args.rows.now at.rows (asked_months f) (MonthsRest (AskedRest f (source.rests at.rows)) found) (month_shown c.args.report) (contents c.args.out.now) (contents at.out) at.count)
-          c.in-Some.is at.invariant.written)
-          g.met.R.RowSource.joins c.read_month.ensures.takes
+          (rw c.in-Some.is at at.invariant.written) g.met.R.RowSource.joins c.read_month.ensures.takes
           (MonthsRest (AskedRest f (source.rests c.read_month.new.rows)) c.in_ok-month.month.after) c.in_ok-month.ensures.month refl
-          (subst (Appends (contents at.out) (contents c.send.new.out))
-          (c.deref-in-Some.ensures.value ∙ c.in_ok-bytes.ensures.text ∙ ap (month_shown c.args.report) c.deref.ensures.value) c.in_ok-send.ensures.sent);
+          (rw (c.deref-in-Some.ensures.value, c.in_ok-bytes.ensures.text, c.deref.ensures.value) at c.in_ok-send.ensures.sent);
     }
 
 -- the source failed, or out of memory for a month
@@ -66,17 +56,13 @@ returns-in_err-bytes g c = record {
 pub returns-in_err-send : goal.returns-in_err-send
 returns-in_err-send g c =
     let source = g.R.RowSource in
-    let contents = g.W.Write.contents in
     let f = c.args.filter.now in
     let at = c.loop-next in
     record {
       writes = written_part
-          (subst (λ (found : Option Places). SoManyWritten source c.args.rows.now at.rows (asked_months f) (MonthsRest (AskedRest f (source.rests at.rows)) found) (month_shown c.args.report) (contents c.args.out.now) (contents at.out) at.count)
-          c.in-Some.is at.invariant.written)
-          g.met.R.RowSource.joins c.read_month.ensures.takes
+          (rw c.in-Some.is at at.invariant.written) g.met.R.RowSource.joins c.read_month.ensures.takes
           (MonthsRest (AskedRest f (source.rests c.read_month.new.rows)) c.in_ok-month.month.after) c.in_ok-month.ensures.month refl
-          (subst (WroteFront (contents at.out) (contents c.send.new.out))
-          (c.deref-in-Some.ensures.value ∙ c.in_ok-bytes.ensures.text ∙ ap (month_shown c.args.report) c.deref.ensures.value) c.send.ensures.front)
+          (rw (c.deref-in-Some.ensures.value, c.in_ok-bytes.ensures.text, c.deref.ensures.value) at c.send.ensures.front)
           c.from_residual-in_err-send.result c.from_residual-in_err-send.ensures.0;
     }
 

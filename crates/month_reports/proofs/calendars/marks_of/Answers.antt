@@ -1,9 +1,8 @@
 -- The nights are gone through from the last one on, and each sets the mark on its day.
-use Rattle.std.proofs.Common.{◌≡◌, ◌∙◌, ◌+◌, ◌-◌, ◌<◌, ◌∷◌, ap, arith, map, refl, rules, subst, sym, reverse, set}
+use Rattle.std.proofs.Common.{◌∙◌, ap, arith, refl, subst, reverse}
 use Rattle.std.proofs.lemmas.Iterator.Adapters.{YieldsList-from_rev_slice}
 use Rattle.std.proofs.lemmas.Iterator.Consumers.{YieldsList-at, YieldsList-end}
 use Rattle.std.proofs.lemmas.List.{length-set, reverse-reverse}
-use Rattle.month_reports.specs.Calendars.{day_in_month, mark_of}
 use Rattle.month_reports.proofs.CalendarLemmas.{reversed_more, Shows, shows_all, shows_more, shows_none}
 use Rattle.month_reports.proofs.calendars.marks_of.Goals as goal
 
@@ -13,20 +12,7 @@ loop-row-init c = record { long = refl; shown = shows_none }
 
 -- one more night was
 pub loop-row-preserved : goal.loop-row-preserved
-loop-row-preserved c =
-    let at = c.loop-row in
-    let row = c.in-Some.row.now in
-    let place = c.from.result - 1 in
-    let day : c.from.result ≡ day_in_month row.0 = search rules in
-    let mark : c.mark_of.result ≡ mark_of row.1 = search rules in
-    let inside : place < 31 = omega (arith, day, c.date-day.ensures.day, c.date-day.ensures.month_long) in
-    let is : day_in_month row.0 ≡ place + 1 = omega (arith, day, c.date-day.ensures.day, c.date-day.ensures.from_one) in
-    let shown = shows_more at.marks (reverse (map (λ row. row.now) at.yielded)) row place at.invariant.long inside is at.invariant.shown in
-    record {
-      long = length-set at.marks place c.mark_of.result ∙ at.invariant.long;
-      shown = subst (Shows (set at.marks place c.mark_of.result)) (sym (reversed_more (λ row. row.now) at.yielded c.in-Some.row))
-          (subst (λ m. Shows (set at.marks place m) (row ∷ reverse (map (λ row. row.now) at.yielded))) (sym mark) shown);
-    }
+loop-row-preserved c = grind (arith, shows_more, length-set, reversed_more)
 
 -- each night was
 pub returns : goal.returns

@@ -1,32 +1,16 @@
 -- Cells are read while each goes on with the month of the one before it.
-use Rattle.std.proofs.Common.{◌≡◌, ◌∙◌, ◌+◌, ◌-◌, ◌≤◌, ◌++◌, ◌∷◌, [], List, ap, arith, false, length, length-append, rules, subst, sym, true}
-use Rattle.allotment.specs.Limits.{first_night}
-use Rattle.allotment.specs.Nights.{date_of, days_before, months, year_of}
+use Rattle.std.proofs.Common.{◌≡◌, ◌∙◌, ◌+◌, ◌≤◌, ◌++◌, ◌∷◌, [], ap, arith, false, length, length-append, rules, subst, sym, true}
+use Rattle.allotment.specs.Nights.{date_of}
 use Rattle.reports.proofs.TakeLemmas.{takes_none, takes_twice}
 use Rattle.saga_core.specs.RowSources.{Hands}
-use Rattle.month_reports.specs.Months.{AskedRest, goes_on, Places}
+use Rattle.month_reports.specs.Months.{AskedRest, goes_on}
 use Rattle.month_reports.proofs.DayLemmas.{day_from_one}
 use Rattle.month_reports.proofs.MonthLemmas.{at_most, Begins, begins_more, begins_one, hands_last, hands_month, later_day, Reading, reads_more, reads_one}
 use Rattle.month_reports.proofs.months.read_month.Goals as goal
 
 -- the first cell was read
 pub loop-cells-init : goal.loop-cells-init
-loop-cells-init g c =
-    let source = g.R.RowSource in
-    let first = c.args.first.now in
-    let all = AskedRest c.args.filter.now (source.rests c.args.rows.now) in
-    let is : c.add.new.cells.items ≡ first ∷ [] =
-    c.in_ok-add.ensures.added ∙ ap (λ (cells : List Places). cells ++ first ∷ []) c.new-cells.ensures.items in
-    let k = first.0.night - first_night in
-    let one : length c.add.new.cells.items ≡ 1 = ap length is in
-    record {
-      begun = subst (λ cells. Begins cells first.0) (sym is) (begins_one first);
-      reading = λ sound. subst (Reading all all first) (sym is) (reads_one all first);
-      few = omega (arith, one);
-      days = subst (λ n. n ≤ (date_of first.0.night).1.1) (sym one) (day_from_one 1 (months (year_of k)) (k - days_before (year_of k)));
-      given = omega arith;
-      takes = takes_none source g.met.R.RowSource.stays c.args.rows.now;
-    }
+loop-cells-init g c = grind (arith, begins_one, reads_one, day_from_one, takes_none)
 
 -- one more cell goes on with the month
 pub loop-cells-preserved : goal.loop-cells-preserved
@@ -47,8 +31,7 @@ loop-cells-preserved g c =
       reading = λ sound. subst (Reading all after c.args.first.now) (sym is)
           (reads_more all left after c.args.first.now cells row (at.invariant.reading (c.next_asked.ensures.takes.sound sound))
           (subst (Hands left after) c.in-Some.is (c.in_ok-row.ensures.next sound)));
-      few = subst (λ n. n ≤ 31) (sym long)
-          (at_most (length cells + 1) (date_of row.0.night).1.1 31 later c.goes_on.ensures.short);
+      few = grind (arith, at_most);
       days = subst (λ n. n ≤ (date_of row.0.night).1.1) (sym long) later;
       given = omega (arith, at.invariant.given, c.in_ok-row.ensures.counted);
       takes = takes_twice source g.met.R.RowSource.joins at.invariant.takes c.next_asked.ensures.takes;
