@@ -16,8 +16,7 @@ use Rattle.desk_lines.specs.declared.runs.Line.{Line}
 -- two pieces without a line feed have none when joined
 pub plain-append : (xs ys : List ℕ) → HasNoLineFeed xs → HasNoLineFeed ys → HasNoLineFeed (xs ++ ys)
 plain-append [] ys first second = second
-plain-append (x ∷ xs) ys first second =
-    rw ((or_parts (is_line_feed x) _ first).0) (plain-append xs ys (or_parts (is_line_feed x) _ first).1 second)
+plain-append (x ∷ xs) ys first second = grind (arith, or_parts, plain-append xs ys (or_parts (is_line_feed x) _ first).1 second)
 
 -- a line is the bytes before the first line feed
 pub lines-front : (text rest : List ℕ)

@@ -209,8 +209,7 @@ set_again : (name : List ℕ) (x : Cell) (places : ℕ) → is_batch_name name �
     → nat_le places most_places ≡ true
     → text_meaning (set_line name x places) ≡ Ok (Load name (allotted x places ∷ []))
 set_again name x places named sold few =
-    let within : IsTrue (is_between 0 most_places places) =
-    and_from (nat_le 0 places) (nat_le places most_places) (le-leb 0 places (omega arith)) few in
+    let within : IsTrue (is_between 0 most_places places) = grind (arith, and_from, le-leb) in
     ap (λ words. found_meaning (request_of_words words))
     (parts_joined (codes "set") (name ∷ cell_text x ∷ decimal places ∷ [])
     (and_from _ _ (name_no_blank name named)

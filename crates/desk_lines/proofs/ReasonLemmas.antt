@@ -1,5 +1,5 @@
 -- A book that may act for the lines of an input, one line after another. For run_lines.
-use Rattle.std.proofs.Common.{◌≡◌, ◌∙◌, ap, sym, subst, List, [], ◌∷◌, ◌++◌, ℕ, true, false, append_assoc, append-nil, Option, Some, None, Result, Ok, Err, arith}
+use Rattle.std.proofs.Common.{◌≡◌, sym, subst, List, [], ◌∷◌, ◌++◌, ℕ, true, false, append_assoc, append-nil, Option, Some, None, Result, Ok, Err, arith}
 use Rattle.commands.specs.Request.{Request}
 use Rattle.commands.specs.declared.replies.Fault.{Fault}
 use Rattle.commands.specs.declared.replies.Reply.{Reply}
@@ -51,12 +51,7 @@ may_at_first could s input later u known nothing is may = grind arith
 -- at the end the book may act for the later asks
 pub may_at_end : (can : State → Asks → Type 0) (s : State) (input : List ℕ) (left rest : Option (List ℕ)) (line : Line) (later : Asks)
     → MayStill can s input left later → TakesLine left rest false line → can (state_after s (asks_in (lines input))) later
-may_at_end can s input None rest line later still taken = absurd still.comes
-may_at_end can s input (Some left) None line later still taken = absurd taken
-may_at_end can s input (Some left) (Some rest) line later still taken =
-    let whole : lines input ≡ still.answered = still.comes ∙ ap (λ ls. still.answered ++ ls) taken ∙ append-nil still.answered in
-    subst (λ ls. can (state_after s (asks_in ls)) later) (sym whole)
-    (subst (λ ls. can (state_after s (asks_in still.answered)) (asks_in ls ++ later)) taken still.may)
+may_at_end can s input left rest line later still taken = grind (arith, append-nil)
 
 -- The next line was taken.
 
@@ -84,14 +79,12 @@ may_go_on could can s input left rest line later still taken acts =
     let next = may_take could s input left rest line later still taken in
     let asks = asks_meant (meaning_in next.text) in
     let others = asks_in (lines next.left) ++ later in
-    let more : asks_in (next.answered ++ next.text ∷ []) ≡ asks_in next.answered ++ asks =
-    asks_in-append next.answered (next.text ∷ []) ∙ ap (λ x. asks_in next.answered ++ x) (append-nil asks) in
+    let more : asks_in (next.answered ++ next.text ∷ []) ≡ asks_in next.answered ++ asks = grind (arith, asks_in-append, append-nil) in
     let at : state_after s (asks_in (next.answered ++ next.text ∷ [])) ≡ state_after (state_after s (asks_in next.answered)) asks =
-    ap (state_after s) more ∙ state_after-append s (asks_in next.answered) asks in
+    grind (arith, state_after-append) in
     record {
       answered = next.answered ++ next.text ∷ [];
-      comes = subst (λ known. ComesAfter known input (next.answered ++ next.text ∷ [])) (sym next.rest_is)
-          (next.cut ∙ sym (append_assoc next.answered (next.text ∷ []) (lines next.left)));
+      comes = grind (arith, append_assoc);
       may = subst (λ known. can (state_after s (asks_in (next.answered ++ next.text ∷ []))) (asks_left known ++ later)) (sym next.rest_is)
           (subst (λ t. can t others) (sym at) (acts next.text next.kept (state_after s (asks_in next.answered)) others next.may));
     }
@@ -106,8 +99,7 @@ line_fails could reason s input left rest line later still taken fails =
     let asks = asks_meant (meaning_in next.text) in
     let at = state_after s (asks_in next.answered) in
     let others = asks_in (lines next.left) in
-    let whole : asks_in (lines input) ≡ asks_in next.answered ++ (asks ++ others) =
-    ap asks_in next.cut ∙ asks_in-append next.answered (next.text ∷ lines next.left) in
+    let whole : asks_in (lines input) ≡ asks_in next.answered ++ (asks ++ others) = grind (arith, asks_in-append) in
     subst (HasReasonAmong reason s) (sym whole)
     (among_later reason s (asks_in next.answered) (asks ++ others)
     (among_first reason at asks others (fails next.text next.kept at (others ++ later) next.may)))

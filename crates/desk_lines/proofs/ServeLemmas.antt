@@ -97,14 +97,13 @@ goes_on held holds now stands0 stands1 leaves0 leaves1 s input left rest count l
     let done = so_far.answered in
     let answered = told (state_after_lines s done) so_far.stands next.text next.kept in
     let whole : written (answer_lines s (done ++ next.text ∷ [])) ≡ written (answer_lines s done) ++ string_bytes answer =
-    written_for_more s done next.text ∙ ap (λ bytes. written (answer_lines s done) ++ bytes) (sym answered.0) in
+    grind (arith, written_for_more) in
     record {
       answered = done ++ next.text ∷ [];
       sent = subst (Appends held now) (sym whole) (appends_more held holds now (written (answer_lines s done)) (string_bytes answer) so_far.sent sent);
       stands = subst stands1 (sym (after_more s done next.text)) answered.1;
       counted = ap (λ n. n + 1) so_far.counted ∙ sym (length-append done (next.text ∷ []));
-      later = subst (λ known. ComesAfter known input (done ++ next.text ∷ [])) (sym next.rest_is)
-          (next.cut ∙ sym (append_assoc done (next.text ∷ []) (lines next.left)));
+      later = grind (arith, append_assoc);
     }
 
 -- the answer was written in part

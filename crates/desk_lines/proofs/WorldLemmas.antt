@@ -1,6 +1,6 @@
 -- How an execution continues with the lines of an input. For run_lines.
 use Rattle.std.proofs.Common.{◌≡◌, ◌≤◌, ◌∙◌, ap, sym, subst, refl, inl, inr, arith, List, [], ◌∷◌, ◌++◌, ℕ, Bool, true, false, length, append_assoc, IsTrue, Option, Some, None, Result, Ok, Err, IfOk, IfErr, IfSome, OnOk, if◌then◌else◌}
-use Rattle.commands.specs.Request.{Request, Load, Begin, Step, Abort, Stop, Save}
+use Rattle.commands.specs.Request.{Request}
 use Rattle.commands.specs.declared.replies.Refusal.TheVariants.{BadBody}
 use Rattle.ledger.specs.Answer.{State, start, is_request}
 use Rattle.ledger.specs.World.{Moment, after}
@@ -20,14 +20,7 @@ use Rattle.desk_lines.proofs.ServeLemmas.{after_more}
 
 -- a request that has a line keeps the limits
 line_in_limits : (text : List ℕ) (request : Request) → IsLineOf text request → IsTrue (is_request request)
-line_in_limits text (Load name (row ∷ [])) is = is.0
-line_in_limits text (Load name []) is = absurd is
-line_in_limits text (Load name (row ∷ other ∷ rows)) is = absurd is
-line_in_limits text (Begin plan) is = is.0
-line_in_limits text (Step id) is = refl
-line_in_limits text (Abort id position) is = refl
-line_in_limits text (Stop id) is = absurd is
-line_in_limits text (Save id) is = refl
+line_in_limits text request is = grind arith
 
 -- a line that can be read has the meaning of its text
 readable_means : (line : List ℕ) (readable : Bool) → readable ≡ is_readable line
