@@ -8,7 +8,6 @@ use Rattle.ledger.specs.Answer.{State}
 use Rattle.streams.specs.Written.{WroteFront}
 use Rattle.protocols.specs.Scenes.{Scene, ended}
 use Rattle.protocols.specs.declared.faults.ServeFault.{ServeFault}
-use Rattle.protocols.specs.declared.faults.ServeFault.TheVariants.{Memory, Read, Store, Write}
 use Rattle.desk_lines.specs.Lines.{answer_line, answer_lines, state_after_lines, written}
 use Rattle.desk_lines.specs.Serving.{AnswersAll, AnswersSome, ForNext, IsCut, WroteAll}
 use Rattle.reports.proofs.FrontLemmas.{front_before, front_whole}
@@ -66,10 +65,7 @@ front_of_cut x s first (line ∷ later) cut =
 -- whatever the fault
 front_at : (fault : ServeFault) (x : Scene) (s : State) (input : List ℕ) (some : AnswersSome x s input fault)
     → WroteFront x.held x.holds (written (answer_lines s (some.answered ++ some.later)))
-front_at Read x s input some = front_of_first x s some.answered some.later some.leaves.0
-front_at Write x s input some = front_of_cut x s some.answered some.later some.leaves
-front_at Memory x s input some = front_of_first x s some.answered some.later some.leaves.0
-front_at Store x s input some = front_of_first x s some.answered some.later some.leaves.0
+front_at fault x s input some = grind (arith, front_of_first, front_of_cut)
 
 -- at a fault a prefix of the answers was written
 pub front_of_some : (fault : ServeFault) (x : Scene) (s : State) (input : List ℕ) → AnswersSome x s input fault
@@ -92,17 +88,14 @@ answers_of_all x s input count on all = record { sent = all.sent; left = on _ al
 pub all_for_all : (x : Scene) {represents : State → Type 0} (s : State) (known : Option (List ℕ)) (count : ℕ)
     → ((t : State) → x.stands t → represents t) → IfSome known (λ input. AnswersAll x s input count)
     → IfSome known (λ input. IfDone finish.Done (Answers x.held x.holds represents s input))
-all_for_all x s None count on all = tt
-all_for_all x s (Some input) count on all = answers_of_all x s input count on all
+all_for_all x s known count on all = grind (arith, answers_of_all)
 
 -- a run in which not all was done owes no more
 pub none_owed : {X : Type 0} (known : Option X) → IfSome known (λ _. ⊤)
-none_owed None = tt
-none_owed (Some x) = tt
+none_owed known = grind arith
 
 pub undone_for : (e : End) → EndsBadly e → (P : List ℕ → Type 0) (known : Option (List ℕ)) → IfSome known (λ input. IfDone e (P input))
-undone_for e bad P None = tt
-undone_for e bad P (Some input) = not_done (P input) e bad
+undone_for e bad P known = grind (arith, not_done)
 
 pub front_for_all : (x : Scene) (s : State) (known : Option (List ℕ)) (count : ℕ)
     → IfSome known (λ input. AnswersAll x s input count)
@@ -113,5 +106,4 @@ front_for_all x s (Some input) count all = front_of_all x s input count all
 pub front_for_some : (x : Scene) (s : State) (known : Option (List ℕ)) (fault : ServeFault)
     → IfSome known (λ input. AnswersSome x s input fault)
     → IfSome known (AnswersFront x.held x.holds s)
-front_for_some x s None fault some = tt
-front_for_some x s (Some input) fault some = front_of_some fault x s input some
+front_for_some x s known fault some = grind (arith, front_of_some)

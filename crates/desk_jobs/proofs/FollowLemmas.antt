@@ -1,5 +1,5 @@
 -- What a job follows from: how its desk came up, and what it answered. For the jobs that act.
-use Rattle.std.proofs.Common.{◌≡◌, ℕ, List, [], ◌++◌, sym, subst, drop, take, append-nil, inl, inr, Option, Some, None, IfSome, option_map, Result, Ok, Err, refl}
+use Rattle.std.proofs.Common.{◌≡◌, ℕ, List, [], sym, subst, drop, take, append-nil, inl, inr, Option, Some, IfSome, option_map, Result, Ok, Err, refl, arith}
 use Rattle.std.proofs.lemmas.List.{take-append-drop}
 use Rattle.std.specs.Io.KnownBytes.{Appends, Keeps}
 use Rattle.sqlite.specs.Store.{Ghosts}
@@ -35,10 +35,7 @@ use Rattle.desk_jobs.proofs.RecoveredLemmas.{done_as}
 
 -- what holds in any case holds where all was done
 pub if_done : {P : Type 0} (e : End) → P → IfDone e P
-if_done finish.Done holds = holds
-if_done (finish.Refused why) holds = tt
-if_done (finish.Fault fault) holds = tt
-if_done (finish.Usage text) holds = tt
+if_done e holds = grind arith
 
 -- lines may be unserved
 pub lines_unserved : (known : Option (List ℕ)) → IfSome (option_map Lines known) HasNoExchange
@@ -162,11 +159,7 @@ module _ {S : Type 0} (g : Ghosts S) (b : TableBook S g) (new : Held S) (held ho
       → ((w : List Moment) → StandsAtEnd (StandsBook g b) w
       → EndsLoad held holds (Represents g new) (MayBeLeft g new) (after start w) (batch_of name bytes) e)
       → IfDone e (StandsAnswered g (StandsBook g b) new held holds (File name bytes))
-  load_done clean finish.Done ends =
-      λ w here. load_stands g b new held holds name bytes clean w here (batch_of name bytes) refl (ends w here)
-  load_done clean (finish.Refused why) ends = tt
-  load_done clean (finish.Fault fault) ends = tt
-  load_done clean (finish.Usage text) ends = tt
+  load_done clean e ends = grind (arith, load_stands, ends)
 
   pub load_follows : (e : End)
       → (HasCleanDisk (state g new) → (s : State) → StandsBook g b s

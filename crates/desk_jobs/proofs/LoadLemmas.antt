@@ -1,12 +1,10 @@
 -- How a load ends, from what it came to and what was written. For load_over.
-use Rattle.std.proofs.Common.{◌≡◌, sym, subst, inl, inr, ℕ, List, Option, Result, Ok, Err}
+use Rattle.std.proofs.Common.{◌≡◌, sym, subst, ℕ, List, Option, Result, arith}
 use Rattle.commands.specs.BatchData.{Batched}
 use Rattle.commands.specs.declared.replies.Reply.{Reply}
-use Rattle.commands.specs.declared.replies.Reply.TheVariants as reply
 use Rattle.allotment_csv.specs.declared.faults.CsvFault.{CsvFault}
 use Rattle.ledger.specs.Answer.{State}
 use Rattle.program_ends.specs.declared.ends.End.{End}
-use Rattle.program_ends.specs.declared.ends.End.TheVariants as finish
 use Rattle.sqlite.specs.Store.{Ghosts}
 use Rattle.sqlite.specs.Held.{Held}
 use Rattle.tables.specs.BookTerms.{LeavesBook, StandsBook}
@@ -21,21 +19,12 @@ module _ (held holds : Option (List ℕ)) {stands after : State → Type 0} {lea
     (further : (t u : State) → leaves t u → left t u) where
   ends_with_as : (told : Reply) (t : State) (e : End) → EndsWith held holds stands leaves s told t e
       → EndsWith held holds after left s told t e
-  ends_with_as told t finish.Done ends = (ends.0, ends.1, on t ends.2)
-  ends_with_as told t (finish.Refused why) ends = (ends.0, ends.1, on t ends.2)
-  ends_with_as told t (finish.Fault fault) (inl (kept, stood)) = inl (kept, on s stood)
-  ends_with_as told t (finish.Fault fault) (inr (inl (front, stands))) = inr (inl (front, on t stands))
-  ends_with_as told t (finish.Fault fault) (inr (inr (kept, may))) = inr (inr (kept, further s t may))
-  ends_with_as told t (finish.Usage text) ends = absurd ends
+  ends_with_as told t e ends = grind arith
 
   -- the same of what follows from the book's states
   pub ends_as : (read : Result Batched CsvFault) (e : End) → EndsLoad held holds stands leaves s read e
       → EndsLoad held holds after left s read e
-  ends_as (Ok batch) e ends = ends_with_as _ _ e ends
-  ends_as (Err wrong) finish.Done ends = absurd ends
-  ends_as (Err wrong) (finish.Refused told) ends = (ends.0, ends.1, on s ends.2)
-  ends_as (Err wrong) (finish.Fault fault) ends = (ends.0, on s ends.1)
-  ends_as (Err wrong) (finish.Usage text) ends = absurd ends
+  ends_as read e ends = grind (arith, ends_with_as)
 
 -- the same of the connection of a book that was let go
 pub loaded_over : {S : Type 0} (g : Ghosts S) (now inner : TableBook S g) (new : Held S) → inner ≡ now → LetsGo g inner new

@@ -1,9 +1,9 @@
 -- Whatever may be found after a migration, or with an index, stands for what the connection stood for. For migrate_over and index_over.
-use Rattle.std.proofs.Common.{ℕ, inl, inr}
+use Rattle.std.proofs.Common.{ℕ, inl, inr, arith}
 use Rattle.sqlite.specs.Store.{Ghosts}
 use Rattle.sqlite.specs.Held.{Held, state}
 use Rattle.sqlite.specs.State.{HasCleanDisk}
-use Rattle.desk_sql.specs.declared.versions.Version.TheVariants.{One, Two}
+use Rattle.desk_sql.specs.declared.versions.Version.TheVariants.{Two}
 use Rattle.histories.specs.Following.{StandsStill}
 use Rattle.migrate.specs.Indexing.{StandsOn}
 use Rattle.migrate.specs.Migrating.{LeavesEither}
@@ -11,8 +11,7 @@ use Rattle.migrate.specs.Outcomes.{Migrates}
 
 module _ {S : Type 0} (g : Ghosts S) (old new : Held S) (clean : HasCleanDisk (state g new)) where
   pub migrated_still : {n : ℕ} → Migrates g old new n → StandsStill g old new
-  migrated_still m w world (One, stood) db may = (Two, inl (m.left clean _ stood db may))
-  migrated_still m w world (Two, stood) db may = absurd (m.only_old clean _ stood)
+  migrated_still m w world stood db may = grind (arith, m.left, m.only_old)
 
   pub unmigrated_still : LeavesEither g old new → StandsStill g old new
   unmigrated_still left w world (v, stood) db may = elim (left clean v _ stood db may) [

@@ -6,9 +6,9 @@ use Rattle.sqlite.specs.Held.{Held, state}
 use Rattle.sqlite.specs.State.{HasCleanDisk}
 use Rattle.commands.specs.Asks.{Asked}
 use Rattle.commands.specs.BatchData.{Batched}
-use Rattle.commands.specs.Request.{Request, Load, Begin, Step, Abort, Stop, Save}
+use Rattle.commands.specs.Request.{Request}
 use Rattle.commands.specs.declared.replies.Fault.{Fault}
-use Rattle.commands.specs.declared.replies.Fault.TheVariants.{Memory, Store}
+use Rattle.commands.specs.declared.replies.Fault.TheVariants.{Store}
 use Rattle.allotment_csv.specs.declared.faults.CsvFault.{CsvFault}
 use Rattle.desk_sql.specs.Causes.{HasFaulted}
 use Rattle.desk_sql.specs.Schema.{no_schema}
@@ -51,24 +51,18 @@ use Rattle.desk_jobs.proofs.RecoveredLemmas.{recovery_of}
 
 -- a fault of a book, or of a run over it, was Store where the end is
 pub run_store : (f : ServeFault) (told : ProgramFault) → told ≡ fault_of_run f → finish.Fault told ≡ finish.Fault fault.Store → f ≡ serve.Store
-run_store serve.Memory told gives is = cc
-run_store serve.Store told gives is = refl
-run_store serve.Read told gives is = cc
-run_store serve.Write told gives is = cc
+run_store f told gives is = grind arith
 
 pub run_fails : {T : Type 0} (f : ServeFault) (told : ProgramFault) → told ≡ fault_of_run f → finish.Fault told ≡ finish.Fault fault.Store
     → ◌≡◌ {A = Result T ServeFault} (Err f) (Err serve.Store)
 run_fails f told gives is = ap (λ (x : ServeFault). Err x) (run_store f told gives is)
 
 pub book_store : (f : Fault) (served : ServeFault) → served ≡ served_fault f → served ≡ serve.Store → f ≡ Store
-book_store Memory served gives is = cc
-book_store Store served gives is = refl
+book_store f served gives is = grind arith
 
 -- a fault of an opening was that of its store where the end is
 pub open_store : (f : OpenFault) → end_of_open f ≡ finish.Fault fault.OpeningStore → f ≡ opening.Store
-open_store (opening.UnknownSchema version) is = cc
-open_store opening.Store is = refl
-open_store opening.Memory is = cc
+open_store f is = grind arith
 
 -- so what is said of the fault is said of Store
 pub opening_fails : (Fails : OpenFault → Type 0) (f : OpenFault) → end_of_open f ≡ finish.Fault fault.OpeningStore → Fails f → Fails opening.Store
@@ -78,13 +72,7 @@ opening_fails Fails f is fails = subst Fails (open_store f is) fails
 
 -- a move takes one rowid
 one_rowid : (ask : Option Asked) (asked : Request) → IsStepOrStop asked → ask ≡ None → asked_rowids ask asked ≡ 1
-one_rowid None (Step id) is none = refl
-one_rowid None (Stop id) is none = refl
-one_rowid None (Load name rows) is none = absurd is
-one_rowid None (Begin plan) is none = absurd is
-one_rowid None (Abort id at) is none = absurd is
-one_rowid None (Save id) is none = absurd is
-one_rowid (Some ask) asked is none = cc
+one_rowid ask asked is none = grind arith
 
 rowids_moves : (moves later : Asks) → AreMoves moves → rowids_for (moves ++ later) ≡ length moves + rowids_for later
 rowids_moves [] later are = omega arith
@@ -259,8 +247,7 @@ module _ {S : Type 0} (g : Ghosts S) (old new : Held S) {X : Type 0} (asks : X �
 
   -- or recovery did
   pub fails_before : (known : Option X) → FailsToRecover g old new → IfSome known (λ x. FailsToRun g old new (asks x))
-  fails_before None fails = tt
-  fails_before (Some x) fails = λ s may. inl (fails s (may_start (asks x) s may))
+  fails_before known fails = grind (arith, may_start, fails)
 
 -- Loads.
 

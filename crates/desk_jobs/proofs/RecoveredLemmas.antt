@@ -1,22 +1,18 @@
 -- The answers of a desk that was recovered are those over the recovery of what its connection represented. For run_over.
-use Rattle.std.proofs.Common.{◌≤◌, inl, inr, sym, subst, ℕ, List, Option, IfSome, None, Some}
+use Rattle.std.proofs.Common.{◌≤◌, inl, inr, sym, subst, ℕ, List, Option, IfSome, arith}
 use Rattle.ledger.specs.Answer.{State}
-use Rattle.recovery.specs.Growing.{Grew, room_of, with_events}
+use Rattle.recovery.specs.Growing.{Grew, room_of}
 use Rattle.recovery.specs.Recovers.{AreRecovery, HasOneRecovery, IsRecovery}
 use Rattle.reports.proofs.FrontLemmas.{front_none}
 use Rattle.program_ends.specs.Ends.{IfDone}
 use Rattle.program_ends.specs.declared.ends.End.{End}
-use Rattle.program_ends.specs.declared.ends.End.TheVariants as finish
 use Rattle.streams.specs.Written.{WroteFront}
 use Rattle.desk_jobs.specs.Notes.{recovered_note, NotesOrKeeps}
 use Rattle.desk_jobs.specs.Running.{Answers, AnswersAfterRecovery, AnswersFront, AnswersFrontAfterRecovery, NotesRecovery}
 
 -- what follows where all was done
 pub done_as : {P Q : Type 0} (e : End) → (P → Q) → IfDone e P → IfDone e Q
-done_as finish.Done follows holds = follows holds
-done_as (finish.Refused why) follows holds = tt
-done_as (finish.Fault fault) follows holds = tt
-done_as (finish.Usage text) follows holds = tt
+done_as e follows holds = grind (arith, follows)
 
 -- the events that recovery appended are the recovery of the state
 pub recovery_of : {stands : State → Type 0} (s : State) (made : ℕ) (grew : Grew stands (AreRecovery s.ledger) s made)
@@ -30,21 +26,13 @@ module _ (held holds : Option (List ℕ)) {stands : State → Type 0} (s : State
   pub all_after_recovery : (represents : State → Type 0) (known : Option (List ℕ)) (e : End)
       → ((t : State) → stands t → IfSome known (λ input. IfDone e (Answers held holds represents t input)))
       → IfSome known (λ input. IfDone e (AnswersAfterRecovery held holds represents s input))
-  all_after_recovery represents None e all = tt
-  all_after_recovery represents (Some input) e all =
-      done_as e (λ answers. record { events = grew.events; is = recovery_of s made grew; answers = answers })
-      (all (with_events s grew.events) grew.stands_there)
+  all_after_recovery represents known e all = grind (arith, done_as, recovery_of)
 
   -- a prefix of the answers was written
   pub front_after_recovery : (known : Option (List ℕ))
       → ((t : State) → stands t → IfSome known (AnswersFront held holds t))
       → IfSome known (AnswersFrontAfterRecovery held holds s)
-  front_after_recovery None front = tt
-  front_after_recovery (Some input) front = record {
-    events = grew.events;
-    is = recovery_of s made grew;
-    front = front (with_events s grew.events) grew.stands_there;
-  }
+  front_after_recovery known front = grind (arith, recovery_of, front)
 
   -- the note says how many events the recovery has
   pub note_of_recovery : NotesOrKeeps made held holds → NotesRecovery held holds s
@@ -59,6 +47,4 @@ module _ (held holds : Option (List ℕ)) {stands : State → Type 0} (s : State
 -- where nothing was written
 pub front_without_recovery : (held : Option (List ℕ)) (s : State) (known : Option (List ℕ)) → HasOneRecovery s
     → IfSome known (AnswersFrontAfterRecovery held held s)
-front_without_recovery held s None one = tt
-front_without_recovery held s (Some input) one =
-    record { events = one.events; is = one.is; front = front_none held _ }
+front_without_recovery held s known one = grind (arith, front_none)

@@ -1,5 +1,5 @@
 -- Whatever the end, a prefix of the answers was written.
-use Rattle.std.proofs.Common.{◌≡◌, None, option_map, sym, subst, ℕ}
+use Rattle.std.proofs.Common.{option_map, sym, subst, ℕ}
 use Rattle.sqlite.specs.Held.{state}
 use Rattle.sqlite.specs.State.{HasCleanDisk}
 use Rattle.protocols.specs.Scenes.{scene}
@@ -22,52 +22,38 @@ use Rattle.desk_jobs.proofs.running.run_desk.Goals as goal
 
 pub returns-in-Ok-clause-answers : goal.returns-in-Ok-clause-answers
 returns-in-Ok-clause-answers g c =
-    let store = g.S.Store in
-    let contents = g.O.Write.contents in
-    let new = c.run_lines-answered.new in
     let same = c.into_inner.ensures.same in
-    let x = scene (contents c.args.out.now) (contents new.writer) (StandsBook store new.book) (LeavesBook store new.book) in
-    let sound : HasCleanDisk (state store c.into_store-conn.result) → HasCleanDisk (state store new.book.conn) =
-    λ clean. subst (λ b. HasCleanDisk (state store b.conn)) same (c.into_store-conn.ensures.sound clean) in
+    let left = desk_left g.S.Store _ _ _ same c.into_store-conn.ensures in
     record {
-      all = λ clean s stands. all_for_all x s (g.R.Read.remaining c.args.reader.now) _
-          (λ t stood. represented store c.into_inner.result c.into_store-conn.result c.into_store-conn.ensures.found t
-          (subst (λ b. StandsBook store b t) (sym same) stood))
-          (c.in-Ok.ensures.all (sound clean) s stands);
-      front = λ clean s stands. front_for_all x s (g.R.Read.remaining c.args.reader.now) _ (c.in-Ok.ensures.all (sound clean) s stands);
+      all = λ clean s stands. all_for_all _ s _ _
+          (λ t stood. represented g.S.Store c.into_inner.result _ c.into_store-conn.ensures.found t (rw same stood))
+          (c.in-Ok.ensures.all (left.sound clean) s stands);
+      front = λ clean s stands. front_for_all _ s _ _ (c.in-Ok.ensures.all (left.sound clean) s stands);
       reason = λ clean why. absurd (let never = why in cc);
     }
 
 -- if the store failed, there was a reason among the asks of the lines
 pub returns-in-Err-clause-answers : goal.returns-in-Err-clause-answers
 returns-in-Err-clause-answers g c =
-    let store = g.S.Store in
-    let contents = g.O.Write.contents in
-    let new = c.run_lines-answered.new in
     let same = c.into_inner.ensures.same in
-    let x = scene (contents c.args.out.now) (contents new.writer) (StandsBook store new.book) (LeavesBook store new.book) in
-    let sound : HasCleanDisk (state store c.into_store-conn.result) → HasCleanDisk (state store new.book.conn) =
-    λ clean. subst (λ b. HasCleanDisk (state store b.conn)) same (c.into_store-conn.ensures.sound clean) in
+    let left = desk_left g.S.Store _ _ _ same c.into_store-conn.ensures in
     record {
-      all = λ clean s stands. none_owed (g.R.Read.remaining c.args.reader.now);
-      front = λ clean s stands. front_for_some x s (g.R.Read.remaining c.args.reader.now) c.in-Err.fault (c.in-Err.ensures.some (sound clean) s stands);
-      reason = λ clean why. fails_among_known store c.args.desk new.book c.into_store-conn.result
-          (subst (λ b. c.into_store-conn.result ≡ record b.conn { step_limit = None }) same c.into_store-conn.ensures.same)
-          (g.R.Read.remaining c.args.reader.now) (λ input. asks_in (lines input))
-          (λ first. c.in-Err.ensures.reason (sound clean) first (run_fails {T = ℕ} c.in-Err.fault c.into.result c.into.ensures why));
+      all = λ clean s stands. none_owed _;
+      front = λ clean s stands. front_for_some _ s _ _ (c.in-Err.ensures.some (left.sound clean) s stands);
+      reason = λ clean why. fails_among_known g.S.Store c.args.desk c.run_lines-answered.new.book c.into_store-conn.result
+          (rw same at c.into_store-conn.ensures.same) _ (λ input. asks_in (lines input))
+          (λ first. c.in-Err.ensures.reason (left.sound clean) first (run_fails {T = ℕ} c.in-Err.fault c.into.result c.into.ensures why));
     }
 
 -- the desk is let go as it is then
 pub returns-in-Ok-clause-leaves : goal.returns-in-Ok-clause-leaves
 returns-in-Ok-clause-leaves g c =
-    let left = desk_left g.S.Store c.run_lines-answered.new.book c.into_inner.result c.into_store-conn.result c.into_inner.ensures.same
-    c.into_store-conn.ensures in
+    let left = desk_left g.S.Store _ _ _ c.into_inner.ensures.same c.into_store-conn.ensures in
     record { idle = left.idle; sound = λ clean. c.run_lines-answered.ensures.serves.sound (left.sound clean) }
 
 pub returns-in-Err-clause-leaves : goal.returns-in-Err-clause-leaves
 returns-in-Err-clause-leaves g c =
-    let left = desk_left g.S.Store c.run_lines-answered.new.book c.into_inner.result c.into_store-conn.result c.into_inner.ensures.same
-    c.into_store-conn.ensures in
+    let left = desk_left g.S.Store _ _ _ c.into_inner.ensures.same c.into_store-conn.ensures in
     record { idle = left.idle; sound = λ clean. c.run_lines-answered.ensures.serves.sound (left.sound clean) }
 
 pub returns-in-Ok-clause-ends : goal.returns-in-Ok-clause-ends
