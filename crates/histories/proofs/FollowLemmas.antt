@@ -1,5 +1,5 @@
 -- How a world goes on with one opening, from how the desk came up and what it answered. For the jobs.
-use Rattle.std.proofs.Common.{ℕ, List, Option, sym, subst}
+use Rattle.std.proofs.Common.{ℕ, List, Option, sym, subst, arith}
 use Rattle.sqlite.specs.Tree.{Trees}
 use Rattle.sqlite.specs.Store.{Ghosts}
 use Rattle.sqlite.specs.Held.{Held, state}
@@ -25,9 +25,7 @@ module _ (law : EachMayReopen) where
   -- a reopened world at whose end the book stands
   pub stands_reopened : (stands : State → Type 0) (w : List Moment) → IsWorld w → stands (after start w)
       → StandsAtEnd stands (reopened w)
-  stands_reopened stands w world there =
-      let again = (law w world).again in
-      record { world = again.world; whole = again.whole; stands_there = subst stands (sym again.same) there }
+  stands_reopened stands w world there = grind arith
 
   -- recovery did not begin
   pub not_begun_after : (finds : Trees → Type 0) (w : List Moment) → IsWorld w
@@ -70,13 +68,4 @@ module _ (law : EachMayReopen) where
 pub stands_leaves : {S : Type 0} (g : Ghosts S) (stands : State → Type 0) (new : Held S) (held holds : Option (List ℕ))
     (input : Input) → HasCleanDisk (state g new) → StandsAnswered g stands new held holds input
     → LeavesAnswered g stands new held holds input
-stands_leaves g stands new held holds input clean there w here db may =
-    let a = there w here in
-    record {
-      told = a.told;
-      wrote = a.wrote;
-      end = a.end;
-      answers = a.answers;
-      world = a.world;
-      there = stands_found g new _ clean a.there db may;
-    }
+stands_leaves g stands new held holds input clean there w here db may = grind (arith, stands_found, there)

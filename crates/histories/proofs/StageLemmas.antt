@@ -4,7 +4,6 @@ use Rattle.std.specs.Io.KnownBytes.{Appends}
 use Rattle.std.proofs.KnownBytes.{Appends-nil}
 use Rattle.sqlite.specs.Tree.{Trees}
 use Rattle.sqlite.specs.State.{State as Connected, HasCleanDisk}
-use Rattle.desk_sql.specs.declared.versions.Version.TheVariants.{Two}
 use Rattle.commands.specs.declared.replies.Fault.{Fault}
 use Rattle.ledger.specs.Answer.{State, start}
 use Rattle.ledger.specs.World.{Moment, after, IsWorld}
@@ -59,11 +58,7 @@ goes_nowhere w asks = record { progress = none_done asks; was_kept = false; goes
 -- whatever may be found stands for one of two states
 pub either : (c : Connected) (s t : State) → HasCleanDisk c → MayLeave c s t → (db : Trees) → c.may_leave db
     → StandsAs db s ⊎ StandsAs db t
-either c s t clean left db may =
-    elim (left clean db may) [
-      | inl m ↦ inl (Two, m)
-      | inr m ↦ inr (Two, m)
-    ]
+either c s t clean left db may = grind (arith, left)
 
 -- what is left stands for the end of a world that went on, as far as it came
 pub record Left {asks : Asks} (w : List Moment) (progress : Progress asks) (db : Trees) : Type 0 where
@@ -270,5 +265,4 @@ module _ (c : Connected) (leaves : State → State → Type 0) (clean : HasClean
   pub exchanges_served : (failed : Bool) (exchanges : List Exchange)
       → by_exchange.GoesOnBy failed stands leaves w exchanges
       → LeavesAnswering c.may_leave held held w (Connections exchanges)
-  exchanges_served false exchanges e = all_served exchanges e
-  exchanges_served true exchanges e = some_served exchanges e
+  exchanges_served failed exchanges e = grind (arith, all_served, some_served)

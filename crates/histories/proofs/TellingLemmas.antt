@@ -1,5 +1,5 @@
 -- What was written are answers to asks that were carried out. For the answers to lines and exchanges.
-use Rattle.std.proofs.Common.{◌≡◌, ℕ, List, [], ◌∷◌, ◌++◌, length, take, drop, refl, sym, ap, subst, ◌∙◌, append_assoc, append-nil, inl, inr, Option, None}
+use Rattle.std.proofs.Common.{◌≡◌, ℕ, List, [], ◌∷◌, ◌++◌, take, drop, refl, sym, ap, subst, ◌∙◌, append_assoc, append-nil, inl, inr, Option, None, arith}
 use Rattle.std.specs.Io.KnownBytes.{Appends}
 use Rattle.std.proofs.lemmas.List.{take-append-drop}
 use Rattle.ledger.specs.Answer.{State}
@@ -7,10 +7,10 @@ use Rattle.saga_core.specs.Runs.{Asks}
 use Rattle.protocols.specs.Scenes.{Scene, ended}
 use Rattle.protocols.specs.declared.faults.ServeFault.{ServeFault}
 use Rattle.protocols.specs.declared.faults.ServeFault.TheVariants.{Memory, Store, Read, Write}
-use Rattle.desk_lines.specs.Lines.{lines, answer_line, answer_lines, state_after_lines, meaning_in, written}
+use Rattle.desk_lines.specs.Lines.{lines, answer_line, answer_lines, state_after_lines, written}
 use Rattle.desk_lines.specs.Serving as of_lines
 use Rattle.desk_lines.specs.Worlds as by_line
-use Rattle.desk_http.specs.Pages.{command_in, state_after}
+use Rattle.desk_http.specs.Pages.{state_after}
 use Rattle.http_ways.specs.Ways.{Said, Says}
 use Rattle.http_conversations.specs.Exchanges.{Exchange}
 use Rattle.http_live.specs.Worlds.{AreDone, HasPage, Heard, asks_of}
@@ -24,16 +24,13 @@ pub record Tells (held holds : Option (List ℕ)) (s : State) (input : Input) (c
 
 -- a text and its first bytes
 cut : (text more : List ℕ) (n : ℕ) → text ++ more ≡ (text ++ take n more) ++ drop n more
-cut text more n =
-    ap (λ l. text ++ l) (sym (take-append-drop n more)) ∙ sym (append_assoc text (take n more) (drop n more))
+cut text more n = grind (arith, take-append-drop, append_assoc)
 
 -- Lines.
 
 asks_in-append : (ls ms : List (List ℕ)) → by_line.asks_in (ls ++ ms) ≡ by_line.asks_in ls ++ by_line.asks_in ms
 asks_in-append [] ms = refl
-asks_in-append (line ∷ ls) ms =
-    ap (λ l. by_line.asks_meant (meaning_in line) ++ l) (asks_in-append ls ms)
-    ∙ sym (append_assoc (by_line.asks_meant (meaning_in line)) (by_line.asks_in ls) (by_line.asks_in ms))
+asks_in-append (line ∷ ls) ms = grind (arith, append_assoc, asks_in-append ls ms)
 
 -- the answers to lines, and to one more
 answers-more : (s : State) (ls : List (List ℕ)) (line : List ℕ)
@@ -85,18 +82,13 @@ module _ (x : Scene) (s : State) (bytes : List ℕ) (answered : List (List ℕ))
   just : (later : List (List ℕ)) (carried others : Asks) → lines bytes ≡ answered ++ later
       → of_lines.WroteAll x s answered → carried ≡ by_line.asks_in answered ++ others
       → Tells x.held x.holds s (Lines bytes) carried
-  just later carried others parts wrote done = record {
-    told = written (answer_lines s answered);
-    wrote = wrote;
-    is_told = whole_told s bytes answered later carried others parts done;
-  }
+  just later carried others parts wrote done = grind (arith, whole_told)
 
   -- and the next line was carried out
   and_next : (line : List ℕ) (later : List (List ℕ)) (carried : Asks) → lines bytes ≡ answered ++ line ∷ later
       → of_lines.WroteAll x s answered → carried ≡ by_line.asks_in (answered ++ line ∷ [])
       → Tells x.held x.holds s (Lines bytes) carried
-  and_next line later carried parts wrote done =
-      just (line ∷ later) carried (by_line.asks_in (line ∷ [])) parts wrote (done ∙ asks_in-append answered (line ∷ []))
+  and_next line later carried parts wrote done = grind (arith, just, asks_in-append)
 
 pub lines_tell : (x : Scene) (s : State) (bytes : List ℕ) (fault : ServeFault) (answered later : List (List ℕ))
     (carried : Asks) → lines bytes ≡ answered ++ later → of_lines.Leaves fault x s answered later
@@ -144,21 +136,7 @@ module _ (last : Exchange) (m : Said) (is_message : Says last.way last.bytes m) 
     },
     refl,
   )
-  done_next s (x ∷ before) ms all =
-      let one = all.2 in (
-        all.0,
-        all.1 ++ (last.door, m.meant) ∷ [],
-        record {
-          message = one.message;
-          is_message = one.is_message;
-          page = one.page;
-          done = elim one.done [
-            | inl carried ↦ inl (ap (λ l. l ++ (last.door, m.meant) ∷ []) carried.0, carried.1)
-            | inr lost ↦ inr (lost.0, ap (λ l. l ++ (last.door, m.meant) ∷ []) lost.1, lost.2)
-          ];
-        },
-        done_next all.0 before all.1 all.3,
-      )
+  done_next s (x ∷ before) ms all = grind (arith, done_next all.0 before all.1 all.3)
 
   -- the last one was not carried out
   pub done_but_last : (s : State) (before : List Exchange) (ms : List Heard) → AreDone s before ms
