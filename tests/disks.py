@@ -4,6 +4,7 @@ A cut leaves what the last sync of a file covered. Of the rest it leaves any par
 change of length done or not. A file that was made since the last sync of its folder may be absent.
 """
 import struct
+from pathlib import Path
 
 HEAD = struct.Struct("<iiqq")  # as calls.c writes it
 SECTOR = 512
@@ -11,9 +12,7 @@ SECTOR = 512
 
 def notes_in(path):
     """The calls that were noted: kind, descriptor, place, bytes."""
-    with open(path, "rb") as file:
-        data = file.read()
-    at = 0
+    data, at = Path(path).read_bytes(), 0
     while at < len(data):
         kind, descriptor, place, size = HEAD.unpack_from(data, at)
         at += HEAD.size + size
@@ -24,34 +23,22 @@ class File:
     """A file: its bytes at the last sync, and the writes and changes of length since."""
 
     def __init__(self, content=b""):
-        self.synced = bytes(content)
-        self.now = bytearray(content)
-        self.pending = []
+        self.synced, self.now, self.pending = bytes(content), bytearray(content), []
 
-    def write(self, at, data):
-        self.pending.append((at, data))
-        put(self.now, at, data)
-
-    def resize(self, size):
-        self.pending.append((size, None))
-        set_length(self.now, size)
+    def change(self, at, written):
+        """A write at a place, or a change to this length, where nothing is written."""
+        self.pending.append((at, written))
+        apply(self.now, at, written)
 
     def sync(self):
-        self.synced = bytes(self.now)
-        self.pending = []
+        self.synced, self.pending = bytes(self.now), []
 
 
-def set_length(data, size):
-    if size < len(data):
-        del data[size:]
-    else:
-        data.extend(bytes(size - len(data)))
-
-
-def put(data, at, piece):
-    if at + len(piece) > len(data):
-        set_length(data, at + len(piece))
-    data[at : at + len(piece)] = piece
+def apply(data, at, written):
+    """What a write, or a change of length, makes of these bytes."""
+    size = at if written is None else max(len(data), at + len(written))
+    data[size:] = bytes(max(0, size - len(data)))
+    data[at : at + len(written or b"")] = written or b""
 
 
 class Disk:
@@ -59,8 +46,7 @@ class Disk:
 
     def __init__(self, contents=None):
         self.files = {name: File(content) for name, content in (contents or {}).items()}
-        self.unsure = set()
-        self.open = {}
+        self.unsure, self.open = set(), {}
 
     def restart(self):
         """The program ended, and another one begins: descriptors are its own."""
@@ -82,10 +68,8 @@ class Disk:
                 file.sync()
             elif name is not None:
                 self.unsure.clear()
-        elif kind == "w" and file:
-            file.write(place, data)
-        elif kind == "t" and file:
-            file.resize(place)
+        elif kind in "wt" and file:
+            file.change(place, data if kind == "w" else None)
         return kind in "wty"
 
     def opened(self, descriptor, is_made, name):
@@ -139,39 +123,36 @@ class Part:
             return file.synced
         data = bytearray(file.synced)
         for n, (at, written) in enumerate(file.pending):
-            call = (name, n)
             if self.kind == "torn end" and self.one and self.one[0] == name:
                 self.apply_until(data, n, at, written)
-            elif self.kind == "calls":
-                if self.keeps(call):
-                    apply_all(data, at, written)
-            else:
-                self.apply_parts(data, call, at, written, len(file.synced))
+            elif self.kind != "calls":
+                self.apply_parts(data, (name, n), at, written, len(file.synced))
+            elif self.keeps((name, n)):
+                apply(data, at, written)
         return bytes(data)
 
     def apply_until(self, data, n, at, written):
         """All calls up to one, and a first part of that one."""
         if n < self.one[1]:
-            apply_all(data, at, written)
+            apply(data, at, written)
         elif n == self.one[1] and written is not None:
             end = (at + self.chance.randrange(len(written) + 1)) // SECTOR * SECTOR
-            apply_all(data, at, written[: max(0, end - at)])
+            apply(data, at, written[: max(0, end - at)])
 
     def apply_parts(self, data, call, at, written, synced):
         """Each piece of a write, and the change of length that it makes, by chance."""
+        end_of_call = at if written is None else at + len(written)
+        if (written is None or end_of_call > len(data)) and self.keeps(call):
+            apply(data, end_of_call, None)
         if written is None:
-            if self.keeps(call):
-                set_length(data, at)
             return
-        if at + len(written) > len(data) and self.keeps(call):
-            set_length(data, at + len(written))
         for start, end in self.pieces(at, len(written)):
             if start >= len(data):
                 return
             if self.keeps(call):
-                put(data, start, written[start - at : min(end, len(data)) - at])
+                apply(data, start, written[start - at : min(end, len(data)) - at])
             elif self.kind == "garbage" and start >= synced:
-                put(data, start, self.chance.randbytes(min(end, len(data)) - start))
+                apply(data, start, self.chance.randbytes(min(end, len(data)) - start))
 
     def pieces(self, at, size):
         """A write in pieces: its sectors, or where it is torn at any byte, some pieces by chance."""
@@ -180,10 +161,3 @@ class Part:
         else:
             ends = [at, *range((at // SECTOR + 1) * SECTOR, at + size, SECTOR), at + size]
         return zip(ends, ends[1:])
-
-
-def apply_all(data, at, written):
-    if written is None:
-        set_length(data, at)
-    else:
-        put(data, at, written)
