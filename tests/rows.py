@@ -4,14 +4,17 @@ More than 200 lines: the forms of a row are read and run in one place.
 
 rows.py ROWS.txt [WORD]    the rows whose names have this word; prints how many rows and runs there were
 """
+import contextlib
 import itertools
 import json
 import os
 import re
 import sqlite3
 import sys
+from pathlib import Path
 
 from driving import desk, request, talk
+from plain_texts import HEADING
 from rows_pages import page, page_of, plan_value, request_of
 
 DAY = "2030-06-01"
@@ -50,28 +53,33 @@ def long(text):
     return text
 
 
+def values(group):
+    """What a group in braces stands for, one after another."""
+    if ".." not in group:
+        return group.split(",")
+    first, last = map(int, group.split(".."))
+    width, step = group.index("."), 1 if first <= last else -1
+    return [f"{n:0{width}}" for n in range(first, last + step, step)]
+
+
 def each(line):
-    """The line with each of its numbers."""
-    found = re.search(r"\{(\d+)\.\.(\d+)\}", line)
-    if not found:
-        return [line]
-    width = len(found[1]) if found[1].startswith("0") else 0
-    numbers = range(int(found[1]), int(found[2]) + 1)
-    return [re.sub(r"\{\d+\.\.\d+\}", f"{n:0{width}}", line) for n in numbers]
+    """The line with each of the values of its groups."""
+    texts = re.split(r"\{(\d+\.\.\d+|[\w/-]+(?:,[\w/-]+)+)\}", line)
+    groups = zip(*map(values, texts[1::2]), strict=True)
+    return ["".join(itertools.chain(*zip(texts[::2], (*group, "")))) for group in groups] if texts[1:] else [line]
 
 
 def rows_in(path):
     """The rows: their names, and their parts, each with its words and its lines."""
-    with open(path, encoding="ascii") as file:
-        text = file.read()
-    for block in re.split(r"^= ", text, flags=re.M)[1:]:
+    for block in re.split(r"^= ", path.read_text(encoding="ascii"), flags=re.M)[1:]:
         name, *lines = block.rstrip("\n").split("\n")
         parts = []
         for line in lines:
             word, _, rest = line.partition(" ")
-            if word in ("run", "call", "file", "sql", "http", "recovers"):
+            if word in FORMS:
                 parts.append((word, long(rest), []))
             elif line:
+                parts = parts or [("run", "", [])]
                 parts[-1][2].extend(each(long(line)))
         yield name, parts
 
@@ -84,10 +92,10 @@ def pair(line):
 
 KEYS = itertools.count(1)
 
-# The parts of a row.
+# The parts of a row, each with its words and its lines.
 
 
-def run(lines):
+def run(_, lines):
     asked = [pair(line) for line in lines]
     ended = desk("run", "trips.db", lines="".join(line + "\n" for line, _ in asked))
     found = ended.out.split("\n")
@@ -99,28 +107,32 @@ def run(lines):
 
 def call(words, lines):
     out = "".join(line[2:] + "\n" for line in lines if line.startswith("| "))
-    told = dict(line.split(" ", 1) for line in lines if not line.startswith("| "))
+    err = "".join(line + "\n" for line in lines if line.startswith("fault "))
     ended = desk(*words.split(" "))
-    err = f"fault {told['fault']}\n" if "fault" in told else ""
-    expect(words, (out, err, int(told.get("status", "0"))), (ended.out, ended.err, ended.status))
+    expect(words, (out, err, int(err != "" or out.startswith("refused "))), (ended.out, ended.err, ended.status))
 
 
 def write(name, lines):
-    with open(name, "w", encoding="ascii") as file:
-        file.write("".join(line[2:] + "\n" for line in lines))
+    Path(name).write_text("".join(line[2:] + "\n" for line in lines), encoding="ascii")
 
 
-def sql(text):
-    statement, _, expected = text.partition(" => ")
-    connection = sqlite3.connect("trips.db")
-    rows = connection.execute(statement).fetchall()
-    connection.commit()
-    connection.close()
+def load(text, _):
+    asked, answer = pair(text)
+    batch, *rows = asked.split(" ")
+    write("rows.csv", [f"| {row}" for row in (",".join(HEADING), *rows)])
+    call(f"load trips.db rows.csv --batch {batch}", [f"| {answer}"])
+
+
+def sql(text, _=()):
+    statement, expected = pair(text)
+    with contextlib.closing(sqlite3.connect("trips.db")) as connection:
+        rows = connection.execute(statement).fetchall()
+        connection.commit()
     if expected:
         expect(statement, expected, " ".join("|".join(map(str, row)) for row in rows) or "(none)")
 
 
-def recovers(count):
+def recovers(count, _):
     """Recovery makes so many commits, and none when it is called again; and then no journey is unfinished."""
     for made in (count, 0):
         call("recover trips.db", [f"| recovered {made}"])
@@ -129,14 +141,12 @@ def recovers(count):
 
 def is_sound():
     """What a row leaves is sound to SQLite."""
-    if os.path.exists("trips.db"):
-        with open("trips.db", "rb") as file:
-            if file.read(6) == b"SQLite":
-                sql("PRAGMA integrity_check => ok")
-                sql("PRAGMA foreign_key_check => (none)")
+    if Path("trips.db").exists() and Path("trips.db").read_bytes().startswith(b"SQLite"):
+        sql("PRAGMA integrity_check => ok")
+        sql("PRAGMA foreign_key_check => (none)")
 
 
-def http(lines):
+def http(_, lines):
     """Requests over one connection."""
     asked = [pair(line) for line in lines]
     pages, wrong = talk("trips.db", [message(line) for line, _ in asked])
@@ -161,14 +171,13 @@ def message(line):
 def body_of(told):
     """The body that a request is told to have."""
     if "file" in told:
-        with open(told["file"], "rb") as file:
-            return file.read()
+        return Path(told["file"]).read_bytes()
     if "plan" in told:
         return json.dumps(plan_value(told["plan"])).encode()
     return told.get("body", "").replace("\\n", "\n").encode()
 
 
-def run_over_http(lines):
+def run_over_http(_, lines):
     """The lines of a row as requests of the agent `desk`, whose journeys are those of the house too."""
     asked = [pair(line) for line in lines]
     targets = [request_of(line) for line, _ in asked]
@@ -185,49 +194,32 @@ def has_twin(parts):
     return bool(lines) and all(request_of(pair(line)[0]) for line in lines)
 
 
-def clear():
-    for name in os.listdir("."):
-        os.remove(name)
+FORMS = {"run": run, "call": call, "file": write, "load": load, "sql": sql, "recovers": recovers, "http": http}
 
 
 def runs(parts, as_lines):
     """One run of a row, on a new file."""
-    clear()
+    for path in Path().iterdir():
+        path.unlink()
     for word, words, lines in parts:
-        if word == "run":
-            as_lines(lines)
-        elif word == "call":
-            call(words, lines)
-        elif word == "file":
-            write(words, lines)
-        elif word == "sql":
-            sql(words)
-        elif word == "recovers":
-            recovers(int(words))
-        else:
-            http(lines)
+        {**FORMS, "run": as_lines}[word](words, lines)
     is_sound()
 
 
 def main():
-    path, word = os.path.abspath(sys.argv[1]), sys.argv[2] if len(sys.argv) > 2 else ""
-    rows, count, wrong = 0, 0, 0
-    os.makedirs("rows", exist_ok=True)
+    word = sys.argv[2] if len(sys.argv) > 2 else ""
+    rows, count, wrong = [row for row in rows_in(Path(sys.argv[1])) if word in row[0]], 0, 0
+    Path("rows").mkdir(exist_ok=True)
     os.chdir("rows")
-    for name, parts in rows_in(path):
-        if word not in name:
-            continue
-        rows += 1
-        for kind, as_lines in (("", run), (", over HTTP", run_over_http if has_twin(parts) else None)):
-            if as_lines is None:
-                continue
+    for name, parts in rows:
+        for kind, as_lines in (("", run), (", over HTTP", run_over_http))[: 1 + has_twin(parts)]:
             count += 1
             try:
                 runs(parts, as_lines)
             except Wrong as fault:
                 wrong += 1
                 print(f"rows.py: {name}{kind}: {fault}", file=sys.stderr)
-    print(f"{rows} rows, {count} runs, {wrong} wrong")
+    print(f"{len(rows)} rows, {count} runs, {wrong} wrong")
     sys.exit(1 if wrong or not rows else 0)
 
 

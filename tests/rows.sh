@@ -21,6 +21,7 @@ finds "recovery back to the first mark, and on" 's/B1s C2.1 T2.1 T3.1 T4.1/B1s C
 finds "a turn gives back its own places" 's/=> 10|7$/=> 10|10/'
 finds "the last event" 's/^begin \(.*\) => refused 16 Limit$/begin \1 => journey 2 begun/'
 finds "a file that comes twice" 's/FROM meta => 1$/FROM meta => 2/'
+finds "a file that comes twice" 's/ => loaded b1 2$/ => loaded b1 1/'
 finds "another agent's journey" 's/404 32/200 32/'
 finds "the stock of a new file" 's/=> 200 67 /=> 200 66 /'
 finds "nothing to migrate" 's/^fault 26 File$/fault 21 Store/'
