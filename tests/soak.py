@@ -17,6 +17,7 @@ import subprocess
 import sys
 import tempfile
 import time
+from pathlib import Path
 
 from driving import DESK
 from plain_texts import HEADING
@@ -30,6 +31,15 @@ MOST_WRONG = 5
 PATIENCE_TO_SHRINK = 60.0
 TOLD = 10_000  # after so many commands it says how far it has come
 SPOILS = ("forget-reply", "lose-event", "sell-twice", "no-syncs")
+SUMMARY = """seed {seed}: {0[commands]} commands, {0[files]} files
+  lives {0[lives]} ({lives})
+  acted {0[acted]} ({made}), given again {0[given again]}, shown {0[shown]}
+  refused {0[refused]} ({refusals})
+  ends: orderly {0[orderly]}, kills {0[killed]} ({0[killed in an opening]} in an opening), faults {0[by a fault]} ({faults})
+  lives in which a call failed {0[lives with what failed]}, or an allocation was refused {0[lives with what refused]}; \
+power cuts {0[power cuts]}; calls over a file in use {0[in use]}
+  not answered, and done {0[cut off and done]}; not answered, and not done {0[cut off]}
+wrong {wrong}"""
 
 
 class Count(collections.Counter):
@@ -225,8 +235,7 @@ class Soak:
             return
         script, told = self.shrunk(script, wrong)
         path = f"{self.words.keep}/soak-{self.words.seed}-{number}.json"
-        with open(path, "w", encoding="ascii") as file:
-            file.write("[\n" + ",\n".join(map(json.dumps, script)) + "\n]\n")
+        Path(path).write_text("[\n" + ",\n".join(map(json.dumps, script)) + "\n]\n", encoding="ascii")
         print(f"soak.py: {where}: {wrong}", file=sys.stderr)
         print(f"  repeat the file: ./soak {self.words.seed} 1000000 --file {number}", file=sys.stderr)
         print(f"  repeat {len(script)} lives of it ({told}): ./soak --repeat {path}", file=sys.stderr, flush=True)
@@ -279,30 +288,12 @@ class Soak:
         return 0
 
     def summary(self):
-        count = self.count
-        names = sorted(count, key=by_number)
-        made = [f"{name[5:]} {count[name]}" for name in names if name.startswith("made ")]
-        refusals = [f"{name[8:]}: {count[name]}" for name in names if name.startswith("refused ")]
-        lives = [f"{name[8:]} {count[name]}" for name in names if name.startswith("life of ")]
-        faults = [f"{name}: {count[name]}" for name in names if name.startswith("fault ")]
-        lines = [
-            f"seed {self.words.seed}: {count['commands']} commands, {count['files']} files",
-            f"  lives {count['lives']} ({', '.join(lives)})",
-            f"  acted {count['acted']} ({', '.join(made)}), given again {count['given again']}, shown {count['shown']}",
-            f"  refused {count['refused']} ({', '.join(refusals)})",
-            f"  ends: orderly {count['orderly']}, kills {count['killed']} "
-            f"({count['killed in an opening']} in an opening), faults {count['by a fault']} ({', '.join(faults)})",
-            f"  lives in which a call failed {count['lives with what failed']}, or an allocation was refused "
-            f"{count['lives with what refused']}; power cuts {count['power cuts']}; "
-            f"calls over a file in use {count['in use']}",
-            f"  not answered, and done {count['cut off and done']}; not answered, and not done {count['cut off']}",
-            f"wrong {len(self.wrong)}",
-        ]
-        print("\n".join(lines))
-
-
-def by_number(name):
-    return (int(name.split(" ")[1]) if name.startswith("refused ") else 0), name
+        def told(prefix, form="{} {}"):
+            """What was counted by names that begin so, refusals in the order of their numbers."""
+            names = sorted((it[len(prefix):] for it in self.count if it.startswith(prefix)), key=lambda it: (it.isdigit() and int(it), it))
+            return ", ".join(form.format(name, self.count[prefix + name]) for name in names)
+        print(SUMMARY.format(self.count, seed=self.words.seed, wrong=len(self.wrong), lives=told("life of "), made=told("made "),
+                             refusals=told("refused ", "{}: {}"), faults=told("fault ", "fault {}: {}")))
 
 
 def bursts_of(life):
@@ -327,8 +318,7 @@ def without(script, parts, at):
 
 
 def words_of():
-    layout = argparse.RawDescriptionHelpFormatter
-    words = argparse.ArgumentParser(prog="./soak", description=__doc__, formatter_class=layout)
+    words = argparse.ArgumentParser(prog="./soak", description=__doc__, formatter_class=argparse.RawDescriptionHelpFormatter)
     words.add_argument("seed", nargs="?", metavar="SEED", help="any word or number")
     words.add_argument("count", nargs="?", metavar="COUNT", type=int, help="about how many commands")
     words.add_argument("--file", metavar="N", type=int, help="only the N-th file of this seed")
@@ -362,12 +352,11 @@ def main():
     folder = tempfile.mkdtemp(prefix="soak-", dir="/dev/shm" if os.access("/dev/shm", os.W_OK) else None)
     try:
         for name in ("calls", "refuse"):
-            source = os.path.join(os.path.dirname(os.path.abspath(__file__)), f"{name}.c")
+            source = Path(__file__).with_name(f"{name}.c")
             subprocess.run(["cc", "-O1", "-shared", "-fPIC", "-o", f"{folder}/{name}.so", source, "-ldl"], check=True)
         soak = Soak(words, folder)
         if words.repeat:
-            with open(words.repeat, encoding="ascii") as file:
-                sys.exit(soak.repeat(json.load(file)))
+            sys.exit(soak.repeat(json.loads(Path(words.repeat).read_text(encoding="ascii"))))
         soak.run()
         soak.summary()
     finally:
