@@ -39,7 +39,12 @@ class Journey(NamedTuple):
     items: tuple = ()
 
     def net(self):
-        return net(self.items)
+        """The transactions that stand, each as step and option."""
+        return standing(self.items, "T")
+
+    def taken(self):
+        """The positions at which a save-point was taken that stands."""
+        return {position for position, _ in standing(self.items, "S")}
 
     def wants(self):
         """The wants of the transactions that stand."""
@@ -49,11 +54,10 @@ class Journey(NamedTuple):
         return len(self.net())
 
     def refusals(self):
-        return sum(1 for kind, _, b in self.items if kind == "B" and b == "r")
+        return sum(kind == "B" and b == "r" for kind, _, b in self.items)
 
     def is_save_point(self, p):
-        is_marked = 1 <= p <= len(self.plan.steps) and self.plan.steps[p - 1].save
-        return (is_marked and p <= self.pos()) or p in taken(self.items)
+        return 1 <= p <= self.pos() and self.plan.steps[p - 1].save or p in self.taken()
 
     def last_save(self):
         return max((p for p in range(1, len(self.plan.steps) + 1) if self.is_save_point(p)), default=0)
@@ -74,36 +78,19 @@ class Journey(NamedTuple):
             return ENDED, None
         if pos == 0 and any(kind == "B" and a == 0 for kind, a, _ in self.items):
             return UNDONE, None
-        target = going_to(self.items)
-        return (BACK, target) if target is not None and target < pos else (RUN, None)
+        # the target of the last turn, if no transaction came since
+        last, target = next(((kind, a) for kind, a, _ in reversed(self.items) if kind in "TB"), ("T", 0))
+        return (BACK, target) if last == "B" and target < pos else (RUN, None)
 
     def is_open(self):
         return self.phase()[0] in (RUN, BACK)
 
 
-@functools.lru_cache(4096)
-def net(items):
-    """The transactions after which no compensation of their step comes, each as step and option."""
-    done = ((n, a, b) for n, (kind, a, b) in enumerate(items) if kind == "T")
-    return tuple((a, b) for n, a, b in done if not is_compensated(items[n + 1 :], a))
-
-
-def is_compensated(items, step):
-    return any(kind == "C" and a == step for kind, a, _ in items)
-
-
-@functools.lru_cache(4096)
-def taken(items):
-    """The positions at which a save-point was taken that stands."""
-    return frozenset(a for n, (kind, a, _) in enumerate(items) if kind == "S" and not is_compensated(items[n + 1 :], a))
-
-
-def going_to(items):
-    """The target of the last turn, if no transaction came since."""
-    for kind, a, _ in reversed(items):
-        if kind in "TB":
-            return a if kind == "B" else None
-    return None
+@functools.lru_cache(8192)
+def standing(items, kind):
+    """The items of this kind after which no compensation of their step comes, each as step and option."""
+    last = {a: n for n, (other, a, _) in enumerate(items) if other == "C"}
+    return tuple((a, b) for n, (other, a, b) in enumerate(items) if other == kind and last.get(a, 0) <= n)
 
 
 class Desk:
@@ -179,9 +166,9 @@ class Desk:
         rows = tuple((cell, places) for cell, places in rows)
         if name in self.batches:
             return None, ("loaded", name, len(rows)) if self.batches[name] == rows else Refusal(13)
-        for n, (cell, places) in enumerate(rows):
-            if places < self.held(cell_in(cell)):
-                return None, Refusal(12, row=n + 1)
+        below = next((n for n, (cell, places) in enumerate(rows, 1) if places < self.held(cell_in(cell))), None)
+        if below:
+            return None, Refusal(12, row=below)
         return ("load", name, rows), ("loaded", name, len(rows))
 
     def may_come(self, journey, item):
@@ -190,8 +177,7 @@ class Desk:
         phase, target = journey.phase()
         is_running = phase == RUN
         if kind == "T":
-            is_next = (a, b) == (journey.pos() + 1, journey.next_option())
-            return is_running and is_next and self.fits(journey.next_want())
+            return is_running and (a, b) == (journey.pos() + 1, journey.next_option()) and self.fits(journey.next_want())
         if kind == "C":
             return phase == BACK and journey.net()[-1:] == ((a, b),)
         if kind == "S":
@@ -320,18 +306,15 @@ class Desk:
     def journey_rows(self, identity, number):
         """The rows of a journey but its items."""
         journey = self.journeys[identity - 1]
-        agent, plan, items = journey
-        phase, target = self.phases[identity - 1]
-        code = PHASES.index(phase)
-        net = journey.net()
-        cursor = (len(net), code, target or 0, journey.refusals())
+        plan, net, (phase, target) = journey.plan, journey.net(), self.phases[identity - 1]
         steps = [
             (identity, place, option, int(step.save), int((place, option) in net), *want)
             for place, step in enumerate(plan.steps, 1)
             for option, want in enumerate(step.options, 1)
         ]
-        row = (identity, number, agent, len(plan.steps), plan.tries, *cursor)
-        return {"journey": [row], "mark": [(identity, p) for p in taken(items)], "step": steps}
+        cursor = (len(net), PHASES.index(phase), target or 0, journey.refusals())
+        row = (identity, number, journey.agent, len(plan.steps), plan.tries, *cursor)
+        return {"journey": [row], "mark": [(identity, p) for p in journey.taken()], "step": steps}
 
 
 # Texts of replies.

@@ -8,7 +8,7 @@ from typing import NamedTuple
 EPOCH = datetime.date(1970, 1, 1)
 LETTERS, WORDS = "FRTC", ("flight", "room", "transfer", "cover")
 MOST_NIGHTS = (1, 30, 1, 60)
-CODE, NAME = re.compile("[A-Z0-9]{1,8}"), re.compile("[a-z0-9-]{1,24}")
+CODE, NAME, DAY = re.compile("[A-Z0-9]{1,8}"), re.compile("[a-z0-9-]{1,24}"), re.compile("20[0-9]{2}-[0-9]{2}-[0-9]{2}")
 LAST = (datetime.date(2099, 12, 31) - EPOCH).days
 HEADING = ["kind", "supplier", "product", "night", "places"]
 
@@ -50,17 +50,13 @@ class Plan(NamedTuple):
 
 def number_in(text, least, most):
     """The number of a text without sign and leading zeros; None where it is none or beyond the limits."""
-    if not re.fullmatch("0|[1-9][0-9]{0,11}", text) or not least <= int(text) <= most:
-        return None
-    return int(text)
+    return int(text) if re.fullmatch("0|[1-9][0-9]{0,11}", text) and least <= int(text) <= most else None
 
 
 def day_in(text):
     """The number of a day of the years 2000 to 2099, or None."""
-    if not re.fullmatch("20[0-9]{2}-[0-9]{2}-[0-9]{2}", text):
-        return None
     try:
-        return (datetime.date.fromisoformat(text) - EPOCH).days
+        return (datetime.date.fromisoformat(text) - EPOCH).days if DAY.fullmatch(text) else None
     except ValueError:
         return None
 
@@ -73,9 +69,8 @@ def night_text(day):
 def cell_in(text):
     """A cell, as tables have it, or None."""
     parts = text.split("/")
-    if len(parts) != 4 or len(parts[0]) != 1 or parts[0] not in LETTERS or day_in(parts[3]) is None:
-        return None
-    return (LETTERS.index(parts[0]), *parts[1:3], day_in(parts[3])) if all(map(CODE.fullmatch, parts[1:3])) else None
+    is_right = len(parts) == 4 and parts[0] in [*LETTERS] and all(map(CODE.fullmatch, parts[1:3])) and day_in(parts[3]) is not None
+    return (LETTERS.index(parts[0]), *parts[1:3], day_in(parts[3])) if is_right else None
 
 
 def cell_text(cell):
@@ -101,12 +96,11 @@ def code_in(text):
 
 def option_in(step, text):
     """The want of an option of a plan line."""
-    parts = text.split("/")
-    if len(parts) != 6:
+    if text.count("/") != 5:
         raise BadPlan(step, "shape")
-    kind = LETTERS.index(parts[0]) if len(parts[0]) == 1 and parts[0] in LETTERS else None
-    numbers = (number_in(parts[4], 0, 999), number_in(parts[5], 0, 999))
-    return want_in(step, kind, code_in(parts[1]), code_in(parts[2]), day_in(parts[3]), *numbers)
+    kind, supplier, product, day, *numbers = text.split("/")
+    kind = LETTERS.index(kind) if kind in [*LETTERS] else None
+    return want_in(step, kind, code_in(supplier), code_in(product), day_in(day), *(number_in(it, 0, 999) for it in numbers))
 
 
 @functools.lru_cache(4096)
