@@ -16,7 +16,7 @@ import uuid
 from pathlib import Path
 
 from driving import PLAN, Desk, asked, parts_of, request, same, waits_for, wrong
-from ports import free_port
+from ports import accepts, free_port
 from proxies import begins, for_apache
 
 HERE = Path(__file__).parent / "clients"
@@ -177,11 +177,6 @@ class Trial:
             return not found["check_status"].startswith("*")
         waits_for(is_told, 10)
         same("HAProxy's check", ("UP", "L7OK", "200"), (found["status"], found["check_status"], found["check_code"]))
-
-
-def accepts(port):
-    with socket.socket() as stream:
-        return stream.connect_ex(("127.0.0.1", port)) == 0
 
 
 def main():

@@ -13,33 +13,23 @@ import os
 import re
 import shutil
 import signal
-import socket
 import subprocess
 import sys
 import tempfile
+from pathlib import Path
 
 from driving import waits_for
-from ports import free_port
+from ports import accepts, free_port
 
-# commands that are not run here, by how they begin, and why
-NOT_RUN = {
-    "sudo": "it changes the machine",
-}
-
+# commands that are not run here, by their first word, and why
+NOT_RUN = {"sudo": "it changes the machine"}
 # tools that are no commands, and the command that succeeds where they are there
-NEEDS = {
-    "php-curl": ["php", "-r", "exit(extension_loaded('curl') ? 0 : 1);"],
-    "requests": ["python3", "-c", "import requests"],
-}
-
-# where Debian has servers; not every user looks there
-SERVERS = "/usr/sbin"
-
+NEEDS = {"php-curl": ["php", "-r", "exit(extension_loaded('curl') ? 0 : 1);"], "requests": ["python3", "-c", "import requests"]}
+# the folders in which commands are looked for, with that in which Debian has servers; not every user looks there
+PLACES = f"{os.environ['PATH']}{os.pathsep}/usr/sbin"
 # kinds of blocks without commands
 OTHER_KINDS = {"text", "csv", "json", "sql", "http", "antt", "rust"}
-
 SECONDS = 60
-HERE = os.path.dirname(os.path.abspath(__file__))
 
 
 class Wrong(Exception):
@@ -56,7 +46,7 @@ class Command:
         return "\n".join(self.text) + "\n"
 
     def is_run(self):
-        return not any(re.match(re.escape(word) + r"(\s|$)", self.text[0]) for word in NOT_RUN)
+        return self.text[0].split(" ")[0] not in NOT_RUN
 
     def is_background(self):
         return re.search(r"(?<!&)&\s*(#.*)?$", self.text[-1]) is not None
@@ -112,8 +102,7 @@ def commands_on(lines):
 
 def anchors_in(path):
     """The names under which the headings of a page can be linked to."""
-    with open(path, encoding="utf-8") as text:
-        headings = re.findall(r"^#+ (.*)$", text.read(), re.MULTILINE)
+    headings = re.findall(r"^#+ (.*)$", path.read_text(encoding="utf-8"), re.MULTILINE)
     return {re.sub(r"[^\w\- ]", "", heading.lower()).replace(" ", "-") for heading in headings}
 
 
@@ -121,58 +110,41 @@ def check_links(page, lines):
     """Each link within the repository leads to a file, and to a heading, that is there."""
     for number, line in enumerate(lines, 1):
         for target, anchor in re.findall(r"\]\(([^)#:\s]*)(?:#([^)\s]*))?\)", line):
-            path = os.path.join(os.path.dirname(page), target) if target else page
-            if not os.path.exists(path):
+            path = page.parent / target if target else page
+            if not path.exists():
                 raise Wrong(f"line {number}: a link to {target}, which is absent")
             if anchor and anchor not in anchors_in(path):
                 raise Wrong(f"line {number}: a link to #{anchor}, which is no heading of {target or page}")
         for path in re.findall(r"`((?:crates|docs|scripts|tests)/[^`\s]*)`", line):
-            if not re.search(r"NAME|\*|\.\.|/out/", path) and not os.path.exists(path):
+            if not re.search(r"NAME|\*|\.\.|/out/", path) and not Path(path).exists():
                 raise Wrong(f"line {number}: {path} is absent")
-
-
-def accepts(port):
-    """Whether somebody listens on this port."""
-    with socket.socket() as s:
-        return s.connect_ex(("127.0.0.1", int(port))) == 0
-
-
-def with_servers(path):
-    """The folders in which commands are looked for, with those of servers."""
-    return path + os.pathsep + SERVERS
 
 
 def has(tool):
     """Whether this tool is here."""
-    if tool not in NEEDS:
-        return shutil.which(tool, path=with_servers(os.environ["PATH"])) is not None
-    try:
-        return subprocess.run(NEEDS[tool], capture_output=True, check=False).returncode == 0
-    except OSError:
-        return False
+    name, *words = NEEDS.get(tool, [tool])
+    path = shutil.which(name, path=PLACES)
+    return path is not None and (not words or subprocess.run([path, *words], capture_output=True, check=False).returncode == 0)
 
 
 class Shell:
     """A shell in a folder, in which commands run one after another."""
 
     def __init__(self, folder, desk):
-        self.folder, self.background, self.outputs = folder, [], 0
-        self.kept = tempfile.mkdtemp(dir=os.path.dirname(folder))
-        environment = dict(os.environ, DESK=desk, HOME=folder, CURL_HOME=self.kept, LC_ALL="C", TZ="UTC",
-                           PATH=with_servers(os.environ["PATH"]), NO_PROXY="127.0.0.1", no_proxy="127.0.0.1")
-        with open(os.path.join(self.kept, ".curlrc"), "w", encoding="utf-8") as rc:
-            # no progress, which a terminal does not show either
-            rc.write("silent\nshow-error\nnoproxy = *\n")
+        self.background, self.outputs = [], 0
+        self.kept = Path(tempfile.mkdtemp(dir=folder.parent))
+        environment = {**os.environ, "DESK": desk, "HOME": folder, "CURL_HOME": self.kept, "LC_ALL": "C", "TZ": "UTC", "PATH": PLACES,
+                       "NO_PROXY": "127.0.0.1", "no_proxy": "127.0.0.1"}
+        # no progress, which a terminal does not show either
+        (self.kept / ".curlrc").write_text("silent\nshow-error\nnoproxy = *\n", encoding="utf-8")
         self.bash = subprocess.Popen(["bash", "--norc", "--noprofile"], cwd=folder, env=environment, text=True,
                                      stdin=subprocess.PIPE, stdout=subprocess.PIPE, start_new_session=True)
 
     def run(self, command, ports):
         """Runs a command, and gives the file that has its output."""
         self.outputs += 1
-        source = os.path.join(self.kept, f"command{self.outputs}")
-        output = os.path.join(self.kept, f"output{self.outputs}")
-        with open(source, "w", encoding="utf-8") as out:
-            out.write(at_ports(command.source(), ports))
+        source, output = self.kept / f"command{self.outputs}", self.kept / f"output{self.outputs}"
+        source.write_text(at_ports(command.source(), ports), encoding="utf-8")
         # a job that is disowned is not reported by the shell when it ends
         self.bash.stdin.write(f". {source} </dev/null >{output} 2>&1; disown -a; echo done $!\n")
         self.bash.stdin.flush()
@@ -185,7 +157,7 @@ class Shell:
             self.background.append(said[1])
         elif command.ends_background() and self.background:
             # a process that a proxy has started may listen for longer than the proxy itself
-            waits_for(lambda: not os.path.exists(f"/proc/{self.background[-1]}") and not (command.tool and accepts(ports[1])), SECONDS)
+            waits_for(lambda: not Path("/proc", self.background[-1]).exists() and not (command.tool and accepts(int(ports[1]))), SECONDS)
         return output
 
     def end(self):
@@ -194,8 +166,7 @@ class Shell:
 
 
 def lines_in(path):
-    with open(path, encoding="utf-8", errors="replace") as text:
-        return text.read().splitlines()
+    return path.read_text(encoding="utf-8", errors="replace").splitlines()
 
 
 def at_ports(text, ports):
@@ -207,16 +178,16 @@ def compare(command, found, ports):
     """The lines that a command has printed are those that the page prints."""
     printed = [at_ports(line, ports) for line in command.printed]
     if printed != found:
-        shown = "\n".join(["  " + command.source().rstrip("\n"), "printed on the page:"] + ["  " + line for line in printed] +
-                          ["found:"] + ["  " + line for line in found])
-        raise Wrong(f"line {command.line}:\n{shown}")
+        shown = lambda lines: "".join(f"\n  {line}" for line in lines)
+        source = command.source().rstrip("\n")
+        raise Wrong(f"line {command.line}:\n  {source}\nprinted on the page:{shown(printed)}\nfound:{shown(found)}")
 
 
 def make_folder(desk, room):
     """A new folder below the room, with the program and the tools."""
-    folder = tempfile.mkdtemp(dir=room)
-    os.symlink(desk, os.path.join(folder, "desk"))
-    os.symlink(os.path.join(os.path.dirname(HERE), "tools"), os.path.join(folder, "tools"))
+    folder = Path(tempfile.mkdtemp(dir=room))
+    (folder / "desk").symlink_to(desk)
+    (folder / "tools").symlink_to(Path(__file__).resolve().parents[1] / "tools")
     return folder
 
 
@@ -235,7 +206,7 @@ def run_commands(desk, folder, commands):
                 waits_for(lambda: len(lines_in(output)) >= len(command.printed), SECONDS)
                 background.append((command, output))
                 if command.tool:
-                    waits_for(lambda: accepts(ports[1]), SECONDS)
+                    waits_for(lambda: accepts(int(ports[1])), SECONDS)
             compare(command, lines_in(output), ports)
         for command, output in background:
             compare(command, lines_in(output), ports)
@@ -246,8 +217,7 @@ def run_commands(desk, folder, commands):
 def run_page(desk, folder, page, absent):
     """Runs the commands of a page in this folder, and gives how many ran, were not run, and were skipped because their tool is
     absent; these tools are added to absent."""
-    with open(page, encoding="utf-8") as text:
-        lines = text.read().splitlines()
+    lines = page.read_text(encoding="utf-8").splitlines()
     check_links(page, lines)
     commands = commands_on(lines)
     lacking = {tool for tool in {command.tool for command in commands} if tool and not has(tool)}
@@ -266,8 +236,9 @@ def took_too_long(*_):
 def main(desk, room, pages):
     signal.signal(signal.SIGALRM, took_too_long)
     counts, absent, wrong = [0, 0, 0], set(), 0
-    desk, folder = os.path.abspath(desk), make_folder(os.path.abspath(desk), os.path.abspath(room))
-    for page in pages:
+    desk = os.path.abspath(desk)
+    folder = make_folder(desk, os.path.abspath(room))
+    for page in map(Path, pages):
         try:
             counts = [sum(pair) for pair in zip(counts, run_page(desk, folder, page, absent))]
         except Wrong as why:

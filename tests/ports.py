@@ -16,5 +16,11 @@ def free_port():
                 pass
 
 
+def accepts(port):
+    """Whether somebody listens on this port of 127.0.0.1."""
+    with socket.socket() as stream:
+        return stream.connect_ex(("127.0.0.1", port)) == 0
+
+
 if __name__ == "__main__":
     print(free_port())
