@@ -24,17 +24,16 @@ def contracts(found):
         if not path.endswith(".rt"):
             continue
         lines, owner, is_trait = text.split("\n"), "", False
+        starts = {at: (head, end) for at, head, end in weight.heads(lines)}
         for at, line in enumerate(lines):
             if not line.startswith(" ") and (of := OWNER.match(line)):
                 owner, is_trait = of[1] + "::", line.startswith("pub trait")
             elif line == "}":
                 owner, is_trait = "", False
-            head = weight.HEAD.match(line)
-            if not head or not (is_trait or re.match(r" *pub fn|(?: *)pub const fn", line)):
-                continue
-            end = next((it for it in range(at + 1, len(lines)) if lines[it] in (head[1] + "{", head[1] + "}") or weight.HEAD.match(lines[it])), len(lines))
-            name = f"{path.split('/')[1]}::{owner if head[1] else ''}{head[2]}"
-            all_of[name] = [(kind, label, " ".join(fact.split())) for kind, label, fact in CLAUSE.findall("\n".join(lines[at:end]))]
+            elif at in starts and (is_trait or re.match(r" *pub (?:const )?fn", line)):
+                head, end = starts[at]
+                name = f"{path.split('/')[1]}::{owner if head[1] else ''}{head[2]}"
+                all_of[name] = [(kind, label, " ".join(fact.split())) for kind, label, fact in CLAUSE.findall("\n".join(lines[at:end]))]
     return all_of
 
 

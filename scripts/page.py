@@ -20,8 +20,6 @@ PAGE = TOP / 'web' / 'desk.html'
 SOURCE = TOP / 'crates' / 'agents_page' / 'src' / 'page.rt'
 # the page is loaded whole before its first word is shown; its texts, in two languages, are 26 kB of it
 MOST_BYTES = 130_000
-
-
 # the table of texts, a row of it (a name, a text in English, the same in German), and a text that should be in it
 TABLE = re.compile(r'^const WORDS = \{\n(.*?)^\};\n', re.MULTILINE | re.DOTALL)
 ROW = re.compile(r"  (?:'([\w.]+)'|(\w+)): \['([^'\\]+)', '([^'\\]+)'\],")
@@ -34,10 +32,7 @@ class Parts(html.parser.HTMLParser):
     def __init__(self):
         super().__init__(convert_charrefs=False)
         self.texts = {'style': [], 'script': []}
-        self.faults = []
-        self.inside = None
-        self.said = []
-        self.names = []
+        self.faults, self.said, self.names, self.inside = [], [], [], None
 
     def handle_starttag(self, tag, attrs):
         for name, value in attrs:
@@ -117,9 +112,7 @@ def faults_of_words(parts):
 
 def raw(text):
     """A raw literal of Rust, with as many marks as the text calls for."""
-    marks = '#'
-    while '"' + marks in text:
-        marks += '#'
+    marks = '#' * (1 + max(map(len, re.findall('"(#*)', text)), default=0))
     return f'r{marks}"{text}"{marks}'
 
 

@@ -39,21 +39,19 @@ def is_counted(path):
     return path == "crates.txt" or bool(re.match(r"crates/\w+/(?:src/.*\.rt|(?:specs|proofs)/.*\.antt)$", path))
 
 
+def heads(lines):
+    """The functions of a source: the number of the line at which each begins, its head, and where its body begins or the next head."""
+    for at, head in enumerate(map(HEAD.match, lines)):
+        if head:
+            ends = (it for it in range(at + 1, len(lines)) if lines[it] in (head[1] + "{", head[1] + "}") or HEAD.match(lines[it]))
+            yield at, head, next(ends, len(lines))
+
+
 def heavy(path, text):
     """The functions of a source that have eight clauses or more, with how many."""
-    found, lines = [], text.split("\n")
-    for at, line in enumerate(lines):
-        head = HEAD.match(line)
-        if not head:
-            continue
-        clauses = 0
-        for later in lines[at + 1 :]:
-            if HEAD.match(later) or later in (head[1] + "{", head[1] + "}"):
-                break
-            clauses += bool(CLAUSE.match(later))
-        if clauses >= 8:
-            found.append((clauses, f"{path}: {head[2]}"))
-    return found
+    lines = text.split("\n")
+    found = [(sum(bool(CLAUSE.match(line)) for line in lines[at + 1 : end]), f"{path}: {head[2]}") for at, head, end in heads(lines)]
+    return [(clauses, name) for clauses, name in found if clauses >= 8]
 
 
 def blocks(code):
