@@ -14,6 +14,7 @@ import subprocess
 import sys
 import threading
 import time
+from pathlib import Path
 
 from driving import PATIENCE, Client, Lines, Server, desk, request, waits_for
 from ledger import is_settled, tables_of
@@ -201,8 +202,7 @@ class Book(Events):
             return f"the call ended with {backup.done}"
         if os.stat(backup.name).st_mode & 0o777 != 0o600:
             return "others may read it"
-        with open(backup.name, "rb") as file:
-            tables = look({"trips.db": file.read()})
+        tables = look({"trips.db": Path(backup.name).read_bytes()})
         if not isinstance(tables, dict):
             return f"it cannot be shown: {tables}"
         count = tables["meta"][0][2]
@@ -225,8 +225,7 @@ def main():
     chance = random.Random(int(sys.argv[3]) if len(sys.argv) > 3 else 1987)
     assert desk("run", "trips.db", lines=STOCK).status == 0
     os.mkdir("apart")
-    with open("apart/cp", "w", encoding="utf-8") as out:
-        out.write(APART)
+    Path("apart/cp").write_text(APART, encoding="utf-8")
     os.chmod("apart/cp", 0o755)
     made, apart, wrong, pages = [], [], [], []
     for kind in (Requests, LinesAsked):
@@ -245,7 +244,7 @@ def main():
     for backup in apart:
         if not book.fault(backup, chance):
             wrong.append(f"{backup.name}: a desk that went on between the copies is not found, so this trial finds nothing")
-    left = [name for name in os.listdir(".") if name.startswith(".desk-backup")]
+    left = list(map(str, Path().glob(".desk-backup*")))
     under_way = sum(getattr(backup, "is_open", False) for backup in made)
     print(f"{len(made)} backups among {book.ledger.count} events, {under_way} with journeys under way, {len(wrong)} wrong")
     for text in wrong[:10] + left:

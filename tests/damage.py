@@ -8,6 +8,7 @@ damage.py COUNT [SEED]    so many damages of each sort; COUNT=all: each byte, ea
 import collections
 import sqlite3
 import sys
+from pathlib import Path
 
 from driving import Client, Server, desk, request
 from ledger import Ledger, report, tables_of
@@ -175,8 +176,7 @@ class Trial:
 def main():
     count = None if sys.argv[1] == "all" else int(sys.argv[1])
     same, own = chances(int(sys.argv[2]) if len(sys.argv) > 2 else 1987)
-    with open("june.csv", "w", encoding="ascii") as file:
-        file.write(JUNE)
+    Path("june.csv").write_text(JUNE, encoding="ascii")
     closed = make_disk(FIRST)
     killed = make_disk(FIRST, kill=SECOND)
     others = [make_disk(FIRST[:8], kill=SECOND[:3])[LOG], make_disk(FIRST, kill=SECOND[:2])[LOG]]

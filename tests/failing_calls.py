@@ -10,6 +10,7 @@ import collections
 import errno
 import os
 import sys
+from pathlib import Path
 
 from driving import Client, Server, desk, is_whole, killed_after
 from parts import IN_PART, PARTS, Deal, chances
@@ -17,7 +18,7 @@ from scenes import FIRST, JUNE, PLANS, SECOND, http_requests
 from shown import Events, Migration, Shown, lay, look, make_disk, old_file, read_files
 
 ERRORS = (errno.EIO, errno.ENOSPC)
-FAILED = "failed"
+FAILED = Path("failed")
 THEN = (1, 2, 3, 4, 6, 9, "all")
 # calls that change a file: a failure of one is named by the run that it came to, at the latest when the database is closed
 CHANGES = {"pwrite", "ftruncate", "fsync", "fdatasync"}
@@ -42,8 +43,7 @@ class Scene:
     def run(self, env):
         """Runs it over its disk, as it was."""
         lay(self.start)
-        if os.path.exists(FAILED):
-            os.remove(FAILED)
+        FAILED.unlink(missing_ok=True)
         return self.drive(env)
 
     def drive(self, env):
@@ -174,10 +174,9 @@ class Trial:
     def fails(self, **env):
         """One run in which these calls fail; says whether there was such a call."""
         ended = self.scene.run({**self.library, **{name: str(value) for name, value in env.items()}})
-        if not os.path.exists(FAILED):
+        if not FAILED.exists():
             return False
-        with open(FAILED, encoding="ascii") as file:
-            names = file.read().split()
+        names = FAILED.read_text(encoding="ascii").split()
         self.names[names[0]] += 1
         self.ends[ended.fault() or f"status {ended.status}"] += 1
         what = f"{self.scene.name}, {' '.join(f'{n}={v}' for n, v in env.items())} ({' '.join(names[:3])})"
@@ -241,8 +240,7 @@ def scenes():
     assert desk("recover", "cut/trips.db").status == 0
     killed_after(SECOND[:5], "cut/trips.db")
     killed = read_files("cut")
-    with open("june.csv", "w", encoding="ascii") as file:
-        file.write(JUNE)
+    Path("june.csv").write_text(JUNE, encoding="ascii")
     yield LineScene("a first run", {}, FIRST[:6] + ["step 1", "step 01", "step 2", "save 2", "step 2"])
     yield LineScene("a run", killed, [f"begin {PLANS[1]}", "step 6", "save 6", "save 6", "step 6", "step 4", "step 06"])
     yield WordScene("recover", killed, "recover", "cut/trips.db")

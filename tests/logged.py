@@ -4,6 +4,7 @@ import calendar
 import os
 import re
 import time
+from pathlib import Path
 
 from driving import LOG_HEAD, PLAN, Client, Logged, asked, desk, request, same, side_by_side, wrong
 
@@ -100,8 +101,7 @@ def timed():
     asked("timed.sock", b"POST /stop HTTP/1.1\r\nHost: d\r\nContent-Length: 0\r\n\r\n")
     served.ends("a stop with times")
     one.close()
-    with open(served.name, encoding="utf-8") as kept:
-        lines = kept.read().splitlines()
+    lines = Path(served.name).read_text(encoding="utf-8").splitlines()
     times = [TIME.match(line) for line in lines]
     same("each line has its time", [True] * 5, [it is not None for it in times])
     told = [served.told(TIME.sub("", line, count=1)).split() for line in lines]

@@ -7,6 +7,7 @@ import subprocess
 import sys
 import threading
 import time
+from pathlib import Path
 
 from driving import DESK, PATIENCE, PLAN, Client, asked, desk, parts_of, request, same, waits_for, wrong
 from looking_reports import HOUSE, ledger, served_over, stops, target, unnamed
@@ -76,8 +77,7 @@ def answers_once(listener, page):
 
 def no_reports():
     """What else may be at the path of --at than a desk that serves."""
-    with open("a_file", "wb"):
-        pass
+    Path("a_file").touch()
     fails("a desk that has ended", NO_DESK, HOUSE)
     for what, path in (("a file in place of a socket", "a_file"), ("a path that is too long", "1" * 200), ("an empty path", "")):
         fails(what, NO_DESK, path)

@@ -2,6 +2,7 @@
 the file at that moment, at the administrator's socket and by --at PATH."""
 import json
 import os
+import shutil
 
 import soak_asks
 from driving import Client, Desk, desk, lay, parts_of, read_files, request, same
@@ -137,9 +138,8 @@ def odd_words():
 
 def served_over(file):
     """A desk over a new file."""
-    os.makedirs("own", exist_ok=True)
-    for name in os.listdir("own"):
-        os.remove(f"own/{name}")
+    shutil.rmtree("own", ignore_errors=True)
+    os.makedirs("own")
     return Desk(file, "--house", "house", folder="own")
 
 

@@ -14,6 +14,7 @@ import re
 import subprocess
 import sys
 import time
+from pathlib import Path
 
 from driving import same, wrong
 from parts import IN_PART, PARTS, Deal
@@ -23,6 +24,7 @@ CRATES = "plan_tests command_tests book_tests page_tests recovery_tests message_
 AT_EACH_BYTE = re.compile("anywhere|cut|a_writer_that_fails_has_a_prefix|a_failed_read_leaves_the_lines"
                           "|a_failed_write_leaves_a_beginning_of_the_answers")
 FEW = 10
+REFUSED = Path("refused")
 # as many days as there are parts count as one, so that all parts are of the same allocations
 TODAY = int(time.time()) // 86400 // PARTS
 # the fault as a test prints it; how it ends where that is its own result, and where a check stops it at the value of a call
@@ -59,11 +61,10 @@ def judged(status, told):
 
 def run(program, test, place):
     """How a test ends with this allocation refused: its status as a shell has it, and what it told."""
-    if os.path.exists("refused"):
-        os.remove("refused")
+    REFUSED.unlink(missing_ok=True)
     pipes = {"stdin": subprocess.DEVNULL, "stdout": subprocess.PIPE, "stderr": subprocess.STDOUT}
     done = subprocess.run([program, test], env={**os.environ, "REFUSE": str(place), "LD_PRELOAD": "./refuse.so"}, check=False, **pipes)
-    if not os.path.exists("refused"):
+    if not REFUSED.exists():
         same(f"{test}, allocation {place}", "refused", "not made")
     status = done.returncode
     return status if status >= 0 else 128 - status, done.stdout.decode("utf-8", "replace").rstrip("\n")
@@ -73,8 +74,7 @@ def count_allocations(program, test):
     """How many allocations a test makes, which passes where none is refused."""
     status, told = run(program, test, "none")
     same(f"{test}, no allocation refused: {told}", "passed", judged(status, told))
-    with open("refused", encoding="ascii") as file:
-        return int(file.read())
+    return int(REFUSED.read_text(encoding="ascii"))
 
 
 class Trial:
@@ -90,8 +90,8 @@ class Trial:
             self.left_out.append(crate)
             return None
         self.taken.append(crate)
-        top = os.path.dirname(os.path.dirname(os.path.abspath(__file__)))
-        program = f"{os.environ.get('MEMORY_TESTS') or f'{top}/crates/{crate}/out'}/{crate}_tests"
+        built = Path(__file__).resolve().parents[1] / "crates" / crate / "out"
+        program = Path(os.environ.get("MEMORY_TESTS") or built, f"{crate}_tests")
         if os.access(program, os.X_OK):
             return program
         same(f"the tests of {crate}, which ./check leaves", "built", "absent")

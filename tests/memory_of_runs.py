@@ -11,16 +11,18 @@ With SPOIL=event in the environment the last event of each file is taken away be
 named fault is hidden: both have to be found.
 """
 import collections
+import contextlib
 import os
 import random
 import sqlite3
 import sys
+from pathlib import Path
 
 from driving import is_whole
 from failing_calls import ServeScene, Trial, scenes
 from shown import Events, Migration, read_files
 
-REFUSED = "refused"
+REFUSED = Path("refused")
 NAMES = ("a run", "recover", "load", "migrate", "serve")
 # what a run may name, of which only allocations were refused
 MEMORY = {"fault 17 Memory", "fault 18 Store", "fault 21 Store", "fault 22 Memory"}
@@ -37,17 +39,15 @@ class Refusals(Trial):
 
     def drives(self, place, **more):
         """One run in which this allocation is refused, or none; how it ended, and whether it came so far."""
-        if os.path.exists(REFUSED):
-            os.remove(REFUSED)
+        REFUSED.unlink(missing_ok=True)
         ended = self.scene.run({**self.library, "REFUSE": str(place), **more})
-        return ended, os.path.exists(REFUSED)
+        return ended, REFUSED.exists()
 
     def count(self):
         """How many allocations there are where none is refused."""
         ended, _ = self.drives("none")
         assert ended.status == 0 and not self.scene.fault(ended), str(ended)
-        with open(REFUSED, encoding="ascii") as file:
-            return int(file.read())
+        return int(REFUSED.read_text(encoding="ascii"))
 
     def lost(self):
         """Of a desk that serves: how many connections lack a page, and whether any page came."""
@@ -109,11 +109,8 @@ def spoil(ended):
     if how == "fault" and ended.fault():
         ended.status, ended.err = 0, ""
     if how == "event":
-        connection = sqlite3.connect("cut/trips.db")
-        connection.execute("UPDATE meta SET events = events - 1")
-        connection.execute("DELETE FROM entry2 WHERE num > (SELECT events FROM meta)")
-        connection.commit()
-        connection.close()
+        with contextlib.closing(sqlite3.connect("cut/trips.db")) as connection:
+            connection.executescript("UPDATE meta SET events = events - 1; DELETE FROM entry2 WHERE num > (SELECT events FROM meta)")
 
 
 def main():

@@ -7,6 +7,7 @@ import shutil
 import subprocess
 import sys
 import time
+from pathlib import Path
 
 from selenium.webdriver.common.keys import Keys
 
@@ -49,8 +50,7 @@ def signs(folder, name, by=None):
         made = subprocess.run([*signing, "-set_serial", "1", "-days", "2"], check=True, capture_output=True).stdout
     else:
         made = subprocess.run([*new, "-x509", "-days", "2"], check=True, capture_output=True).stdout
-    with open(key, "rb") as part, open(f"{folder}/{name}.pem", "wb") as file:
-        file.write(made + part.read())
+    Path(f"{folder}/{name}.pem").write_bytes(made + Path(key).read_bytes())
     return f"{folder}/{name}.pem"
 
 

@@ -4,6 +4,7 @@ import os
 import shutil
 import socket
 import subprocess
+from pathlib import Path
 
 from page_driving import wait_until
 from ports import free_port
@@ -27,9 +28,9 @@ class Firefox:
     def __init__(self, folder):
         self.port, self.asked = free_port(), 0
         os.makedirs(folder)
-        with open(f"{folder}/user.js", "w", encoding="utf-8") as file:
-            for name, value in {**CHOICES, "marionette.port": self.port}.items():
-                file.write(f"user_pref({json.dumps(name)}, {json.dumps(value)});\n")
+        chosen = {**CHOICES, "marionette.port": self.port}.items()
+        lines = [f"user_pref({json.dumps(name)}, {json.dumps(value)});\n" for name, value in chosen]
+        Path(folder, "user.js").write_text("".join(lines), encoding="utf-8")
         self.process = subprocess.Popen(
             [FIREFOX, "--headless", "--marionette", "--no-remote", "--profile", folder], stdin=subprocess.DEVNULL,
             stdout=subprocess.DEVNULL, stderr=subprocess.DEVNULL, env={**os.environ, "HOME": folder},

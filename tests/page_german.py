@@ -1,15 +1,14 @@
 """The page in German: its texts, of which none is in English; the rules by which everybody can use it; which language is chosen."""
-import os
 import re
 import sys
+from pathlib import Path
 
 from selenium.webdriver.common.keys import Keys
 
 from page_rules import comes_to_all, focus_order, look_at, views
 from page_scenes import JUNE, LINE, comes, same
 
-TOP = os.path.dirname(os.path.dirname(os.path.abspath(__file__)))
-sys.path.append(os.path.join(TOP, "scripts"))
+sys.path.append(str(Path(__file__).resolve().parents[1] / "scripts"))
 import page  # noqa: E402
 
 GERMAN = "de-DE,de,en"
@@ -21,8 +20,7 @@ return [document.body.innerText, document.title, ...labels, ...hidden].join('\\n
 
 def english_texts():
     """What of each English text stands between its values, if it is no German one too and is too long to be found by chance."""
-    with open(page.PAGE, encoding="utf-8") as file:
-        words, _ = page.words_of(file.read())
+    words, _ = page.words_of(page.PAGE.read_text(encoding="utf-8"))
     german = " ".join(text for _, text in words.values())
     parts = {part.strip(" .,:;()") for text, _ in words.values() for part in re.split(r"\{\d\}|\|", text)}
     return [part for part in parts if len(part) > 4 and part not in german]

@@ -8,9 +8,9 @@ hold much. More than 200 lines: the rules are one list.
 4. Each control is at least 24 by 24 pixels; nothing is wider than the window.
 5. The tabulator comes to each control once, in the order of the page, and one sees where it is; nothing holds it back.
 """
-import os
 import re
 import time
+from pathlib import Path
 
 from selenium.webdriver.common.keys import Keys
 
@@ -24,8 +24,7 @@ NAMED = {
 }
 CONTROLS = {"button", "link", "textbox", "searchbox", "combobox", "checkbox", "spinbutton", "Date"}
 
-with open(os.path.join(os.path.dirname(os.path.abspath(__file__)), "page_rules.js"), encoding="utf-8") as rules_text:
-    LOOK = rules_text.read()
+LOOK = Path(__file__).with_suffix(".js").read_text(encoding="utf-8")
 
 
 def names_of(browser):

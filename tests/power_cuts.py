@@ -8,6 +8,7 @@ import collections
 import os
 import shutil
 import sys
+from pathlib import Path
 
 from disks import Disk, Part, notes_in
 from driving import Client, Server, desk, is_whole, killed_after, page_size
@@ -64,8 +65,7 @@ class Record:
         self.session(drive)
 
     def load(self, name, rows):
-        with open(self.path(f"{name}.csv"), "w", encoding="utf-8") as out:
-            out.write(rows)
+        Path(self.path(f"{name}.csv")).write_text(rows, encoding="utf-8")
         self.words("load", self.path(), self.path(f"{name}.csv"), "--batch", name, events=1)
 
     def serve(self, messages, kill=False):

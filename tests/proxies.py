@@ -1,6 +1,7 @@
 """Proxies in front of a desk, each in a folder of its own and in the foreground, as Debian has them."""
 import os
 import subprocess
+from pathlib import Path
 
 # on Debian the proxies are not on every user's path
 os.environ["PATH"] += ":/usr/sbin"
@@ -8,9 +9,8 @@ os.environ["PATH"] += ":/usr/sbin"
 
 def begins(name, folder, text, said):
     """Runs a proxy by this configuration; what it says goes to this file."""
-    conf = f"{folder}/{name}.conf"
-    with open(conf, "w", encoding="utf-8") as file:
-        file.write(text)
+    conf = Path(folder, f"{name}.conf")
+    conf.write_text(text, encoding="utf-8")
     words = {
         "haproxy": ["haproxy", "-f", conf], "nginx": ["nginx", "-p", folder, "-c", conf, "-e", "stderr"],
         "apache2": ["apache2", "-d", folder, "-f", conf, "-DFOREGROUND"],

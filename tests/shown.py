@@ -1,5 +1,5 @@
 """What the desk shows of the files that a cut, a failed call or damage left, and whether it goes on with them as it should."""
-import os
+from pathlib import Path
 
 from driving import desk, killed_after, lay, read_files, talk
 from ledger import Ledger, is_settled, make_file, report, statements_of, tables_of
@@ -60,9 +60,8 @@ class Events:
     def expected(self, count):
         """What recovery prints and makes of the ledger after so many events, and one more journey then."""
         if count not in self.on:
-            for name in os.listdir("."):
-                if name.startswith("plain.db"):
-                    os.remove(name)
+            for path in Path().glob("plain.db*"):
+                path.unlink()
             make_file("plain.db", self.statements, self.states[count])
             recovered = desk("recover", "plain.db")
             tables = tables_of("plain.db")
@@ -129,11 +128,9 @@ def old_file(files):
     assert not tables.pop("mark") and all(row[2] < 3 for row in tables["entry2"])
     tables["entry"] = tables.pop("entry2")
     tables["meta"] = [(1, 1, *tables["meta"][0][2:])]
-    if os.path.exists("old.db"):
-        os.remove("old.db")
+    Path("old.db").unlink(missing_ok=True)
     make_file("old.db", statements, tables)
-    with open("old.db", "rb") as file:
-        return {"trips.db": file.read()}
+    return {"trips.db": Path("old.db").read_bytes()}
 
 
 class Shown:

@@ -3,8 +3,8 @@
 No clause says that memory suffices, so a body that gives up beyond some size has to be seen here. Each answer is computed
 from the rules alone.
 """
-import os
 import sys
+from pathlib import Path
 
 from driving import compact, desk, parts_of, plan_of, request, same, talk, wrong
 
@@ -20,8 +20,7 @@ def says(what, expected, *words, lines=""):
     ended = desk(*words, lines=lines)
     same(f"{what}: the output", expected, ended.out)
     same(f"{what}: the end", "status 0, ", f"status {ended.status}, {ended.err}")
-    logs = [name for name in os.listdir(".") if name.endswith("-wal")]
-    same(f"{what}: logs with a page", [], [name for name in logs if os.path.getsize(name) >= PAGE])
+    same(f"{what}: logs with a page", [], [path for path in Path().glob("*-wal") if path.stat().st_size >= PAGE])
 
 
 def answers(what, file, rows):
@@ -105,8 +104,7 @@ def file_of(start, count):
 def all_cells():
     """Ten files of 2,000 rows; one row more is refused; the report and the page of 20,000 cells."""
     for batch in range(10):
-        with open("rows.csv", "w", encoding="ascii") as file:
-            file.write(file_of(batch * MOST_ROWS, MOST_ROWS))
+        Path("rows.csv").write_text(file_of(batch * MOST_ROWS, MOST_ROWS), encoding="ascii")
         says(f"file {batch} of {MOST_ROWS} rows", f"loaded b{batch} {MOST_ROWS}\n",
              "load", "cells.db", "rows.csv", "--batch", f"b{batch}")
     refused = desk("load", "cells.db", "-", "--batch", "more", lines=file_of(0, MOST_ROWS + 1))

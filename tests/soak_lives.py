@@ -21,6 +21,7 @@ import socket
 import struct
 import subprocess
 import time
+from pathlib import Path
 
 from driving import DESK, NAMED_FAULTS, PATIENCE, free_port
 from plain_desk import Refusal, line_of
@@ -199,10 +200,8 @@ class Life:
                 self.process.wait(0.05)
                 return
             except subprocess.TimeoutExpired:
-                try:
+                with contextlib.suppress(OSError):
                     socket.create_connection(("127.0.0.1", port), PATIENCE).close()
-                except OSError:
-                    pass
 
     def connected(self, port):
         """A connection; none where the program has ended."""
@@ -270,8 +269,7 @@ class Life:
 
     def load(self):
         name, records = self.life["name"], self.life["records"]
-        with open(f"{self.folder}/rows.csv", "w", encoding="ascii") as file:
-            file.write("".join(f"{','.join(fields)}\n" for fields in records))
+        Path(self.folder, "rows.csv").write_text("".join(f"{','.join(fields)}\n" for fields in records), encoding="ascii")
         found = rows_of(records)
         request = ("load", name, found) if isinstance(found, list) else Refusal(6, row=found[0], cause=found[1])
         out, err, status = self.told("load", "trips.db", "rows.csv", "--batch", name)

@@ -23,12 +23,6 @@ class Ends(Trial):
         """Nothing but the end is looked at."""
 
 
-def first_failed():
-    """The name of the call that failed first."""
-    with open(FAILED, encoding="ascii") as file:
-        return file.readline().strip()
-
-
 def main():
     library, name, spoiled = os.path.abspath(sys.argv[1]), sys.argv[2], os.path.abspath(sys.argv[3])
     names, which = TRIED[name]
@@ -36,7 +30,7 @@ def main():
     trial = Ends(scene, Events(scene), random.Random(1987), library)
     tried, call = [], 1
     while trial.fails(FAIL=call, ERROR=errno.EIO):
-        if first_failed() in names:
+        if FAILED.read_text(encoding="ascii").split()[0] in names:
             tried.append(call)
         call += 1
     if trial.wrong or not tried:
