@@ -9,7 +9,6 @@ use Rattle.desk_sql.specs.Rows.{JourneyRow, Tables}
 use Rattle.filters.specs.CellFilters.{is_name_asked}
 use Rattle.filters.specs.JourneyFilters.{asked_of, is_journey_asked, is_phase_asked}
 use Rattle.filters.specs.declared.journeys.JourneyFilter.{JourneyFilter}
-use Rattle.filters.specs.declared.journeys.JourneyState.TheVariants as state
 use Rattle.filters.specs.declared.journeys.Phases.{Phases}
 use Rattle.sql_lists.specs.JourneyLists.{is_journey_listed, least_phase, most_phase}
 use Rattle.sql_model.specs.Briefs.{TellBriefs}

@@ -5,7 +5,6 @@ use Rattle.std.specs.List.{cons_option}
 use Rattle.std.proofs.lemmas.Bool.{ne_eqb}
 use Rattle.std.proofs.lemmas.List.{map-append}
 use Rattle.commands.specs.declared.items.Phase.{Phase}
-use Rattle.commands.specs.declared.items.Phase.TheVariants as phase
 use Rattle.filters.specs.JourneyFilters.{state_of}
 use Rattle.ledger.specs.Ledger.{Event, Journey, history, journey_at}
 use Rattle.saga_core.specs.Views.{brief_of, brief_of_journey}
