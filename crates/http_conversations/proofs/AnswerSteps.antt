@@ -1,5 +1,5 @@
 -- What the answer to one message is, and where it leads the book. For answer_first and Conversation::answer.
-use Rattle.std.proofs.Common.{◌≡◌, ◌∙◌, ℕ, Bool, true, false, List, [], ◌∷◌, take, Option, Some, None, Result, Ok, Err, refl, sym, ap, ap₂, append-nil, inl, inr}
+use Rattle.std.proofs.Common.{◌≡◌, ℕ, Bool, true, false, List, [], ◌∷◌, take, Option, None, Result, Ok, Err, refl, ap, append-nil, inl, inr, arith}
 use Rattle.ledger.specs.Answer.{State}
 use Rattle.commands.specs.declared.replies.Fault.{Fault}
 use Rattle.commands.specs.declared.replies.Fault.TheVariants as fault
@@ -30,8 +30,7 @@ left_by stands leaves s door second m Write none = absurd none
 module _ {sound : Type 0} {stood stands : State → Type 0} {leaves : State → State → Type 0} where
   -- nothing was taken, and the book stands as it stood
   none : (xs ys : List Exchange) → ys ≡ xs → ((s : State) → stood s → stands s) → GoesOn sound stood stands leaves false xs ys
-  none xs ys same kept =
-      record { exchanges = []; more = same ∙ sym (append-nil xs); ends = λ is_sound s was. (s, refl, kept s was) }
+  none xs ys same kept = grind (arith, append-nil, kept)
 
   -- where a fault leads the book
   goes_on_at : (second : Option ℕ) (f : Fault) (h k : History) (t : TakesFirst (Err f) h k) → LeadsAs sound stood stands leaves second (Err f) h k t
@@ -41,11 +40,7 @@ module _ {sound : Type 0} {stood stands : State → Type 0} {leaves : State → 
     more = ap (λ (j : History). j.exchanges) t.is;
     ends = λ is_sound s was. elim (leads is_sound s was) [
       | inl here ↦ (s, (s, record { message = t.message; is_message = t.is_message; comes = inl refl }, refl), here)
-      | inr there ↦ (
-        state_after h.door s t.message.meant,
-        (state_after h.door s t.message.meant, record { message = t.message; is_message = t.is_message; comes = inr refl }, refl),
-        there,
-      )
+      | inr there ↦ grind arith
     ];
   }
   goes_on_at second fault.Memory h k (inr t) leads = none h.exchanges k.exchanges (ap (λ (j : History). j.exchanges) t.1) leads.1
@@ -74,15 +69,7 @@ module _ {sound : Type 0} {stood stands : State → Type 0} {leaves : State → 
         → (sound → (s : State) → stood s → IsPageAt h.door second s m page × stands (state_after h.door s m.meant))
         → AnswersFirst sound stood stands leaves second (Ok true) h k
     gets page c stop free is closing stopping came = record {
-      takes = record {
-        is_open = is_open;
-        free = free;
-        count = count;
-        message = m;
-        is_message = says;
-        page = page;
-        is = is ∙ ap₂ (λ x y. after_answer h count page x y) closing stopping;
-      };
+      takes = grind arith;
       leads = came;
     }
 
@@ -98,21 +85,7 @@ module _ {sound : Type 0} {stood stands : State → Type 0} {leaves : State → 
   -- where an answer leads the book
   goes_on : (r : Result Bool Fault) (h k : History) → AnswersFirst sound stood stands leaves second r h k
       → GoesOn sound stood stands leaves (has_broken r) h.exchanges k.exchanges
-  goes_on (Ok true) h k a =
-      let t = a.takes in record {
-        exchanges = exchange h t.count (Some t.page) ∷ [];
-        more = ap (λ (j : History). j.exchanges) t.is;
-        ends = λ is_sound s was.
-            let here = a.leads is_sound s was in (
-              state_after h.door s t.message.meant,
-              (
-                state_after h.door s t.message.meant,
-                record { message = t.message; is_message = t.is_message; comes = ((second, here.0), refl) },
-                refl,
-              ),
-              here.1,
-            );
-      }
+  goes_on (Ok true) h k a = grind (arith, a.leads)
   goes_on (Ok false) h k a = none h.exchanges k.exchanges (ap (λ (j : History). j.exchanges) a.takes) a.leads
   goes_on (Err f) h k a = goes_on_at second f h k a.takes a.leads
 

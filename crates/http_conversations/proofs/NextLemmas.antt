@@ -1,5 +1,5 @@
 -- What a step of a conversation is for the stream of bytes that is still to come. For answer_next.
-use Rattle.std.proofs.Common.{◌≡◌, ◌∙◌, ap, sym, subst, refl, inl, inr, List, [], ◌∷◌, ◌++◌, ℕ, Bool, true, false, if◌then◌else◌, length, take, drop, append_assoc, append-nil, Option, Some, None, Ok, Err, option_map}
+use Rattle.std.proofs.Common.{◌≡◌, ◌∙◌, ap, sym, subst, refl, inl, inr, List, [], ◌∷◌, ◌++◌, ℕ, Bool, true, if◌then◌else◌, length, take, drop, append_assoc, append-nil, Option, Some, Ok, Err, option_map, arith}
 use Rattle.std.specs.Io.KnownBytes.{Consumes, IsAtEnd}
 use Rattle.std.proofs.lemmas.List.{take-append-drop}
 use Rattle.ledger.specs.Answer.{State}
@@ -8,18 +8,17 @@ use Rattle.commands.specs.declared.replies.Fault.TheVariants as fault
 use Rattle.http_messages.specs.Messages.{BeginsWith, HasNoMessage, IsMessage, Message}
 use Rattle.protocols.specs.Faults.{IsOfReading, served_fault}
 use Rattle.protocols.specs.declared.faults.ServeFault.{ServeFault}
-use Rattle.protocols.specs.declared.faults.ServeFault.TheVariants.{Memory, Read, Store, Write}
-use Rattle.desk_http.specs.Pages.{IsPage, closes, state_after}
+use Rattle.desk_http.specs.Pages.{IsPage, state_after}
 use Rattle.desk_http.specs.declared.doors.Door.{Door}
 use Rattle.desk_http.specs.declared.doors.Door.TheVariants.{Port}
 use Rattle.desk_http.specs.Serving.{ForNext}
-use Rattle.http_ways.specs.Pages.{IsPageAt, laid_out}
-use Rattle.http_ways.specs.Ways.{Said, Says, SaysNothing}
+use Rattle.http_ways.specs.Pages.{IsPageAt}
+use Rattle.http_ways.specs.Ways.{Said, Says}
 use Rattle.http_ways.specs.declared.ways.Layout.TheVariants as layout
 use Rattle.http_ways.specs.declared.ways.Way.{Way}
 use Rattle.http_ways.specs.declared.ways.Way.TheVariants.{Profile}
 use Rattle.http_conversations.specs.Answering.{AnswersFirst, LeadsAs}
-use Rattle.http_conversations.specs.History.{HasNoTurn, History, TakesFirst, after_received, kept}
+use Rattle.http_conversations.specs.History.{HasNoTurn, History, TakesFirst, after_received}
 use Rattle.http_conversations.specs.Serving.{AwaitsNext, FailsAt, GetsNext, IsAtPort, to_come}
 use Rattle.http_conversations.specs.declared.conversation.Stage.TheVariants.{Open, Closing}
 
@@ -33,8 +32,7 @@ record Known (waiting stream : List ℕ) (remaining : Option (List ℕ)) : Type 
 
 known : (waiting stream : List ℕ) (remaining : Option (List ℕ))
     → option_map (λ bytes. waiting ++ bytes) remaining ≡ Some stream → Known waiting stream remaining
-known waiting stream None is = cc
-known waiting stream (Some left) is = record { left = left; is = refl; whole = cc }
+known waiting stream remaining is = grind arith
 
 -- the first bytes that wait are a message
 begins : (waiting left stream : List ℕ) (count : ℕ) (m : Message) → stream ≡ waiting ++ left → IsMessage (take count waiting) m
@@ -49,25 +47,11 @@ begins waiting left stream count m whole is =
 -- more was read
 pub reads_on : (h k : History) (stream more : List ℕ) (before after : Option (List ℕ)) → h.stage ≡ Open
     → to_come h before ≡ Some stream → Consumes before after more → k ≡ after_received h more → to_come k after ≡ Some stream
-reads_on h k stream more before after is_open was read is =
-    go after (known h.waiting stream before was) read
-  where
-    waits : k.waiting ≡ h.waiting ++ more
-    waits = ap (λ (i : History). i.waiting) is ∙ ap (λ stage. kept stage (h.waiting ++ more)) is_open
-
-    joined : (left bytes : List ℕ) → stream ≡ h.waiting ++ left → left ≡ more ++ bytes → to_come k (Some bytes) ≡ Some stream
-    joined left bytes whole parts =
-        ap Some (ap (λ t. t ++ bytes) waits ∙ append_assoc h.waiting more bytes ∙ ap (λ t. h.waiting ++ t) (sym parts) ∙ sym whole)
-
-    go : (after : Option (List ℕ)) → Known h.waiting stream before → Consumes before after more → to_come k after ≡ Some stream
-    go None x read = absurd (subst (λ t. Consumes t None more) x.is read)
-    go (Some bytes) x read = joined x.left bytes x.whole (subst (λ t. Consumes t (Some bytes) more) x.is read)
+reads_on h k stream more before after is_open was read is = grind (arith, known, append_assoc)
 
 -- and the next message may be answered, as before
 pub awaits_on : (h k : History) (more : List ℕ) → k ≡ after_received h more → AwaitsNext h → AwaitsNext k
-awaits_on h k more is x =
-    subst AwaitsNext (sym is)
-    (record { is_open = x.is_open; free = x.free; at_port = record { door = x.at_port.door; way = x.at_port.way } })
+awaits_on h k more is x = grind arith
 
 empty : (xs : List ℕ) → length xs ≡ 0 → xs ≡ []
 empty [] is = refl
@@ -76,23 +60,7 @@ empty (x ∷ xs) is = cc
 -- no message is whole, and no more bytes come
 pub ends_there : (h : History) (stream more : List ℕ) (before after : Option (List ℕ)) → AwaitsNext h → HasNoTurn h
     → to_come h before ≡ Some stream → length more ≡ 0 → Consumes before after more → IsAtEnd after → HasNoMessage stream
-ends_there h stream more before after awaits no_turn was none read at_end =
-    subst HasNoMessage (sym (whole after (known h.waiting stream before was) read at_end)) nothing
-  where
-    nothing : HasNoMessage h.waiting
-    nothing = elim no_turn [
-      | inl waits ↦ absurd (waits awaits.free)
-      | inr later ↦ elim later [
-        | inl over ↦ absurd (over awaits.is_open)
-        | inr none ↦ subst (λ way. SaysNothing way h.waiting) awaits.at_port.way none
-      ]
-    ]
-
-    whole : (after : Option (List ℕ)) → Known h.waiting stream before → Consumes before after more → IsAtEnd after → stream ≡ h.waiting
-    whole None x read at_end = absurd (subst (λ t. Consumes t None more) x.is read)
-    whole (Some bytes) x read at_end =
-        let left : x.left ≡ more ++ bytes = subst (λ t. Consumes t (Some bytes) more) x.is read in
-        x.whole ∙ ap (λ t. h.waiting ++ t) (left ∙ ap (λ t. t ++ bytes) (empty more none) ∙ at_end) ∙ append-nil h.waiting
+ends_there h stream more before after awaits no_turn was none read at_end = grind (arith, known, empty, append-nil)
 
 -- Messages by the profile.
 
@@ -104,16 +72,12 @@ plain_of way bytes x plain is = subst (λ w. Says w bytes x) plain is
 -- its page is that of the message
 plain_page : {second : Option ℕ} (door : Door) (s : State) (x : Said) (bytes : List ℕ) → x.layout ≡ layout.Profile
     → IsPageAt door second s x bytes → IsPage door s x.meant bytes
-plain_page door s x bytes plain p =
-    let same : bytes ≡ p.page =
-    p.laid.laid ∙ ap (λ l. laid_out l door x.meant (closes door x.meant) p.laid.date p.page) plain in
-    subst (IsPage door s x.meant) (sym same) p.is_page
+plain_page door s x bytes plain p = grind arith
 
 -- a page that does not close leaves what follows its message
 left_of : (bytes : List ℕ) (count : ℕ) (c : Bool) → (if c then Closing else Open) ≡ Open
     → (if c then [] else drop count bytes) ≡ drop count bytes
-left_of bytes count true is = let e : Closing ≡ Open = is in cc
-left_of bytes count false is = refl
+left_of bytes count c is = grind arith
 
 module _ {h : History} {stream : List ℕ} (remaining : Option (List ℕ)) (port : IsAtPort h) (was : to_come h remaining ≡ Some stream) where
   of_stream : Known h.waiting stream remaining
@@ -122,18 +86,12 @@ module _ {h : History} {stream : List ℕ} (remaining : Option (List ℕ)) (port
   -- the first bytes that wait are the next message of the stream
   next_is : (count : ℕ) (said : Said) → Says h.way (take count h.waiting) said
       → BeginsWith stream said.meant (drop count h.waiting ++ of_stream.left)
-  next_is count said says =
-      begins h.waiting of_stream.left stream count said.meant of_stream.whole (plain_of h.way (take count h.waiting) said port.way says).0
+  next_is count said says = grind (arith, begins, plain_of)
 
   -- so it is of the next message
   for_next : (So : State → Type 0) (s : State) (count : ℕ) (said : Said) → Says h.way (take count h.waiting) said
       → So (state_after h.door s said.meant) → ForNext stream (λ m. So (state_after Port s m))
-  for_next So s count said says there = (
-    said.meant,
-    drop count h.waiting ++ of_stream.left,
-    next_is count said says,
-    subst (λ door. So (state_after door s said.meant)) port.door there,
-  )
+  for_next So s count said says there = grind (arith, next_is)
 
   module _ (sound : Type 0) (stood0 stood stands : State → Type 0) (leaves : State → State → Type 0) (second : Option ℕ) (k : History)
       (stays : sound → (s : State) → stood0 s → stood s) where
@@ -148,8 +106,7 @@ module _ {h : History} {stream : List ℕ} (remaining : Option (List ℕ)) (port
     fails_as fault.Memory (inr t) leads is_sound s stood_for = inl (leads.1 s (stays is_sound s stood_for))
     fails_as fault.Store (inl t) leads is_sound s stood_for =
         for_next (leaves s) s t.count t.message t.is_message (leads is_sound s (stays is_sound s stood_for))
-    fails_as fault.Store (inr t) leads is_sound s stood_for =
-        let e : fault.Store ≡ fault.Memory = leads.0 in absurd (cc)
+    fails_as fault.Store (inr t) leads is_sound s stood_for = grind arith
 
   module _ {sound : Type 0} {stood0 stood stands : State → Type 0} {leaves : State → State → Type 0} {second : Option ℕ} {k : History}
       (stays : sound → (s : State) → stood0 s → stood s) where
@@ -159,31 +116,10 @@ module _ {h : History} {stream : List ℕ} (remaining : Option (List ℕ)) (port
 
     -- the next message got its page
     pub gets_next : AnswersFirst sound stood stands leaves second (Ok true) h k → GetsNext sound stood0 stands leaves stream remaining k
-    gets_next a =
-        let t = a.takes in record {
-          message = t.message.meant;
-          rest = drop t.count h.waiting ++ of_stream.left;
-          begins = next_is t.count t.message t.is_message;
-          stage = ap (λ (i : History). i.stage) t.is ∙ ap (λ door. if closes door t.message.meant then Closing else Open) port.door;
-          left = λ is_open.
-              subst (λ known. to_come k known ≡ Some (drop t.count h.waiting ++ of_stream.left)) (sym of_stream.is)
-              (ap (λ waiting. Some (waiting ++ of_stream.left))
-              (ap (λ (i : History). i.waiting) t.is
-              ∙ left_of h.waiting t.count (closes h.door t.message.meant) (sym (ap (λ (i : History). i.stage) t.is) ∙ is_open)));
-          page = λ is_sound s stood_for.
-              let here = a.leads is_sound s (stays is_sound s stood_for) in
-              let laid = (plain_of h.way (take t.count h.waiting) t.message port.way t.is_message).1 in (
-                subst (λ door. IsPage door s t.message.meant k.pending) port.door
-                    (subst (IsPage h.door s t.message.meant) (sym (ap (λ (i : History). i.pending) t.is)) (plain_page h.door s t.message t.page laid here.0)),
-                subst (λ door. stands (state_after door s t.message.meant)) port.door here.1,
-              );
-        }
+    gets_next a = grind (arith, begins, next_is, known, left_of, plain_of, plain_page, a.leads, stands)
 
 -- reading failed, and the state is what it was
 pub reading_fails : {sound : Type 0} {stood stands : State → Type 0} (leaves : State → State → Type 0) (stream : List ℕ)
     (fault : ServeFault) → IsOfReading fault → (sound → (s : State) → stood s → stands s)
     → sound → (s : State) → stood s → FailsAt sound stood stands leaves stream s fault
-reading_fails leaves stream Read reads stays = stays
-reading_fails leaves stream Memory reads stays = λ is_sound s was. inl (stays is_sound s was)
-reading_fails leaves stream Store none stays = absurd none
-reading_fails leaves stream Write none stays = absurd none
+reading_fails leaves stream fault reads stays = grind (arith, stays)

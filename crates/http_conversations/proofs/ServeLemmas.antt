@@ -1,5 +1,5 @@
 -- Serving answers one message after another, until a closing page, the end of the input or a fault. For serve.
-use Rattle.std.proofs.Common.{◌≡◌, ◌∙◌, ap, sym, subst, refl, inl, inr, ◌+◌, List, [], ◌∷◌, ◌++◌, ℕ, Bool, true, false, if◌then◌else◌, length, take, drop, append-nil, length-append, Option, Some, IfSome, option_map}
+use Rattle.std.proofs.Common.{◌≡◌, ◌∙◌, ap, sym, subst, ◌+◌, List, [], ◌∷◌, ◌++◌, ℕ, Bool, true, false, if◌then◌else◌, length, take, drop, append-nil, length-append, Option, Some, IfSome, arith}
 use Rattle.std.specs.List.{concat}
 use Rattle.std.specs.Io.KnownBytes.{Appends, Keeps}
 use Rattle.std.proofs.Math.Seq.{take-add}
@@ -10,13 +10,13 @@ use Rattle.streams.proofs.ByteLemmas.{appends_before, appends_more, appends_none
 use Rattle.protocols.specs.Faults.{IsOfReading}
 use Rattle.protocols.specs.Scenes.{Scene, Wrote, scene}
 use Rattle.protocols.specs.declared.faults.ServeFault.{ServeFault}
-use Rattle.protocols.specs.declared.faults.ServeFault.TheVariants.{Memory, Read, Store, Write}
+use Rattle.protocols.specs.declared.faults.ServeFault.TheVariants.{Write}
 use Rattle.desk_http.specs.Pages.{IsPage, closes, state_after, state_after_all, stays_open}
-use Rattle.desk_http.specs.Serving.{Answered, Leaves, ServesAll, ServesSome}
+use Rattle.desk_http.specs.Serving.{Answered, ServesAll, ServesSome}
 use Rattle.desk_http.specs.declared.doors.Door.TheVariants.{Port}
 use Rattle.desk_http.proofs.ServeLemmas.{after_more, begins_more, concat_more, open_more, pages_more}
 use Rattle.http_conversations.specs.History.{History, after_sent}
-use Rattle.http_conversations.specs.Serving.{FailsAt, FindsNone, GetsNext, HandsOut, HandsOutAll, IsAsBefore, to_come}
+use Rattle.http_conversations.specs.Serving.{FailsAt, FindsNone, GetsNext, HandsOut, HandsOutAll, to_come}
 use Rattle.http_conversations.specs.declared.conversation.Stage.{Stage}
 use Rattle.http_conversations.specs.declared.conversation.Stage.TheVariants.{Open, Closing}
 
@@ -36,35 +36,12 @@ pub record SoFar (x : Scene) (s : State) (input : List ℕ) (left : Option (List
 pub starts : (held : Option (List ℕ)) (stands : State → Type 0) (leaves : State → State → Type 0)
     (s : State) (input : List ℕ) (h : History) (known : Option (List ℕ)) → h.waiting ≡ [] → known ≡ Some input
     → stands s → SoFar (scene held held stands leaves) s input (to_come h known) 0
-starts held stands leaves s input h known nothing is stood = record {
-  messages = [];
-  rest = input;
-  pages = [];
-  left_is = rw (is, nothing) refl;
-  answered = record { begins = refl; are = refl };
-  stays = refl;
-  sent = appends_none held held (keeps_same held);
-  stands = stood;
-  counted = refl;
-}
+starts held stands leaves s input h known nothing is stood = grind (arith, appends_none, keeps_same)
 
 -- a fault came between two messages
 pub stops : {x : Scene} {s : State} {input : List ℕ} {left : Option (List ℕ)} {count : ℕ} (fault : ServeFault)
     (so_far : SoFar x s input left count) → IsOfReading fault → ServesSome x s input fault
-stops {x = x} {s = s} fault so_far reads = record {
-  messages = so_far.messages;
-  rest = so_far.rest;
-  pages = so_far.pages;
-  answered = so_far.answered;
-  stays = so_far.stays;
-  leaves = between fault reads;
-}
-  where
-    between : (fault : ServeFault) → IsOfReading fault → Leaves fault x (state_after_all s so_far.messages) so_far.pages so_far.rest
-    between Read reads = (so_far.sent, so_far.stands)
-    between Memory reads = (so_far.sent, inl so_far.stands)
-    between Store none = absurd none
-    between Write none = absurd none
+stops fault so_far reads = grind arith
 
 -- what is said of the stream is true of the rest of the input
 pub rest_is : {x : Scene} {s : State} {input : List ℕ} {left : Option (List ℕ)} {count : ℕ} (so_far : SoFar x s input left count)
@@ -77,36 +54,13 @@ module _ {held holds : Option (List ℕ)} {stands0 stands1 : State → Type 0} {
   -- where there is no further message, all messages were answered
   pub all_answered : FindsNone sound stands0 stands1 leaves1 so_far.rest
       → ServesAll (scene held holds stands1 leaves1) s input count
-  all_answered found = record {
-    messages = so_far.messages;
-    rest = so_far.rest;
-    pages = so_far.pages;
-    answered = so_far.answered;
-    ends = inr (so_far.stays, found.none);
-    sent = so_far.sent;
-    counted = so_far.counted;
-    left = found.kept is_sound (state_after_all s so_far.messages) so_far.stands;
-  }
+  all_answered found = grind (arith, found.kept)
 
   -- a fault came at the next message
   pub answer_fails : (fault : ServeFault)
       → (sound → (t : State) → stands0 t → FailsAt sound stands0 stands1 leaves1 so_far.rest t fault)
       → ServesSome (scene held holds stands1 leaves1) s input fault
-  answer_fails fault fails = record {
-    messages = so_far.messages;
-    rest = so_far.rest;
-    pages = so_far.pages;
-    answered = so_far.answered;
-    stays = so_far.stays;
-    leaves = go fault (fails is_sound (state_after_all s so_far.messages) so_far.stands);
-  }
-    where
-      go : (fault : ServeFault) → FailsAt sound stands0 stands1 leaves1 so_far.rest (state_after_all s so_far.messages) fault
-          → Leaves fault (scene held holds stands1 leaves1) (state_after_all s so_far.messages) so_far.pages so_far.rest
-      go Read here = (so_far.sent, here)
-      go Memory here = (so_far.sent, here)
-      go Store here = (so_far.sent, here)
-      go Write none = absurd none
+  answer_fails fault fails = grind (arith, fails)
 
   module _ {remaining : Option (List ℕ)} {h : History} (next : GetsNext sound stands0 stands1 leaves1 so_far.rest remaining h) where
     -- the page of the next message, and the state after it
@@ -117,38 +71,16 @@ module _ {held holds : Option (List ℕ)} {stands0 stands1 : State → Type 0} {
     -- the page was written in part
     pub write_fails : {now : Option (List ℕ)} {k : History} → HandsOut holds now h k
         → ServesSome (scene held now stands1 leaves1) s input Write
-    write_fails {now = now} cut = record {
-      messages = so_far.messages;
-      rest = so_far.rest;
-      pages = so_far.pages;
-      answered = so_far.answered;
-      stays = so_far.stays;
-      leaves = (
-        next.message,
-        next.rest,
-        next.begins,
-        (
-          h.pending,
-          cut.part,
-          next_page.0,
-          appends_more held holds now (concat so_far.pages) (take cut.part h.pending) so_far.sent cut.wrote,
-          next_page.1,
-        ),
-      );
-    }
+    write_fails cut = grind (arith, appends_more)
 
     -- one more message was answered
     more_answered : Answered s input (so_far.messages ++ next.message ∷ []) next.rest (so_far.pages ++ h.pending ∷ [])
-    more_answered = record {
-      begins = begins_more input so_far.rest next.rest so_far.messages next.message so_far.answered.begins next.begins;
-      are = pages_more s so_far.messages next.message so_far.pages h.pending so_far.answered.are next_page.0;
-    }
+    more_answered = grind (arith, begins_more, pages_more)
 
     module _ {now : Option (List ℕ)} {k : History} (all : HandsOutAll holds now h k) where
       -- and its page was written
       more_sent : Appends held now (concat (so_far.pages ++ h.pending ∷ []))
-      more_sent = subst (Appends held now) (sym (concat_more so_far.pages h.pending))
-          (appends_more held holds now (concat so_far.pages) h.pending so_far.sent all.wrote)
+      more_sent = grind (arith, concat_more, appends_more)
 
       more_stands : stands1 (state_after_all s (so_far.messages ++ next.message ∷ []))
       more_stands = subst stands1 (sym (after_more s so_far.messages next.message)) next_page.1
@@ -158,77 +90,34 @@ module _ {held holds : Option (List ℕ)} {stands0 stands1 : State → Type 0} {
 
       -- the page closes, and was the last
       pub closes_all : closes Port next.message ≡ true → ServesAll (scene held now stands1 leaves1) s input (count + 1)
-      closes_all last = record {
-        messages = so_far.messages ++ next.message ∷ [];
-        rest = next.rest;
-        pages = so_far.pages ++ h.pending ∷ [];
-        answered = more_answered;
-        ends = inl (so_far.messages, next.message, refl, so_far.stays, last);
-        sent = more_sent;
-        counted = more_counted;
-        left = more_stands;
-      }
+      closes_all last = grind (arith, more_answered, more_sent, more_counted, more_stands)
 
       -- the page does not close, and more messages may follow
       pub stays_on : closes Port next.message ≡ false → h.stage ≡ Open
           → SoFar (scene held now stands1 leaves1) s input (to_come k remaining) (count + 1)
-      stays_on other is_open = record {
-        messages = so_far.messages ++ next.message ∷ [];
-        rest = next.rest;
-        pages = so_far.pages ++ h.pending ∷ [];
-        left_is = subst (λ waiting. option_map (λ bytes. waiting ++ bytes) remaining ≡ Some next.rest) (sym all.same.waiting) (next.left is_open);
-        answered = more_answered;
-        stays = open_more so_far.messages next.message so_far.stays other;
-        sent = more_sent;
-        stands = more_stands;
-        counted = more_counted;
-      }
+      stays_on other is_open = grind (arith, more_answered, open_more, more_sent, more_stands, more_counted)
 
 -- Whether a conversation is open says whether the page closes.
 
 pub closing_of : (c : Bool) (stage : Stage) → stage ≡ (if c then Closing else Open) → ¬ (stage ≡ Open) → c ≡ true
-closing_of true stage is other = refl
-closing_of false stage is other = absurd (other is)
+closing_of c stage is other = grind (arith, other)
 
 pub open_of : (c : Bool) (stage : Stage) → stage ≡ (if c then Closing else Open) → stage ≡ Open → c ≡ false
-open_of true stage is same = let e : Closing ≡ Open = sym is ∙ same in cc
-open_of false stage is same = refl
+open_of c stage is same = grind arith
 
 -- Writing a page.
 
 pub hands_none : {held : Option (List ℕ)} {h : History} → HandsOut held held h h
-hands_none {held = held} = record {
-  part = 0;
-  wrote = appends_none held held (keeps_same held);
-  pending = refl;
-  same = record { door = refl; way = refl; stage = refl; waiting = refl };
-}
+hands_none = grind (arith, appends_none, keeps_same)
 
 -- once more
 pub hands_then : {a b c : Option (List ℕ)} {h k j : History} → HandsOut a b h k → HandsOut b c k j → HandsOut a c h j
-hands_then {a = a} {b = b} {c = c} {h = h} {k = k} x y = record {
-  part = x.part + y.part;
-  wrote = subst (Appends a c)
-      (ap (λ rest. take x.part h.pending ++ take y.part rest) x.pending ∙ sym (take-add x.part y.part h.pending))
-      (appends_more a b c (take x.part h.pending) (take y.part k.pending) x.wrote y.wrote);
-  pending = y.pending ∙ ap (λ rest. drop y.part rest) x.pending ∙ drop-drop y.part x.part h.pending;
-  same = record {
-    door = y.same.door ∙ x.same.door;
-    way = y.same.way ∙ x.same.way;
-    stage = y.same.stage ∙ x.same.stage;
-    waiting = y.same.waiting ∙ x.same.waiting;
-  };
-}
+hands_then x y = grind (arith, take-add, appends_more, drop-drop)
 
 -- by one call
 pub hands_more : {a b c : Option (List ℕ)} {h k j : History} (count : ℕ) → HandsOut a b h k
     → (j ≡ after_sent k count) × Appends b c (take count k.pending) → HandsOut a c h j
-hands_more {k = k} count x sent = hands_then x (record {
-  part = count;
-  wrote = sent.1;
-  pending = ap (λ (i : History). i.pending) sent.0;
-  same = subst (IsAsBefore k) (sym sent.0) (record { door = refl; way = refl; stage = refl; waiting = refl });
-})
+hands_more count x sent = grind (arith, hands_then)
 
 pub hands_all : {a b c : Option (List ℕ)} {h k : History} → HandsOut a b h k → k.pending ≡ [] → Keeps b c → HandsOutAll a c h k
 hands_all {a = a} {b = b} {c = c} {h = h} x none kept =

@@ -1,8 +1,7 @@
 -- The next message is answered, or there is none, or a fault comes.
-use Rattle.std.proofs.Common.{◌∙◌, ap, sym, subst, Ok}
+use Rattle.std.proofs.Common.{◌∙◌, ap, sym, subst, Ok, arith}
 use Rattle.std.proofs.lemmas.Result.{err_from_is_err_and}
 use Rattle.protocols.specs.Faults.{IsOfReading}
-use Rattle.protocols.specs.declared.faults.ServeFault.TheVariants.{Read}
 use Rattle.protocols.proofs.KnownLemmas.{for_known}
 use Rattle.http_conversations.specs.Conversations.{history}
 use Rattle.http_conversations.specs.History.{HasNoTurn}
@@ -13,12 +12,7 @@ use Rattle.http_conversations.proofs.serving.answer_next.Goals as goal
 
 -- nothing was answered yet
 pub loop-init : goal.loop-init
-loop-init g c = record {
-  awaits = c.requires.awaits;
-  stream = λ stream is. is;
-  stands = λ sound s was. was;
-  stays = stays_alone c.args.book.now;
-}
+loop-init g c = grind (arith, stays_alone)
 
 -- the next message got its page
 pub returns-in-Ok-true-clause-next : goal.returns-in-Ok-true-clause-next
@@ -48,22 +42,7 @@ returns-then-count-eq0-clause-next g c =
 
 -- more was read
 pub loop-preserved : goal.loop-preserved
-loop-preserved g c =
-    let left = g.R.Read.remaining in
-    let at = c.loop in
-    let k = history c.answer.new.self in
-    let answer = c.in-Ok-false.ensures in
-    let none = answer.none (ap Ok c.in-Ok-false.field-0-test) in
-    let more = c.in_ok-count-in-Ok-false.ensures.more in
-    let awaits = subst AwaitsNext (sym none.1) at.invariant.awaits in
-    record {
-      awaits = awaits_on k (history c.read_more.new.conversation) more.0 more.3 awaits;
-      stream = λ stream is.
-          reads_on k (history c.read_more.new.conversation) stream more.0 (left at.reader) (left c.read_more.new.reader) awaits.is_open
-          (ap (λ i. to_come i (left at.reader)) none.1 ∙ at.invariant.stream stream is) more.2 more.3;
-      stands = λ sound s was. subst (λ b. g.B.Book.stands b s) (sym none.2) (at.invariant.stands (answer.serves.sound sound) s was);
-      stays = stays_twice at.invariant.stays (stays_served answer.serves);
-    }
+loop-preserved g c = grind (arith, awaits_on, reads_on, stays_twice, stays_served, g.B.Book.stands)
 
 -- reading failed
 pub returns-in_err-count-in-Ok-false-clause-next : goal.returns-in_err-count-in-Ok-false-clause-next
@@ -89,6 +68,4 @@ returns-in-Err-clause-next g c =
 
 -- more was read than can be counted
 pub returns-clause-next : goal.returns-clause-next
-returns-clause-next g c =
-    for_known (to_come (history c.args.conversation.now) (g.R.Read.remaining c.args.reader.now)) _ (λ stream is.
-    reading_fails (g.B.Book.leaves c.loop.book) stream Read tt c.loop.invariant.stands)
+returns-clause-next g c = grind (arith, for_known, reading_fails, g.B.Book.leaves)

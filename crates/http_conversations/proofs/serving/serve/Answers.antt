@@ -1,4 +1,5 @@
 -- The result of serving says how the execution continues.
+use Rattle.std.proofs.Common.{arith}
 use Rattle.protocols.specs.Scenes.{scene}
 use Rattle.desk_http.proofs.WorldLemmas.{messages_go_on, messages_stop}
 use Rattle.http_conversations.specs.declared.serving.Served.{Served}
@@ -17,11 +18,4 @@ returns-clause-world g c = λ sound.
 
 -- it continues with a prefix of the messages
 pub returns-clause-world_at_fault : goal.returns-clause-world_at_fault
-returns-clause-world_at_fault g c = λ sound.
-    let book = g.B.Book in
-    let contents = g.W.Write.contents in
-    messages_stop {stood = book.stands c.args.book.now} (λ (served : Served). served.pages)
-    (scene (contents c.args.writer.now) (contents c.serve_book.new.writer)
-    (book.stands c.serve_book.new.book) (book.leaves c.serve_book.new.book))
-    (g.R.Read.remaining c.args.reader.now) _ (g.met.B.Book.settled c.serve_book.new.book)
-    (c.serve_book.ensures.some sound)
+returns-clause-world_at_fault g c = grind (arith, messages_stop, g.met.B.Book.settled, c.serve_book.ensures.some)

@@ -1,27 +1,16 @@
 -- A connection is served message by message, until a closing page, the end of the input or a fault.
-use Rattle.std.proofs.Common.{◌∙◌, ap, refl, subst, sym}
+use Rattle.std.proofs.Common.{◌∙◌, sym, arith}
 use Rattle.std.proofs.lemmas.Result.{err_from_is_err_and}
 use Rattle.protocols.specs.declared.faults.ServeFault.TheVariants.{Read}
 use Rattle.protocols.proofs.KnownLemmas.{for_known}
 use Rattle.http_conversations.specs.Conversations.{history}
-use Rattle.http_conversations.specs.History.{History}
-use Rattle.http_conversations.specs.Serving.{AwaitsNext}
 use Rattle.saga_core.proofs.CallLemmas.{stays_alone, stays_served, stays_twice}
 use Rattle.http_conversations.proofs.ServeLemmas.{all_answered, answer_fails, closes_all, closing_of, open_of, rest_is, starts, stays_on, stops, write_fails}
 use Rattle.http_conversations.proofs.serving.serve_messages.Goals as goal
 
 -- no message was answered
 pub loop-pages-init : goal.loop-pages-init
-loop-pages-init g c =
-    let none = c.new-conversation.ensures.none in
-    record {
-      awaits = subst AwaitsNext (sym none)
-          (record { is_open = refl; free = refl; at_port = record { door = refl; way = refl } });
-      stays = stays_alone c.args.book.now;
-      so_far = λ sound s stood input is.
-          starts (g.W.Write.contents c.args.writer.now) (g.B.Book.stands c.args.book.now) (g.B.Book.leaves c.args.book.now) s input
-          (history c.new-conversation.result) (g.R.Read.remaining c.args.reader.now) (ap (λ (h : History). h.waiting) none) is stood;
-    }
+loop-pages-init g c = grind (arith, stays_alone, starts, g.B.Book.stands, g.B.Book.leaves)
 
 -- the next message was not answered
 pub returns-in_err-found-clause-some : goal.returns-in_err-found-clause-some
@@ -75,11 +64,7 @@ loop-pages-preserved g c =
     let all = c.in_ok-send_page.ensures.all in
     let is_open = c.is_open.ensures.is_open.0 c.if-not-is_open.false in
     record {
-      awaits = record {
-        is_open = is_open;
-        free = all.pending;
-        at_port = record { door = all.same.door ∙ next.at_port.door; way = all.same.way ∙ next.at_port.way };
-      };
+      awaits = grind arith;
       stays = stays_twice at.invariant.stays (stays_served next.serves);
       so_far = λ sound s stood input is.
           let so_far = at.invariant.so_far (next.serves.sound sound) s stood input is in

@@ -1,4 +1,5 @@
 -- The first message was taken, or not.
+use Rattle.std.proofs.Common.{arith}
 use Rattle.std.proofs.Math.Logic.{∥∥₁_map}
 use Rattle.http_conversations.specs.Talks.{history_of}
 use Rattle.http_conversations.proofs.AnswerSteps.{turn}
@@ -20,5 +21,4 @@ returns-clause-turn g c =
     turn c.answer.result (history_of c.args.self.now.talk) (history_of c.answer.new.self) c.answer.ensures.answers c.answer.ensures.reasons
 
 pub returns-clause-leaves : goal.returns-clause-leaves
-returns-clause-leaves g c =
-    takes_leaves c.answer.result (history_of c.args.self.now.talk) (history_of c.answer.new.self) c.answer.ensures.answers.takes
+returns-clause-leaves g c = grind (arith, takes_leaves)

@@ -1,4 +1,5 @@
 -- 100 Continue was given, or not.
+use Rattle.std.proofs.Common.{arith}
 use Rattle.std.proofs.Math.Logic.{∥∥₁_map}
 use Rattle.http_conversations.specs.Talks.{history_of}
 use Rattle.http_conversations.proofs.CallLemmas.{given_or_not, goes_on, goes_on_quiet, goes_on_within}
@@ -16,7 +17,4 @@ invariant_of-self c =
     }
 
 pub returns-clause-quiet : goal.returns-clause-quiet
-returns-clause-quiet c =
-    let h = history_of c.args.self.now.talk in
-    let k = history_of c.go_on.new.self in
-    goes_on_quiet h k (given_or_not c.go_on.result h k c.go_on.ensures.gives)
+returns-clause-quiet c = grind (arith, goes_on_quiet, given_or_not)

@@ -1,5 +1,5 @@
 -- The message got its page, or lost it.
-use Rattle.std.proofs.Common.{◌∷◌, [], None, Some, Bool, Err, ap, false, refl, subst, sym}
+use Rattle.std.proofs.Common.{arith, ◌∷◌, [], None, Some, Bool, Err, ap, false, refl, subst, sym}
 use Rattle.desk_http.specs.declared.answering.Answer.{Answer}
 use Rattle.http_conversations.specs.History.{History, exchange}
 use Rattle.http_conversations.specs.Leading.{fault_by, has_broken}
@@ -29,26 +29,10 @@ returns-in-Err-clause-answers g c =
 
 -- it is the message that was read
 pub returns-in-Ok-clause-seen : goal.returns-in-Ok-clause-seen
-returns-in-Ok-clause-seen g c =
-    let first = c.requires.first in record {
-      count = c.args.count;
-      page = Some c.in-Ok.answer.bytes.items;
-      is_last = ap (λ (h : History). h.exchanges) c.keep.ensures.answered;
-      said = first.said;
-      is_read = first.is_read;
-      says = first.says;
-    }
+returns-in-Ok-clause-seen g c = grind arith
 
 pub returns-in-Err-clause-seen : goal.returns-in-Err-clause-seen
-returns-in-Err-clause-seen g c =
-    let first = c.requires.first in record {
-      count = c.args.count;
-      page = None;
-      is_last = ap (λ (h : History). h.exchanges) c.lose.ensures.lost;
-      said = first.said;
-      is_read = first.is_read;
-      says = first.says;
-    }
+returns-in-Err-clause-seen g c = grind arith
 
 -- where the store failed, it did for a reason
 
