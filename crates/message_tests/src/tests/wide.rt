@@ -8,6 +8,7 @@ use http_messages::{BodyFault, BodyKind, Unframed, body_kind};
 use http1::fields::KnownFields;
 use std::alloc::{AllocError, Global};
 use std::process::Abort;
+use std::test::Fail;
 
 // the minor version, the fields of a POST, and how its body is framed (RFC 9112, section 6)
 #[rattlefmt::skip]
@@ -113,35 +114,44 @@ const OTHERS: [(&str, Field, &[u8], Expected<'_>); 20] = [
     ("a trailer with LF alone",     CHUNKS, b"0\r\nX: y\n\n",                     Expected::Fault(BodyFault::Malformed)),
 ];
 
-/// Stops the test where something else is read of this row, whole, byte by byte, or in two parts, cut anywhere.
-fn is_read(rt: &impl Abort, alloc: Global, row: (&str, Field, &[u8], Expected<'_>)) {
+/// Stops the test where something else is read of this row, whole, byte by byte, or in two parts, cut anywhere. The only fault is out
+/// of memory.
+fn is_read(
+    rt: &impl Abort,
+    alloc: Global,
+    row: (&str, Field, &[u8], Expected<'_>),
+) -> Result<(), AllocError> {
     let (case, field, input, expected) = row;
-    let whole = Reading::of(rt, alloc, field, &[input]);
-    assert!(rt; whole.is(expected), "{case}, whole");
+    let whole = Reading::of(rt, alloc, field, &[input]).is(expected)?;
+    assert!(rt; whole, "{case}, whole");
     let mut bytes = Reading::begin(rt, alloc, field);
     for byte in input {
         bytes.take(&[*byte]);
     }
-    assert!(rt; bytes.is(expected), "{case}, byte by byte");
+    let by_bytes = bytes.is(expected)?;
+    assert!(rt; by_bytes, "{case}, byte by byte");
     for cut in 0..input.len() {
         let (front, rest) = input.split_at(cut);
-        let parts = Reading::of(rt, alloc, field, &[front, rest]);
-        assert!(rt; parts.is(expected), "{case}, cut at {cut}");
+        let in_parts = Reading::of(rt, alloc, field, &[front, rest]).is(expected)?;
+        assert!(rt; in_parts, "{case}, cut at {cut}");
     }
+    Ok(())
 }
 
 #[test]
-fn a_body_is_the_same_however_it_is_cut(rt: HostRuntime) {
+fn a_body_is_the_same_however_it_is_cut(rt: HostRuntime) -> Result<(), Fail> {
     for row in BODIES {
-        is_read(&rt, rt.alloc(), row);
+        is_read(&rt, rt.alloc(), row)?;
     }
+    Ok(())
 }
 
 #[test]
-fn what_is_no_body_is_refused_however_it_is_cut(rt: HostRuntime) {
+fn what_is_no_body_is_refused_however_it_is_cut(rt: HostRuntime) -> Result<(), Fail> {
     for row in OTHERS {
-        is_read(&rt, rt.alloc(), row);
+        is_read(&rt, rt.alloc(), row)?;
     }
+    Ok(())
 }
 
 /// A chunk of 4,096 bytes.
@@ -164,8 +174,8 @@ const LIMITS: [(&str, &[u8], bool); 3] = [
 ];
 
 #[test]
-fn a_body_in_chunks_has_at_most_as_many_bytes(rt: HostRuntime) {
-    let text = chunk(rt.alloc()).expect(&rt, "memory");
+fn a_body_in_chunks_has_at_most_as_many_bytes(rt: HostRuntime) -> Result<(), Fail> {
+    let text = chunk(rt.alloc())?;
     for (case, end, fits) in LIMITS {
         let mut reading = Reading::begin(&rt, rt.alloc(), CHUNKS);
         for _ in 0..64u8 {
@@ -177,6 +187,8 @@ fn a_body_in_chunks_has_at_most_as_many_bytes(rt: HostRuntime) {
         } else {
             Expected::Fault(BodyFault::TooLarge)
         };
-        assert!(rt; reading.is(expected), "{case}");
+        let is = reading.is(expected)?;
+        assert!(rt; is, "{case}");
     }
+    Ok(())
 }

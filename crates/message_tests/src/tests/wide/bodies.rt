@@ -1,7 +1,7 @@
 //! A body that is read in a test, piece after piece.
 use super::known;
 use http_messages::{BodyFault, BodyReader, Progress, body_kind};
-use std::alloc::Global;
+use std::alloc::{AllocError, Global};
 use std::process::Abort;
 
 /// What is expected of a body.
@@ -77,9 +77,12 @@ impl Reading {
         }
     }
 
-    /// Whether this is what was read.
-    pub(super) fn is(self, expected: Expected<'_>) -> bool {
-        match expected {
+    /// Whether this is what was read. The only fault is that memory ran out for it.
+    pub(super) fn is(self, expected: Expected<'_>) -> Result<bool, AllocError> {
+        if self.outcome == Err(BodyFault::Memory) {
+            return Err(AllocError);
+        }
+        Ok(match expected {
             Expected::Body(body, rest) => {
                 self.outcome == Ok(true)
                     && self.waiting.as_slice() == rest
@@ -92,6 +95,6 @@ impl Reading {
             }
             Expected::Part => self.outcome == Ok(false),
             Expected::Fault(fault) => self.outcome == Err(fault),
-        }
+        })
     }
 }
