@@ -16,7 +16,7 @@ use Rattle.http_messages.specs.Heads.{is_method, parts_of}
 use Rattle.http_messages.specs.Messages.{Message, NoHead, Asks}
 use Rattle.http_pages.specs.Pages.{page_text, reply_page}
 use Rattle.http_pages.specs.declared.routes.Denied.{Denied}
-use Rattle.desk_http.specs.Demands.{Demand, Carry, SeeJourney, SeePlan, SeeWhy, SeeBegun, SeeUnfinished, SeeMine, SeeStock, SeeHealth, SeeMetrics, SeeAgent, SeePage, SeeReport, Stop, demand_of}
+use Rattle.desk_http.specs.Demands.{Demand, Carry, SeeJourney, SeePlan, SeeWhy, SeeBegun, SeeUnfinished, SeeMine, SeeStock, SeeCells, SeeHealth, SeeMetrics, SeeAgent, SeePage, SeeReport, Stop, demand_of}
 use Rattle.desk_http.specs.declared.doors.Door.{Door}
 use Rattle.desk_http.specs.Hosts.{refusal_at}
 use Rattle.desk_http.specs.Laws.{AnswersAgain, MakesEvent, later}
@@ -119,6 +119,7 @@ carry_of None (Ok (SeeBegun asker key)) c = λ is. cc
 carry_of None (Ok (SeeUnfinished asker)) c = λ is. cc
 carry_of None (Ok (SeeMine asker after)) c = λ is. cc
 carry_of None (Ok SeeStock) c = λ is. cc
+carry_of None (Ok (SeeCells f)) c = λ is. cc
 carry_of None (Ok SeeHealth) c = λ is. cc
 carry_of None (Ok SeeMetrics) c = λ is. cc
 carry_of None (Ok (SeeAgent asker)) c = λ is. cc

@@ -15,7 +15,7 @@ use Rattle.http_messages.specs.Messages.{Message, NoHead, Asks, BeginsWith}
 use Rattle.http_pages.specs.declared.routes.Denied.{Denied}
 use Rattle.http_pages.specs.declared.routes.Verb.TheVariants.{Get}
 use Rattle.http_pages.specs.declared.routes.Route.{Route}
-use Rattle.http_pages.specs.declared.routes.Route.TheVariants.{LoadBatch, Begin, Step, Abort, Save, ShowJourney, ShowPlan, ShowWhy, ShowBegun, ShowUnfinished, ShowStock, ShowMine, ShowHealth, ShowAgent}
+use Rattle.http_pages.specs.declared.routes.Route.TheVariants.{LoadBatch, Begin, Step, Abort, Save, ShowJourney, ShowPlan, ShowWhy, ShowBegun, ShowUnfinished, ShowStock, ShowCells, ShowMine, ShowHealth, ShowAgent}
 use Rattle.allotment_csv.specs.Files.{batch_of}
 use Rattle.desk_http.specs.Demands.{Demand, Carry, SeePage, Sender, Stop, admitted_by, admitted_of_house, agents_demand, asked_by, asked_by_nobody, asked_if, asked_of_house, asks_for_metrics, asks_for_page, asks_to_stop, bare, begin_by, carried, carried_by, demand_of, demanded, denied_by, house_demand, load_of, page_demand, sender_of, text_of, value_in}
 use Rattle.report_words.specs.Targets.{asks_for_report, report_asked}
@@ -64,6 +64,7 @@ demanded_text (ShowWhy id) sender = λ asked ask is. cc
 demanded_text (ShowBegun key) sender = λ asked ask is. cc
 demanded_text ShowUnfinished sender = λ asked ask is. cc
 demanded_text ShowStock sender = λ asked ask is. cc
+demanded_text (ShowCells f) sender = λ asked ask is. cc
 demanded_text (ShowMine after) sender = λ asked ask is. cc
 demanded_text ShowHealth sender = λ asked ask is. cc
 demanded_text ShowAgent sender = λ asked ask is. cc
@@ -86,6 +87,7 @@ nobody_text text (ShowWhy id) = λ asked ask is. cc
 nobody_text text (ShowBegun key) = λ asked ask is. cc
 nobody_text text ShowUnfinished = λ asked ask is. cc
 nobody_text text ShowStock = λ asked ask is. cc
+nobody_text text (ShowCells f) = λ asked ask is. cc
 nobody_text text (ShowMine after) = λ asked ask is. cc
 nobody_text text ShowHealth = λ asked ask is. cc
 nobody_text text ShowAgent = λ asked ask is. cc

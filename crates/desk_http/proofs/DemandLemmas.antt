@@ -61,6 +61,7 @@ metrics_said (demanded.SeeBegun asker key) = λ is. cc
 metrics_said (demanded.SeeUnfinished asker) = λ is. cc
 metrics_said (demanded.SeeMine asker after) = λ is. cc
 metrics_said demanded.SeeStock = λ is. cc
+metrics_said (demanded.SeeCells filter) = λ is. cc
 metrics_said demanded.SeeHealth = λ is. cc
 metrics_said demanded.SeeMetrics = λ is. refl
 metrics_said (demanded.SeeAgent asker) = λ is. cc

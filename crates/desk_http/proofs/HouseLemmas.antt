@@ -10,7 +10,7 @@ use Rattle.http_pages.specs.declared.answers.HtmlPage.{HtmlPage}
 use Rattle.http_pages.specs.declared.routes.Denied.{Denied}
 use Rattle.http_pages.specs.declared.routes.Verb.TheVariants.{Get}
 use Rattle.http_pages.specs.declared.routes.Route.{Route}
-use Rattle.http_pages.specs.declared.routes.Route.TheVariants.{LoadBatch, Begin, Step, Abort, Save, ShowJourney, ShowPlan, ShowWhy, ShowBegun, ShowUnfinished, ShowStock, ShowMine, ShowHealth, ShowAgent}
+use Rattle.http_pages.specs.declared.routes.Route.TheVariants.{LoadBatch, Begin, Step, Abort, Save, ShowJourney, ShowPlan, ShowWhy, ShowBegun, ShowUnfinished, ShowStock, ShowCells, ShowMine, ShowHealth, ShowAgent}
 use Rattle.desk_http.specs.Demands.{Demand, SeePage, Sender, admitted_by, agents_demand, asked_by, asked_by_nobody, asked_if, asks_for_page, bare, begin_by, carried, carried_by, demand_of, demanded, denied_by, house_demand, load_of, page_demand, sender_of, value_in}
 use Rattle.desk_http.specs.Laws.{is_for_house}
 use Rattle.desk_http.specs.declared.doors.Asker.{Asker}
@@ -45,6 +45,7 @@ demanded_is_not (ShowWhy id) sender = refl
 demanded_is_not (ShowBegun key) sender = refl
 demanded_is_not ShowUnfinished sender = refl
 demanded_is_not ShowStock sender = refl
+demanded_is_not (ShowCells f) sender = refl
 demanded_is_not (ShowMine after) sender = refl
 demanded_is_not ShowHealth sender = refl
 demanded_is_not ShowAgent sender = refl
@@ -62,6 +63,7 @@ nobodys_is_not (ShowWhy id) = refl
 nobodys_is_not (ShowBegun key) = refl
 nobodys_is_not ShowUnfinished = refl
 nobodys_is_not ShowStock = refl
+nobodys_is_not (ShowCells f) = refl
 nobodys_is_not (ShowMine after) = refl
 nobodys_is_not ShowHealth = refl
 nobodys_is_not ShowAgent = refl

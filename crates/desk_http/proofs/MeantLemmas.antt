@@ -15,7 +15,7 @@ use Rattle.http_pages.specs.declared.routes.Denied.{Denied}
 use Rattle.http_pages.specs.declared.answers.HtmlPage.{HtmlPage}
 use Rattle.http_pages.specs.declared.routes.Verb.TheVariants.{Get}
 use Rattle.http_pages.specs.declared.routes.Route.{Route}
-use Rattle.http_pages.specs.declared.routes.Route.TheVariants.{LoadBatch, Begin, Step, Abort, Save, ShowJourney, ShowPlan, ShowWhy, ShowBegun, ShowUnfinished, ShowStock, ShowMine, ShowHealth, ShowAgent}
+use Rattle.http_pages.specs.declared.routes.Route.TheVariants.{LoadBatch, Begin, Step, Abort, Save, ShowJourney, ShowPlan, ShowWhy, ShowBegun, ShowUnfinished, ShowStock, ShowCells, ShowMine, ShowHealth, ShowAgent}
 use Rattle.desk_http.specs.Demands.{Demand, Carry, SeePage, admitted_by, agents_demand, asked_by, asked_by_nobody, asked_if, asks_for_page, bare, begin_by, carried, carried_by, demand_of, demanded, denied_by, house_demand, load_of, page_demand, sender_of, text_of, value_in}
 use Rattle.desk_http.specs.Hosts.{refusal_at}
 use Rattle.desk_http.specs.Laws.{IsForWhomIsMeant, MeansAsk}
@@ -79,6 +79,7 @@ demanded_of agent parts body (ShowWhy id) asked ask = λ is. cc
 demanded_of agent parts body (ShowBegun key) asked ask = λ is. cc
 demanded_of agent parts body ShowUnfinished asked ask = λ is. cc
 demanded_of agent parts body ShowStock asked ask = λ is. cc
+demanded_of agent parts body (ShowCells f) asked ask = λ is. cc
 demanded_of agent parts body (ShowMine after) asked ask = λ is. cc
 demanded_of agent parts body ShowHealth asked ask = λ is. cc
 demanded_of agent parts body ShowAgent asked ask = λ is. cc
@@ -96,6 +97,7 @@ of_nobody (ShowWhy id) asked ask = λ is. cc
 of_nobody (ShowBegun key) asked ask = λ is. cc
 of_nobody ShowUnfinished asked ask = λ is. cc
 of_nobody ShowStock asked ask = λ is. cc
+of_nobody (ShowCells f) asked ask = λ is. cc
 of_nobody (ShowMine after) asked ask = λ is. cc
 of_nobody ShowHealth asked ask = λ is. cc
 of_nobody ShowAgent asked ask = λ is. cc

@@ -23,7 +23,7 @@ use Rattle.http_pages.specs.declared.routes.Denied.{Denied}
 use Rattle.http_pages.specs.declared.answers.HtmlPage.{HtmlPage}
 use Rattle.http_pages.specs.declared.routes.Verb.TheVariants.{Get}
 use Rattle.http_pages.specs.declared.routes.Route.{Route}
-use Rattle.http_pages.specs.declared.routes.Route.TheVariants.{LoadBatch, Begin, Step, Abort, Save, ShowJourney, ShowPlan, ShowWhy, ShowBegun, ShowUnfinished, ShowStock, ShowMine, ShowHealth, ShowAgent}
+use Rattle.http_pages.specs.declared.routes.Route.TheVariants.{LoadBatch, Begin, Step, Abort, Save, ShowJourney, ShowPlan, ShowWhy, ShowBegun, ShowUnfinished, ShowStock, ShowCells, ShowMine, ShowHealth, ShowAgent}
 use Rattle.saga_core.specs.Runs as runs
 use Rattle.saga_core.specs.Runs.{Asks}
 use Rattle.saga_core.specs.Worlds.{KeepLimits, StandsAtEnd, EndsAmong}
@@ -97,6 +97,7 @@ demanded_within (ShowWhy id) sender c = λ same. cc
 demanded_within (ShowBegun key) sender c = λ same. cc
 demanded_within ShowUnfinished sender c = λ same. cc
 demanded_within ShowStock sender c = λ same. cc
+demanded_within (ShowCells f) sender c = λ same. cc
 demanded_within (ShowMine after) sender c = λ same. cc
 demanded_within ShowHealth sender c = λ same. cc
 demanded_within ShowAgent sender c = λ same. cc
@@ -115,6 +116,7 @@ nobody_within (ShowWhy id) c = λ same. cc
 nobody_within (ShowBegun key) c = λ same. cc
 nobody_within ShowUnfinished c = λ same. cc
 nobody_within ShowStock c = λ same. cc
+nobody_within (ShowCells f) c = λ same. cc
 nobody_within (ShowMine after) c = λ same. cc
 nobody_within ShowAgent c = λ same. cc
 

@@ -11,7 +11,7 @@ use Rattle.http_pages.specs.declared.routes.Denied.{Denied}
 use Rattle.desk_http.specs.Demands as sent
 pub use Rattle.desk_http.specs.Demands.{denied_by}
 use Rattle.desk_http.specs.declared.demands.Demand.{Demand}
-use Rattle.desk_http.specs.declared.demands.Demand.TheVariants.{Carry, SeeJourney, SeePlan, SeeWhy, SeeBegun, SeeUnfinished, SeeMine, SeeStock, SeeHealth, SeeMetrics, SeeAgent, SeePage, SeeReport, Stop}
+use Rattle.desk_http.specs.declared.demands.Demand.TheVariants.{Carry, SeeJourney, SeePlan, SeeWhy, SeeBegun, SeeUnfinished, SeeMine, SeeStock, SeeCells, SeeHealth, SeeMetrics, SeeAgent, SeePage, SeeReport, Stop}
 use Rattle.desk_http.specs.declared.demands.Unmet.{Unmet}
 use Rattle.desk_http.specs.declared.demands.Unmet.TheVariants.{Refused, Memory}
 use Rattle.desk_http.specs.declared.demands.Sender.{Sender}
@@ -39,6 +39,7 @@ demand_said (SeeBegun asker key) = sent.SeeBegun asker key
 demand_said (SeeUnfinished asker) = sent.SeeUnfinished asker
 demand_said (SeeMine asker after) = sent.SeeMine asker after
 demand_said SeeStock = sent.SeeStock
+demand_said (SeeCells filter) = sent.SeeCells filter
 demand_said SeeHealth = sent.SeeHealth
 demand_said SeeMetrics = sent.SeeMetrics
 demand_said (SeeAgent asker) = sent.SeeAgent asker

@@ -16,13 +16,14 @@ use Rattle.commands.specs.declared.replies.Refusal.TheVariants as refusal
 use Rattle.allotment_csv.specs.Files.{batch_of}
 use Rattle.allotment_csv.specs.declared.faults.CsvFault.{CsvFault}
 use Rattle.allotment_csv.specs.declared.faults.CsvFault.TheVariants as csv
+use Rattle.filters.specs.declared.cells.CellFilter.{CellFilter}
 use Rattle.http_messages.specs.Heads.{Parts, agent_of, is_method, is_unnamed, key_of}
 use Rattle.http_pages.specs.Admitting.{admitted, plain}
 use Rattle.http_pages.specs.Routes.{route_of}
 use Rattle.http_pages.specs.declared.routes.Denied.{Denied}
 use Rattle.http_pages.specs.declared.answers.HtmlPage.{HtmlPage}
 use Rattle.http_pages.specs.declared.routes.Route.{Route}
-use Rattle.http_pages.specs.declared.routes.Route.TheVariants.{LoadBatch, Begin, Step, Abort, Save, ShowJourney, ShowPlan, ShowWhy, ShowBegun, ShowUnfinished, ShowStock, ShowMine, ShowHealth, ShowAgent}
+use Rattle.http_pages.specs.declared.routes.Route.TheVariants.{LoadBatch, Begin, Step, Abort, Save, ShowJourney, ShowPlan, ShowWhy, ShowBegun, ShowUnfinished, ShowStock, ShowCells, ShowMine, ShowHealth, ShowAgent}
 use Rattle.http_pages.specs.declared.routes.Verb.TheVariants.{Get}
 use Rattle.report_kinds.specs.declared.report.Report.{Report}
 use Rattle.report_words.specs.Targets.{asks_for_report, report_asked}
@@ -71,6 +72,7 @@ pub data Demand : Type 0 where
   SeeUnfinished : (asker : Asker) → Demand
   SeeMine : (asker : Asker) (after : ℕ) → Demand
   SeeStock : Demand
+  SeeCells : (filter : CellFilter) → Demand
   SeeHealth : Demand
   SeeMetrics : Demand
   SeeAgent : (asker : Asker) → Demand
@@ -114,6 +116,7 @@ demanded (ShowWhy id) sender = Ok (SeeWhy sender.asker id)
 demanded (ShowBegun key) sender = Ok (SeeBegun sender.asker key)
 demanded ShowUnfinished sender = Ok (SeeUnfinished sender.asker)
 demanded ShowStock sender = Ok SeeStock
+demanded (ShowCells filter) sender = Ok (SeeCells filter)
 demanded (ShowMine after) sender = Ok (SeeMine sender.asker after)
 demanded ShowHealth sender = Ok SeeHealth
 demanded ShowAgent sender = Ok (SeeAgent sender.asker)

@@ -10,3 +10,4 @@ pub mod Worlds
 pub mod Reasons
 pub mod Laws
 pub mod Examples
+pub mod PartExamples

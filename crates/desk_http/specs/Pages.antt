@@ -11,6 +11,7 @@ use Rattle.commands.specs.declared.replies.Reply.{Reply}
 use Rattle.commands.specs.declared.replies.Reply.TheVariants.{Begun}
 use Rattle.ledger.specs.Answer.{State, outcome}
 use Rattle.ledger.specs.Ledger.{Event, history}
+use Rattle.filters.specs.declared.cells.CellFilter.{CellFilter}
 use Rattle.saga_core.specs.Views.{IsStock, brief_of, counts_of, kept_under, owned_above, record_of, unfinished_of}
 use Rattle.saga_core.specs.declared.records.Brief.{Brief}
 use Rattle.saga_core.specs.declared.records.Record.{Record}
@@ -26,9 +27,9 @@ use Rattle.http_log.specs.MetricsText.{metrics_text}
 use Rattle.http_log.specs.declared.counting.Metrics.{Metrics}
 use Rattle.outlooks.specs.Layouts.{why_data}
 use Rattle.outlooks.specs.Outlooks.{begun_as, nights_ahead, outlook_of}
-use Rattle.report_kinds.specs.Texts.{OfReport}
+use Rattle.report_kinds.specs.Texts.{OfReport, asked_cells}
 use Rattle.reports.specs.Layouts.{stock_report}
-use Rattle.desk_http.specs.Demands.{Demand, Carry, SeeJourney, SeePlan, SeeWhy, SeeBegun, SeeUnfinished, SeeMine, SeeStock, SeeHealth, SeeMetrics, SeeAgent, SeePage, SeeReport, Stop, asks_to_stop, demand_of}
+use Rattle.desk_http.specs.Demands.{Demand, Carry, SeeJourney, SeePlan, SeeWhy, SeeBegun, SeeUnfinished, SeeMine, SeeStock, SeeCells, SeeHealth, SeeMetrics, SeeAgent, SeePage, SeeReport, Stop, asks_to_stop, demand_of}
 use Rattle.desk_http.specs.Hosts.{refusal_at}
 use Rattle.desk_http.specs.declared.doors.Asker.{Asker}
 use Rattle.desk_http.specs.declared.doors.Asker.TheVariants as who
@@ -120,6 +121,11 @@ pub record ShowsStock (l : List Event) (page : Paged) : Type 0 where
   pub are : IsStock l rows
   pub shown : page ≡ report_page (stock_report rows)
 
+-- the page shows the cells of the stock that a filter lets through: the lines of these in the stock report
+abbrev pub ShowsCells : CellFilter → List Event → Paged → Type 0
+ShowsCells f l page =
+    (stock : List (Cell × Held)) → IsStock l stock → page ≡ report_page (stock_report (asked_cells f stock))
+
 -- the page of a report by its text; without one, that there is no such journey
 abbrev pub told_page : Option (List ℕ) → Paged
 told_page (Some text) = report_page text
@@ -145,6 +151,7 @@ Says s (Ok (SeeUnfinished asker)) page =
 Says s (Ok (SeeMine asker after)) page =
     page ≡ value_page (mine_shown asker (mine_of s.ledger asker after))
 Says s (Ok SeeStock) page = ShowsStock s.ledger page
+Says s (Ok (SeeCells f)) page = ShowsCells f s.ledger page
 Says s (Ok SeeHealth) page = page ≡ value_page (health_data (counts_of s.ledger))
 Says s (Ok SeeMetrics) page = ShowsMetrics s.ledger page
 Says s (Ok (SeeAgent asker)) page = page ≡ value_page (agent_data (owner_of asker))
@@ -197,6 +204,7 @@ command_by (Ok (SeeBegun asker key)) = None
 command_by (Ok (SeeUnfinished asker)) = None
 command_by (Ok (SeeMine asker after)) = None
 command_by (Ok SeeStock) = None
+command_by (Ok (SeeCells f)) = None
 command_by (Ok SeeHealth) = None
 command_by (Ok SeeMetrics) = None
 command_by (Ok (SeeAgent asker)) = None

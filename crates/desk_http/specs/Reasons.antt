@@ -10,7 +10,7 @@ use Rattle.http_messages.specs.Messages.{Message, NoHead, Asks as Request}
 use Rattle.http_pages.specs.declared.routes.Denied.{Denied}
 use Rattle.protocols.specs.declared.faults.ServeFault.{ServeFault}
 use Rattle.protocols.specs.declared.faults.ServeFault.TheVariants.{Memory, Store}
-use Rattle.desk_http.specs.Demands.{Demand, SeeReport, demand_of}
+use Rattle.desk_http.specs.Demands.{Demand, SeeCells, SeeReport, demand_of}
 use Rattle.desk_http.specs.Hosts.{refusal_at}
 use Rattle.desk_http.specs.Pages.{Command, command_by, command_in, command_unless, state_by}
 use Rattle.desk_http.specs.Worlds.{asks_by}
@@ -62,9 +62,10 @@ module _ {T : Type 0} (could can : State → Asks → Type 0) (reason : State �
   GoesOn command (Err Memory) = MayStillAct could can ⊎ ActsBy command (Err Memory)
   GoesOn command result = ActsBy command result
 
--- the reason of a demand; of a report nothing is said
+-- the reason of a demand; of a report nothing is said, nor of a part of the stock, which is read as one
 abbrev pub reason_by : Result Demand Denied → (State → State → Type 0) → State → State → Type 0
 reason_by (Ok (SeeReport report)) reason s t = ⊤
+reason_by (Ok (SeeCells f)) reason s t = ⊤
 reason_by _ reason s t = reason s t
 
 -- the same, of a request whose head is refused, or is not

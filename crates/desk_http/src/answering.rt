@@ -20,7 +20,7 @@ use crate::demands::{Demand, Unmet, asks_to_stop, demand_in};
 use crate::doors::{Door, refusal_at};
 use crate::mine::see_mine;
 use crate::showing::{
-    see_agent, see_health, see_journey, see_metrics, see_plan, see_report, see_stock,
+    see_agent, see_cells, see_health, see_journey, see_metrics, see_plan, see_report, see_stock,
     see_unfinished,
 };
 use crate::whys::see_why;
@@ -73,8 +73,8 @@ impl Answer {
 /// Answers a message that came in at a door: carries out what it asks for, and lays out its page. What was counted is shown
 /// where it asks for that.
 ///
-/// Out of memory, it was carried out or not, and has no page. Store has a reason that the book gives; of a report nothing is
-/// said.
+/// Out of memory, it was carried out or not, and has no page. Store has a reason that the book gives; of a report, and of a part of
+/// the stock, nothing is said.
 pub fn answer_to<B: Reporting>(
     alloc: Global,
     paths: &Paths,
@@ -221,6 +221,7 @@ fn meet<B: Reporting>(
         Demand::SeeUnfinished(asker) => see_unfinished(alloc, book, asker),
         Demand::SeeMine(asker, after) => see_mine(alloc, book, asker, *after),
         Demand::SeeStock => see_stock(alloc, book),
+        Demand::SeeCells(filter) => see_cells(alloc, book, filter),
         Demand::SeeHealth => see_health(alloc, book),
         Demand::SeeMetrics => see_metrics(alloc, metrics, book),
         Demand::SeeAgent(asker) => Ok(see_agent(alloc, asker)?),

@@ -13,6 +13,7 @@ ghost use Rattle.report_words.specs.Targets.{asks_for_report, report_asked};
 use crate::doors::{Asker, Door, Site};
 use crate::showing::{bare, begin, load};
 use commands::{Ask, Command, Key, Refusal};
+use filters::CellFilter;
 use http_messages::Request;
 use http_pages::{Denied, HtmlPage, Paths, Route, Verb, admit};
 use report_kinds::Report;
@@ -38,6 +39,8 @@ pub(crate) enum Demand {
     SeeMine(Asker, u64),
     /// Show the stock.
     SeeStock,
+    /// Show the cells of the stock that this filter lets through.
+    SeeCells(CellFilter),
     /// Show how many events and journeys there are.
     SeeHealth,
     /// Show what a monitor reads.
@@ -299,6 +302,7 @@ fn demand_by(alloc: Global, route: Route, sender: &Sender<'_>) -> Result<Demand,
         Route::ShowBegun(key) => Ok(Demand::SeeBegun(sender.asker, key)),
         Route::ShowUnfinished => Ok(Demand::SeeUnfinished(sender.asker)),
         Route::ShowStock => Ok(Demand::SeeStock),
+        Route::ShowCells(filter) => Ok(Demand::SeeCells(filter)),
         Route::ShowMine(after) => Ok(Demand::SeeMine(sender.asker, after)),
         Route::ShowHealth => Ok(Demand::SeeHealth),
         Route::ShowAgent => Ok(Demand::SeeAgent(sender.asker)),

@@ -4,7 +4,7 @@ ghost use Rattle.commands.specs.Orders.{request_of};
 ghost use Rattle.desk_http.specs.Answering.{Shows};
 ghost use Rattle.desk_http.specs.DemandValues.{AsksFor, ReadsAs};
 ghost use Rattle.desk_http.specs.Demands.{bare, begin_by, load_of, value_in};
-ghost use Rattle.desk_http.specs.Pages.{journey_page, owner_of, plan_page, own_journey, own_unfinished, told_page, unfinished_shown, ShowsMetrics, ShowsStock};
+ghost use Rattle.desk_http.specs.Pages.{journey_page, owner_of, plan_page, own_journey, own_unfinished, told_page, unfinished_shown, ShowsCells, ShowsMetrics, ShowsStock};
 ghost use Rattle.desk_http.specs.Reasons.{Views};
 ghost use Rattle.desk_http.specs.Monitored.{ShowsCounted};
 ghost use Rattle.http_pages.specs.Bodies.{agent_data, health_data};
@@ -22,6 +22,7 @@ use crate::doors::Asker;
 use crate::plan_texts::plan_in;
 use allotment_csv::{CsvFault, read_batch};
 use commands::{Command, Name, Refusal};
+use filters::CellFilter;
 use http_log::{Metrics, metrics_text};
 use http_pages::{
     Body, Owners, Page, agent_body, health_body, journey_body, plan_body, refused_page, shown_page,
@@ -158,6 +159,26 @@ pub(crate) fn see_stock<B: Book>(alloc: Global, book: &mut B) -> Result<Page, Se
         Ok(_) => Ok(shown_page(Body::Text(text))),
         Err(_) => Err(ServeFault::Memory),
     }
+}
+
+/// The page of the cells of the stock that a filter lets through, which the book reads as the report of these.
+pub(crate) fn see_cells<B: Reporting>(
+    alloc: Global,
+    book: &mut B,
+    filter: &CellFilter,
+) -> Result<Page, ServeFault>
+    ensures page { B.is_sound book.new → (s : State) → B.stands book.old s →
+        Shows (B.stands book.new) (B.leaves book.new) s
+        (λ page. ShowsCells filter.now s.ledger (page_said page)) result }
+
+    ensures views { Views B.is_sound B.leaves B.has_failed B.may_act (λ _ _ _ _. ⊤)
+        book.old book.new result }
+{
+    let report = Report::Stock {
+        filter: *filter,
+        format: Format::Text,
+    };
+    see_report(alloc, book, &report)
 }
 
 /// The page of a report. That of a journey that does not exist is refused.

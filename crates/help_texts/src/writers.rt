@@ -93,6 +93,10 @@ Requests:
   GET /mine                  The agent's journeys, ended ones too
   GET /mine/AFTER            Those with a number above AFTER
   GET /stock                 The places of each cell
+  GET /stock/FROM/TO         Those of the nights from FROM to TO
+  GET /stock/FROM/TO/KIND    Those of a kind: flight, room, transfer or cover
+  GET /stock/FROM/TO/KIND/SUPPLIER          Those of a supplier
+  GET /stock/FROM/TO/KIND/SUPPLIER/PRODUCT  Those of a product
   GET /agent                 Who asks, as the desk is told
   GET /health                The numbers of events, journeys and unfinished
                              journeys

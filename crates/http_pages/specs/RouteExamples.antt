@@ -1,13 +1,16 @@
 -- Worked examples of routes.
-use Rattle.std.specs.Prelude.{◌≡◌, true, false, codes, Ok, Err, refl}
+use Rattle.std.specs.Prelude.{◌≡◌, true, false, codes, Some, None, Ok, Err, refl}
 use Rattle.std.specs.Fmt.{digits}
 use Rattle.std.specs.Str.{is_utf8, chars}
 use lib.Utf8.{encode}
 use Rattle.matchit.proofs.OnLiterals.{matchit_on_literals}
+use Rattle.allotment.specs.declared.codes.Kind.TheVariants.{Room}
 use Rattle.commands.specs.declared.replies.Refusal.TheVariants as refusal
+use Rattle.filters.specs.declared.cells.CellFilter.{CellFilter}
 use Rattle.http_pages.specs.Admitting.{admitted, plain}
-use Rattle.http_pages.specs.Routes.{routes, route_of}
-use Rattle.http_pages.specs.declared.routes.Route.TheVariants.{LoadBatch, Step, Abort, Save, ShowJourney, ShowPlan, ShowWhy, ShowBegun, ShowStock, ShowAgent}
+use Rattle.http_pages.specs.Routes.{asked, cells_at, routes, route_of}
+use Rattle.http_pages.specs.declared.routes.Place.TheVariants as place
+use Rattle.http_pages.specs.declared.routes.Route.TheVariants.{LoadBatch, Step, Abort, Save, ShowJourney, ShowPlan, ShowWhy, ShowBegun, ShowStock, ShowCells, ShowAgent}
 use Rattle.http_pages.specs.declared.routes.Unrouted.TheVariants.{UnknownPath, WrongMethod, BadPart}
 use Rattle.http_pages.specs.declared.routes.Verb.TheVariants.{Get}
 
@@ -53,6 +56,21 @@ pub begun_is_found : route_of (codes "GET") (codes "/journeys/by-key/step") ≡ 
 unfolding routes digits is_utf8 chars encode matchit_on_literals
 begun_is_found = refl
 
+-- all cells of June 2030, whose first night is day 22066 and whose last is day 22095
+abbrev pub june : CellFilter
+june = record { kind = None; supplier = None; product = None; from = Some 22066; to = Some 22095 }
+
+pub month_is_found : route_of (codes "GET") (codes "/stock/2030-06-01/2030-06-30") ≡ Ok (ShowCells june)
+unfolding routes digits is_utf8 chars encode matchit_on_literals
+month_is_found = refl
+
+-- the doubles of the inn in that month
+pub product_is_asked :
+    cells_at (codes "/stock/2030-06-01/2030-06-30/room/INN/DBL")
+    ≡ Some (record june { kind = Some Room; supplier = Some (codes "INN"); product = Some (codes "DBL") })
+unfolding digits
+product_is_asked = refl
+
 -- the agent who asks
 pub agent_is_found : route_of (codes "GET") (codes "/agent") ≡ Ok ShowAgent
 unfolding routes digits is_utf8 chars encode matchit_on_literals
@@ -64,6 +82,25 @@ agent_is_found = refl
 pub leading_zero_is_bad : route_of (codes "POST") (codes "/journeys/01/step") ≡ Err BadPart
 unfolding routes digits is_utf8 chars encode matchit_on_literals
 leading_zero_is_bad = refl
+
+-- a kind has its whole word, and no letter
+pub letter_is_no_kind : asked place.Cells (codes "/stock/2030-06-01/2030-06-30/R") ≡ None
+unfolding digits
+letter_is_no_kind = refl
+
+-- a part of the stock may have a kind, and then a supplier and a product; here no part is well formed
+pub kind_has_a_path : route_of (codes "GET") (codes "/stock/1/2/3") ≡ Err BadPart
+unfolding routes digits is_utf8 chars encode matchit_on_literals
+kind_has_a_path = refl
+
+pub product_has_a_path : route_of (codes "GET") (codes "/stock/1/2/3/4/5") ≡ Err BadPart
+unfolding routes digits is_utf8 chars encode matchit_on_literals
+product_has_a_path = refl
+
+-- a part of the stock has two nights
+pub one_night_has_no_path : route_of (codes "GET") (codes "/stock/2030-06-01") ≡ Err UnknownPath
+unfolding routes digits is_utf8 chars encode matchit_on_literals
+one_night_has_no_path = refl
 
 -- the method is checked before the number: this path has the method GET
 pub method_comes_before_the_number :

@@ -8,15 +8,19 @@ use Rattle.matchit.specs.Router.{RouteOf, route_from}
 use Rattle.matchit.specs.Rows.{RowsOf}
 use Rattle.matchit.specs.Seek.{first}
 use Rattle.matchit.specs.declared.error.InsertError.{InsertError}
-use Rattle.allotment.specs.Texts.{parts, slash, keep_if, number_from}
+use Rattle.allotment.specs.Limits.{is_code}
+use Rattle.allotment.specs.Nights.{night_in}
+use Rattle.allotment.specs.Texts.{parts, slash, keep_if, kind_of_word, number_from}
+use Rattle.allotment.specs.declared.codes.Kind.{Kind}
 use Rattle.commands.specs.Limits.{most_events, most_named_position}
 use Rattle.commands.specs.Names.{is_batch_name, is_key}
+use Rattle.filters.specs.declared.cells.CellFilter.{CellFilter}
 use Rattle.http_pages.specs.Verbs.{verb_text}
 use Rattle.http_pages.specs.declared.routes.Entry.{Entry}
 use Rattle.http_pages.specs.declared.routes.Place.{Place}
 use Rattle.http_pages.specs.declared.routes.Place.TheVariants as place
 use Rattle.http_pages.specs.declared.routes.Route.{Route}
-use Rattle.http_pages.specs.declared.routes.Route.TheVariants.{LoadBatch, Begin, Step, Abort, Save, ShowJourney, ShowPlan, ShowWhy, ShowBegun, ShowUnfinished, ShowStock, ShowMine, ShowHealth, ShowAgent}
+use Rattle.http_pages.specs.declared.routes.Route.TheVariants.{LoadBatch, Begin, Step, Abort, Save, ShowJourney, ShowPlan, ShowWhy, ShowBegun, ShowUnfinished, ShowStock, ShowCells, ShowMine, ShowHealth, ShowAgent}
 use Rattle.http_pages.specs.declared.routes.Unrouted.{Unrouted}
 use Rattle.http_pages.specs.declared.routes.Unrouted.TheVariants.{UnknownPath, WrongMethod, BadPart}
 use Rattle.http_pages.specs.declared.routes.Verb.{Verb}
@@ -54,6 +58,10 @@ table =
     ∷ get (codes "/journeys/by-key/{key}") place.Begun
     ∷ get (codes "/unfinished") place.Unfinished
     ∷ get (codes "/stock") place.Stock
+    ∷ get (codes "/stock/{from}/{to}") place.Cells
+    ∷ get (codes "/stock/{from}/{to}/{kind}") place.Cells
+    ∷ get (codes "/stock/{from}/{to}/{kind}/{supplier}") place.Cells
+    ∷ get (codes "/stock/{from}/{to}/{kind}/{supplier}/{product}") place.Cells
     ∷ get (codes "/mine") place.Mine
     ∷ get (codes "/mine/{after}") place.MineAfter
     ∷ get (codes "/health") place.Health
@@ -116,6 +124,33 @@ after_at target = option_and_then (number_from 0 most_events) (piece target 2)
 abbrev pub position_at : List ℕ → Option ℕ
 position_at target = option_and_then position_in (piece target 4)
 
+-- the night that a target has at this place
+abbrev pub night_at : List ℕ → ℕ → Option ℕ
+night_at target place = option_and_then night_in (piece target place)
+
+-- the value that a target has at this place, if it has a piece there; nothing if the piece is none
+abbrev pub if_named : {X : Type 0} → (List ℕ → Option X) → Option (List ℕ) → Option (Option X)
+if_named reads None = Some None
+if_named reads (Some text) = option_map Some (reads text)
+
+-- the kind that a target names, if it names one
+abbrev pub kind_at : List ℕ → Option (Option Kind)
+kind_at target = if_named kind_of_word (piece target 4)
+
+-- the supplier or the product that a target names at this place, if it names one
+abbrev pub code_at : List ℕ → ℕ → Option (Option (List ℕ))
+code_at target place = if_named (keep_if is_code) (piece target place)
+
+-- the cells from one night to another, this one too, of a kind, a supplier and a product, as far as these are named
+abbrev pub cells_of : (from to : Option ℕ) (kind : Option (Option Kind)) (supplier product : Option (Option (List ℕ))) → Option CellFilter
+cells_of (Some from) (Some to) (Some kind) (Some supplier) (Some product) =
+    Some (record { kind = kind; supplier = supplier; product = product; from = Some from; to = Some to })
+cells_of _ _ _ _ _ = None
+
+-- the cells that a target asks for after `/stock/`: two nights, and then a kind, a supplier and a product, as far as it has them
+abbrev pub cells_at : List ℕ → Option CellFilter
+cells_at target = cells_of (night_at target 2) (night_at target 3) (kind_at target) (code_at target 5) (code_at target 6)
+
 -- the turn of a journey to a position
 abbrev pub abort_of : Option ℕ → Option ℕ → Option Route
 abort_of (Some id) (Some position) = Some (Abort id position)
@@ -136,6 +171,7 @@ asked place.Why target = option_map ShowWhy (journey_at target)
 asked place.Begun target = option_map ShowBegun (key_at target)
 asked place.Unfinished target = Some ShowUnfinished
 asked place.Stock target = Some ShowStock
+asked place.Cells target = option_map ShowCells (cells_at target)
 asked place.Mine target = Some (ShowMine 0)
 asked place.MineAfter target = option_map ShowMine (after_at target)
 asked place.Health target = Some ShowHealth

@@ -1,12 +1,14 @@
 //! What stands at the paths of the desk, what a method and a target ask for there, and whether it may be asked.
 
 ghost use Rattle.http_pages.specs.Admitting.{admitted, is_of_method, needs_agent, plain};
-ghost use Rattle.http_pages.specs.Routes.{line_of, routes, with_line, with_lines, found_route, asked_by, route_of, piece, name_at, journey_at, key_at, after_at, position_at, asked};
+ghost use Rattle.http_pages.specs.Routes.{line_of, routes, with_line, with_lines, found_route, asked_by, route_of, piece, name_at, journey_at, key_at, after_at, position_at, night_at, kind_at, code_at, cells_at, asked};
 ghost use Rattle.http_pages.specs.Verbs.{verb_text};
 ghost use Rattle.matchit.specs.Seek.{first};
 ghost use Rattle.std.specs.Prelude.{◌≡◌, IfOk, OnOk, is_some, IfErr, option_map, map};
 
+use allotment::{Code, Kind, Night};
 use commands::{Key, MOST_EVENTS, MOST_NAMED_POSITION, Name, Refusal, number_between};
+use filters::CellFilter;
 use matchit::Router;
 use std::alloc::{AllocError, Global};
 use std::str;
@@ -36,6 +38,8 @@ pub enum Route {
     ShowUnfinished,
     /// Show the stock.
     ShowStock,
+    /// Show the cells of the stock that this filter lets through.
+    ShowCells(CellFilter),
     /// Show the journeys of who asks above this number, finished ones too.
     ShowMine(u64),
     /// Show how many events and journeys there are, to anybody.
@@ -51,7 +55,7 @@ pub enum Unrouted {
     UnknownPath,
     /// The path has another method, this one.
     WrongMethod(Verb),
-    /// A part of the path is malformed: no batch's name, no number, no position or no key.
+    /// A part of the path is malformed: no batch's name, no number, no position, no key, no night, no kind or no code.
     BadPart,
 }
 
@@ -106,7 +110,8 @@ fn add_all(router: &mut Router<Entry>, lines: &[(&str, Verb, Place)]) -> Result<
 
 /// The paths of the desk: each with the one method that it has, and what stands there. What stands in braces matches one
 /// piece between slashes.
-static LINES: [(&str, Verb, Place); 15] = [
+#[rattlefmt::skip]
+static LINES: [(&str, Verb, Place); 19] = [
     ("/batches/{name}", Verb::Post, Place::Batch),
     ("/journeys", Verb::Post, Place::Journeys),
     ("/journeys/{id}/step", Verb::Post, Place::Step),
@@ -118,6 +123,10 @@ static LINES: [(&str, Verb, Place); 15] = [
     ("/journeys/by-key/{key}", Verb::Get, Place::Begun),
     ("/unfinished", Verb::Get, Place::Unfinished),
     ("/stock", Verb::Get, Place::Stock),
+    ("/stock/{from}/{to}", Verb::Get, Place::Cells),
+    ("/stock/{from}/{to}/{kind}", Verb::Get, Place::Cells),
+    ("/stock/{from}/{to}/{kind}/{supplier}", Verb::Get, Place::Cells),
+    ("/stock/{from}/{to}/{kind}/{supplier}/{product}", Verb::Get, Place::Cells),
     ("/mine", Verb::Get, Place::Mine),
     ("/mine/{after}", Verb::Get, Place::MineAfter),
     ("/health", Verb::Get, Place::Health),
@@ -219,7 +228,8 @@ pub fn admit(
     }
 }
 
-/// The piece of a target that holds a batch's name, a journey's number or one above which journeys are asked for.
+/// The piece of a target that holds a batch's name, a journey's number, one above which journeys are asked for, or the first
+/// night.
 const FIRST_PART: usize = 2;
 
 /// The piece of a target that holds a position.
@@ -227,6 +237,18 @@ const SECOND_PART: usize = 4;
 
 /// The piece of a target that holds a key.
 const KEY_PART: usize = 3;
+
+/// The piece of a target that holds the last night.
+const TO_PART: usize = 3;
+
+/// The piece of a target that holds a kind.
+const KIND_PART: usize = 4;
+
+/// The piece of a target that holds a supplier.
+const SUPPLIER_PART: usize = 5;
+
+/// The piece of a target that holds a product.
+const PRODUCT_PART: usize = 6;
 
 /// What stands at a path.
 #[derive(Clone, Copy, Debug, PartialEq, Eq)]
@@ -253,6 +275,8 @@ pub enum Place {
     Unfinished,
     /// The stock.
     Stock,
+    /// Cells of the stock.
+    Cells,
     /// The journeys of who asks.
     Mine,
     /// The journeys of who asks above a number.
@@ -287,6 +311,7 @@ impl Place {
             Place::Begun => key_at(target).map(Route::ShowBegun),
             Place::Unfinished => Some(Route::ShowUnfinished),
             Place::Stock => Some(Route::ShowStock),
+            Place::Cells => cells_at(target).map(Route::ShowCells),
             Place::Mine => Some(Route::ShowMine(0)),
             Place::MineAfter => after_at(target).map(Route::ShowMine),
             Place::Health => Some(Route::ShowHealth),
@@ -330,6 +355,49 @@ fn position_at(target: &str) -> Option<usize>
     ensures position { result ≡ position_at target.now }
 {
     number_between(piece(target, SECOND_PART)?, 0, MOST_NAMED_POSITION)
+}
+
+/// The cells that the target asks for.
+fn cells_at(target: &str) -> Option<CellFilter>
+    ensures cells { result ≡ cells_at target.now }
+{
+    let from = night_at(target, FIRST_PART)?;
+    let to = night_at(target, TO_PART)?;
+    Some(CellFilter {
+        kind: kind_at(target)?,
+        supplier: code_at(target, SUPPLIER_PART)?,
+        product: code_at(target, PRODUCT_PART)?,
+        from: Some(from),
+        to: Some(to),
+    })
+}
+
+/// The night that the target has at this place.
+fn night_at(target: &str, place: usize) -> Option<Night>
+    ensures night { result ≡ night_at target.now place }
+{
+    Night::parse(piece(target, place)?).ok()
+}
+
+/// The kind that the target names, if it names one. Returns `None` for a piece that is no kind.
+fn kind_at(target: &str) -> Option<Option<Kind>>
+    ensures kind { result ≡ kind_at target.now }
+{
+    match piece(target, KIND_PART) {
+        Some(word) => Kind::from_word(word).map(Some),
+        None => Some(None),
+    }
+}
+
+/// The supplier or the product that the target names at this place, if it names one. Returns `None` for a piece that is no
+/// code.
+fn code_at(target: &str, place: usize) -> Option<Option<Code>>
+    ensures code { result ≡ code_at target.now place }
+{
+    match piece(target, place) {
+        Some(text) => Code::parse(text).map(Some),
+        None => Some(None),
+    }
 }
 
 /// The piece of the target at this place, counted from 0, between its slashes.

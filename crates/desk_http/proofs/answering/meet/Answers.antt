@@ -18,6 +18,9 @@ returns-in-SeeBegun-clause-page g c = λ sound s stood. rw c.in-SeeBegun.is (c.s
 pub returns-in-SeeMine-clause-page : goal.returns-in-SeeMine-clause-page
 returns-in-SeeMine-clause-page g c = λ sound s stood. rw c.in-SeeMine.is (c.see_mine.ensures.page sound s stood)
 
+pub returns-in-SeeCells-clause-page : goal.returns-in-SeeCells-clause-page
+returns-in-SeeCells-clause-page g c = λ sound s stood. rw c.in-SeeCells.is (c.see_cells.ensures.page sound s stood)
+
 pub returns-in-SeeReport-clause-page : goal.returns-in-SeeReport-clause-page
 returns-in-SeeReport-clause-page g c = λ sound s stood. rw c.in-SeeReport.is (c.see_report.ensures.page sound s stood)
 
@@ -51,6 +54,11 @@ pub returns-in-SeeMine-clause-may_act : goal.returns-in-SeeMine-clause-may_act
 returns-in-SeeMine-clause-may_act g c = λ sound first.
     rw c.in-SeeMine.is
     (view_goes_on _ _ (g.B.Book.has_reason first c.see_mine.new.book) c.see_mine.result (c.see_mine.ensures.views.may_act sound first))
+
+pub returns-in-SeeCells-clause-may_act : goal.returns-in-SeeCells-clause-may_act
+returns-in-SeeCells-clause-may_act g c = λ sound first.
+    rw c.in-SeeCells.is
+    (view_goes_on _ _ (λ _ _. ⊤) c.see_cells.result (c.see_cells.ensures.views.may_act sound first))
 
 pub returns-in-SeeReport-clause-may_act : goal.returns-in-SeeReport-clause-may_act
 returns-in-SeeReport-clause-may_act g c = λ sound first.
