@@ -1,9 +1,9 @@
 -- A command to which the values of a subcommand were added reads them, and each parse has them all.
-use Rattle.std.proofs.Common.{◌≡◌, ◌∙◌, ◌<◌, ◌⊎◌, ℕ, Bor, Some, zero, suc, Bool, true, false, not, List, [], ◌∷◌, map, length, codes, sym, ap, refl, inl, inr, arith, subst, ◌||◌, ◌&&◌, bytes_eq, if◌then◌else◌}
+use Rattle.std.proofs.Common.{◌≡◌, ◌∙◌, ◌<◌, ◌≤◌, ◌⊎◌, ℕ, Bor, Some, zero, suc, Bool, true, false, not, List, [], ◌∷◌, map, length, codes, sym, ap, ap₂, refl, inl, inr, arith, subst, ◌||◌, ◌&&◌, bytes_eq, if◌then◌else◌}
 use Rattle.std.proofs.lemmas.Bool.{or_parts, and_parts, not-true}
 use Rattle.std.specs.List.{All, list_all, list_any, slice_index_or}
 use Rattle.clap.specs.Words.{App, Rule, Text, first_of, matches_of, rows_of, AddsArg, AddsInTurn, app_of, args_of, groups_of, first_value, found_of, rule_of}
-use Rattle.clap.specs.Built.{FitsChain, HasDistinctIds}
+use Rattle.clap.specs.Built.{BuildsTo, FitsChain, HasDistinctIds, IsAuto, IsPlainArg, KeepsGroups, SameCore, SameRules}
 use Rattle.clap.proofs.CallerLemmas.{required_in_chain}
 use Rattle.clap.proofs.OnLiterals.{clap_on_literals}
 use Rattle.clap.proofs.WalkLemmas.{first_value-rows}
@@ -12,7 +12,7 @@ use Rattle.clap.specs.declared.builder.Command.{Command}
 use Rattle.clap.specs.declared.builder.command.Command.TheViews.{out-Command}
 use Rattle.clap.specs.declared.parser.ArgMatches.{ArgMatches}
 use Rattle.command_line.specs.Jobs.{value_in}
-use Rattle.command_line.specs.Subcommands.{bare_app, has_any, ids_in, needed_in, rules_for, with_rules, AddsRules, IsFlag, IsValue, IsWord, Requires}
+use Rattle.command_line.specs.Subcommands.{bare_app, has_any, has_globals, ids_in, needed_in, rules_for, with_rules, AddsRules, IsFlag, IsValue, IsWord, Requires}
 use Rattle.command_line.specs.declared.subcommands.Subcommand.{Subcommand}
 use Rattle.command_line.specs.declared.subcommands.Subcommand.TheVariants.{Run, Serve, Recover, Load, Stock, Summary, Holders, Unfinished, Journeys, History, Why, Migrate, Index}
 
@@ -27,6 +27,40 @@ app_of-chain start cmd [] chain values = ap app_of (sym chain)
 app_of-chain start cmd (x ∷ xs) chain values =
     app_of-chain chain.0 cmd xs chain.2 (rest_values x xs values)
     ∙ ap (λ app. with_rules app (map rule_of xs)) (chain.1.shape (values 0 x (omega arith)).global)
+
+-- the same, by the rules alone
+pub app_of-rules : (start cmd : Command) (rules : List Rule) → AddsRules start rules cmd → app_of cmd ≡ with_rules (app_of start) rules
+app_of-rules start cmd rules added = app_of-chain start cmd added.0 added.1 added.2 ∙ ap (λ rs. with_rules (app_of start) rs) added.3
+
+-- none of the values is one that subcommands have too
+no_globals : (start cmd : Command) (xs : List Arg) → AddsInTurn AddsArg start xs cmd → All IsWord xs
+    → has_globals start ≡ false → has_globals cmd ≡ false
+no_globals start cmd [] chain values none = ap has_globals (sym chain) ∙ none
+no_globals start cmd (x ∷ xs) chain values none =
+    no_globals chain.0 cmd xs chain.2 (rest_values x xs values)
+    (chain.1.globals ∙ ap₂ (λ a b. a || b) none (values 0 x (omega arith)).global)
+
+-- what a build makes of a command, it makes of one with the same arguments and settings
+builds_same : (old new built : Command) → SameCore old new → BuildsTo new built → BuildsTo old built
+builds_same old new built same builds = record {
+  globals = builds.globals ∙ same.2;
+  negates = builds.negates ∙ same.3;
+  kept = subst (λ xs. (k : ℕ) (d : Arg) → k < length xs
+      → (k < length (args_of built)) × SameRules (slice_index_or xs k d) (slice_index_or (args_of built) k d)) same.0 builds.kept;
+  plain = λ plain. builds.plain (subst (All IsPlainArg) (sym same.0) plain.0, same.1 ∙ plain.1);
+  needs_subcommand = builds.needs_subcommand ∙ same.4;
+  extra = subst (λ xs. (k : ℕ) (d : Arg) → length xs ≤ k → k < length (args_of built)
+      → IsAuto (slice_index_or (args_of built) k d)) same.0 builds.extra;
+  groups = subst (λ gs. KeepsGroups gs (groups_of built)) same.1 builds.groups;
+  same_groups = λ none.
+      let kept = builds.same_groups (subst (All (λ a. a.groups.items ≡ [])) (sym same.0) none) in
+      (kept.0, kept.1 ∙ same.1);
+}
+
+-- so it requires what that one requires
+pub requires_same : (old new : Command) (ids : List Text) → SameCore old new → All (Requires old) ids → All (Requires new) ids
+requires_same old new ids same each = λ k id lt m parsed.
+    each k id lt m (record { built = parsed.built; from = builds_same old new parsed.built same parsed.from; parsed = parsed.parsed })
 
 -- the two names are the same
 abbrev is_same : Text → Text → Bool
@@ -139,10 +173,11 @@ with_values : (name : Text) (start cmd : Command) (xs : List Arg) (wanted : List
     → app_of start ≡ bare_app name
     → args_of start ≡ [] → groups_of start ≡ [] → (out-Command start).has_globals ≡ false → (out-Command start).subcommand_negates_reqs ≡ false
     → All IsWord xs → map rule_of xs ≡ wanted → fit_together (ids_in wanted) ≡ true
-    → (app_of cmd ≡ with_rules (bare_app name) wanted) × All (Requires cmd) (needed_in wanted)
+    → (app_of cmd ≡ with_rules (bare_app name) wanted) × (has_globals cmd ≡ false) × All (Requires cmd) (needed_in wanted)
 with_values name start cmd xs wanted chain app args groups globals negates values rules good =
     let fit : fit_together (ids_in (map rule_of xs)) ≡ true = subst (λ rs. fit_together (ids_in rs) ≡ true) (sym rules) good in (
       app_of-chain start cmd xs chain values ∙ ap (λ a. with_rules a (map rule_of xs)) app ∙ ap (with_rules (bare_app name)) rules,
+      no_globals start cmd xs chain values globals,
       subst (λ rs. All (Requires cmd) (needed_in rs)) rules (all_required start cmd xs chain args groups globals negates values fit),
     )
 
@@ -192,7 +227,7 @@ pub with_file : (name : Text) (start over cmd : Command) (file : Arg) (rules wan
     → app_of start ≡ bare_app name
     → args_of start ≡ [] → groups_of start ≡ [] → (out-Command start).has_globals ≡ false → (out-Command start).subcommand_negates_reqs ≡ false
     → IsValue file → rule_of file ∷ rules ≡ wanted → fit_together (ids_in wanted) ≡ true
-    → (app_of cmd ≡ with_rules (bare_app name) wanted) × All (Requires cmd) (needed_in wanted)
+    → (app_of cmd ≡ with_rules (bare_app name) wanted) × (has_globals cmd ≡ false) × All (Requires cmd) (needed_in wanted)
 with_file name start over cmd file rules wanted added later app args groups globals negates value listed good =
     with_values name start cmd (file ∷ later.0) wanted (over, added, later.1) app args groups globals negates
     (and_word file later.0 (value_word file value) later.2) (ap (λ rs. rule_of file ∷ rs) later.3 ∙ listed) good

@@ -8,3 +8,4 @@ pub mod Jobs
 pub mod Asking
 pub mod Calls
 pub mod Version
+pub mod Help

@@ -1,6 +1,6 @@
 -- The subcommands: the word that names each, and how clap reads the words after it.
 use Rattle.std.specs.Prelude.{◌≡◌, ◌≤◌, Bool, true, false, List, [], ◌∷◌, map, All, codes, bytes_eq, if◌then◌else◌, Option, Some, None, is_some}
-use Rattle.clap.specs.Words.{App, Rule, Text, first_value, found_of, fault_of, new_app, new_rule, with_rule, rule_of, AddsArg, AddsInTurn, IsParsedFrom, IsPlainArg}
+use Rattle.clap.specs.Words.{App, Rule, Text, first_value, found_of, fault_of, new_app, new_rule, with_rule, with_subcommand, rule_of, AddsArg, AddsInTurn, IsParsedFrom, IsPlainArg}
 use Rattle.clap.specs.Facts.{least_values}
 use Rattle.clap.specs.Simple.{on_top}
 use Rattle.clap.specs.declared.builder.ArgAction.TheVariants.{Set, SetTrue}
@@ -87,6 +87,10 @@ house_path = record (optional (codes "PATH")) { long = Some (codes "house") }
 -- a flag, which is given or not
 abbrev pub flagged : Text → Rule
 flagged id = record (new_rule id) { action = Some SetTrue }
+
+-- the word that asks for an explanation of faults, before the subcommand
+abbrev pub explain_flag : Rule
+explain_flag = record (flagged (codes "explain")) { long = Some (codes "explain") }
 
 -- the page for browsers is asked for by `--page`
 abbrev pub page_flag : Rule
@@ -183,6 +187,11 @@ with_rules app (rule ∷ more) = with_rules (with_rule app rule) more
 -- a subcommand with the values that it reads
 abbrev pub app_for : Subcommand → App
 app_for s = with_rules (bare_app (name_of s)) (rules_for s)
+
+-- the same, with these subcommands
+abbrev pub with_subcommands : App → List App → App
+with_subcommands app [] = app
+with_subcommands app (sub ∷ more) = with_subcommands (with_subcommand app sub.top) more
 
 -- the list is not empty
 abbrev pub has_any : {X : Type 0} → List X → Bool

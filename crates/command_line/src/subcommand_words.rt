@@ -21,6 +21,13 @@ pub(crate) enum Word<'a> {
     Flag(&'a str, &'a str, &'a str),
 }
 
+/// The word before the command that asks for an explanation of faults, for the usage.
+pub(crate) const EXPLAIN: Word<'static> = Word::Flag(
+    "explain",
+    "explain",
+    "Before the command: say why a fault came, and what to do",
+);
+
 /// The values of `serve`, after the file.
 pub(crate) static SERVE: [Word<'static>; 6] = [
     Word::NeededAfter("PORT", "port", "The port to listen on, 1 to 65535"),

@@ -1,7 +1,8 @@
 //! The subcommands of the program: their words, and the values that each of them reads.
 ghost use Rattle.std.specs.Prelude.{◌≡◌, [], ◌∷◌, ◌++◌, false, map, codes, All, IfOk, IfSome};
 ghost use Rattle.clap.specs.Words.{app_of, args_of, groups_of};
-ghost use Rattle.command_line.specs.Subcommands.{app_for, bare_app, has_globals, is_report, name_of, needed, needed_for, negates_needs, rule_said, rules_for, subcommand_in, Requires};
+ghost use Rattle.command_line.specs.Help.{HasHelp};
+ghost use Rattle.command_line.specs.Subcommands.{app_for, bare_app, has_globals, is_report, name_of, needed, needed_for, negates_needs, rule_said, rules_for, subcommand_in, with_subcommands, Requires};
 
 use crate::subcommand_words::{
     HOLDERS, JOURNEY, JOURNEYS, LOAD, SERVE, STOCK, SUMMARY, UNFINISHED, Word, value, with_words,
@@ -90,7 +91,7 @@ impl Subcommand {
     }
 
     /// The words that call the subcommand, as the usage shows them.
-    fn called<'a>(self) -> &'a str
+    pub(crate) fn called<'a>(self) -> &'a str
         ensures called { result.now ≡ codes "desk " ++ name_of self }
     {
         match self {
@@ -107,43 +108,6 @@ impl Subcommand {
             Subcommand::Why => "desk why",
             Subcommand::Migrate => "desk migrate",
             Subcommand::Index => "desk index",
-        }
-    }
-
-    /// A line on what the subcommand does.
-    fn about<'a>(self) -> &'a str {
-        match self {
-            Subcommand::Run => "Execute commands from standard input, one per line",
-            Subcommand::Serve => "Serve HTTP requests from many clients at once",
-            Subcommand::Recover => "Finish or undo every journey under way, as after a crash",
-            Subcommand::Load => "Load allotments from a CSV file, as one batch",
-            Subcommand::Stock => "Print the allotted, held and free places of each cell",
-            Subcommand::Summary => "Print the nights and places of each product by month",
-            Subcommand::Holders => "Print which journeys hold places of a cell, or of cells",
-            Subcommand::Unfinished => "Print the journeys that have not ended",
-            Subcommand::Journeys => "Print all journeys, ended ones too",
-            Subcommand::History => "Print what happened to a journey, oldest first",
-            Subcommand::Why => "Print why a journey stands where it does",
-            Subcommand::Migrate => "Migrate a database from schema 1 to schema 2, in one commit",
-            Subcommand::Index => "Add the index by which an agent's journeys are found",
-        }
-    }
-
-    /// A line on the subcommand's file.
-    fn file<'a>(self) -> &'a str {
-        match self {
-            Subcommand::Run | Subcommand::Serve | Subcommand::Recover | Subcommand::Load => {
-                "The database file, created if absent"
-            }
-            Subcommand::Stock
-            | Subcommand::Summary
-            | Subcommand::Holders
-            | Subcommand::Unfinished
-            | Subcommand::Journeys
-            | Subcommand::History
-            | Subcommand::Why
-            | Subcommand::Migrate
-            | Subcommand::Index => "The database file, which must exist",
         }
     }
 
@@ -168,20 +132,15 @@ impl Subcommand {
         }
     }
 
-    /// The `clap` command of the subcommand, without its values.
-    fn bare<'a>(self, alloc: Global) -> Result<Command<'a>, AllocError>
-        ensures app { IfOk result (λ command. app_of command ≡ bare_app (name_of self)) }
-        ensures args { IfOk result (λ command. args_of command ≡ []) }
-        ensures groups { IfOk result (λ command. groups_of command ≡ []) }
-        ensures globals { IfOk result (λ command. has_globals command ≡ false) }
-        ensures negates { IfOk result (λ command. negates_needs command ≡ false) }
+    /// The `clap` command of the subcommand, without its values and its help.
+    fn bare<'a>(self, alloc: Global) -> Command<'a>
+        ensures app { app_of result ≡ bare_app (name_of self) }
+        ensures args { args_of result ≡ [] }
+        ensures groups { groups_of result ≡ [] }
+        ensures globals { has_globals result ≡ false }
+        ensures negates { negates_needs result ≡ false }
     {
-        Command::new(alloc, self.name())
-            .about(self.about())
-            .long_about(self.long_about())
-            .after_long_help(self.notes())
-            .no_binary_name(true)
-            .bin_name(self.called())
+        Command::new(alloc, self.name()).no_binary_name(true)
     }
 
     /// The values that the subcommand reads after its file.
@@ -201,13 +160,32 @@ impl Subcommand {
         }
     }
 
-    /// The `clap` command that reads the words after the subcommand.
+    /// The `clap` command that reads the words after the subcommand, with its help.
     pub(crate) fn command<'a>(self, alloc: Global) -> Result<Command<'a>, AllocError>
         ensures app { IfOk result (λ command. app_of command ≡ app_for self) }
         ensures each { IfOk result (λ command. All (Requires command) (needed_for self)) }
+        ensures globals { IfOk result (λ command. has_globals command ≡ false) }
+        ensures help { IfOk result (HasHelp self) }
     {
-        let bare = self.bare(alloc)?;
-        let over_file = bare.arg(value(alloc, "FILE", self.file()))?;
-        with_words(alloc, over_file, self.words())
+        let over_file = self.bare(alloc).arg(value(alloc, "FILE", self.file()))?;
+        let whole = with_words(alloc, over_file, self.words())?;
+        self.with_help(whole)
     }
+}
+
+/// The command with those of these subcommands, one after another.
+pub(crate) fn with_subcommands<'a>(
+    alloc: Global,
+    command: Command<'a>,
+    subcommands: &[Subcommand],
+) -> Result<Command<'a>, AllocError>
+    ensures app { IfOk result (λ all.
+        app_of all ≡ with_subcommands (app_of command.entry) (map app_for subcommands.now)) }
+{
+    let mut command = command;
+    for subcommand in subcommands {
+        let one = subcommand.command(alloc)?;
+        command = command.subcommand(one)?;
+    }
+    Ok(command)
 }

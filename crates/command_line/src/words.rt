@@ -10,13 +10,12 @@ ghost use Rattle.command_line.specs.Jobs.{are_refused, names_version, refuses, I
 ghost use Rattle.command_line.specs.Subcommands.{app_for, helped_in, is_refused_by, needed_for};
 
 use crate::asked::no_socket_in;
+use crate::help::program_command;
 use crate::job_values::job_in;
 use crate::jobs::{Job, JobFault};
 use crate::subcommands::Subcommand;
-use crate::version::program_version;
 use clap::error::ErrorKind;
-use clap::{Arg, ArgAction, ArgMatches, Command, Error};
-use help_texts::PROGRAM;
+use clap::{ArgMatches, Error};
 use std::alloc::{AllocError, Global};
 
 /// How `clap` begins where the word that asks for an explanation stands after a subcommand.
@@ -30,14 +29,14 @@ pub(crate) fn job(alloc: Global, words: Vec<String>) -> Result<Job, JobFault>
     ensures usage { IsUsage result → are_refused (map string_bytes words.items) ≡ true }
 {
     let Some((name, others)) = words.split_first() else {
-        return Err(usage_of_all(alloc, words.as_slice()));
+        return Err(usage_of_all(alloc, words.as_slice())?);
     };
     if is_version(name.as_str()) {
         return Ok(Job::Version);
     }
     match Subcommand::named(name.as_str()) {
         Some(subcommand) => job_of(alloc, subcommand, others),
-        None => Err(usage_of_all(alloc, words.as_slice())),
+        None => Err(usage_of_all(alloc, words.as_slice())?),
     }
 }
 
@@ -109,42 +108,17 @@ fn with_place(alloc: Global, subcommand: Subcommand, text: String) -> JobFault
     }
 }
 
-/// The error of words that name no subcommand, with the usage of all subcommands.
-fn usage_of_all(alloc: Global, words: &[String]) -> JobFault {
-    match usage_text(alloc, words) {
-        Ok(fault) => fault,
-        Err(_) => JobFault::Memory,
-    }
-}
-
-/// The same error, or out of memory.
-fn usage_text(alloc: Global, words: &[String]) -> Result<JobFault, AllocError> {
+/// The error of words that name no subcommand: the help that they ask for, or the usage of all subcommands. No clause sees
+/// which text it is: `clap` makes it, and says nothing of what it makes of a command.
+fn usage_of_all(alloc: Global, words: &[String]) -> Result<JobFault, AllocError> {
     if let Some(subcommand) = helped(words) {
         return help_text(alloc, subcommand);
     }
-    let mut desk = Command::new(alloc, "desk")
-        .about("A booking desk for travel agencies")
-        .version(program_version())
-        .after_long_help(PROGRAM)
-        .no_binary_name(true)
-        .subcommand_required(true)
-        .arg_required_else_help(true)
-        .arg(explaining(alloc))?;
-    for subcommand in Subcommand::ALL {
-        desk = desk.subcommand(subcommand.command(alloc)?)?;
-    }
-    match desk.try_get_matches_from_mut(words) {
+    let mut program = program_command(alloc)?;
+    match program.try_get_matches_from_mut(words) {
         Err(error) => Ok(fault_of(alloc, &error)),
-        Ok(_) => Ok(JobFault::Usage(desk.render_usage()?)),
+        Ok(_) => Ok(JobFault::Usage(program.render_usage()?)),
     }
-}
-
-/// The word before the command that asks for an explanation of faults, for the usage.
-fn explaining<'a>(alloc: Global) -> Arg<'a> {
-    Arg::new(alloc, "explain")
-        .long("explain")
-        .help("Before the command: say why a fault came, and what to do")
-        .action(ArgAction::SetTrue)
 }
 
 /// The subcommand that `help` asks about, if its name is the last word.
