@@ -1,10 +1,11 @@
-"""What the page asks the desk for beside its views: what a step would make, and which journey has a number of the agency."""
+"""What the page asks the desk for beside its views: what a step would make, why one found no place, and which journey has a number
+of the agency."""
 import json
 
 from selenium.webdriver.common.keys import Keys
 
 from page_driving import wait_until
-from page_network import json_page
+from page_network import html_page, json_page
 from page_scenes import FLIGHT, JUNE, LAST, TRANSFER, comes, option, plan, same
 
 
@@ -30,6 +31,60 @@ def said_by_desk(scene):
     scene.begins(plan(FLIGHT, option("room", "INN", "YARD", nights=2)), "by-desk-4", 1)
     scene.shows_journey(4)
     browser.shows("Fits now: 4 free on 1 Jun 2030, the fullest night.", "#next")
+
+
+def yard(night, count=4, nights=1):
+    return option("room", "INN", "YARD", JUNE[night - 1], nights, count)
+
+
+LAST_SEAT = option("flight", "AL", "LAST")
+# a plan, how often it is stepped before, what bob then takes, the item that comes, and what is said of it
+TAKEN = (
+    (plan(yard(1, 2, 3)), 0, yard(2, 3), "B0r", "(room INN YARD, 1 Jun 2030, 3 nights, leaving Tue 4 June, 2 places: only 1 free on "
+     "2 Jun 2030): it turns back to the start. Nothing is held any more: the journey is undone."),
+    (plan(FLIGHT, [LAST_SEAT, TRANSFER], saves=(1,), tries=1), 1, LAST_SEAT, "B1r", "(flight AL LAST, 1 Jun 2030, 1 place: none free on "
+     "1 Jun 2030): it turns back to save-point 1. It is there."),
+    (plan(FLIGHT, yard(8), saves=(1,), tries=1), 1, yard(8, 1), "B1r", "4 places: only 3 free on 8 Jun 2030): it turns back"),
+    (plan(yard(10)), 0, yard(10, 1), "B0r", "4 places: by now 4 free): it turns back"),
+    (plan(yard(12)), 0, yard(12, 1), "B0r", "12 Jun 2030, 1 night, leaving Thu 13 June, 4 places): it turns back"),
+)
+
+
+def taken_meanwhile(scene):
+    """A step that fitted as it was shown finds no place, since bob takes it first: the page names the night that lacks it. Of the last
+    two, bob gives back what he took, and a server hides the stock."""
+    browser, desk, network = scene.browser, scene.desk, scene.network
+
+    def takes(want):
+        network.before = lambda: scene.begins(plan(want, FLIGHT), f"bob-{identity}", 1, "bob")
+
+    def gives_back(request):
+        if request.where.path == "/stock":
+            network.front = None
+            for word in ("abort/0", "step"):
+                desk.post(f"/journeys/{identity + 1}/{word}", f"bob-{identity}-{word[0]}", "", "bob")
+    hides = lambda request: html_page(403) if request.where.path == "/stock" else None
+    for identity, (body, steps, want, item, words) in zip(range(1, 99, 2), TAKEN):
+        scene.begins(body, f"taken-{identity}", steps)
+        scene.shows_journey(identity)
+        browser.shows("Fits now", "#next")
+        takes(want)
+        network.front = {7: gives_back, 9: hides}.get(identity)
+        browser.press(f"Do step {steps + 1}", ".acts")
+        scene.note(words)
+        same(f"journey {identity}: the history", item, desk.history(identity)[-1])
+    # the page is lost, and another one, which has read neither the plan nor the stock, gets the answer
+    network.front = None
+    identity = scene.begins(plan(yard(14)), "taken-lost")
+    scene.shows_journey(identity)
+    browser.shows("Fits now", "#next")
+    takes(yard(14, 1))
+    network.mode = "lose"
+    browser.press("Do step 1", ".acts")
+    browser.shows("A request got no answer", "#away")
+    network.mode = "pass"
+    browser.driver.refresh()
+    scene.note("4 places: only 3 free on 14 Jun 2030): it turns back")
 
 
 def by_booking_number(scene):

@@ -10,7 +10,7 @@ import traceback
 from concurrent.futures import ThreadPoolExecutor
 
 import page_driving
-from page_asking import by_booking_number, said_by_desk
+from page_asking import by_booking_number, said_by_desk, taken_meanwhile
 from page_day import (
     as_table, begin_in_view, by_what_is_held, large_stock, nights_in_words, notes_cover_nothing, notes_end, nothing_is_fetched,
     printed,
@@ -33,7 +33,7 @@ from parts import IN_PART, PARTS, Deal
 SCENES = {scene.__name__: scene for scene in (
     nothing_twice, signed_out, large, rules, by_clicks, by_keys, not_while_hidden, many_wait, hang_and_kill, after_restart,
     last_place, foreign_pages, silent_ahead, refused_by_the_desk, refusals_in_words, said_before, said_by_page, said_by_desk,
-    by_booking_number, asked_twice, all_steps, draft_is_changed, agents_are_apart, another_file, by_what_is_held, filters,
+    taken_meanwhile, by_booking_number, asked_twice, all_steps, draft_is_changed, agents_are_apart, another_file, by_what_is_held, filters,
     begin_in_view, notes_cover_nothing, notes_end, nights_in_words, nothing_is_fetched, large_stock, as_table, printed,
     focus_order, first_visit, in_german, rules_in_german, focus_in_german, other_languages, one_question, two_windows,
     away_by_status, part_is_barred, turned_away, not_found, moved_elsewhere, signed_out_in_windows, behind_a_password,
@@ -70,6 +70,7 @@ SPOILED = (
     ("a plan that hides how it is begun", ".begin { position: sticky;", ".begin {", begin_in_view, "at step 1"),
     ("a refusal of what the restart did", "(!page || page.refused) && await", "!page && await", after_restart, "refusals, and"),
     ("a restart of many that is told of some", "gone.length > 200", "gone.length > 8", after_restart, "what it did"),
+    ("a refusal by an older look", "    if (is || !isSaid) {", "    if (!isSaid) {", taken_meanwhile, "only 1 free on 2 Jun 2030"),
     ("notes that lie over the page", "#notes { display: flex;", "#notes { position: fixed; bottom: 60px; display: flex;",
      notes_cover_nothing, "what is below a note"),
     ("a note of a step that is gone", "  end('new');\n", "", notes_end, "the step is removed"),

@@ -2,7 +2,7 @@
 
 /// What the page may load and do: its own style and script, and requests to the desk that served it.
 pub const POLICY: &str =
-    r#"default-src 'none'; script-src 'sha256-ekGEp+K0vqHR1WB4Ve5S5I+POE+Ox6Uwe6V1tC99Z+A='; style-src 'sha256-v/aN891YSYsU5LbsCJGC/2lHDiq8mbGuZChwuWO8NmE='; connect-src 'self'; frame-ancestors 'none'; base-uri 'none'; form-action 'none'"#;
+    r#"default-src 'none'; script-src 'sha256-b86kovTQvyaxTlSdV6ZgbPsTGAM+NQVkhsHAFLY5HZE='; style-src 'sha256-v/aN891YSYsU5LbsCJGC/2lHDiq8mbGuZChwuWO8NmE='; connect-src 'self'; frame-ancestors 'none'; base-uri 'none'; form-action 'none'"#;
 
 /// The page, in HTML.
 pub const PAGE: &str = r##"<!doctype html>
@@ -492,6 +492,7 @@ const WORDS = {
   noneFree: ['none free on {0}', 'nichts frei am {0}'],
   onlyFree: ['only {0} free on {1}', 'nur {0} frei am {1}'],
   free: ['{0} free', '{0} frei'],
+  byNow: ['by now {0}', 'inzwischen {0}'],
   freeAt: ['{0} free on {1}, the fullest night', '{0} frei am {1}, der vollsten Nacht'],
   fitsNow: ['Fits now: {0}', 'Passt jetzt: {0}'],
   notNow: ['Does not fit now: {0}', 'Passt jetzt nicht: {0}'],
@@ -1077,13 +1078,15 @@ async function wasRestarted({ about, agent: whose, seen }) {
   } catch { return false; }
 }
 
+// planOf(id, mine): its plan, which is read once; null where there is none
+async function planOf(id, mine) {
+  const plan = plans.get(id) || await unlessAbsent(get(`/journeys/${id}/plan`, isPlan));
+  if (mine === turn) plans.set(id, plan);
+  return plan;
+}
 async function lookAtOne(id, mine) {
-  if (!plans.get(id)) {
-    const plan = await unlessAbsent(get(`/journeys/${id}/plan`, isPlan));
-    if (mine !== turn) return;
-    plans.set(id, plan);
-    if (!plan) return;
-  }
+  const plan = await planOf(id, mine);
+  if (mine !== turn || !plan) return;
   const known = histories.has(id) && own.get(id), was = settling.get(id);
   if (known && !isOpen(known) && !was) return;
   const one = await unlessAbsent(get('/journeys/' + id, isJourney));
@@ -1188,10 +1191,11 @@ async function sendKept(request) {
     }
     // what a restart did is told by itself, and is no refusal
     const isTold = (!page || page.refused) && await wasRestarted(request);
+    const lack = /^B\d+r/.test(page?.item) ? await lackOf(request) : '';
     local.removeItem(POST + request.key);
     isLost = false;
     isReached('here');
-    hear(request, page, isTold);
+    hear(request, page, isTold, lack);
     return true;
   };
   return navigator.locks ? navigator.locks.request(POST + request.key, { ifAvailable: true }, go) : go(true);
@@ -1218,8 +1222,24 @@ async function pageOf(request) {
   return navigator.locks && seen !== undefined ? navigator.locks.request(`${MARK}journey.${about}`, go) : go();
 }
 
-// hear(request, page, isTold): what the desk answered; with `isTold`, what became of it is told
-function hear(request, page, isTold) {
+// lackOf(request): what a step that was refused wanted, and the first night that lacks it: as the desk said before, or as the stock is now
+async function lackOf({ about, agent: whose, seen }) {
+  let text = '';
+  try {
+    const plan = whose === agent && await planOf(about, turn);
+    if (!plan) return '';
+    let { want, isSaid, is, why } = nextOf(plan, walk(seen ? seen.split(',') : [], plan), about);
+    text = wantText(want);
+    if (is || !isSaid) {
+      await lookAtStock(turn);
+      ({ is, why } = fits(want));
+    }
+    return ` (${text}: ${is ? t('byNow', why) : why})`;
+  } catch { return text && ` (${text})`; }
+}
+
+// hear(request, page, isTold, lack): what the desk answered; with `isTold`, what became of it is told
+function hear(request, page, isTold, lack) {
   const isOwn = request.agent === agent, whose = isOwn ? '' : t('whose', request.agent);
   if (isOwn && request.seen !== undefined) settling.set(request.about, request.key);
   if (isTold) { draw(); look(); return; }
@@ -1238,7 +1258,7 @@ function hear(request, page, isTold) {
       if (request.tab === tab && (view === 'plan' || view === 'stock')) location.hash = '#/journeys/' + page.journey;
     }
   } else {
-    const plan = plans.get(page.journey), { word, text } = itemSaid(page, isOwn ? plan : null, request.seen);
+    const plan = plans.get(page.journey), { word, text } = itemSaid(page, isOwn ? plan : null, lack);
     say(word, t('ofJourney', page.journey, whose, text), page.journey);
     if (request.all && page.state !== 'ended') goOn(request, page, text);
   }
@@ -1255,7 +1275,7 @@ async function goOn({ about, seen, agent: whose, tab: of }, { item, pos }, text)
   else say('warn', why ? t('stoppedAt', about, text, pos + 1, why) : t('stopped', about, text), about);
 }
 
-function itemSaid({ item, state, target, journey }, plan, seen) {
+function itemSaid({ item, state, target }, plan, lack) {
   const [, letter, a, b] = /^([TCBS])(\d+)\.?(\w*)$/.exec(item);
   const want = plan && plan.steps[a - 1] && plan.steps[a - 1].options[b - 1];
   const of = want ? ` (${wantText(want)})` : '', isOver = state === 'ended' || state === 'undone';
@@ -1264,12 +1284,7 @@ function itemSaid({ item, state, target, journey }, plan, seen) {
   if (letter === 'C') return { word: 'good', text: t('stepGiven', a, of, end(state === 'run' && state)) };
   if (letter === 'S') return { word: 'good', text: t('saveTaken', a) };
   const to = +a ? t('toSave', a) : t('toStart');
-  let since = t('turned.' + b);
-  if (b === 'r' && plan && stockText !== null) {
-    const { want, ...said } = nextOf(plan, walk(seen ? seen.split(',') : [], plan), journey), { is, why } = said.is ? fits(want) : said;
-    if (!is) since += ` (${wantText(want)}: ${why})`;
-  }
-  return { word: b === 'a' ? 'good' : 'warn', text: t('turnsSince', since, to, end(target === undefined ? 'there' : 'back')) };
+  return { word: b === 'a' ? 'good' : 'warn', text: t('turnsSince', t('turned.' + b) + lack, to, end(target === undefined ? 'there' : 'back')) };
 }
 
 // ---- what is said
@@ -1422,7 +1437,7 @@ function nextOf(plan, way, of = number) {
     return { want, isKnown: stockText !== null, to: way.used < plan.tries ? Math.max(0, ...way.saves) : 0, ...fits(want) };
   }
   const { why } = fits(want, when => said.nights.find(one => one.night === when)), [, to] = /^B(\d+)/.exec(said.step) || [];
-  return { want, isKnown: true, is: !to, why, to: +to };
+  return { want, isKnown: true, isSaid: true, is: !to, why, to: +to };
 }
 
 const NAMES = ['kind', 'supplier', 'product'];
