@@ -17,11 +17,12 @@ from page_day import (
 )
 from page_foreign import foreign_pages, silent_ahead
 from page_german import focus_in_german, in_german, other_languages, rules_in_german
-from page_lost import after_restart, hang_and_kill, many_wait, nothing_twice
+from page_lost import hang_and_kill, many_wait, nothing_twice
 from page_office import (
     SIGNED_OUT, away_by_status, behind_a_password, moved_elsewhere, not_found, one_question, other_signed_in, part_is_barred,
     signed_in, signed_out, signed_out_in_windows, turned_away, two_windows,
 )
+from page_restart import after_restart, restart_of_another_file, restart_told_once, restart_unseen
 from page_rules import first_visit, focus_order, large, rules
 from page_scenes import (
     Scene, all_steps, asked_twice, by_clicks, by_keys, last_place, refusals_in_words, refused_by_the_desk, said_before,
@@ -32,12 +33,12 @@ from parts import IN_PART, PARTS, Deal
 
 SCENES = {scene.__name__: scene for scene in (
     nothing_twice, signed_out, large, rules, by_clicks, by_keys, not_while_hidden, many_wait, hang_and_kill, after_restart,
-    last_place, foreign_pages, silent_ahead, refused_by_the_desk, refusals_in_words, said_before, said_by_page, said_by_desk,
-    taken_meanwhile, by_booking_number, asked_twice, all_steps, draft_is_changed, agents_are_apart, another_file, by_what_is_held, filters,
-    begin_in_view, notes_cover_nothing, notes_end, nights_in_words, nothing_is_fetched, large_stock, as_table, printed,
-    focus_order, first_visit, in_german, rules_in_german, focus_in_german, other_languages, one_question, two_windows,
-    away_by_status, part_is_barred, turned_away, not_found, moved_elsewhere, signed_out_in_windows, behind_a_password,
-    signed_in, other_signed_in,
+    restart_unseen, restart_told_once, restart_of_another_file, last_place, foreign_pages, silent_ahead, refused_by_the_desk,
+    refusals_in_words, said_before, said_by_page, said_by_desk, taken_meanwhile, by_booking_number, asked_twice, all_steps,
+    draft_is_changed, agents_are_apart, another_file, by_what_is_held, filters, begin_in_view, notes_cover_nothing, notes_end,
+    nights_in_words, nothing_is_fetched, large_stock, as_table, printed, focus_order, first_visit, in_german, rules_in_german,
+    focus_in_german, other_languages, one_question, two_windows, away_by_status, part_is_barred, turned_away, not_found,
+    moved_elsewhere, signed_out_in_windows, behind_a_password, signed_in, other_signed_in,
 )}
 
 
@@ -69,7 +70,12 @@ SPOILED = (
      by_what_is_held, "the option at its step"),
     ("a plan that hides how it is begun", ".begin { position: sticky;", ".begin {", begin_in_view, "at step 1"),
     ("a refusal of what the restart did", "(!page || page.refused) && await", "!page && await", after_restart, "refusals, and"),
-    ("a restart of many that is told of some", "gone.length > 200", "gone.length > 8", after_restart, "what it did"),
+    ("a restart of many that is told of some", "over.length > 200", "over.length > 8", after_restart, "what it did"),
+    ("a restart that is told where it was seen alone", "    openBefore.push(...kept(local, OPEN + agent, []));\n", "", restart_unseen,
+     "reload"),
+    ("a journey that went back, and of which nothing is told", " || one.state === 'back'", "", restart_unseen, "nothing is asked"),
+    ("a restart that each page tells", "one.isNew || toTell.includes(one.journey)", "true", restart_told_once, "the other page"),
+    ("a restart over another file", ".startsWith(one.history || '')", ".startsWith('')", restart_of_another_file, "other"),
     ("a refusal by an older look", "    if (is || !isSaid) {", "    if (!isSaid) {", taken_meanwhile, "only 1 free on 2 Jun 2030"),
     ("notes that lie over the page", "#notes { display: flex;", "#notes { position: fixed; bottom: 60px; display: flex;",
      notes_cover_nothing, "what is below a note"),

@@ -1,11 +1,9 @@
 """Requests whose page is lost, while the desk, the page or the window ends: each takes effect once, under its first key."""
-import datetime
 import signal
 import time
 
 from page_driving import wait_until
-from page_rules import look_at
-from page_scenes import FLIGHT, SHORT_LINE, TRANSFER, TWO, comes, option, plan, same
+from page_scenes import SHORT_LINE, TWO, comes, same
 
 WAITS = "1 request will be retried, and takes effect once"
 
@@ -89,46 +87,6 @@ def nothing_twice(scene, rows=BETWEEN):
         if "restart" in events and mode == "hold":
             browser.shows(f"journey {identity} was undone", "#notes")
             same(f"{what}: refusals", [], browser.names(".note.isbad p"))
-
-
-def after_restart(scene):
-    """What a restart did is told journey by journey, also of the step that was pressed and never came; no refusal is told."""
-    browser, desk, network = scene.browser, scene.desk, scene.network
-    one, three = option("transfer", "BUS", "X"), (FLIGHT, FLIGHT, TRANSFER, TRANSFER)
-    # what is begun, its steps, and what comes of a restart
-    rows = [(TWO, 1, "step 2 of journey 1 was done"), (TWO, 0, "journey 2 was undone"), (plan(FLIGHT, one), 1, "journey 3 was undone"),
-            (plan(one), 1, ""), (plan(*three, saves=(1, 2)), 1, "steps 2, 3 and 4 of journey 5 were done")]
-    rows += [(TWO, 0, f"journey {n} was undone") for n in range(6, 14)]
-    for n, (body, steps, _) in enumerate(rows, 1):
-        scene.begins(body, f"anew-{n}", steps)
-    # one goes back already, so that no turn says that it was the restart
-    desk.post("/journeys/3/abort/0", "anew-back")
-    scene.shows_journey(1)
-    browser.shows("My journeys (12)", "#nav")
-    network.mode = "hold"
-    browser.press("Do step 2", ".acts")
-    wait_until(lambda: network.posts, "the request")
-    desk.kill()
-    network.let_go.set()
-    browser.shows("The desk cannot be reached", "#away")
-    network.mode = "pass"
-    desk.start()
-    browser.shows("The journey has ended", ".acts")
-    comes("nothing is kept", 0, scene.kept)
-    expected = [text for _, _, text in rows if text]
-    comes("what it did", expected, lambda: browser.text(".note.iswarn p").split("\n")[1:])
-    seen = datetime.datetime.strptime(browser.text(".note.iswarn p").split("\n")[0], "Restarted (seen at %H:%M):")
-    now = datetime.datetime.now()
-    same("when", True, (now - now.replace(hour=seen.hour, minute=seen.minute, second=0)).total_seconds() < 180)
-    same("refusals, and other warnings", ([], 1), (browser.names(".note.isbad p"), len(browser.all(".note.iswarn"))))
-    scene.begins(TWO, "later", 1)
-    desk.post("/journeys/14/step", "later-2")
-    browser.shows("My journeys", "#nav")
-    comes("one that ended later", expected, lambda: browser.text(".note.iswarn p").split("\n")[1:])
-    look_at(browser, "after a restart")
-    browser.driver.refresh()
-    browser.shows("Up to date", "#state")
-    same("it is told once", [], browser.names(".note p"))
 
 
 def hang_and_kill(scene):

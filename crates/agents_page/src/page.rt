@@ -2,7 +2,7 @@
 
 /// What the page may load and do: its own style and script, and requests to the desk that served it.
 pub const POLICY: &str =
-    r#"default-src 'none'; script-src 'sha256-b86kovTQvyaxTlSdV6ZgbPsTGAM+NQVkhsHAFLY5HZE='; style-src 'sha256-v/aN891YSYsU5LbsCJGC/2lHDiq8mbGuZChwuWO8NmE='; connect-src 'self'; frame-ancestors 'none'; base-uri 'none'; form-action 'none'"#;
+    r#"default-src 'none'; script-src 'sha256-eQ8iDqhm3EMI5qhMgmOCBu4jXwdu9xh2bO41FLV3tsA='; style-src 'sha256-v/aN891YSYsU5LbsCJGC/2lHDiq8mbGuZChwuWO8NmE='; connect-src 'self'; frame-ancestors 'none'; base-uri 'none'; form-action 'none'"#;
 
 /// The page, in HTML.
 pub const PAGE: &str = r##"<!doctype html>
@@ -849,11 +849,13 @@ let stockText = null, stockAt = 0, isOpened = false, stock = new Map(), months =
 let own = new Map(), histories = new Map(), plans = new Map(), whys = new Map(), complete = false;
 // the agency's numbers of journeys, each with the plan that was begun under it; whether the desk says why a step would not fit
 let bookings = {}, knowsWhy = true;
+// own journeys that were open at the last look, as they were; those that a restart finished or undid
+let openBefore = [], byRestart = new Set();
 let draft = null, chosen = null, into = 0, badStep = 0, places = 1;
 // journeys of which a page came, until it is known how they are now
 let settling = new Map();
 // reached: 'here', 'slow', 'away', 'out' (signed out), 'barred' (not allowed); null until this is known
-let reached = null, wasAway = false, status = 0, timer = 0, looking = false, lookAgain = false, line = new AbortController();
+let reached = null, wasAway = kept(session, 'away', false), status = 0, timer = 0, looking = false, lookAgain = false, line = new AbortController();
 let filter = { kind: '', supplier: '', product: '', month: '', from: '', places: 1, ...kept(session, 'filter', {}) };
 let sought = { state: '', text: '', ...kept(session, 'sought', {}), rows: ROWS };
 
@@ -934,6 +936,8 @@ async function look() {
   clearTimeout(timer);
   if (document.hidden || !agent) return;
   looking = true;
+  // not at its end, since a page that is left gets no answer either
+  keep(session, 'away', wasAway);
   const mine = turn, whose = agent, id = number;
   let met = 'here', bad = '', now = '';
   for (const [name, part] of Object.entries({
@@ -961,6 +965,7 @@ async function look() {
   if (wasAway) read.clear();
   if (bad) say('bad', bad, 'look'); else end('look');
   looking = false;
+  if (mine === turn && read.get('own') === now) saveOpen();
   if (mine === turn) draw();
   if (waiting().length && !isLost) flush();
   if (lookAgain || mine !== turn) { lookAgain = false; look(); return; }
@@ -996,35 +1001,43 @@ async function lookAtStock(mine) {
 async function lookAtOwn(mine) {
   if (!complete) {
     const all = new Map();
-    if (await readMine(0, all, mine)) { own = all; complete = true; }
-    return;
+    if (!await readMine(0, all, mine)) return;
+    own = all;
+    complete = true;
+    // as a window of this browser saw them last
+    openBefore.push(...kept(local, OPEN + agent, []));
+    if (openBefore.some(one => !own.has(one.journey))) openBefore = [];
+    return tellRestart(mine);
   }
   const { unfinished: open } = await get('/unfinished', page => Array.isArray(page.unfinished));
   const now = new Set(open.map(one => one.journey));
   if (mine !== turn) return;
   const most = Math.max(0, ...own.keys());
   if (open.some(one => one.journey <= most && !isOpen(own.get(one.journey) || {}))) return lookAnew(mine);
-  const before = [...own.values()].filter(isOpen), gone = before.map(one => one.journey).filter(id => !now.has(id));
+  const gone = [...own.values()].filter(isOpen).map(one => one.journey).filter(id => !now.has(id));
   for (const one of open) own.set(one.journey, one);
-  // once the desk is reached again, and all that were open are over, the desk was started anew
-  const isAnew = wasAway && gone.length === before.length;
-  if (gone.length > 200) await readMine(Math.min(...gone) - 1, own, mine);
-  else for (const id of gone) {
-    const one = await unlessAbsent(get('/journeys/' + id, isJourney));
-    if (mine !== turn) return;
-    if (one) take(id, one, isAnew);
-  }
+  if (gone.length > 200) await readMine(Math.min(...gone) - 1, own, mine); else await readAll(gone, mine);
   if (mine !== turn) return;
   if (gone.some(id => isOpen(own.get(id)))) return lookAnew(mine);
-  await readMine(most, own, mine);
+  if (await readMine(most, own, mine)) await tellRestart(mine);
+}
+// readAll(ids, mine): reads these journeys with their histories
+async function readAll(ids, mine) {
+  for (const id of ids) {
+    const one = await unlessAbsent(get('/journeys/' + id, isJourney));
+    if (mine !== turn) return;
+    if (one) take(id, one);
+  }
 }
 function forget() {
   own = new Map(); histories = new Map(); plans = new Map(); whys = new Map(); complete = false;
+  openBefore = []; byRestart = new Set();
   read.clear();
 }
 // lookAnew(): the desk has another file now, or an older one: nothing that was known is
 function lookAnew(mine) {
   forget();
+  keep(local, OPEN + agent, []);
   return lookAtOwn(mine);
 }
 // unlessAbsent(page): null where there is no such journey
@@ -1044,38 +1057,62 @@ async function readMine(after, into, mine) {
   }
 }
 
-// take(.., isAnew): with `isAnew`, the desk was started anew since this journey was read
-function take(id, { history, ...where }, isAnew) {
-  const was = own.get(id), known = histories.get(id)?.history;
+function take(id, { history, ...where }) {
+  const known = histories.get(id)?.history;
   // it was moved elsewhere
   if (known && known.join() !== history.join() && !settling.has(id)) end(id);
-  if (was && isOpen(was) && !isOpen(where)) tellRestart(id, history, where, known, isAnew);
   own.set(id, where);
-  if (history) histories.set(id, { history, where });
+  histories.set(id, { history, where });
 }
 
-// tellRestart(id, history, where, known, isAnew): whether a restart finished or undid this journey since this was known; that is told
-const isRestart = item => /^B\d+s/.test(item);
+// tellRestart(mine): tells, once in a browser, what a restart did to own journeys that were open. Those under way it turned, as their items
+// say. Those that went back it took on: that is known by others that it turned, or if the desk was away and none is open now
+const OPEN = 'open.', isRestart = item => /^B\d+s/.test(item), itemsOf = id => histories.get(id)?.history || [];
+const isOver = ({ journey: id }) => own.has(id) && !isOpen(own.get(id));
+async function tellRestart(mine) {
+  const over = openBefore.filter(isOver), isAway = wasAway && over.length === openBefore.length;
+  const ids = over.length > 200 ? [] : over.map(one => one.journey);
+  await readAll(ids.filter(id => histories.get(id)?.where !== own.get(id)), mine);
+  if (mine !== turn) return;
+  const isTurned = one => itemsOf(one.journey).some(isRestart);
+  // another file has other histories
+  if (ids[0] && over.every(one => itemsOf(one.journey).join().startsWith(one.history || '')) && (isAway || over.some(isTurned))) {
+    const all = over.filter(one => isAway || isTurned(one) || one.state === 'back');
+    all.forEach(one => byRestart.add(one.journey));
+    const toTell = kept(local, OPEN + agent, openBefore).map(one => one.journey);
+    sayRestart(all.filter(one => one.isNew || toTell.includes(one.journey)));
+  }
+  openBefore = openBefore.filter(one => !over.includes(one));
+  saveOpen();
+}
+// saveOpen(): keeps which own journeys are open, with what is known of them
+function saveOpen() {
+  const known = new Map(openBefore.map(one => [one.journey, one.history]));
+  const historyOf = id => histories.get(id)?.history.join() ?? known.get(id);
+  const open = [...own.values()].filter(isOpen).map(one => ({ ...one, history: historyOf(one.journey) }));
+  openBefore = [...openBefore.filter(isOver), ...open];
+  keep(local, OPEN + agent, openBefore);
+}
 const standing = items => items.reduce((all, item) => ({ T: [...all, item], C: all.slice(0, -1) })[item[0]] || all, []);
-function tellRestart(id, history, where, known = history, isAnew = false) {
-  const at = history.findIndex(isRestart);
-  if (at < 0 ? !isAnew : known !== history && known.some(isRestart)) return false;
-  const stood = standing(at < 0 ? known : history.slice(0, at));
-  const done = standing(history).filter(item => !stood.includes(item)).map(item => item.slice(1).split('.')[0]);
+function sayRestart(all) {
+  if (!all[0]) return;
   const { did, time } = told.find(note => note.of === 'restart') || { did: new Map(), time: new Date().toLocaleTimeString(TONGUE, { timeStyle: 'short' }) };
-  did.set(id, where.state === 'undone' || !done[0] ? t('did.' + where.state, id)
-    : t('didSteps', done.length, new Intl.ListFormat(TONGUE).format(done), id));
+  for (const { journey, history: known } of all) {
+    const history = itemsOf(journey), at = history.findIndex(isRestart), { state } = own.get(journey);
+    const stood = standing(at < 0 ? known?.split(',') || history : history.slice(0, at));
+    const done = standing(history).filter(item => !stood.includes(item)).map(item => item.slice(1).split('.')[0]);
+    did.set(journey, state === 'undone' || !done[0] ? t('did.' + state, journey)
+      : t('didSteps', done.length, new Intl.ListFormat(TONGUE).format(done), journey));
+  }
   const lines = [...did].sort(([a], [b]) => a - b).map(([, text]) => '\n' + text);
   Object.assign(say('warn', t('restarted', time, lines.join('')), 'restart'), { did, time });
-  return true;
 }
-// wasRestarted(request): the same of the journey that it is about, as it was shown when it was made
+// wasRestarted(request): whether a restart finished or undid its journey, which was open when it was made; that is told
 async function wasRestarted({ about, agent: whose, seen }) {
   if (seen === undefined || whose !== agent) return false;
-  try {
-    const { history, ...where } = await get('/journeys/' + about, isJourney);
-    return whose === agent && tellRestart(about, history, where, seen.split(','));
-  } catch { return false; }
+  openBefore.push({ journey: about, state: 'back', history: seen, isNew: true });
+  try { await lookAtOwn(turn); } catch { return false; }
+  return byRestart.has(about);
 }
 
 // planOf(id, mine): its plan, which is read once; null where there is none
@@ -1252,7 +1289,10 @@ function hear(request, page, isTold, lack) {
     say('good', t('begun', page.journey, whose), page.journey);
     if (isOwn) {
       // a number that was used before leads to the journey that has it
-      if (!own.has(page.journey)) own.set(page.journey, { journey: page.journey, pos: 0, state: 'run' });
+      if (!own.has(page.journey)) {
+        own.set(page.journey, { journey: page.journey, pos: 0, state: 'run' });
+        openBefore.push({ ...own.get(page.journey), isNew: true });
+      }
       if (request.booking) book(page.journey, request.booking, JSON.parse(request.body));
       if (request.body === bodyOf(draft)) setDraft({ steps: [], tries: draft.tries });
       if (request.tab === tab && (view === 'plan' || view === 'stock')) location.hash = '#/journeys/' + page.journey;
