@@ -1,33 +1,35 @@
 #!/usr/bin/env bash
-# The package of ./desk package: it is installed on a system of its own, serves and books by the command of its unit, takes the place of an
-# older one, is removed and purged; what the desk has written stays byte for byte. lintian finds no error. The system is one of Debian's
-# that mmdebstrap or debootstrap makes, and where neither can, a folder with records of its own for dpkg; the last line says which.
+# The package of ./desk package: it is installed on a system of its own, serves and books by the command of its unit, takes the place of
+# one of version 0.2.0, is removed and purged; what the desk has written stays byte for byte. No package of 0.2.0 was ever made: the older
+# one has the same program under that number, and its file is given the tables of 0.2.0. lintian finds no error. The system is one of
+# Debian's that mmdebstrap or debootstrap makes, and where neither can, a folder with records of its own for dpkg; the last line says which.
 . "$(dirname "${BASH_SOURCE[0]}")/helping.bash"
 . "$tests/serving.bash"
 top=$(dirname "$tests")
 say() { printf 'package.sh: %s\n' "$*" >&2; }
 skips_trial
-stands_on dpkg-deb dpkg-shlibdeps strip curl
+stands_on dpkg-deb dpkg-shlibdeps strip curl sqlite3
 for file in program needs install package; do . "$top/scripts/$file.bash"; done
 program=$DESK
 
-# the package, and one of an older version
+# the package, and one of the version before
 version=$("$DESK" --version | cut -d ' ' -f 2)
+before=0.2.0
 system=$(dpkg --print-architecture)
 new=$(make_package "$work" "$version") || exit 1
 same "the name of the package" "$work/desk_${version}_$system.deb" "$new"
-old=$(make_package "$work" 0.0.1) || exit 1
-mkdir again
+mkdir older again
+old=$(make_package older "$before") || exit 1
 same "made again it is the same" "$(sum "$new")" "$(sum "$(make_package again "$version")")"
 same "what it says of itself" "desk $version $system" "$(dpkg-deb -W --showformat '${Package} ${Version} ${Architecture}' "$new")"
 same "libraries that it needs" yes "$([[ $(dpkg-deb -f "$new" Depends) == libc6\ * ]] && echo yes)"
 same "what it holds but for pages, which ./desk install lays down too" "$(printf 'usr/%s\n' "${installed_files[@]}" |
   sed 's/site-functions/vendor-completions/; s/desk\.1$/&.gz/' | LC_ALL=C sort)" \
   "$(dpkg-deb --fsys-tarfile "$new" | tar t | sed -n 's,^\./,,; /share\/doc/d; /[^/]$/p' | LC_ALL=C sort)"
+looked="no lintian is here to look at it"
 if command -v lintian >/dev/null; then
-  same "what lintian finds" "" "$(lintian --allow-root --fail-on none --tag-display-limit 0 "$new" 2>&1 | grep '^E:')"
-else
-  say "no lintian is here: the package is not looked at by it"
+  looked="$(lintian --version) has looked at it"
+  lintian --allow-root --fail-on error --tag-display-limit 0 "$new" >found 2>&1 || same "lintian: the status" 0 "$?: $(cat found)"
 fi
 same "another word: the status" 2 "$(
   package_desk package x 2>/dev/null
@@ -43,10 +45,10 @@ same "without a program" "1 package.sh: the program is absent, or older than a s
 makes_system() {
   local codename
   codename=$(. /etc/os-release && echo "$VERSION_CODENAME")
-  rm -rf root
+  rm -rf --one-file-system root
   case $1 in
-    mmdebstrap) mmdebstrap --quiet --variant=essential "$codename" root ;;
-    debootstrap) debootstrap --variant=minbase "$codename" root ;;
+    mmdebstrap) timeout 600 mmdebstrap --quiet --variant=essential "$codename" root ;;
+    debootstrap) timeout 600 debootstrap --variant=minbase "$codename" root ;;
   esac >debian 2>&1
 }
 
@@ -111,27 +113,30 @@ asks_for() {
   page "$1" 200 "$2" -H 'Desk-Agent: ann' -H "Desk-Key: $3" --data-binary "$5" "http://127.0.0.1:$port$4"
 }
 
-cp "$new" "$old" root
-changes "it is installed, in an older version" -i "$at_root/${old##*/}"
-same "the older version" 0.0.1 "$(version_there)"
+cp "$new" root/newer.deb && cp "$old" root/older.deb
+changes "it is installed, in the version before" -i "$at_root/older.deb"
+same "the version before" "$before" "$(version_there)"
 begins
 asks_for "allotments" '{"batch":"june","rows":1}' k1 /batches/june $'kind,supplier,product,night,places\nflight,AL,A1,2030-06-01,9\n'
 asks_for "a journey" '{"journey":1}' k2 /journeys "$plan"
 asks_for "its step" '{"item":"T1.1","journey":1,"pos":1,"state":"ended"}' k3 /journeys/1/step ''
-changes "the newer one takes its place, while it serves" -i "$at_root/${new##*/}"
+changes "the newer one takes its place, while it serves" -i "$at_root/newer.deb"
 same "the newer version" "$version" "$(version_there)"
 asks_for "the desk that serves goes on" '{"journey":2}' k4 /journeys "$plan"
 ends
+# the tables of 0.2.0 have no index on the agents of journeys, and are otherwise those of today
+sqlite3 root/var/lib/desk/trips.db 'DROP INDEX journey_agent'
 begins
 asks_for "the newer one knows what was answered" '{"journey":2}' k4 /journeys "$plan"
 ends
+same "the newer one adds the index" "indexed journeys 2" "$("${enter[@]}" "$at_root/usr/bin/desk" index "$at_root/var/lib/desk/trips.db")"
 changes "it is removed" -r desk
 same "what is left of it" "" "$(find root/usr/bin/desk* root/usr/share/doc/desk root/usr/lib/systemd/system/desk.service 2>/dev/null)"
 changes "it is purged" -P desk
 same "no version is left" "" "$(version_there)"
-changes "it is installed again" -i "$at_root/${new##*/}"
+changes "it is installed again" -i "$at_root/newer.deb"
 same "what it has written is read" "           1 ann              ended 1
            2 ann              undone 0
 journeys 2" "$("${enter[@]}" "$at_root/usr/bin/desk" journeys "$at_root/var/lib/desk/trips.db")"
-echo "package.sh: installed on $how"
+echo "package.sh: installed on $how; $looked"
 finish
