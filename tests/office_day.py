@@ -1,6 +1,7 @@
 """A day of an office: ten tabs of ten agents at one desk behind a proxy. A backup is made meanwhile, the desk is killed, and it is ended in
 order and started again; office_kept.py says what has to hold at the end.
 More than 200 lines: a third is what runs in the tabs."""
+import contextlib
 import os
 import random
 import shutil
@@ -168,6 +169,26 @@ class Clerk:
         return Tab(self.agent, self.begun, self.moves, end["notes"], end["histories"], listed, free)
 
 
+@contextlib.contextmanager
+def backup_of(desk):
+    """A backup is made meanwhile; gives the list that has its events then."""
+    saved, to, least = [], f"{desk.file}-backup", desk.ask("GET", "/health")[1]["events"]
+    words = [os.path.join(os.path.dirname(HERE), "tools", "backup"), desk.file, to]
+    with subprocess.Popen(words, env={**os.environ, "DESK": DESK}, stdout=subprocess.PIPE) as call:
+        yield saved
+        same("a backup", (f"saved {to}\n".encode(), 0), (call.communicate()[0], call.returncode))
+    saved += events_of(rows_in(to))
+    same("it has what had happened before", True, len(saved) >= least)
+
+
+def rows_of(file):
+    """The rows of all tables of a desk's file now, where nobody writes."""
+    for end in ("", "-wal"):
+        if os.path.exists(file + end):
+            shutil.copy(file + end, f"{file}-copy{end}")
+    return rows_in(f"{file}-copy")
+
+
 class Office:
     """The desk, the proxy and the tabs."""
 
@@ -206,21 +227,9 @@ class Office:
 
     def saves(self, seconds):
         """A backup is made while the tabs work; gives what it has."""
-        to, least = f"{self.file}-backup", self.desk.ask("GET", "/health")[1]["events"]
-        words = [os.path.join(os.path.dirname(HERE), "tools", "backup"), self.file, to]
-        with subprocess.Popen(words, env={**os.environ, "DESK": DESK}, stdout=subprocess.PIPE) as call:
+        with backup_of(self.desk) as saved:
             self.works(seconds)
-            same("a backup", (f"saved {to}\n".encode(), 0), (call.communicate()[0], call.returncode))
-        saved = events_of(rows_in(to))
-        same("it has what had happened before", True, len(saved) >= least)
         return saved
-
-    def rows(self):
-        """The rows of all tables now, where nobody writes."""
-        for end in ("", "-wal"):
-            if os.path.exists(self.file + end):
-                shutil.copy(self.file + end, f"{self.file}-copy{end}")
-        return rows_in(f"{self.file}-copy")
 
     def starts_again(self, by, spoil=None):
         """The desk is ended, and started again while the tabs go on."""
@@ -229,7 +238,7 @@ class Office:
         self.works(2)
         if spoil:
             spoil(self.file)
-        before = len(events_of(self.rows()))
+        before = len(events_of(rows_of(self.file)))
         self.desk.start()
         with open(self.desk.log, encoding="utf-8") as log:
             made = [line for line in log if " opened recovered=" in line][-1]
@@ -255,11 +264,10 @@ class Office:
             clerk.browser.script("location.hash = '#/stock'")
             clerk.browser.click_on('[data-f="filter.table"]')
         # a look comes every four seconds
-        time.sleep(5 + CELLS / 10_000)
+        time.sleep(8 + CELLS / 10_000)
 
     def rests(self, seconds):
         """Nothing but how much there is is asked for, while nothing happens."""
-        time.sleep(8)
         with open(self.desk.log, encoding="utf-8") as log:
             log.seek(0, os.SEEK_END)
             time.sleep(seconds)
@@ -305,9 +313,9 @@ def day(folder, name, seconds, seed=0, spoil=None):
         office.starts_again(signal.SIGTERM)
         at_work = office.measured(office.works, seconds * 0.25)
         office.closes()
-        at_rest = office.measured(office.rests, 10)
         office.shows_stock()
-        rows = office.rows()
+        at_rest = office.measured(office.rests, 10)
+        rows = rows_of(office.file)
         found = Day(events_of(rows), saved, rows, office.openings, [clerk.at_end() for clerk in office.clerks])
         print(f"{name}, {seconds} seconds: {len(found.events)} events, {len(rows['journey'])} journeys, openings {office.openings}; "
               f"at work {at_work}; at rest {at_rest}", file=sys.stderr)
