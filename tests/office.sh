@@ -1,8 +1,9 @@
 #!/usr/bin/env bash
 # The recipes of OFFICE.md for an office, as printed but for ports, files and passwords: HAProxy, nginx, Apache and Caddy with TLS
-# and passwords before a desk with its page, and headless Chromium before them. Two agents book at once in three windows, the
-# desk is killed and started again, a password is changed. Firefox does a journey, where it is there. Then names are mapped to
-# agents, the page is served in a folder, and certificates say who asks. A proxy that is absent is left out.
+# and passwords before a desk with its page, and headless Chromium before them. Two agents book at once in three windows, while a
+# backup is made. The desk is killed and started again, and a browser is another agent's meanwhile, in Firefox too. A password is
+# withdrawn, its question cancelled, and who is signed out signs in again. Names are mapped to agents, the page is served in a folder,
+# and certificates say who asks. A proxy, or what else is absent, is left out, which is said.
 #
 # A day of an office behind nginx and one behind HAProxy: ten tabs of ten agents, with a backup, a kill and a restart in between. Nothing
 # is lost, doubled or stuck, and the ledger is what the tabs were shown. A day takes SECONDS_A_DAY: 300, in the gate 45.
@@ -12,13 +13,19 @@ stands_on openssl
 drives_browser
 PATH=$PATH:/usr/sbin
 proxies=()
+
+# has WHAT COMMAND ..: one of these commands is here; where none is, says that this is left out
+has() {
+  if command -v "${@:2}" >/dev/null 2>&1; then return; fi
+  echo "office.sh: $1 is left out, it is absent" >&2
+  return 1
+}
+
 for proxy in haproxy nginx apache2 caddy; do
-  if command -v "$proxy" >/dev/null 2>&1; then
-    proxies+=("$proxy")
-  else
-    echo "office.sh: $proxy is left out, it is absent" >&2
-  fi
+  if has "$proxy" "$proxy"; then proxies+=("$proxy"); fi
 done
+has Firefox firefox-esr firefox
+has "pk12util, which gives Chromium a certificate," pk12util
 
 openssl req -x509 -newkey rsa:2048 -nodes -days 2 -subj /CN=office.example -keyout key -out certificate 2>/dev/null
 cat certificate key >desk.pem

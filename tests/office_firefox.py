@@ -6,6 +6,7 @@ import socket
 import subprocess
 from pathlib import Path
 
+from driving import PATIENCE
 from page_driving import wait_until
 from ports import free_port
 
@@ -42,7 +43,7 @@ class Firefox:
 
     def connected(self):
         try:
-            return socket.create_connection(("127.0.0.1", self.port), 60)
+            return socket.create_connection(("127.0.0.1", self.port), PATIENCE)
         except OSError:
             return None
 

@@ -83,7 +83,7 @@ class Desk(Server):
 class Browser:
     """A window of headless Chromium of its own, which asks for these languages, with a profile that is gone at its end."""
 
-    def __init__(self, folder, network=None, words=(), width=1280, height=900, languages="en-GB,en"):
+    def __init__(self, folder, network=None, words=(), width=1280, height=900, languages="en-GB,en", choices=()):
         options = Options()
         options.binary_location = CHROMIUM
         for word in (
@@ -95,7 +95,7 @@ class Browser:
         if network:
             options.add_argument(f"--proxy-server=http://127.0.0.1:{network.port}")
             options.add_argument("--proxy-bypass-list=<-loopback>")
-        options.add_experimental_option("prefs", {"intl.accept_languages": languages})
+        options.add_experimental_option("prefs", {"intl.accept_languages": languages, **dict(choices)})
         options.set_capability("goog:loggingPrefs", {"browser": "ALL"})
         self.network = network
         self.driver = webdriver.Chrome(service=Service(DRIVER), options=options)
