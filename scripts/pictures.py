@@ -14,7 +14,7 @@ sys.dont_write_bytecode = True
 TOP = Path(__file__).resolve().parents[1]
 sys.path.append(str(TOP / "scripts/gate"))
 
-from drawing import crates, journey, phases, way
+from drawing import crates, graphs, journey
 from drawing.graphs import Bad
 from tables import Tables
 
@@ -34,14 +34,32 @@ def printed(path, command):
     return found[1]
 
 
+def items_under(page, heading, crates):
+    """The items of the numbered list under a heading of a page: the number, the words in bold, and the crates that it names, in order."""
+    section = page.partition(f"\n## {heading}\n")[2].partition("\n## ")[0]
+    for number, bold, text in re.findall(r"^(\d+)\. \*\*(.+?)\.?\*\*(.*?)(?=^\S|^$|\Z)", section, re.MULTILINE | re.DOTALL):
+        named = [name for name in dict.fromkeys(re.findall("`([a-z_]+)`", text)) if name in crates]
+        yield f"{number}. {bold}\\n{' → '.join(named)}"
+
+
+def way():
+    """The picture of the way of a command, which has to have each item of two lists of a page, and no other."""
+    page, graph, uses = source("docs/ARCHITECTURE.md"), source(f"{FOLDER}/way.dot"), Tables(TOP).uses
+    items = [item for heading in HEADINGS for item in items_under(page, heading, uses)]
+    labels = [label for *_, label in graphs.labels_of(graph) if "\\n" in label]
+    if labels != items:
+        raise Bad("way.dot is not docs/ARCHITECTURE.md in " + "; ".join(sorted({*labels} ^ {*items})).replace("\\n", ": "))
+    return graphs.read(graph)
+
+
 HEADINGS = "One command, from the line to the commit", "One request, from the socket to the page"
 # each picture, and what makes it
 PICTURES = {
     "crates": lambda: crates.picture(Tables(TOP)),
     "journey": lambda: journey.picture(printed("README.md", "./desk history first.db 1"), "Journey 1 of the README"),
-    "phases": lambda: phases.picture(source(f"{FOLDER}/phases.txt"), "The phases of a journey"),
+    "phases": lambda: graphs.read(source(f"{FOLDER}/phases.dot")),
     "two_stops": lambda: journey.picture(source(f"{FOLDER}/two_stops.txt"), "Six steps, stopped twice"),
-    "way": lambda: way.picture(source("docs/ARCHITECTURE.md"), HEADINGS, Tables(TOP).uses),
+    "way": way,
 }
 
 
@@ -58,30 +76,24 @@ def wrong():
             yield f"{FOLDER}/{name}.svg", "not what is drawn now", pictures[name]
 
 
-def check():
-    """Names each picture that is not as it is to be."""
-    found = [f"{file} is {why}; scripts/pictures.py draws the pictures anew\n" for file, why, _ in wrong()]
-    sys.stderr.writelines(found)
-    return 1 if found else 0
-
-
-def write():
-    """Draws each picture that is not as it is to be, and removes those that are drawn no more."""
-    for file, _, picture in wrong():
-        if picture:
+def settle(is_check):
+    """Draws each picture that is not as it is to be, or removes it where nothing draws it any more; a check only names it."""
+    found = list(wrong())
+    for file, why, picture in found:
+        if is_check:
+            print(f"{file} is {why}; scripts/pictures.py draws the pictures anew", file=sys.stderr)
+        elif picture:
             (TOP / file).write_text(picture.draw(), encoding="utf-8")
             print(file)
         else:
             (TOP / file).unlink()
-    return 0
+    return 1 if is_check and found else 0
 
 
 def main(words):
     try:
-        if not words:
-            return write()
-        if words == ["--check"]:
-            return check()
+        if words in ([], ["--check"]):
+            return settle(bool(words))
         if len(words) == 2 and words[0] == "--history":
             sys.stdout.write(journey.picture(words[1]).draw())
             return 0

@@ -31,6 +31,9 @@ cp -r "$top/README.md" "$top/crates.txt" "$top/docs" "$top/scripts" copy
 ends "the pictures as they are" 0 "" --check
 for picture in copy/docs/pictures/*.svg; do is_whole "$picture"; done
 
+same "the phases are those of the desk" "$(sed -n '/^pub enum Phase/,/^}/s/^    \([A-Z][a-z]*\).*/\1/p' "$top/crates/commands/src/items.rt" | sort)" \
+  "$(grep -oE '^"?[A-Z][a-z]+' copy/docs/pictures/phases.dot | tr -d '"' | sort -u)"
+
 # the script can fail
 again="scripts/pictures.py draws the pictures anew"
 cp copy/crates.txt was.txt
@@ -45,9 +48,14 @@ ends "a picture is absent" 1 "docs/pictures/phases.svg is absent; $again" --chec
 cp "$top/docs/pictures/phases.svg" copy/docs/pictures
 cp copy/docs/pictures/way.svg copy/docs/pictures/other.svg
 ends "a picture too many" 1 "docs/pictures/other.svg is not drawn by anything; $again" --check
-printf 'Run | no third part\n' >>copy/docs/pictures/phases.txt
-lines=$(wc -l <copy/docs/pictures/phases.txt)
-ends "a bad table" 1 "pictures.py: line $lines is not of the form: from | what | to" --check
+rm copy/docs/pictures/other.svg
+sed -i 's/^1. \*\*Read the line/1. **Read a line/' copy/docs/ARCHITECTURE.md
+ends "another item on the page" 1 \
+  "pictures.py: way.dot is not docs/ARCHITECTURE.md in 1. Read a line: desk_lines; 1. Read the line: desk_lines" --check
+cp "$top/docs/ARCHITECTURE.md" copy/docs
+sed -i 's/Run -> Ended/Run -> Undone/' copy/docs/pictures/phases.dot
+ends "another arrow" 1 "docs/pictures/phases.svg is not what is drawn now; $again" --check
+cp "$top/docs/pictures/phases.dot" copy/docs/pictures
 ends "wrong words" 2 "usage: scripts/pictures.py [--check | --history ITEMS]" --history
 
 # histories
@@ -61,7 +69,6 @@ if ! command -v dot >/dev/null 2>&1; then
   finish
   exit
 fi
-cp "$top/docs/pictures/phases.txt" copy/docs/pictures
 printf 'one_more: desk\n' >>copy/crates.txt
 ends "drawn anew" 0 ""
 same "what was drawn anew" docs/pictures/crates.svg "$(cat printed)"

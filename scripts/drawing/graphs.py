@@ -87,3 +87,18 @@ class Picture:
             re.sub(r"\s*\n\s*", "\n", inside.strip()) + "\n",
         ])
         return drawn + self.mark(drawn)
+
+
+def labels_of(text):
+    """The labels of a graph in DOT, each with the nodes that its edge leads from and to, or two empty texts."""
+    return re.findall(r'^(?:(.+) -> (.+) )?.*\[.*?label="([^"]*)"', text, re.MULTILINE)
+
+
+def read(text):
+    """The picture of a graph in DOT that was written by hand. Its first line is its title, as a comment; its labels are its words."""
+    title, _, *lines, _ = text.splitlines()
+    said = []
+    for start, end, label in labels_of(text):
+        words = label.removeprefix("• ").replace("\\n• ", "; ").replace("\\n", " " if start else ": ")
+        said.append(f"{start} to {end}: {words}.".replace('"', "") if start else f"{words}.")
+    return Picture(title.removeprefix("// "), " ".join(said), lines)
