@@ -3,7 +3,6 @@
 # says. What is installed is removed whole.
 # More than 200 lines: each help, completion and file that is installed is looked at once.
 . "$(dirname "${BASH_SOURCE[0]}")/helping.bash"
-. "$tests/serving.bash"
 program=$DESK
 say() { printf 'help.sh: %s\n' "$*" >&2; }
 
@@ -91,43 +90,21 @@ same "serve: its requests" "$(routes | LC_ALL=C sort)" \
 same "files that help has made" "err out whole" "$(ls | tr '\n' ' ' | sed 's/ $//')"
 cd ..
 
-# old_file: makes old.db, a file of schema 1 with 7 events: a batch, and three journeys of one step
-old_file() {
-  {
-    echo 'set june F/AL/A1/2030-06-01 9'
-    for id in 1 2 3; do printf 'begin F/AL/A1/2030-06-01/1/1!0\nstep %s\n' "$id"; done
-  } | "$DESK" run old.db >/dev/null
-  sqlite3 old.db "INSERT INTO entry SELECT * FROM entry2; DROP TABLE entry2; DROP TABLE mark; DROP INDEX journey_agent; UPDATE meta SET version = 1"
-}
-
-# shown_by EXAMPLE: what its commands print, on standard output; after one in the background it waits for a line
-shown_by() {
-  local line
-  while IFS= read -r line; do
-    case $line in
-      '$ '*'&')
-        eval "${line#\$ }" >>printed 2>/dev/null
-        comes 10 test -s printed
-        ;;
-      '$ '*)
-        eval "${line#\$ }" >>printed 2>/dev/null
-        [ -z "$(tail -c 1 printed)" ] || echo >>printed
-        ;;
-    esac
-  done <<<"$1"
-  wait
-  cat printed
-}
-
-mkdir path && ln -s "$DESK" path/desk
+# each example prints what the help prints below it; those of migrate and index begin with a file of schema 1, which has 7 events: a
+# batch, and three journeys of one step
+printf '%b' 'set june F/AL/A1/2030-06-01 9\n' 'begin F/AL/A1/2030-06-01/1/1!0\nstep '{1..3}'\n' | "$DESK" run old.db >/dev/null
+sqlite3 old.db "INSERT INTO entry SELECT * FROM entry2; DROP TABLE entry2; DROP TABLE mark; DROP INDEX journey_agent; UPDATE meta SET version = 1"
+mkdir path rooms && ln -s "$DESK" path/desk
 for command in "" $commands; do
-  port=$(free_port)
-  example=$(help_of $command | sed '1,/^Example:$/d; s/^  //' | sed "s/8080/$port/")
-  mkdir "example-$command" && cd "example-$command" || exit 2
-  case $command in migrate | index) old_file ;; esac
-  : >printed
-  same "the example of ${command:-desk}" "$(grep -v '^\$ ' <<<"$example")" "$(PATH=$work/path:$PATH shown_by "$example")"
-  cd ..
+  {
+    echo '```console'
+    case $command in migrate | index) echo '$ cp ../../old.db .' ;; esac
+    help_of $command | sed '1,/^Example:$/d; s/^  //'
+    echo '```'
+  } >page.md
+  PATH=$work/path:$PATH python3 "$tests/docs.py" "$DESK" rooms page.md >out 2>&1
+  same "the example of ${command:-desk}" "commands of 1 pages printed what the pages print; 0 were not run, 0 skipped" \
+    "$(sed 's/^[1-9][0-9]* //' out)"
 done
 
 # words_of FILE: its words, with one blank between two

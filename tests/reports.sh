@@ -24,12 +24,9 @@ shows() {
 
 # shown WORDS PRINTED STATUS:FAULT: the program, called by these words, prints this and ends so
 shown() {
-  [ -n "$1" ] || return
-  "$DESK" $1 >out 2>err </dev/null
-  local status=$?
-  case $1 in *csv*) same "$1: lines that end with CR LF" "$(wc -l <out)" "$(grep -c $'\r$' out)" ;; esac
-  same "$1" "${2%$'\n'}" "$(tr -d '\r' <out)"
-  same "$1: the end" "$3" "$status:$(cat err)"
+  local printed=$2
+  [[ $1 != *csv* ]] || printed=${2//$'\n'/$'\r\n'}
+  [ -z "$1" ] || tells "$1" "${3%%:*}" "${printed%$'\n'}" "${3#*:}" $1 </dev/null
 }
 
 # three journeys by turns: one has ended, one is left where a save-point was taken, one is on its way back
