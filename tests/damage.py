@@ -3,14 +3,15 @@ and files given that are none of the desk's. Every subcommand ends by itself, wi
 showed in spite of the damage is counted: the right rows, those of an older ledger, or wrong ones.
 More than 200 lines: the sorts of damage are one list.
 
-damage.py COUNT [SEED]    so many damages of each sort; COUNT=all: each byte, each pair of pages, each length
+damage.py COUNT SEED    so many damages of each sort; COUNT=all: each byte, each pair of pages, each length
 """
 import collections
 import sqlite3
 import sys
 from pathlib import Path
 
-from driving import Client, Server, desk, request
+from driving import desk, request
+from hostile import served, tell
 from ledger import Ledger, report, tables_of
 from parts import IN_PART, PARTS, Deal, chances
 from scenes import FIRST, FLIGHT, JUNE, PLANS, SECOND
@@ -18,6 +19,7 @@ from shown import lay, look, make_disk, old_file, read_files
 
 PAGE, SECTOR = 4096, 512
 DB, LOG = "trips.db", "trips.db-wal"
+ASKED = request("GET", "/stock"), request("POST", "/journeys/1/step", "z1"), request("GET", "/unfinished")
 
 
 class Base:
@@ -137,22 +139,13 @@ class Trial:
         lay(files)
         what = f"{what}, {word}"
         if word == "serve":
-            self.ended(what, self.serves())
+            self.ended(what, served(f"cut/{DB}", ASKED, env={"FAIL": "0"})[0])
         else:
             words = {"load": ("june.csv", "--batch", "june")}.get(word, ())
             lines = f"set z {FLIGHT} 9\nbegin {PLANS[1]}\nstep 1\nstep 4\nsave 4\nabort 4 0\n" if word == "run" else ""
             self.ended(what, desk(word, f"cut/{DB}", *words, lines=lines))
         if DB in read_files("cut"):
             self.ended(f"{what}, and stock", desk("stock", f"cut/{DB}"))
-
-    def serves(self):
-        server = Server(f"cut/{DB}", env={"FAIL": "0"})
-        if server.said:
-            client = Client(server.port)
-            for message in (request("GET", "/stock"), request("POST", "/journeys/1/step", "z1"), request("GET", "/unfinished")):
-                client.ask(message)
-            client.close()
-        return server.end()
 
     def run(self, name, base, disks):
         """Tries the damages of a sort that this part has, and prints what came of them."""
@@ -197,8 +190,8 @@ def main():
     trial.run("another log", logged, damages.logs(killed, others))
     for text in trial.examples:
         print(f"  {text}")
-    print(f"{trial.runs} runs, {len(trial.wrong)} that did not end as they should{IN_PART}")
-    sys.exit("\n".join(f"damage.py: {text}" for text in trial.wrong[:10]) or 0)
+    tell(f"{trial.runs} runs, {len(trial.wrong)} that did not end as they should{IN_PART}", trial.wrong)
+    sys.exit(1 if trial.wrong else 0)
 
 
 main()

@@ -3,8 +3,8 @@ disk; then a second one after it, or all later ones; and then a call of the next
 answers, or names a fault. What it leaves is the ledger of what was answered, or that with one whole event more.
 More than 200 lines: each kind of run has its own bounds.
 
-failing_calls.py CALLS.so MORE EACH [SEED [SCENE ..]]    after each failure so many second ones; of the calls only each
-                                                         EACH-th, from one that chance chooses on; these scenes alone
+failing_calls.py CALLS.so MORE EACH SEED [SCENE ..]    after each failure so many second ones; of the calls only each EACH-th,
+                                                       from one that chance chooses on; these scenes alone
 """
 import collections
 import errno
@@ -12,10 +12,12 @@ import os
 import sys
 from pathlib import Path
 
-from driving import Client, Server, desk, is_whole, killed_after
-from parts import IN_PART, PARTS, Deal, chances
+import hostile
+from driving import desk, is_whole, killed_after
+from hostile import Life, finish, made_by_lines, made_by_pages, served, tell
+from parts import PARTS, Deal, chances
 from scenes import FIRST, JUNE, PLANS, SECOND, http_requests
-from shown import Events, Migration, Shown, lay, look, make_disk, old_file, read_files
+from shown import Events, Migration, lay, look, make_disk, old_file, read_files
 
 ERRORS = (errno.EIO, errno.ENOSPC)
 FAILED = Path("failed")
@@ -26,19 +28,16 @@ CHANGES = {"pwrite", "ftruncate", "fsync", "fdatasync"}
 SOCKETS = {"accept", "recv", "send"}
 
 
-class Scene:
+class Scene(Life):
     """One run of the desk over a disk, and what it does where no call fails."""
 
     stride = 1
 
     def __init__(self, name, start, measure=None):
-        self.name, self.start, self.pages, self.usual = name, start, [], None
-        self.measure = measure or (lambda tables: tables["meta"][0][2] if tables else 0)
-        self.first = self.last = self.measure(look(start))
+        super().__init__(name, start, measure)
         self.usual = self.run({})
-        self.folder = f"usual-{name.replace(' ', '-')}"
         lay(read_files("cut"), self.folder)
-        self.last = self.measure(look(read_files(self.folder)))
+        self.last = self.events()
 
     def run(self, env):
         """Runs it over its disk, as it was."""
@@ -55,10 +54,8 @@ class Scene:
 
     def fault(self, ended):
         """What is wrong with how it ended."""
-        if not (ended.status == 0 and not ended.err) and not ended.fault():
-            return str(ended)
-        is_right = ended.out == self.usual.out if ended.status == 0 else self.usual.out.startswith(ended.out)
-        return "" if is_right else str(ended)
+        is_usual = ended.status == 0 and not ended.err and ended.out == self.usual.out
+        return "" if is_usual or (ended.fault() and self.usual.out.startswith(ended.out)) else str(ended)
 
     def silence(self, ended, names):
         """What is wrong with how it ended after calls of these names failed: a change of a file that failed is a fault."""
@@ -90,7 +87,7 @@ class LineScene(Scene):
     def __init__(self, name, start, lines):
         self.lines = lines
         super().__init__(name, start)
-        self.made = [int(not line.startswith("refused")) for line in self.usual.out.splitlines()]
+        self.made = made_by_lines(self.usual.out.splitlines())
         assert len(self.made) == len(lines), str(self.usual)
 
     def drive(self, env):
@@ -110,32 +107,20 @@ class ServeScene(Scene):
         super().__init__(name, start)
         self.expected = self.got
         half = self.expected[: len(requests)]
-        self.made = [page.startswith(b"HTTP/1.1 200") and page not in half[:n] for n, page in enumerate(half)]
+        self.made = made_by_pages(half)
         self.pages = [(requests, half)]
 
     def drive(self, env):
-        server = Server("cut/trips.db", connections=2, env=env)
-        self.got = []
-        for _ in range(2 if server.said else 0):
-            try:
-                client = Client(server.port)
-            except OSError:
-                break
-            self.got += [client.ask(message) for message in self.requests]
-            client.close()
-        ended = server.end()
-        ended.out = "ready\n" if ended.out == f"ready {server.port}\n" else ended.out
+        ended, self.got = served("cut/trips.db", self.requests, 2, env)
         return ended
 
     def bounds(self, ended):
         """A request was answered where a page came in either connection; after a fault the next one may be done too."""
         count = len(self.requests)
         pages = {n % count for n, page in enumerate(self.got) if is_whole(page)}
-        made = [n for n, is_made in enumerate(self.made) if is_made]
-        answered = sum(1 for n in made if n in pages)
-        base = self.last - len(made)
-        least = base + answered if ended.out else self.first
-        return least, min(base + answered + 1, self.last) if ended.out else base
+        base = self.last - sum(self.made)
+        done = base + sum(self.made[n] for n in pages)
+        return (done, min(done + 1, self.last)) if ended.out else (self.first, base)
 
     def fault(self, ended):
         """Each whole page is one that comes to this request without failures."""
@@ -143,9 +128,7 @@ class ServeScene(Scene):
         for n, page in enumerate(self.got):
             if is_whole(page) and page not in (self.expected[n % count], self.expected[n % count + count]):
                 return f"request {n + 1}: {page}"
-        if (ended.status == 0 and not ended.err and ended.out) or ended.fault():
-            return ""
-        return str(ended)
+        return "" if ended.fault() or (ended.status == 0 and not ended.err and ended.out) else str(ended)
 
     def silence(self, ended, names):
         """The same; and where only calls on sockets failed, the desk has gone on."""
@@ -163,13 +146,13 @@ class ByteScene(ServeScene):
         return super().drive({**env, "SIPS": "1"} if env else env)
 
 
-class Trial:
+class Trial(hostile.Trial):
     """Makes each call of a scene fail, and looks at what is left."""
 
-    def __init__(self, scene, book, chance, library):
-        self.scene, self.chance, self.shown = scene, chance, Shown(book, chance)
-        self.library = {"LD_PRELOAD": library}
-        self.ends, self.names, self.wrong, self.calls = collections.Counter(), collections.Counter(), [], set()
+    def __init__(self, scene, chance, library):
+        super().__init__(Migration(scene) if scene.name == "migrate" else Events(scene), chance)
+        self.scene, self.library = scene, {"LD_PRELOAD": library}
+        self.ends, self.names, self.calls = collections.Counter(), collections.Counter(), set()
 
     def fails(self, **env):
         """One run in which these calls fail; says whether there was such a call."""
@@ -178,27 +161,29 @@ class Trial:
             return False
         names = FAILED.read_text(encoding="ascii").split()
         self.names[names[0]] += 1
-        self.ends[ended.fault() or f"status {ended.status}"] += 1
-        what = f"{self.scene.name}, {' '.join(f'{n}={v}' for n, v in env.items())} ({' '.join(names[:3])})"
-        fault = self.scene.fault(ended) or self.scene.silence(ended, names)
-        if fault:
-            self.wrong.append(f"{what}: {fault}")
-        self.judge(read_files("cut"), *self.scene.bounds(ended), what)
+        what = f"{' '.join(f'{n}={v}' for n, v in env.items())} ({' '.join(names[:3])})"
+        self.looks(ended, what, self.scene.fault(ended) or self.scene.silence(ended, names))
         return True
 
-    def judge(self, files, least, most, what):
-        """What is left is after least to most events, and goes on; after a failing opening too."""
-        found, fault = self.shown.verdict(files)
-        if fault or not least <= found <= most:
-            self.wrong.append(f"{what}, opened again: {fault or f'{found} events, expected {least} to {most}'}")
-        elif self.chance.random() < 0.2:
+    def looks(self, ended, what, fault, end=""):
+        """Takes in how a run ended, in a word, and what is wrong with that; and looks at what it left."""
+        self.ends[end or ended.fault() or f"status {ended.status}"] += 1
+        if fault:
+            self.wrong.append(f"{self.scene.name}, {what}: {fault}")
+        self.judge(read_files("cut"), *self.scene.bounds(ended), f"{self.scene.name}, {what}")
+
+    def judge(self, files, least, most, what, goes_on=True):
+        """What is left is as it should be; after a failing opening too."""
+        found = super().judge(files, least, most, what, goes_on)
+        if found is not None and self.chance.random() < 0.2:
             lay(files)
             again = {**self.library, "FAIL": str(self.chance.randrange(1, 120)), "ERROR": str(errno.EIO)}
             opened = desk("recover", "cut/trips.db", env=again)
+            what = f"{what}, recovered with FAIL={again['FAIL']}"
             self.ends["opened again: " + (opened.fault() or f"status {opened.status}")] += 1
             if not opened.is_orderly():
-                self.wrong.append(f"{what}, recovered with FAIL={again['FAIL']}: {opened}")
-            self.is_kept(read_files("cut"), found, f"{what}, recovered with FAIL={again['FAIL']}")
+                self.wrong.append(f"{what}: {opened}")
+            self.is_kept(read_files("cut"), found, what)
 
     def is_kept(self, files, least, what):
         """After a recovery that may have failed, the desk opens the file, and no event is lost."""
@@ -220,18 +205,11 @@ class Trial:
     def in_pieces(self, size, deal):
         """With writes, and reads of streams, of so few bytes all is as ever. A page that a read gives in parts is a fault
         to the library `sqlite`, which loses nothing."""
-        for env in ({"PIECES": str(size)}, {"PARTS": str(size)}):
-            if not deal.is_mine():
-                continue
-            ended = self.scene.run({**self.library, **env})
-            fault = self.scene.fault(ended)
-            if not fault and "PIECES" in env and ended.status != 0:
-                fault = str(ended)
-            found, wrong = self.shown.verdict(read_files("cut"))
-            least, most = self.scene.bounds(ended)
-            if fault or wrong or not least <= found <= most:
-                self.wrong.append(f"{self.scene.name}, {env}: {fault or wrong or found}")
-            self.ends[f"{'pieces' if 'PIECES' in env else 'parts'}: {ended.fault() or ended.status}"] += 1
+        for name in "PIECES", "PARTS":
+            if deal.is_mine():
+                ended = self.scene.run({**self.library, name: str(size)})
+                fault = self.scene.fault(ended) or (name == "PIECES" and ended.status != 0 and str(ended))
+                self.looks(ended, f"{name}={size}", fault, f"{name.lower()}: {ended.fault() or ended.status}")
 
 
 def scenes():
@@ -253,31 +231,27 @@ def scenes():
     yield WordScene("migrate", old_file(closed), "migrate", "cut/trips.db", measure=lambda t: int("mark" in (t or ())))
 
 
+def named(names):
+    """The scenes of these names; all where there is none."""
+    return (scene for scene in scenes() if not names or scene.name in names)
+
+
 def main():
-    library, more, each = os.path.abspath(sys.argv[1]), int(sys.argv[2]), int(sys.argv[3])
-    same, own = chances(int(sys.argv[4]) if len(sys.argv) > 4 else 1987)
-    deal, wrong, runs, named = Deal(), 0, 0, sys.argv[5:]
-    for scene in scenes():
-        if named and scene.name not in named:
-            continue
-        book = Migration(scene) if scene.name == "migrate" else Events(scene)
-        trial = Trial(scene, book, own, library)
+    library, (more, each, seed), names = os.path.abspath(sys.argv[1]), map(int, sys.argv[2:5]), sys.argv[5:]
+    same, own = chances(seed)
+    deal, wrong, runs = Deal(), 0, 0
+    for scene in named(names):
+        trial = Trial(scene, own, library)
         trial.run(more, each * scene.stride, same, deal)
         for size in (7, 509):
             trial.in_pieces(size, deal)
-        ends = ", ".join(f"{end}: {count}" for end, count in sorted(trial.ends.items()))
-        print(f"{scene.name}: {len(trial.calls)} calls, {sum(trial.names.values())} runs, {len(trial.wrong)} wrong; {ends}")
-        print(f"  what failed first: {', '.join(f'{n} {c}' for n, c in trial.names.most_common())}", flush=True)
-        for text in trial.wrong[:10]:
-            print(f"failing_calls.py: {text}", file=sys.stderr)
-        wrong += len(trial.wrong)
-        runs += sum(trial.names.values())
-    if not named and runs < 2000 * (1 + more) // (each * PARTS):
-        print(f"failing_calls.py: {runs} runs with a failure, which are too few", file=sys.stderr)
-        wrong += 1
-    if IN_PART:
-        print(f"{runs} runs with a failure{IN_PART}")
-    sys.exit(1 if wrong else 0)
+        count = sum(trial.names.values())
+        ends = ", ".join(f"{end}: {times}" for end, times in sorted(trial.ends.items()))
+        failed = ", ".join(f"{name} {times}" for name, times in trial.names.most_common())
+        what = f"{scene.name}: {len(trial.calls)} calls, {count} runs, {len(trial.wrong)} wrong; {ends}"
+        tell(f"{what}\n  what failed first: {failed}", trial.wrong)
+        wrong, runs = wrong + len(trial.wrong), runs + count
+    finish(wrong, runs, 0 if names else 2000 * (1 + more) // (each * PARTS), "runs with a failure")
 
 
 if __name__ == "__main__":

@@ -5,8 +5,8 @@ A run ends with its usual answers, or names a fault. What it leaves is the ledge
 event more and its kept reply, and the next opening goes on with it. A desk that serves loses the connection at hand alone:
 the next one, which sends all requests again under their keys, gets each page.
 
-memory_of_runs.py REFUSE.so CALLS.so EACH [SEED [SCENE ..]]    of the allocations only each EACH-th, from one that chance
-                                                               chooses on; these scenes alone
+memory_of_runs.py REFUSE.so CALLS.so EACH SEED [SCENE ..]    of the allocations only each EACH-th, from one that chance
+                                                             chooses on; these scenes alone
 With SPOIL=event in the environment the last event of each file is taken away before it is looked at, and with SPOIL=fault each
 named fault is hidden: both have to be found.
 """
@@ -19,8 +19,8 @@ import sys
 from pathlib import Path
 
 from driving import is_whole
-from failing_calls import ServeScene, Trial, scenes
-from shown import Events, Migration, read_files
+from failing_calls import ServeScene, Trial, named
+from hostile import finish, tell
 
 REFUSED = Path("refused")
 NAMES = ("a run", "recover", "load", "migrate", "serve")
@@ -32,8 +32,8 @@ LATER = (1, 2, 3, 4, 6, 9, 14, 22)
 class Refusals(Trial):
     """Refuses the allocations of a scene."""
 
-    def __init__(self, scene, book, chance, libraries):
-        super().__init__(scene, book, chance, libraries[0])
+    def __init__(self, scene, chance, libraries):
+        super().__init__(scene, chance, libraries[0])
         self.both = " ".join(libraries)
         self.runs = collections.Counter()
 
@@ -77,15 +77,9 @@ class Refusals(Trial):
         ended, has_come = self.drives(place, **more)
         spoil(ended)
         self.runs[kind] += 1
-        end = ended.fault() or f"status {ended.status}"
-        if ended.status == 0 and isinstance(self.scene, ServeScene) and self.lost()[0]:
-            end = "a connection was lost"
-        self.ends[end] += 1
         what = f"allocation {place} {kind} {' '.join(f'{n}={v}' for n, v in more.items() if n != 'LD_PRELOAD')}"
-        fault = self.fault(ended, kind) if has_come else "not made"
-        if fault:
-            self.wrong.append(f"{self.scene.name}, {what}: {fault}")
-        self.judge(read_files("cut"), *self.scene.bounds(ended), f"{self.scene.name}, {what}")
+        is_lost = ended.status == 0 and isinstance(self.scene, ServeScene) and self.lost()[0]
+        self.looks(ended, what, self.fault(ended, kind) if has_come else "not made", "a connection was lost" if is_lost else "")
 
     def tries(self, each):
         """Each allocation, from one that chance chooses on. Gives how many there are."""
@@ -114,21 +108,16 @@ def spoil(ended):
 
 
 def main():
-    libraries, each = [os.path.abspath(path) for path in sys.argv[1:3]], int(sys.argv[3])
-    chance = random.Random(int(sys.argv[4]) if len(sys.argv) > 4 else 1987)
-    named, wrong, refused = sys.argv[5:] or NAMES, 0, 0
-    for scene in scenes():
-        if scene.name not in named:
-            continue
-        trial = Refusals(scene, Migration(scene) if scene.name == "migrate" else Events(scene), chance, libraries)
+    libraries, (each, seed) = [os.path.abspath(path) for path in sys.argv[1:3]], map(int, sys.argv[3:5])
+    chance, wrong, refused = random.Random(seed), 0, 0
+    for scene in named(sys.argv[5:] or NAMES):
+        trial = Refusals(scene, chance, libraries)
         count = trial.tries(each)
         ends = ", ".join(f"{end}: {times}" for end, times in sorted(trial.ends.items()))
         runs = ", ".join(f"{kind} {times}" for kind, times in sorted(trial.runs.items()))
-        print(f"{scene.name}: {count} allocations, refused {runs}; {len(trial.wrong)} wrong; {ends}", flush=True)
-        for text in trial.wrong[:10]:
-            print(f"memory_of_runs.py: {text}", file=sys.stderr)
+        tell(f"{scene.name}: {count} allocations, refused {runs}; {len(trial.wrong)} wrong; {ends}", trial.wrong)
         wrong, refused = wrong + len(trial.wrong), refused + trial.runs["alone"]
-    sys.exit(1 if wrong or refused < 10 else 0)
+    finish(wrong, refused, 10, "allocations refused alone")
 
 
 main()

@@ -2,7 +2,7 @@
 Every disk that a cut may leave is opened again: it shows the ledger of what was answered, or that with the event that was
 under way, and the desk goes on with it. More than 200 lines: records, cuts and what they leave are one trial.
 
-power_cuts.py CALLS.so DISKS [SEED]    tries about so many disks; says what it found, and ends with 1 where a disk is wrong
+power_cuts.py CALLS.so DISKS SEED    tries about so many disks; says what it found, and ends with 1 where a disk is wrong
 """
 import collections
 import os
@@ -10,79 +10,60 @@ import shutil
 import sys
 from pathlib import Path
 
+import hostile
 from disks import Disk, Part, notes_in
-from driving import Client, Server, desk, is_whole, killed_after, page_size
-from parts import IN_PART, PARTS, Deal, chances
+from driving import desk, killed_after, page_size
+from hostile import Life, finish, made_by_lines, made_by_pages, served, tell
+from parts import PARTS, Deal, chances
 from scenes import BUS, FIRST, FLIGHT, JUNE, LARGE, PLANS, SECOND, http_requests
-from shown import Events, Migration, Shown, lay, look, old_file, read_files
+from shown import Events, Migration, old_file, read_files
 
+# about how many of the disks that were left are kept, so that the power is cut there again
 KEPT = 100
 EACH = int(os.environ.get("EACH", "1"))
 
 
-class Record:
+class Record(Life):
     """Runs of the desk in a folder of their own, one after another, with the calls that they made."""
 
     def __init__(self, name, library, start=None, measure=None):
-        self.name, self.folder, self.library = name, os.path.abspath(f"record-{name}"), library
-        self.sessions, self.pages, self.start = [], [], start or {}
-        self.measure = measure or (lambda tables: tables["meta"][0][2] if tables else 0)
-        lay(self.start, self.folder)
-        self.began = self.count = self.events()
+        super().__init__(name, start or {}, measure)
+        self.library, self.sessions = library, []
 
     def path(self, file="trips.db"):
         return f"{self.folder}/{file}"
 
-    def events(self):
-        """After how many events the files are, as they stand."""
-        return self.measure(look(read_files(self.folder)))
+    def noting(self):
+        """The environment of the next session, in which its calls are noted."""
+        return {"NOTE": self.path(f"notes-{len(self.sessions)}"), "LD_PRELOAD": self.library}
 
-    def session(self, drive):
-        """One session: drive runs the program with this environment, and answers how often each answer made an event."""
-        notes = self.path(f"notes-{len(self.sessions)}")
-        answers = drive({"NOTE": notes, "LD_PRELOAD": self.library})
-        self.count = self.events()
-        first = self.count - sum(answers)
-        self.sessions.append((notes, first, answers))
+    def took(self, made):
+        """Takes in a session: its notes, after how many events it began, and how many each of its answers made."""
+        self.last = self.events()
+        self.sessions.append((self.noting()["NOTE"], self.last - sum(made), made))
 
     def run(self, lines, kill=False):
-        def drive(env):
-            if kill:
-                said = killed_after(lines, self.path(), env)
-            else:
-                said = desk("run", self.path(), lines="\n".join(lines) + "\n", env=env).out.splitlines()
-            assert len(said) == len(lines), said
-            return [int(not line.startswith("refused")) for line in said]
-
-        self.session(drive)
+        if kill:
+            said = killed_after(lines, self.path(), self.noting())
+        else:
+            said = desk("run", self.path(), lines="\n".join(lines) + "\n", env=self.noting()).out.splitlines()
+        assert len(said) == len(lines), said
+        self.took(made_by_lines(said))
 
     def words(self, *words, events=0):
-        def drive(env):
-            done = desk(*words, env=env, folder=self.folder)
-            assert done.status == 0, str(done)
-            return [events]
-
-        self.session(drive)
+        done = desk(*words, env=self.noting(), folder=self.folder)
+        assert done.status == 0, str(done)
+        self.took([events])
 
     def load(self, name, rows):
         Path(self.path(f"{name}.csv")).write_text(rows, encoding="utf-8")
         self.words("load", self.path(), self.path(f"{name}.csv"), "--batch", name, events=1)
 
     def serve(self, messages, kill=False):
-        def drive(env):
-            server = Server(self.path(), env=env)
-            client = Client(server.port)
-            pages = [client.ask(message) for message in messages]
-            if kill:
-                server.kill()
-            client.close()
-            if not kill:
-                assert server.end().status == 0
-            self.pages.append((messages, pages))
-            made = [page.startswith(b"HTTP/1.1 200") and page not in pages[:n] for n, page in enumerate(pages)]
-            return [0, *map(int, made)]
-
-        self.session(drive)
+        ended, pages = served(self.path(), messages, env=self.noting(), kill=kill)
+        assert kill or ended.status == 0, str(ended)
+        self.pages.append((messages, pages))
+        self.took([0, *made_by_pages(pages)])
 
 
 Cut = collections.namedtuple("Cut", "disk least where is_log_sync")
@@ -93,7 +74,7 @@ Synced = collections.namedtuple("Synced", "least files is_mine")
 def cuts_of(record, has_syncs=True):
     """Each moment at which the power may be cut: the disk, and how many events were answered for by then."""
     disk = Disk(record.start)
-    least = record.began
+    least = record.first
     for number, (notes, first, answers) in enumerate(record.sessions):
         disk.restart()
         said, answered = b"", 0
@@ -131,72 +112,50 @@ def weight(cut, copying):
 
 def count_answers(answered, said):
     """How many lines and pages are whole by now, and what comes after the last of them."""
-    while said:
-        if said.startswith(b"HTTP"):
-            if not is_whole(said):
-                break
-            said = said[page_size(said) :]
-        elif b"\n" in said:
-            said = said.split(b"\n", 1)[1]
-        else:
-            break
-        answered += 1
+    size_of = lambda text: page_size(text) if text.startswith(b"HTTP") else text.find(b"\n") + 1
+    while 0 < (size := size_of(said)) <= len(said):
+        answered, said = answered + 1, said[size:]
     return answered, said
 
 
-class Trial:
+class Trial(hostile.Trial):
     """Tries the disks that cuts of a record may leave."""
 
     def __init__(self, record, book, chance):
-        self.record, self.chance, self.shown = record, chance, Shown(book, chance)
-        self.cuts, self.left, self.kinds, self.wrong, self.deeper = 0, 0, collections.Counter(), [], []
-
-    def judge(self, files, least, most, what, goes_on=True):
-        """Tries a disk that has to be after least to most events; answers after how many it is."""
-        found, fault = self.shown.verdict(files, goes_on)
-        if fault or not least <= found <= most:
-            self.wrong.append(f"{what}: {fault or f'{found} events, expected {least} to {most}'}")
-        return found
+        super().__init__(book, chance)
+        self.record, self.moments, self.cuts, self.kept, self.deeper = record, 0, 0, 0, []
 
     def run(self, disks, copying=1):
         """Cuts the power at each moment of this part, so often that all parts try about so many disks; where the log is being
-        copied into the file, so many times as often."""
+        copied into the file, so many times as often. Returns itself."""
         share = disks / max(sum(weight(cut, copying) for cut in cuts_of(self.record)), 1)
-        synced = None
+        synced, self.kept = None, KEPT / max(disks, 1)
         for place, (cut, files, is_mine) in enumerate(dealt_out(cuts_of(self.record))):
             if cut.is_log_sync:
                 synced = Synced(cut.least, files, is_mine)
             if place % EACH or not is_mine:
                 continue
-            self.cuts += 1
-            durable = self.whole(synced.files, synced.least, self.record.count, cut, synced.is_mine) if synced else 0
+            self.moments += 1
+            durable = self.whole(synced.files, synced.least, self.record.last, cut, synced.is_mine) if synced else 0
             least = max(cut.least, durable)
             most = self.whole(files, least, least + 1, cut)
             for _ in range(int(share * weight(cut, copying) * EACH + self.chance.random())):
                 self.cut(cut, least, most)
+        return self
 
     def whole(self, files, least, most, cut, goes_on=True):
         """After how many events a disk is that lost nothing."""
-        found = self.judge(files, least, most, f"{cut.where}: nothing lost", goes_on)
-        return least if found is None else found
+        return self.judge(files, least, most, f"{cut.where}: nothing lost", goes_on) or least
 
     def cut(self, cut, least, most):
         """One cut at this moment."""
         kind = self.chance.choice(Part.KINDS)
         files = cut.disk.cut(Part(kind, self.chance, cut.disk))
-        self.kinds[kind] += 1
+        self.cuts += 1
         before = self.shown.tried
         found = self.judge(files, least, most, f"{cut.where}: cut, {kind}")
-        if self.shown.tried > before and found is not None:
-            self.keep((files, cut.where))
-
-    def keep(self, left):
-        """Keeps some of the disks that were left, each as likely as any other, so that the power is cut there again."""
-        self.left += 1
-        if len(self.deeper) < KEPT:
-            self.deeper.append(left)
-        elif (place := self.chance.randrange(self.left)) < KEPT:
-            self.deeper[place] = left
+        if self.shown.tried > before and found is not None and self.chance.random() < self.kept:
+            self.deeper.append((files, cut.where))
 
 
 def booking(library):
@@ -236,7 +195,7 @@ def without_syncs(record, book, same, chance, count):
     """How many of so many disks are wrong where the syncs are left out of the record: the check of this trial. Of the moments
     that are chosen for every part, this part takes its own."""
     trial = Trial(record, book, chance)
-    moments = [cut for cut in range(sum(1 for _ in cuts_of(record)))]
+    moments = range(sum(1 for _ in cuts_of(record)))
     chosen = set(Deal().mine(same.sample(moments, min(count, len(moments)))))
     for place, cut in enumerate(cuts_of(record, has_syncs=False)):
         if place in chosen:
@@ -251,58 +210,45 @@ def cut_again(trial, chance, records, disks):
     for n, (files, where) in enumerate(chance.sample(trial.deeper, min(records, len(trial.deeper)))):
         record = Record(f"again-{n}", trial.record.library, files)
         record.words("recover", record.path())
-        again = Trial(record, Events(record), chance)
-        again.run(disks)
+        again = Trial(record, Events(record), chance).run(disks)
         again.wrong = [f"{where}, and {text}" for text in again.wrong]
         results.append(again)
         shutil.rmtree(record.folder)
     return results
 
 
-def tell(name, trials):
-    """Says what was tried, and of what is wrong the first. Returns how many cuts there were, and how much is wrong."""
-    kinds = sum((trial.kinds for trial in trials), collections.Counter())
-    wrong = [text for trial in trials for text in trial.wrong]
-    tried, cuts = sum(t.shown.tried for t in trials), sum(t.cuts for t in trials)
-    print(f"{name}: {cuts} moments, {sum(kinds.values())} cuts, {tried} disks, {len(wrong)} wrong", flush=True)
-    for text in wrong[:10]:
-        print(f"power_cuts.py: {text}", file=sys.stderr)
-    return collections.Counter(cuts=sum(kinds.values()), wrong=len(wrong))
+def told_of(name, trials):
+    """Says what was tried, and returns how much of what."""
+    told = collections.Counter()
+    for trial in trials:
+        told.update(moments=trial.moments, cuts=trial.cuts, disks=trial.shown.tried, wrong=len(trial.wrong))
+    counts = ", ".join(f"{told[what]} {what}" for what in ("moments", "cuts", "disks", "wrong"))
+    tell(f"{name}: {counts}", [text for trial in trials for text in trial.wrong])
+    return told
 
 
 def tries_all(library, disks, same, chance):
-    """Makes the records and tries what cuts of them leave; returns how many cuts there were, and how much is wrong."""
+    """Makes the records and tries what cuts of them leave; returns how much was tried, and how much is wrong."""
     record = booking(library)
     book = Events(record)
-    trial = Trial(record, book, chance)
-    trial.run(disks * 6 // 10)
-    told = tell("a file's life", [trial])
-    told += tell("cut again while recovered", cut_again(trial, chance, max(2, disks // 400), disks // 50))
+    trial = Trial(record, book, chance).run(disks * 6 // 10)
+    told = told_of("a file's life", [trial])
+    told += told_of("cut again while recovered", cut_again(trial, chance, max(2, disks // 400), disks // 50))
     grown = growing(library)
-    trial = Trial(grown, Events(grown), chance)
-    trial.run(disks // 10, copying=20)
-    told += tell("a log that is copied on the way", [trial])
+    told += told_of("a log that is copied on the way", [Trial(grown, Events(grown), chance).run(disks // 10, copying=20)])
     moved = migrating(library, old_file(read_files(record.folder)))
-    trial = Trial(moved, Migration(moved), chance)
-    trial.run(disks // 10)
-    told += tell("a migration", [trial])
+    told += told_of("a migration", [Trial(moved, Migration(moved), chance).run(disks // 10)])
     bad, all_disks = without_syncs(record, book, same, chance, max(20, disks // 10))
-    print(f"without the syncs: {all_disks} disks, {bad} wrong")
-    if not all_disks or bad * 3 < all_disks:
-        print("power_cuts.py: without the syncs too few disks are wrong, so this trial finds nothing", file=sys.stderr)
-        told["wrong"] += 1
+    few = ["without the syncs too few disks are wrong, so this trial finds nothing"] * (bad * 3 < max(all_disks, 1))
+    tell(f"without the syncs: {all_disks} disks, {bad} wrong", few)
+    told["wrong"] += len(few)
     return told
 
 
 def main():
     library, disks = os.path.abspath(sys.argv[1]), int(sys.argv[2])
-    told = tries_all(library, disks, *chances(int(sys.argv[3]) if len(sys.argv) > 3 else 1987))
-    if told["cuts"] * PARTS * 2 < disks:
-        print(f"power_cuts.py: {told['cuts']} cuts, which are too few", file=sys.stderr)
-        told["wrong"] += 1
-    if IN_PART:
-        print(f"{told['cuts']} cuts{IN_PART}")
-    sys.exit(1 if told["wrong"] else 0)
+    told = tries_all(library, disks, *chances(int(sys.argv[3])))
+    finish(told["wrong"], told["cuts"], disks / PARTS / 2, "cuts")
 
 
 main()

@@ -10,7 +10,6 @@ import sys
 
 import driving
 from failing_calls import CHANGES, FAILED, SOCKETS, Trial, scenes
-from shown import Events
 
 # of each scene, the calls that are tried, and which of them
 TRIED = {"recover": (CHANGES, slice(-3, None)), "serve": (SOCKETS, slice(0, 4))}
@@ -27,7 +26,7 @@ def main():
     library, name, spoiled = os.path.abspath(sys.argv[1]), sys.argv[2], os.path.abspath(sys.argv[3])
     names, which = TRIED[name]
     scene = next(scene for scene in scenes() if scene.name == name)
-    trial = Ends(scene, Events(scene), random.Random(1987), library)
+    trial = Ends(scene, random.Random(1987), library)
     tried, call = [], 1
     while trial.fails(FAIL=call, ERROR=errno.EIO):
         if FAILED.read_text(encoding="ascii").split()[0] in names:
