@@ -40,8 +40,8 @@ abbrev pub Reaches : State → List Meant → State → Type 0
 Reaches s [] t = t ≡ s
 Reaches s (m ∷ later) t = Reaches (state_with s m) later t ⊎ ((m.exchange.page ≡ None) × Reaches s later t)
 
--- there was a reason why the step of the last exchange failed, from a state to which the messages before it lead; of a report
--- none is said
+-- there was a reason why the step of the last exchange failed, from a state to which the messages before it lead; of a report,
+-- or of a part of the stock, none is said
 pub record FailsAtLast (reason : State → State → Type 0) (s : State) (exchanges : List Exchange) (meant : List Meant) : Type 0 where
   pub before : List Meant
   pub last : Meant
