@@ -1,6 +1,7 @@
 #!/usr/bin/env bash
 # Backups, by tools/backup: of a desk at work, at random moments; where the copy fails, takes too long or is ended by a signal;
-# of a file that no desk holds; and each thing that is refused. The desk goes on after each, and nothing half made is left.
+# of a file that no desk holds; and each thing that is refused. The desk goes on after each, and nothing half made is left. The files
+# are of the kinds of shown.py: the two of a desk at work by the seed, that of another user as a new desk makes it.
 # More than 200 lines: most lines are a call and what it says.
 #
 # BACKUPS=200 DESK=.. tests/backup.sh    makes so many backups of a desk at work; SEED=N: at other moments
@@ -55,6 +56,14 @@ ends() {
 # is_stopped: the open desk is
 is_stopped() { grep -q '^State:.T' "/proc/$desk/status"; }
 
+# makes_file FILE NUMBER: a new file, of the kind of this number
+makes_file() {
+  tells "a new file" 0 "" "" run "$1" </dev/null
+  PYTHONPATH=$tests python3 -c 'import sys, shown; shown.change_indexes(sys.argv[1], shown.kind_of(int(sys.argv[2])))' "$@" ||
+    same "the kind of $1" "that of $2" "another"
+}
+
+seed=${SEED:-1987}
 mkdir slow "a folder"
 cat >slow/cp <<END
 #!/bin/sh
@@ -80,6 +89,7 @@ backs_up "an empty name" 2 "usage: *" "" b.db
 
 # what is refused
 flight=F/AL/A1/2030-06-01
+makes_file trips.db "$seed"
 answers "a journey" "set s $flight 9\nbegin $flight/1/1;$flight/1/1!0\nstep 1\n" "loaded s 1
 journey 1 begun
 journey 1 T1.1 run 1"
@@ -235,5 +245,6 @@ fi
 
 mkdir work
 cd work || exit 2
-python3 "$tests/backups.py" "$tool" "${BACKUPS:-20}" "${SEED:-1987}" || wrong=1
+makes_file trips.db $((seed + 1))
+python3 "$tests/backups.py" "$tool" "${BACKUPS:-20}" "$seed" || wrong=1
 finish

@@ -15,7 +15,7 @@ from hostile import served, tell
 from ledger import Ledger, report, tables_of
 from parts import IN_PART, PARTS, Deal, chances
 from scenes import FIRST, FLIGHT, JUNE, PLANS, SECOND
-from shown import lay, look, make_disk, old_file, read_files
+from shown import kind_of, lay, look, make_disk, old_file, read_files
 
 PAGE, SECTOR = 4096, 512
 DB, LOG = "trips.db", "trips.db-wal"
@@ -168,10 +168,11 @@ class Trial:
 
 def main():
     count = None if sys.argv[1] == "all" else int(sys.argv[1])
-    same, own = chances(int(sys.argv[2]) if len(sys.argv) > 2 else 1987)
+    seed = int(sys.argv[2]) if len(sys.argv) > 2 else 1987
+    same, own = chances(seed)
     Path("june.csv").write_text(JUNE, encoding="ascii")
-    closed = make_disk(FIRST)
-    killed = make_disk(FIRST, kill=SECOND)
+    closed = make_disk(FIRST, kind=kind_of(seed))
+    killed = make_disk(FIRST, kill=SECOND, kind=kind_of(seed + 1))
     others = [make_disk(FIRST[:8], kill=SECOND[:3])[LOG], make_disk(FIRST, kill=SECOND[:2])[LOG]]
     old = old_file(closed)
     sound, logged, older = Base(closed), Base(killed), Base(old, is_old=True)

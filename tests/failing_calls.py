@@ -17,7 +17,7 @@ from driving import desk, is_whole, killed_after
 from hostile import Life, finish, made_by_lines, made_by_pages, served, tell
 from parts import PARTS, Deal, chances
 from scenes import FIRST, JUNE, PLANS, SECOND, http_requests
-from shown import Events, Migration, lay, look, make_disk, old_file, read_files
+from shown import Events, Migration, kind_of, lay, look, make_disk, old_file, read_files
 
 ERRORS = (errno.EIO, errno.ENOSPC)
 FAILED = Path("failed")
@@ -212,12 +212,13 @@ class Trial(hostile.Trial):
                 self.looks(ended, f"{name}={size}", fault, f"{name.lower()}: {ended.fault() or ended.status}")
 
 
-def scenes():
-    """Each scene, over a disk that was closed, or one that was killed in the midst."""
-    closed = make_disk(FIRST)
+def scenes(seed=1987):
+    """Each scene, over a disk that was closed, or one that was killed in the midst; the two are of two kinds, by the seed."""
+    make_disk(FIRST, kind=kind_of(seed + 1))
     assert desk("recover", "cut/trips.db").status == 0
     killed_after(SECOND[:5], "cut/trips.db")
     killed = read_files("cut")
+    closed = make_disk(FIRST, kind=kind_of(seed))
     Path("june.csv").write_text(JUNE, encoding="ascii")
     yield LineScene("a first run", {}, FIRST[:6] + ["step 1", "step 01", "step 2", "save 2", "step 2"])
     yield LineScene("a run", killed, [f"begin {PLANS[1]}", "step 6", "save 6", "save 6", "step 6", "step 4", "step 06"])
@@ -231,16 +232,16 @@ def scenes():
     yield WordScene("migrate", old_file(closed), "migrate", "cut/trips.db", measure=lambda t: int("mark" in (t or ())))
 
 
-def named(names):
+def named(names, seed=1987):
     """The scenes of these names; all where there is none."""
-    return (scene for scene in scenes() if not names or scene.name in names)
+    return (scene for scene in scenes(seed) if not names or scene.name in names)
 
 
 def main():
     library, (more, each, seed), names = os.path.abspath(sys.argv[1]), map(int, sys.argv[2:5]), sys.argv[5:]
     same, own = chances(seed)
     deal, wrong, runs = Deal(), 0, 0
-    for scene in named(names):
+    for scene in named(names, seed):
         trial = Trial(scene, own, library)
         trial.run(more, each * scene.stride, same, deal)
         for size in (7, 509):

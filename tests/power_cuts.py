@@ -16,7 +16,7 @@ from driving import desk, killed_after, page_size
 from hostile import Life, finish, made_by_lines, made_by_pages, served, tell
 from parts import PARTS, Deal, chances
 from scenes import BUS, FIRST, FLIGHT, JUNE, LARGE, PLANS, SECOND, http_requests
-from shown import Events, Migration, old_file, read_files
+from shown import KINDS, Events, Migration, change_indexes, kind_of, old_file, read_files
 
 # about how many of the disks that were left are kept, so that the power is cut there again
 KEPT = 100
@@ -65,6 +65,12 @@ class Record(Life):
         self.pages.append((messages, pages))
         self.took([0, *made_by_pages(pages)])
 
+    def change_indexes(self, kind):
+        """Makes the file one of this kind, between two sessions. What SQLite leaves of it is synced."""
+        if KINDS[kind]:
+            change_indexes(self.path(), kind)
+            self.sessions.append((read_files(self.folder), self.last, []))
+
 
 Cut = collections.namedtuple("Cut", "disk least where is_log_sync")
 # what the last sync of the log covered: after how many events at least, the files, and whether this part tries them
@@ -76,6 +82,9 @@ def cuts_of(record, has_syncs=True):
     disk = Disk(record.start)
     least = record.first
     for number, (notes, first, answers) in enumerate(record.sessions):
+        if isinstance(notes, dict):
+            disk = Disk(notes)
+            continue
         disk.restart()
         said, answered = b"", 0
         for place, note in enumerate(notes_in(notes)):
@@ -158,24 +167,27 @@ class Trial(hostile.Trial):
             self.deeper.append((files, cut.where))
 
 
-def booking(library):
-    """All that one file lives through: the first opening, lines, reports, a load, a kill, recovery, requests with keys."""
+def booking(library, kind):
+    """All that one file lives through: the first opening, lines, reports, a load, a kill, recovery, requests with keys. From the
+    recovery on it is of this kind."""
     record = Record("booking", library)
     record.run(FIRST)
     record.words("stock", record.path())
     record.load("june", JUNE)
     record.run(SECOND, kill=True)
     record.words("recover", record.path())
+    record.change_indexes(kind)
     record.serve(http_requests(6))
     record.serve(http_requests(8), kill=True)
     record.run([f"begin {PLANS[0]}", "step 10", "step 10"])
     return record
 
 
-def growing(library):
-    """A large load, and so many lines that the log is copied into the file while the desk runs."""
+def growing(library, kind):
+    """A large load, and then, over a file of this kind, so many lines that the log is copied into the file while the desk runs."""
     record = Record("growing", library)
     record.load("large", LARGE)
+    record.change_indexes(kind)
     lines = [f"set t {FLIGHT} 900", f"set u {BUS} 900"]
     for n in range(1, 121):
         lines += [f"begin {FLIGHT}/1/1;{BUS}/1/1!0", f"step {n}"]
@@ -227,14 +239,14 @@ def told_of(name, trials):
     return told
 
 
-def tries_all(library, disks, same, chance):
+def tries_all(library, disks, seed, same, chance):
     """Makes the records and tries what cuts of them leave; returns how much was tried, and how much is wrong."""
-    record = booking(library)
+    record = booking(library, kind_of(seed))
     book = Events(record)
     trial = Trial(record, book, chance).run(disks * 6 // 10)
     told = told_of("a file's life", [trial])
     told += told_of("cut again while recovered", cut_again(trial, chance, max(2, disks // 400), disks // 50))
-    grown = growing(library)
+    grown = growing(library, kind_of(seed + 1))
     told += told_of("a log that is copied on the way", [Trial(grown, Events(grown), chance).run(disks // 10, copying=20)])
     moved = migrating(library, old_file(read_files(record.folder)))
     told += told_of("a migration", [Trial(moved, Migration(moved), chance).run(disks // 10)])
@@ -247,7 +259,8 @@ def tries_all(library, disks, same, chance):
 
 def main():
     library, disks = os.path.abspath(sys.argv[1]), int(sys.argv[2])
-    told = tries_all(library, disks, *chances(int(sys.argv[3])))
+    seed = int(sys.argv[3])
+    told = tries_all(library, disks, seed, *chances(seed))
     finish(told["wrong"], told["cuts"], disks / PARTS / 2, "cuts")
 
 

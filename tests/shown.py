@@ -1,11 +1,32 @@
 """What the desk shows of the files that a cut, a failed call or damage left, and whether it goes on with them as it should."""
+import contextlib
+import sqlite3
 from pathlib import Path
 
 from driving import desk, killed_after, lay, read_files, talk
 from ledger import Ledger, is_settled, make_file, report, statements_of, tables_of
 from scenes import OLD_EVENTS, ON
 
-NEW_TEXTS = ("CREATE TABLE entry2", "CREATE TABLE mark", "CREATE INDEX journey_agent")
+NEW_TEXTS = ("CREATE TABLE entry2", "CREATE TABLE mark", "CREATE INDEX")
+# The kinds of files of schema 2, by the statements that make one of a new file: as a new desk makes it; without the index for own
+# journeys, as an older desk made it; and with an index on the items beside it, made by hand.
+KINDS = {
+    "as a new desk makes it": (),
+    "without an index": ("DROP INDEX journey_agent",),
+    "with an index on the items too": ("CREATE INDEX item_journey ON entry2(journey, num)",),
+}
+
+
+def kind_of(number):
+    """The kinds in turn."""
+    return list(KINDS)[number % len(KINDS)]
+
+
+def change_indexes(path, kind):
+    """Makes a file, which was just made by the desk, one of this kind, by Python's SQLite, which syncs it."""
+    with contextlib.closing(sqlite3.connect(path)) as connection:
+        for statement in KINDS[kind]:
+            connection.execute(statement)
 
 
 def look(files):
@@ -19,6 +40,13 @@ def look(files):
     tables = tables_of("cut/trips.db")
     expected = "unfinished 0\n" if tables is None else report(tables, "unfinished")[0]
     return tables if shown.out == expected else f"unfinished: {shown}"
+
+
+def has_rows(path, tables):
+    """Whether a file that was closed in order has these rows, and each of its indexes has the same ones."""
+    with contextlib.closing(sqlite3.connect(f"file:{path}?immutable=1", uri=True)) as connection:
+        is_sound = connection.execute("PRAGMA integrity_check").fetchall() == [("ok",)]
+    return is_sound and tables_of(path) == tables
 
 
 class Events:
@@ -55,7 +83,7 @@ class Events:
         after = desk("run", "cut/trips.db", lines=ON)
         if (after.out, after.err, after.status) != (expected[2], "", 0):
             return f"one more journey: {after}, expected {expected[2]!r}"
-        return "" if tables_of("cut/trips.db") == expected[3] else "what one more journey made of it"
+        return "" if has_rows("cut/trips.db", expected[3]) else "what one more journey made of it"
 
     def expected(self, count):
         """What recovery prints and makes of the ledger after so many events, and one more journey then."""
@@ -112,9 +140,11 @@ class Migration:
         return "" if tables_of("cut/trips.db") == self.states[1] else "what migration made of it"
 
 
-def make_disk(lines, kill=()):
-    """A disk on which these lines were run, and then those before a kill, so that its log holds events."""
+def make_disk(lines, kill=(), kind=kind_of(0)):
+    """A disk with a file of this kind, on which these lines were run, and then those before a kill, so that its log holds events."""
     lay({})
+    assert desk("run", "cut/trips.db").status == 0
+    change_indexes("cut/trips.db", kind)
     assert desk("run", "cut/trips.db", lines="\n".join(lines) + "\n").status == 0
     if kill:
         killed_after(kill, "cut/trips.db")
