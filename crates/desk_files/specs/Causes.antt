@@ -1,6 +1,7 @@
 -- Which cause an error has, and how a closing ends.
-use Rattle.std.specs.Prelude.{◌≡◌, ◌≢◌, ◌⊎◌, ◌++◌, ◌&&◌, ◌==◌, ℕ, nat_lt, Bool, true, false, not, codes, IsTrue, ⊤, if◌then◌else◌, List, [], ◌∷◌, Option, Some, None}
-use Rattle.std.specs.List.{list_any}
+use Rattle.std.specs.Prelude.{◌≡◌, ◌≢◌, ◌⊎◌, ◌++◌, ◌&&◌, ◌||◌, ◌==◌, ℕ, nat_eq, nat_lt, Bool, true, false, not, codes, IsTrue, ⊤, if◌then◌else◌, List, [], ◌∷◌, Option, Some, None}
+use Rattle.std.specs.List.{list_any, starts_with}
+use Rattle.std.specs.Option.{option_map_or}
 use Rattle.std.specs.Str.{NoCharPasses}
 use Rattle.std.specs.declared.io.ErrorKind.{ErrorKind}
 use Rattle.std.specs.declared.io.ErrorKind.TheVariants as kind
@@ -56,6 +57,18 @@ is_of_path cause.NotPermitted = true
 is_of_path cause.NoFile = true
 is_of_path cause.FullDisk = true
 is_of_path _ = false
+
+-- these are no first bytes of a database, of which there may be fewer
+abbrev pub begins_otherwise : (first : List ℕ) → Bool
+begins_otherwise first = not (starts_with nat_eq (codes "SQLite format 3\0") first)
+
+-- there is a second hard link, by how many there are, where that is known
+abbrev pub has_second : Option ℕ → Bool
+has_second links = option_map_or (nat_lt 1) links false
+
+-- a file that can be opened is refused where it or its log has a second hard link
+abbrev pub cause_of_links : (of_file of_log : Option ℕ) → Option Cause
+cause_of_links of_file of_log = if has_second of_file || has_second of_log then Some cause.SecondLink else None
 
 -- the path of a log: that of a file, and `-wal`
 abbrev pub IsLogPath : List ℕ → Type 0

@@ -1,14 +1,15 @@
 //! What can be said of a database file without opening it as a database.
-ghost use Rattle.std.specs.Prelude.{◌≡◌, ◌⊎◌, codes, not, is_some, nat_eq, IfSome, IsTrue};
-ghost use Rattle.std.specs.List.{starts_with};
+ghost use Rattle.std.specs.Prelude.{◌≡◌, ◌⊎◌, ◌<◌, ◌↔◌, false, is_some, IfSome, IsOkAnd, IsTrue};
+ghost use Rattle.std.specs.Fs.{file_type, metadata_len, IsFile};
+ghost use Rattle.std.specs.Option.{option_map_or};
 ghost use Rattle.std.specs.String.{string_bytes};
-ghost use Rattle.desk_files.specs.Causes.{cause_of_kind, folder_before, is_of_path, IsFolder, IsLogPath};
+ghost use Rattle.desk_files.specs.Causes.{begins_otherwise, cause_of_kind, cause_of_links, folder_before, has_second, is_of_path, IsFolder, IsLogPath};
 
 use program_ends::Cause;
 use std::alloc::Global;
 use std::fs;
-use std::fs::OpenOptions;
-use std::io::ErrorKind;
+use std::fs::{Metadata, OpenOptions};
+use std::io::{self, ErrorKind};
 use std::os::unix::fs::MetadataExt;
 use streams::read_some;
 
@@ -27,7 +28,7 @@ impl NewLog {
     pub(crate) fn beside(rt: &HostRuntime, file: &str) -> NewLog
         ensures log { IfSome result.path (λ path. IsLogPath (string_bytes path)) }
     {
-        if !may_be_other(rt, file) {
+        if !may_be_other(fs::metadata(rt, file)) {
             return NewLog { path: None };
         }
         let path = match log_of(rt, file) {
@@ -47,7 +48,7 @@ impl NewLog {
         self.path.is_some()
     }
 
-    /// Removes the log if it is new. A failure of that is ignored: the log is harmless.
+    /// Removes the log if it is new. A failure of that is ignored: the log is harmless. Only the system sees what it removes.
     pub(crate) fn remove(self, rt: &HostRuntime) {
         if let Some(path) = self.path {
             let _ = fs::remove_file(rt, path.as_str());
@@ -55,10 +56,13 @@ impl NewLog {
     }
 }
 
-/// Whether a file is there and has more than a byte. An empty one is that of a new desk, and so may be one of a single
-/// byte, which a first opening left.
-fn may_be_other(rt: &HostRuntime, file: &str) -> bool {
-    match fs::metadata(rt, file) {
+/// Whether a file is there and has more than a byte, by what the system says of its path. An empty one is that of a new desk,
+/// and so may be one of a single byte, which a first opening left.
+fn may_be_other(found: io::Result<Metadata>) -> bool
+    ensures other { IsTrue result
+        ↔ IsOkAnd found (λ it. IsFile (file_type it) × (1 < metadata_len it)) }
+{
+    match found {
         Ok(found) => found.is_file() && found.len() > 1,
         Err(_) => false,
     }
@@ -73,26 +77,24 @@ fn log_of(rt: &HostRuntime, file: &str) -> Option<String>
     format!(in alloc; "{}-wal", real.as_str()).ok()
 }
 
-/// Whether a file does not begin as a database does. If it cannot be read, that is not known.
+/// Whether a file does not begin as a database does. No clause knows what a file holds; what its bytes mean is proved below.
 pub(crate) fn is_no_database(rt: &HostRuntime, file: &str) -> bool {
-    let Ok(mut opened) = fs::open(rt, file) else {
-        return false;
-    };
     let mut bytes = [0; 16];
-    match read_some(&mut opened, &mut bytes) {
-        Ok(count) => match bytes.get(..count) {
-            Some(first) => begins_otherwise(first),
-            None => false,
-        },
-        Err(_) => false,
-    }
+    let count = match fs::open(rt, file) {
+        Ok(mut opened) => read_some(&mut opened, &mut bytes).ok(),
+        Err(_) => None,
+    };
+    begins_otherwise(count.and_then(|count| bytes.get(..count)))
 }
 
-/// Whether these are no first bytes of a database, of which there may be fewer.
-fn begins_otherwise(first: &[u8]) -> bool
-    ensures otherwise { result ≡ not (starts_with nat_eq (codes "SQLite format 3\0") first.now) }
+/// Whether these are no first bytes of a database, of which there may be fewer. Where none could be read, that is not known.
+fn begins_otherwise(first: Option<&[u8]>) -> bool
+    ensures otherwise { result ≡ option_map_or (λ first. begins_otherwise first.now) first.entry false }
 {
-    !FIRST_BYTES.starts_with(first)
+    match first {
+        Some(first) => !FIRST_BYTES.starts_with(first),
+        None => false,
+    }
 }
 
 /// Why a path could not be opened, as far as the path itself shows it.
@@ -112,27 +114,41 @@ fn cause_of_file(rt: &HostRuntime, file: &str) -> Option<Cause>
     ensures path { IfSome result (λ cause. IsTrue (is_of_path cause)) }
 {
     match OpenOptions::new().read(true).write(true).open(rt, file) {
-        Ok(_) if has_second_link(rt, file) => Some(Cause::SecondLink),
-        Ok(_) => None,
+        Ok(_) => cause_of_links(links_of(rt, file), links_of_log(rt, file)),
         Err(error) => cause_of_kind(error.kind()),
     }
 }
 
-/// Whether a file that is there, or its log, has a second hard link.
-fn has_second_link(rt: &HostRuntime, file: &str) -> bool {
-    let is_log_linked = match log_of(rt, file) {
-        Some(log) => is_linked(rt, log.as_str()),
-        None => false,
-    };
-    is_log_linked || is_linked(rt, file)
+/// Why a file that can be opened is refused, if it is: it or its log has a second hard link, by how many each has, where the
+/// system says it.
+fn cause_of_links(of_file: Option<u64>, of_log: Option<u64>) -> Option<Cause>
+    ensures links { result ≡ cause_of_links of_file of_log }
+{
+    if has_second(of_file) || has_second(of_log) {
+        Some(Cause::SecondLink)
+    } else {
+        None
+    }
 }
 
-/// Whether a file has a second hard link.
-fn is_linked(rt: &HostRuntime, file: &str) -> bool {
-    match fs::metadata(rt, file) {
-        Ok(found) => found.nlink() > 1,
-        Err(_) => false,
+/// Whether there is a second hard link, by how many there are, where that is known.
+fn has_second(links: Option<u64>) -> bool
+    ensures second { result ≡ has_second links }
+{
+    match links {
+        Some(count) => count > 1,
+        None => false,
     }
+}
+
+/// How many hard links a file has. Only the system knows it.
+fn links_of(rt: &HostRuntime, file: &str) -> Option<u64> {
+    Some(fs::metadata(rt, file).ok()?.nlink())
+}
+
+/// How many hard links the log of a file has, which only the system knows too.
+fn links_of_log(rt: &HostRuntime, file: &str) -> Option<u64> {
+    links_of(rt, log_of(rt, file)?.as_str())
 }
 
 /// Why a file that is absent could not be made.
