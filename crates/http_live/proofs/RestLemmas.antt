@@ -1,10 +1,10 @@
 -- What a connection waits for, and how serving ends. For Connection::serve and take_turn.
-use Rattle.std.proofs.Common.{◌≡◌, ◌≢◌, Bool, true, false, [], Result, Ok, Err, ap, refl, sym, subst, inl, inr, IsTrue}
+use Rattle.std.proofs.Common.{◌≡◌, ◌≢◌, ◌↔◌, Bool, true, false, [], Result, Ok, Err, ap, refl, sym, subst, inl, inr, IsTrue}
 use Rattle.commands.specs.declared.replies.Fault.{Fault}
 use Rattle.http_conversations.specs.History.{HasNoTurn, History}
 use Rattle.http_conversations.proofs.CallLemmas.{nothing_pending}
 use Rattle.http_live.specs.Endings.{ending_after, ends_stopped, is_stop, turn_stops}
-use Rattle.http_live.specs.Resting.{IsUsedUp}
+use Rattle.http_live.specs.Resting.{HasUnanswered, IsUsedUp}
 use Rattle.http_live.specs.declared.seats.Standing.{Standing}
 use Rattle.http_live.specs.declared.seats.Standing.TheVariants.{Between, Amid, Unsent, Lingering, Answered, Stopped, Busy, Over}
 
@@ -19,6 +19,13 @@ used_up h k b some is_false no_turn same =
         | inr later ↦ later
       ];
     })
+
+-- where no page waits, what may be answered is what waits to be
+pub unanswered : (h : History) (waits has : Bool) → (h.pending ≢ [] → IsTrue waits) → waits ≡ false
+    → (IsTrue has ↔ (h.waiting ≢ [])) → IsTrue has ↔ HasUnanswered h
+unanswered h waits has some is_false part =
+    let sent = nothing_pending h.pending waits some is_false in
+    ((λ yes. record { part = part.0 yes; sent = sent }), (λ it. part.1 it.part))
 
 -- the house asked for a stop only in a turn that says so
 asked_to_stop : (standing : Standing) → is_stop standing ≡ true → standing ≡ Stopped

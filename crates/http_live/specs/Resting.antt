@@ -26,6 +26,11 @@ pub record HasClosed (h : History) : Type 0 where
   pub closing : h.stage ≡ Closing
   pub sent : h.pending ≡ []
 
+-- a message, or part of one, waits to be answered, and no page waits
+pub record HasUnanswered (h : History) : Type 0 where
+  pub part : h.waiting ≢ []
+  pub sent : h.pending ≡ []
+
 -- it waits for its peer alone: to send, to take a page, or to end; or it waits for nothing. Where a message was answered,
 -- it is said whether that is a request of the house that the desk stop
 abbrev pub Rests : Standing → History → Type 0

@@ -70,21 +70,6 @@ impl<R: Read + Drop, W: Write + Drop> Connection<R, W> {
         self.conversation.always_served();
     }
 
-    /// Whether something waits to be answered, a whole message or part of one, and no page waits.
-    pub(crate) fn has_unanswered(&self) -> bool {
-        !self.conversation.wants_write() && self.conversation.has_part()
-    }
-
-    /// What is left of the page that goes out.
-    pub(crate) fn unsent(&self) -> &[u8] {
-        self.conversation.pending()
-    }
-
-    /// Whether it ends after the page that it was given last.
-    pub(crate) fn closes(&self) -> bool {
-        self.conversation.stage() == Stage::Closing
-    }
-
     /// A turn: what waits is handed out, or else one message is answered and shown, or else more is read. The clock shows this
     /// second, if it was read.
     pub(crate) fn serve<B: Reporting>(

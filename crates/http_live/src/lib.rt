@@ -16,6 +16,7 @@ mod serving;
 mod whole;
 
 pub use connection::Connection;
+pub use http_log::Metrics;
 pub use laws::{second_turn_sees_the_first, turns_are_in_order};
 pub use seats::{SEATS, Seat, Standing, empty_seats};
 pub use serving::{Ending, Turn, Turns, finish_many, serve_many};

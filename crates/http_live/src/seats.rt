@@ -1,16 +1,19 @@
 //! Places for one connection after another, and what each waits for.
+ghost use Rattle.http_conversations.specs.Conversations.{history};
 ghost use Rattle.http_conversations.specs.Leading.{GoesOnByOne, has_broken};
+ghost use Rattle.http_conversations.specs.declared.conversation.Stage.{Stage};
 ghost use Rattle.http_live.specs.Calls.{EndsTurnAt, IsEmpty, IsLeft, IsTakenBy};
 ghost use Rattle.http_live.specs.Endings.{turn_stops};
 ghost use Rattle.http_live.specs.Gains.{Gains};
+ghost use Rattle.http_live.specs.Resting.{HasUnanswered};
 ghost use Rattle.http_live.specs.Seats.{exchanges_at, pending_at};
 ghost use Rattle.saga_core.specs.Calls.{Serves};
-ghost use Rattle.std.specs.Prelude.{◌≡◌, ◌≤◌, All, length, IfOk};
+ghost use Rattle.std.specs.Prelude.{◌≡◌, ◌≤◌, ◌↔◌, All, length, IfOk, IsSomeAnd, IsTrue};
 
 use crate::connection::Connection;
 use commands::Fault;
 use desk_http::Door;
-use http_conversations::MOST_READ;
+use http_conversations::{Conversation, MOST_READ, Stage};
 use http_log::Metrics;
 use http_pages::Paths;
 use http_server::Log;
@@ -59,26 +62,34 @@ impl<R: Read + Drop, W: Write + Drop> Seat<R, W> {
         }
     }
 
-    /// Whether the connection may answer something in the next turn, a whole message or part of one.
-    pub(crate) fn has_unanswered(&self) -> bool {
+    /// Whether the connection may answer something in the next turn: a message, or part of one, waits, and no page does.
+    pub(crate) fn has_unanswered(&self) -> bool
+        ensures unanswered { IsTrue result
+            ↔ IsSomeAnd self.now.connection (λ it. HasUnanswered (history it.conversation)) }
+    {
         match &self.connection {
-            Some(connection) => connection.has_unanswered(),
+            Some(connection) => may_answer(&connection.conversation),
             None => false,
         }
     }
 
     /// What is left of the connection's page.
-    pub(crate) fn unsent(&self) -> &[u8] {
+    pub(crate) fn unsent(&self) -> &[u8]
+        ensures unsent { result.now ≡ pending_at self.now }
+    {
         match &self.connection {
-            Some(connection) => connection.unsent(),
+            Some(connection) => connection.conversation.pending(),
             None => b"",
         }
     }
 
     /// Whether the connection ends after the page that it was given last.
-    pub(crate) fn closes(&self) -> bool {
+    pub(crate) fn closes(&self) -> bool
+        ensures closes { IsTrue result ↔ IsSomeAnd self.now.connection
+            (λ it. (history it.conversation).stage ≡ Stage.Closing) }
+    {
         match &self.connection {
-            Some(connection) => connection.closes(),
+            Some(connection) => connection.conversation.stage() == Stage::Closing,
             None => false,
         }
     }
@@ -128,6 +139,17 @@ impl<R: Read + Drop, W: Write + Drop> Seat<R, W> {
         }
         Ok(standing)
     }
+}
+
+/// Whether a message, or part of one, waits to be answered, and no page waits.
+#[tactic(auto, using(crate::proofs::RestLemmas::unanswered))]
+fn may_answer(conversation: &Conversation) -> bool
+    ensures unanswered { IsTrue result ↔ HasUnanswered (history conversation.now) }
+{
+    if conversation.wants_write() {
+        return false;
+    }
+    conversation.has_part()
 }
 
 /// As many seats as there may be connections, without any.

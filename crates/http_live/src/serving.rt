@@ -10,6 +10,7 @@ ghost use Rattle.desk_http.specs.declared.doors.Door.{Door};
 ghost use Rattle.http_live.specs.Doors.{ComesByItsDoor, ComesByItsWay, ComesWithBoth, EndsOnlyIf};
 ghost use Rattle.http_live.specs.declared.seats.Standing.{Standing};
 ghost use Rattle.http_live.specs.declared.serving.Turn.{Turn};
+ghost use Rattle.http_log.specs.declared.counting.Metrics.{Metrics};
 ghost use Rattle.http_ways.specs.declared.ways.Way.{Way};
 
 use crate::seats::{Seat, Standing};
@@ -264,6 +265,9 @@ pub trait Turns {
     /// It was shown something, or asked for the time, and went on from the one to the other.
     ghost seen: { Self → Self → Type 0 } = { λ _ _. ⊤ };
 
+    /// This is what it counted.
+    ghost counted: { Self → Metrics → Type 0 } = { λ _ _. ⊤ };
+
     /// Waits for the next turn. A peer comes by the door of its reader, and is read by the way of its reader. Its pages go to
     /// the writer of the same peer.
     fn next_turn(&mut self) -> Turn<Self::Reader, Self::Writer>
@@ -284,9 +288,8 @@ pub trait Turns {
     }
 
     /// What was counted, for who asks for it.
-    fn metrics(&self) -> Metrics {
-        Metrics::new()
-    }
+    fn metrics(&self) -> Metrics
+        ensures counted { counted self.now result };
 
     /// Sees whether a message, or part of one, waits at a seat to be answered in its turn, which comes next. Nothing depends on
     /// it: a log may be kept so.

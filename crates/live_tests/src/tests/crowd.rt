@@ -6,7 +6,7 @@ ghost use Rattle.http_ways.specs.declared.ways.Way.TheVariants.{Profile};
 use crate::tests::dice::Dice;
 use crate::tests::ends::{Notes, Pieces, Sink};
 use crate::tests::peers::Peer;
-use http_live::{Standing, Turn, Turns};
+use http_live::{Metrics, Standing, Turn, Turns};
 use http_ways::Way;
 
 /// How many seats the peers share.
@@ -112,6 +112,10 @@ impl<'a> Turns for Crowd<'a> {
             },
             _ => Turn::Ready(seat),
         }
+    }
+
+    fn metrics(&self) -> Metrics {
+        Metrics::new()
     }
 
     fn hear(&mut self, seat: usize, standing: Standing) {

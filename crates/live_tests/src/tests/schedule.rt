@@ -5,7 +5,7 @@ ghost use Rattle.http_ways.specs.declared.ways.Way.TheVariants.{Profile};
 use crate::tests::dice::Dice;
 use crate::tests::ends::{Notes, Pieces, Sink};
 use crate::tests::peers::Peer;
-use http_live::{Standing, Turn, Turns};
+use http_live::{Metrics, Standing, Turn, Turns};
 use http_ways::Way;
 
 #[derive(Drop)]
@@ -65,6 +65,10 @@ impl<'a> Turns for Schedule<'a> {
             return Turn::Ready((self.left % count) as usize);
         }
         Turn::Ready(self.dice.roll(count) as usize)
+    }
+
+    fn metrics(&self) -> Metrics {
+        Metrics::new()
     }
 
     fn hear(&mut self, seat: usize, standing: Standing) {
