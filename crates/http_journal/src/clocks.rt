@@ -1,13 +1,17 @@
 //! What the clocks of the system show.
 ghost use Rattle.std.specs.Prelude.{◌≡◌};
+ghost use Rattle.http_journal.specs.Logging.{millis_read};
 ghost use Rattle.http_journal.specs.Seen.{micros_between};
 
+use std::io;
 use std::time::{Instant, SystemTime, UNIX_EPOCH};
 
-/// How many milliseconds it is since 1970; nothing where the clock cannot be read.
-pub(crate) fn millis_now(rt: &HostRuntime) -> Option<u64> {
-    let now = SystemTime::now(rt).ok()?;
-    u64::try_from(now.duration_since(UNIX_EPOCH).ok()?.as_millis()).ok()
+/// How many milliseconds after 1970 the clock of the system was read, if it was.
+pub(crate) fn millis_of(now: io::Result<SystemTime>) -> Option<u64>
+    ensures millis { result ≡ millis_read now }
+{
+    let since = now.ok()?.duration_since(UNIX_EPOCH).ok()?;
+    Some(u64::try_from(since.as_millis()).unwrap_or(u64::MAX))
 }
 
 /// How many microseconds lie between two times; 0 where the clock was not read.

@@ -1,5 +1,5 @@
 //! What is counted of connections and requests, and which lines of the log are written, and when.
-ghost use Rattle.std.specs.Prelude.{◌≡◌, ◌≢◌, ◌<◌, ◌&&◌, ℕ, All, IfOk, IfSome, IsSomeAnd, IsTrue, None, Option, Some, false, if◌then◌else◌, is_some, length, nat_lt, option_map, slice_get, vec_len};
+ghost use Rattle.std.specs.Prelude.{◌≡◌, ◌≢◌, ◌<◌, ◌&&◌, ℕ, All, IfOk, IfSome, IsTrue, None, Option, Some, false, if◌then◌else◌, is_some, length, nat_lt, option_map, slice_get, vec_len};
 ghost use Rattle.std.specs.List.{list_all};
 ghost use Rattle.std.specs.Option.{option_copied};
 ghost use Rattle.std.specs.declared.time.Instant.{Instant};
@@ -7,13 +7,12 @@ ghost use Rattle.std.specs.String.{string_bytes};
 ghost use Rattle.http_log.specs.Counted.{with_connection};
 ghost use Rattle.http_log.specs.Lines.{request_text};
 ghost use Rattle.http_log.specs.Shown.{is_printable};
-ghost use Rattle.http_log.specs.Times.{IsTimedLine};
 ghost use Rattle.http_journal.specs.Ends.{counted_end, counted_ends, is_taken, IsNobody};
-ghost use Rattle.http_journal.specs.Logging.{log_of};
+ghost use Rattle.http_journal.specs.Logging.{IsRecordOf, log_of};
 ghost use Rattle.http_journal.specs.Requests.{is_again};
 ghost use Rattle.http_journal.specs.Seen.{counted_answer, counted_over, counted_turn, is_busy, micros_between, with_answer, with_page, with_part, with_rest, with_seat};
 
-use crate::clocks::{micros_between, millis_now};
+use crate::clocks::{micros_between, millis_of};
 use crate::known::Known;
 use crate::texts::{ask_of, asked_by, is_post, refusal_in, status_in};
 use http_live::Standing;
@@ -22,42 +21,53 @@ use http_messages::Message;
 use http_ways::Arrived;
 use log::info;
 use std::alloc::{AllocError, Global};
-use std::time::Instant;
+use std::io;
+use std::time::{Instant, SystemTime};
 
-/// Writes how many events an opening recovered, on standard error.
+/// Writes how many events an opening recovered, on standard error. Which line that is, is proved; that it is written, no clause
+/// sees.
 pub fn log_opening(rt: &HostRuntime, alloc: Global, form: LogForm, recovered: u64) {
     if let Ok(line) = opened_line(alloc, recovered) {
-        write_line(rt, alloc, form, line);
+        write_line(rt, alloc, Some(form), Some(line));
     }
 }
 
-/// Writes a line. It has printable bytes of ASCII alone, so that one line is one record.
-fn write_line(rt: &HostRuntime, alloc: Global, form: LogForm, line: String)
-    requires printable { IsTrue (list_all is_printable (string_bytes line)) }
+/// Writes a line, if there is one, and a log is written. It has printable bytes of ASCII alone, so that one line is one record.
+/// What it is, is proved; no clause sees what standard error gets.
+fn write_line(rt: &HostRuntime, alloc: Global, form: Option<LogForm>, line: Option<String>)
+    requires printable { IfSome line
+        (λ text. IsTrue (list_all is_printable (string_bytes text))) }
 {
-    let now = match form {
-        LogForm::Plain => None,
-        LogForm::Timed => millis_now(rt),
+    let (Some(form), Some(line)) = (form, line) else {
+        return;
     };
-    match with_time(alloc, now, line.as_str()) {
-        None => info!(rt; target: "desk", "{line}"),
-        Some(text) => {
-            let _ = eprintln!(rt; "{text}");
+    match record_of(alloc, form, SystemTime::now(rt), line) {
+        Record::Plain(line) => info!(rt; target: "desk", "{line}"),
+        Record::Timed(line) => {
+            let _ = eprintln!(rt; "{line}");
         }
     }
 }
 
-/// The line with its time, where there is one; nothing without a time, or where memory runs out.
-fn with_time(alloc: Global, now: Option<u64>, line: &str) -> Option<String>
-    ensures timed { IfSome result (λ text.
-        IsSomeAnd now (λ millis. IsTimedLine millis line.now (string_bytes text))) }
+/// A line of the log.
+#[derive(Drop)]
+enum Record {
+    /// As it is; whoever writes it puts its level before it.
+    Plain(String),
+    /// With its time and its level before it.
+    Timed(String),
+}
+
+/// The line in this form. It is without its time where the clock was not read, or memory runs out.
+fn record_of(alloc: Global, form: LogForm, now: io::Result<SystemTime>, line: String) -> Record
+    ensures is { IsRecordOf form now (string_bytes line) result }
 {
-    match now {
-        None => None,
-        Some(millis) => match timed_line(alloc, millis, line) {
-            Ok(text) => text,
-            Err(_) => None,
+    match (form, millis_of(now)) {
+        (LogForm::Timed, Some(millis)) => match timed_line(alloc, millis, line.as_str()) {
+            Ok(Some(text)) => Record::Timed(text),
+            Ok(None) | Err(_) => Record::Plain(line),
         },
+        _ => Record::Plain(line),
     }
 }
 
@@ -161,7 +171,7 @@ impl<'a> Journal<'a> {
             Standing::Answered | Standing::Stopped => {
                 let line = self.answers(at, seen, status_in(page), page, now);
                 self.keep_page(at, page, closes);
-                self.write(line?);
+                write_line(self.rt, self.alloc, self.form, line?);
                 Ok(())
             }
             _ => {
@@ -188,7 +198,7 @@ impl<'a> Journal<'a> {
             Some(known) => known.why(seen.is_some()),
         };
         if let Ok(line) = self.answers(at, seen, b"lost", b"", now) {
-            self.write(line);
+            write_line(self.rt, self.alloc, self.form, line);
         }
         self.ends(at, why)
     }
@@ -292,7 +302,7 @@ impl<'a> Journal<'a> {
         }
         self.metrics.ends(why);
         let line = known.end(self.alloc, why)?;
-        self.write(line);
+        write_line(self.rt, self.alloc, self.form, line);
         Ok(())
     }
 
@@ -318,15 +328,5 @@ impl<'a> Journal<'a> {
             return Ok(None);
         }
         Ok(Some(request_line(self.alloc, peer, asked)?))
-    }
-
-    /// Writes a line, if there is one, and a log is written.
-    fn write(&self, line: Option<String>)
-        requires printable { IfSome line
-            (λ text. IsTrue (list_all is_printable (string_bytes text))) }
-    {
-        if let (Some(form), Some(line)) = (self.form, line) {
-            write_line(self.rt, self.alloc, form, line);
-        }
     }
 }
