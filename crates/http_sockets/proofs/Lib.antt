@@ -1,2 +1,3 @@
 pub mod SeatLemmas
 pub mod TurnLemmas
+pub mod WaitingLemmas

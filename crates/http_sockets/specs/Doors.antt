@@ -39,6 +39,13 @@ ComesAt page (Ready at) = ⊤
 ComesAt page (Leaves at) = ⊤
 ComesAt page End = ⊤
 
+-- who comes in this turn, if anybody does, has this socket
+abbrev pub ComesOver : {W : Type 0} → Socket → Turn ReadEnd W → Type 0
+ComesOver socket (Comes at door way reader writer) = reader.0.value ≡ socket
+ComesOver socket (Ready at) = ⊤
+ComesOver socket (Leaves at) = ⊤
+ComesOver socket End = ⊤
+
 -- what the end of a socket gives is read by its way
 abbrev pub IsReadBy : ReadEnd → Way → Type 0
 IsReadBy end way = end.1 ≡ way

@@ -7,3 +7,4 @@ pub mod Turns
 pub mod Listening
 pub mod Counts
 pub mod Options
+pub mod Waiting

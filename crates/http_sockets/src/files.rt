@@ -1,4 +1,10 @@
 //! The file of a Unix socket, which its owner alone may open.
+//!
+//! What stands at a path, and what a call makes there, the system alone sees. What its answers mean is proved.
+ghost use Rattle.std.specs.Prelude.{◌≡◌, ◌↔◌, IfErr, IsErrAnd, IsOk};
+ghost use Rattle.std.specs.IoError.{error_kind};
+ghost use Rattle.http_sockets.specs.Listening.{IsReplaced};
+
 use mio::net::{UnixListener, UnixStream};
 use std::alloc::Global;
 use std::fs::{self, DirBuilder, Permissions};
@@ -21,22 +27,38 @@ pub(crate) fn listen_at(rt: &HostRuntime, alloc: Global, path: &str) -> io::Resu
     listener
 }
 
-/// Removes the file of a socket.
-pub(crate) fn remove_socket(rt: &HostRuntime, path: &str) {
-    let _ = fs::remove_file(rt, path);
+/// Whether a socket stands at a path. What stands at its end is not followed.
+pub fn is_socket_at(rt: &HostRuntime, path: &str) -> io::Result<bool> {
+    Ok(fs::symlink_metadata(rt, path)?.file_type().is_socket())
 }
 
 /// Reports an error unless the path has no file, or a socket that nobody listens on.
 fn check_free(rt: &HostRuntime, path: &str) -> io::Result<()> {
-    let there = match fs::symlink_metadata(rt, path) {
-        Ok(there) => there,
-        Err(error) if error.kind() == ErrorKind::NotFound => return Ok(()),
-        Err(error) => return Err(error),
-    };
-    if !there.file_type().is_socket() {
-        return Err(io::Error::from(ErrorKind::AlreadyExists));
+    if is_replaced(is_socket_at(rt, path))? {
+        return check_unheard(&UnixStream::connect(rt, path));
     }
-    match UnixStream::connect(rt, path) {
+    Ok(())
+}
+
+/// Whether a socket stands at a path, to be replaced, by what was found there. Another file is an error.
+fn is_replaced(found: io::Result<bool>) -> io::Result<bool>
+    ensures replaced { IsReplaced found result }
+{
+    match found {
+        Ok(true) => Ok(true),
+        Ok(false) => Err(io::Error::from(ErrorKind::AlreadyExists)),
+        Err(error) if error.kind() == ErrorKind::NotFound => Ok(false),
+        Err(error) => Err(error),
+    }
+}
+
+/// Reports an error unless nobody listens on a socket: a connection to it was refused.
+fn check_unheard(connected: &io::Result<UnixStream>) -> io::Result<()>
+    ensures unheard { IsOk result
+        ↔ IsErrAnd connected.now (λ error. error_kind error ≡ ErrorKind.ConnectionRefused) }
+    ensures heard { IfErr result (λ error. error_kind error ≡ ErrorKind.AddrInUse) }
+{
+    match connected {
         Err(error) if error.kind() == ErrorKind::ConnectionRefused => Ok(()),
         _ => Err(io::Error::from(ErrorKind::AddrInUse)),
     }

@@ -1,12 +1,16 @@
 //! The listeners: a port of 127.0.0.1, and perhaps the path of a Unix socket.
-ghost use Rattle.std.specs.Prelude.{◌≡◌, ◌↔◌, IsTrue, MatchResult};
+ghost use Rattle.std.specs.Prelude.{◌≡◌, ◌↔◌, false, is_some, option_map, IfOk, IsTrue, MatchResult};
+ghost use Rattle.desk_http.specs.declared.doors.Door.{Door};
+ghost use Rattle.http_sockets.specs.Doors.{IsDoorOf};
 ghost use Rattle.http_sockets.specs.Listening.{IsForLater, IsOfOne, IsPortHere};
 
-use crate::files::{listen_at, remove_socket};
+use crate::files::listen_at;
 use crate::places::{Places, Socket};
+use mio::event::Source;
 use mio::net::{TcpListener, UnixListener};
 use mio::{Events, Interest, Registry, Token};
 use std::alloc::Global;
+use std::fs;
 use std::io::{self, ErrorKind};
 use std::net::{IpAddr, Ipv4Addr, SocketAddr};
 
@@ -50,12 +54,14 @@ pub(crate) enum Accepted {
 }
 
 impl Accepted {
+    ghost use Rattle.http_sockets.specs.Waiting.{IsNoSocket};
     ghost use Rattle.http_sockets.specs.declared.listeners.Accepted.TheVariants.{Lost, Nobody};
 
     /// What an error of a listener comes to.
     fn from_error(error: &io::Error) -> Accepted
         ensures nobody { IsForLater error.now → result ≡ Nobody }
         ensures lost { (IsForLater error.now → ⊥) → result ≡ Lost }
+        ensures none { IsNoSocket result }
     {
         let is_later = matches!(
             error.kind(),
@@ -65,6 +71,35 @@ impl Accepted {
             Accepted::Nobody
         } else {
             Accepted::Lost
+        }
+    }
+}
+
+impl<T: Source + Drop> Listener<T> {
+    ghost use Rattle.http_sockets.specs.Waiting.{IsTaken};
+
+    /// A listener, of which the system reports under this token. Nobody is known to wait yet.
+    fn new(registry: &Registry, token: usize, socket: T) -> io::Result<Listener<T>>
+        ensures socket { IfOk result (λ listener. T.keeps socket listener.socket) }
+        ensures none { IfOk result (λ listener. listener.may_wait ≡ false) }
+    {
+        let mut socket = socket;
+        registry.register(&mut socket, Token(token), Interest::READABLE)?;
+        Ok(Listener {
+            socket,
+            may_wait: false,
+        })
+    }
+
+    /// What accepting gave here. After a connection one more may wait.
+    fn take(&mut self, accepted: io::Result<Socket>) -> Accepted
+        ensures taken { IsTaken accepted result self.new.may_wait }
+        ensures socket { self.new.socket ≡ self.old.socket }
+    {
+        self.may_wait = may_wait_after(&accepted);
+        match accepted {
+            Ok(socket) => Accepted::Came(socket),
+            Err(error) => Accepted::from_error(&error),
         }
     }
 }
@@ -79,30 +114,41 @@ pub(crate) struct Listeners<'a> {
 impl<'a> Listeners<'a> {
     ghost use Rattle.http_sockets.specs.Places.{seats_of};
     ghost use Rattle.http_sockets.specs.Seats.{AddWaiting};
+    ghost use Rattle.http_sockets.specs.Waiting.{Accepts, all_heard, heard, may_wait, none_heard, waiting_at};
 
-    /// Listens on a port of 127.0.0.1, and on a path if there is one, which its owner alone may open.
+    /// Listens on a port of 127.0.0.1, and on a path if there is one, which its owner alone may open. Whether it is this port,
+    /// and this path, the system alone sees.
     pub(crate) fn bind(
         rt: &HostRuntime,
         alloc: Global,
         registry: &Registry,
         port: u16,
         path: Option<&'a str>,
-    ) -> io::Result<Listeners<'a>> {
-        let port = bind_port(rt, registry, port)?;
+    ) -> io::Result<Listeners<'a>>
+        ensures none { IfOk result (λ listeners. waiting_at listeners ≡ none_heard (is_some path.entry)) }
+        ensures path { IfOk result (λ listeners.
+            option_map (λ house. house.path) listeners.house ≡ path.entry) }
+    {
+        let port = Listener::new(registry, PORT, TcpListener::bind(rt, address_of(port))?)?;
         let house = match path {
-            Some(path) => Some(bind_path(rt, alloc, registry, path)?),
+            Some(path) => Some(House {
+                path,
+                listener: Listener::new(registry, PATH, listen_at(rt, alloc, path)?)?,
+            }),
             None => None,
         };
         Ok(Listeners { port, house })
     }
 
-    /// The port that is listened on: where 0 was asked for, the system chose it.
+    /// The port that is listened on: where 0 was asked for, the system chose it, and it alone knows it.
     pub(crate) fn port(&self) -> io::Result<u16> {
         Ok(self.port.socket.local_addr()?.port())
     }
 
     /// Somebody may wait at the listener of this token.
-    pub(crate) fn hear(&mut self, token: usize) {
+    fn hear(&mut self, token: usize)
+        ensures heard { waiting_at self.new ≡ heard token (waiting_at self.old) }
+    {
         if token == PORT {
             self.port.may_wait = true;
         } else if let Some(house) = &mut self.house {
@@ -111,7 +157,9 @@ impl<'a> Listeners<'a> {
     }
 
     /// Somebody may wait at each listener.
-    pub(crate) fn hear_all(&mut self) {
+    pub(crate) fn hear_all(&mut self)
+        ensures heard { waiting_at self.new ≡ all_heard (waiting_at self.old) }
+    {
         self.hear(PORT);
         self.hear(PATH);
     }
@@ -133,7 +181,9 @@ impl<'a> Listeners<'a> {
     }
 
     /// Whether somebody may wait.
-    pub(crate) fn may_wait(&self) -> bool {
+    pub(crate) fn may_wait(&self) -> bool
+        ensures waits { result ≡ may_wait (waiting_at self.now) }
+    {
         let at_path = self
             .house
             .as_ref()
@@ -142,38 +192,46 @@ impl<'a> Listeners<'a> {
     }
 
     /// Who waits, if anybody does: at the path first, since its owner alone comes there.
-    pub(crate) fn accept(&mut self) -> Accepted {
+    #[tactic(auto, using(crate::proofs::WaitingLemmas::comes_to))]
+    pub(crate) fn accept(&mut self) -> Accepted
+        ensures accepts { Accepts (waiting_at self.old) (waiting_at self.new) result }
+    {
         if let Some(house) = &mut self.house {
             if house.listener.may_wait {
-                let accepted = house.listener.socket.accept();
-                house.listener.may_wait = may_wait_after(&accepted);
-                return match accepted {
-                    Ok((stream, _)) => Accepted::Came(Socket::Path(stream)),
-                    Err(error) => Accepted::from_error(&error),
-                };
+                let accepted = come_to_path(&house.listener.socket);
+                return house.listener.take(accepted);
             }
         }
         if !self.port.may_wait {
             return Accepted::Nobody;
         }
-        let accepted = self.port.socket.accept();
-        self.port.may_wait = may_wait_after(&accepted);
-        match accepted {
-            Ok((stream, _)) => {
-                // A page goes out at once, and does not wait for the next one.
-                let _ = stream.set_nodelay(true);
-                Accepted::Came(Socket::Port(stream))
-            }
-            Err(error) => Accepted::from_error(&error),
-        }
+        let accepted = come_to_port(&self.port.socket);
+        self.port.take(accepted)
     }
 
-    /// Listens no more, and removes the file of the Unix socket.
+    /// Listens no more, and removes the file of the Unix socket, which the system alone sees.
     pub(crate) fn end(self, rt: &HostRuntime) {
         if let Some(house) = &self.house {
-            remove_socket(rt, house.path);
+            let _ = fs::remove_file(rt, house.path);
         }
     }
+}
+
+/// Who waits at the path.
+fn come_to_path(listener: &UnixListener) -> io::Result<Socket>
+    ensures house { IfOk result (λ socket. IsDoorOf socket Door.House) }
+{
+    let (stream, _) = listener.accept()?;
+    Ok(Socket::Path(stream))
+}
+
+/// Who waits at the port. A page goes out to it at once, and does not wait for the next one.
+fn come_to_port(listener: &TcpListener) -> io::Result<Socket>
+    ensures port { IfOk result (λ socket. IsDoorOf socket Door.Port) }
+{
+    let (stream, _) = listener.accept()?;
+    let _ = stream.set_nodelay(true);
+    Ok(Socket::Port(stream))
 }
 
 /// Whether one more may wait after this. Where none can be taken, the next tick asks again.
@@ -197,34 +255,4 @@ fn address_of(port: u16) -> SocketAddr
     ensures here { IsPortHere port result }
 {
     SocketAddr::new(IpAddr::V4(Ipv4Addr::LOCALHOST), port)
-}
-
-/// Listens on a port of 127.0.0.1.
-fn bind_port(
-    rt: &HostRuntime,
-    registry: &Registry,
-    port: u16,
-) -> io::Result<Listener<TcpListener>> {
-    let mut socket = TcpListener::bind(rt, address_of(port))?;
-    registry.register(&mut socket, Token(PORT), Interest::READABLE)?;
-    Ok(Listener {
-        socket,
-        may_wait: false,
-    })
-}
-
-/// Listens on a path.
-fn bind_path<'a>(
-    rt: &HostRuntime,
-    alloc: Global,
-    registry: &Registry,
-    path: &'a str,
-) -> io::Result<House<'a>> {
-    let mut socket = listen_at(rt, alloc, path)?;
-    registry.register(&mut socket, Token(PATH), Interest::READABLE)?;
-    let listener = Listener {
-        socket,
-        may_wait: false,
-    };
-    Ok(House { path, listener })
 }

@@ -310,8 +310,10 @@ pub struct WriteEnd(Rc<Socket>);
 impl Socket {
     ghost use Rattle.http_sockets.specs.Doors.{IsDoorOf, door_of};
 
-    /// What the system reports of it is told under this token.
-    pub(crate) fn register(&mut self, registry: &Registry, token: Token) -> io::Result<()> {
+    /// What the system reports of it is reported under this token from now on.
+    pub(crate) fn register(&mut self, registry: &Registry, token: Token) -> io::Result<()>
+        ensures same { self.new ≡ self.old }
+    {
         let both = Interest::READABLE | Interest::WRITABLE;
         match self {
             Socket::Port(stream) => registry.register(stream, token, both),
@@ -331,7 +333,7 @@ impl Socket {
         }
     }
 
-    /// Nothing more is written to it.
+    /// Nothing more is written to it. The system alone sees it.
     pub(crate) fn end_writing(&self) {
         let _ = match self {
             Socket::Port(stream) => stream.shutdown(Shutdown::Write),

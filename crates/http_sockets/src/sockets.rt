@@ -1,5 +1,5 @@
 //! Turns from the system: what epoll reports, and who comes and goes.
-ghost use Rattle.std.specs.Prelude.{◌≡◌, ◌≢◌, ◌-◌, ◌/◌, ◌<◌, ◌≤◌, ◌+◌, ◌↔◌, None, Some, IfOk, IfSome, IsSome, IsTrue, MatchOption, MatchResult, OnErr, OnOk, OnSome, option_map};
+ghost use Rattle.std.specs.Prelude.{◌≡◌, ◌≢◌, ◌-◌, ◌/◌, ◌<◌, ◌≤◌, ◌+◌, ◌↔◌, true, None, Some, IfOk, IfSome, IsSome, IsTrue, MatchOption, MatchResult, OnErr, OnOk, OnSome, option_map};
 ghost use Rattle.std.specs.Time.{system_time_nanos};
 ghost use Rattle.http_sockets.specs.Counts.{IsFewer, one_fewer};
 ghost use Rattle.http_sockets.specs.Doors.{IsAt, IsPair, IsReadBy, IsTurn};
@@ -72,10 +72,11 @@ pub struct Sockets<'a> {
 
 impl<'a> Sockets<'a> {
     ghost use Rattle.http_sockets.specs.Ends.{HasWaited, HaveLeft, is_failed};
-    ghost use Rattle.http_sockets.specs.Doors.{ComesAt, ComesBy};
+    ghost use Rattle.http_sockets.specs.Doors.{ComesAt, ComesBy, ComesOver};
     ghost use Rattle.http_sockets.specs.Options.{AddsPage, options_of, options_within, page_at_port, still_to_come, way_to_come};
     ghost use Rattle.http_sockets.specs.Seats.{AddWaiting};
     ghost use Rattle.http_sockets.specs.Turns.{EndsLate, IsSeated, IsUnseated, seats_in};
+    ghost use Rattle.http_sockets.specs.Waiting.{all_heard, may_wait, waiting_at};
 
     /// Listens on a port of 127.0.0.1, and on a path if there is one, which its owner alone may open. Who comes is served
     /// within these limits.
@@ -125,7 +126,7 @@ impl<'a> Sockets<'a> {
         self.journal.log(form);
     }
 
-    /// The port that is listened on: where 0 was asked for, the system chose it.
+    /// The port that is listened on: where 0 was asked for, the system chose it, and it alone knows it.
     pub fn port(&self) -> io::Result<u16> {
         self.listeners.port()
     }
@@ -155,7 +156,8 @@ impl<'a> Sockets<'a> {
         self.has_failed
     }
 
-    /// Ends all connections, listens no more, and removes the file of the Unix socket.
+    /// Ends all connections, listens no more, and removes the file of the Unix socket. Nothing of the sockets is left of which a
+    /// clause could speak.
     pub fn end(self) {
         let mut sockets = self;
         sockets.journal.ends_all();
@@ -165,6 +167,7 @@ impl<'a> Sockets<'a> {
 
     /// Whether one more peer may take a seat in this round.
     fn welcomes(&self) -> bool
+        ensures waits { IsTrue result → may_wait (waiting_at self.now.listeners) ≡ true }
         ensures round { IsTrue result → self.now.welcomed < WELCOMES }
         ensures limit { IsTrue result → still_to_come self.now ≢ Some 0 }
     {
@@ -220,6 +223,7 @@ impl<'a> Sockets<'a> {
         ensures turn { IfOk result IsTurn }
         ensures now { IfOk result (ComesBy (way_to_come self.old)) }
         ensures page { IfOk result (ComesAt (page_at_port self.old)) }
+        ensures same { IfOk result (ComesOver socket) }
         ensures seated { IfOk result (IsSeated self.old self.new) }
         ensures limit { still_to_come self.new ≡ one_fewer (still_to_come self.old) }
         ensures err { OnErr result (IsUnseated self.old self.new) }
@@ -270,6 +274,8 @@ impl<'a> Sockets<'a> {
         ensures seats { seats_in self.new ≡ seats_in self.old }
         ensures rounds { self.new.to_begin ≡ self.old.to_begin }
         ensures late { OnOk result (EndsLate self.old self.new) }
+        ensures asked { self.new.tick ≢ self.old.tick → waiting_at self.new.listeners
+            ≡ all_heard (waiting_at self.old.listeners) }
     {
         let now = Instant::now(self.rt)?;
         let passed = now.duration_since(self.clock).as_millis() / u128::from(TICK);
@@ -377,6 +383,8 @@ impl Turns for Sockets<'_> {
     ghost is_pair = { IsPair };
 
     ghost is_over = { IsOver };
+
+    ghost counted = { λ sockets metrics. metrics ≡ sockets.journal.metrics };
 
     fn next_turn(&mut self) -> Turn<ReadEnd, WriteEnd> {
         match turn_of_rounds(self) {
