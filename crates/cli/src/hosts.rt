@@ -32,7 +32,8 @@ impl<'a> Host<'a> {
         }
     }
 
-    /// Ends the sockets, if somebody was served, and removes the file of the Unix socket. The database is closed by then.
+    /// Ends the sockets, if somebody was served, and removes the file of the Unix socket. The database is closed by then. Nothing is
+    /// left of which a clause could speak.
     pub(crate) fn end(self) {
         if let Some(sockets) = self.dismissed {
             sockets.end();

@@ -7,12 +7,10 @@ ghost use Rattle.cli.specs.Listening.{IsForBrowsers, ServesAs, ShowsPage, logged
 use crate::actions::Served;
 use agents_page::{PAGE, POLICY};
 use http_pages::HtmlPage;
-use http_sockets::{Limits, LogForm, PATIENCE, Sockets};
+use http_sockets::{Limits, LogForm, PATIENCE, Sockets, is_socket_at};
 use program_ends::{End, Ended, ProgramFault, end_of_listening};
 use std::alloc::Global;
-use std::fs;
 use std::io::ErrorKind;
-use std::os::unix::fs::FileTypeExt;
 
 /// Listens on the port, and at the Unix socket if there is one.
 pub(crate) fn bind<'a>(
@@ -44,15 +42,9 @@ fn end_of_error(error: ErrorKind, has_socket: bool) -> Ended
     }
 }
 
-/// Whether a socket stands at the path of the house, if there is one.
+/// Whether a socket stands at the path of the house, if there is one. The system alone sees it.
 fn has_socket(rt: &HostRuntime, house: Option<&str>) -> bool {
-    let Some(path) = house else {
-        return false;
-    };
-    match fs::symlink_metadata(rt, path) {
-        Ok(found) => found.file_type().is_socket(),
-        Err(_) => false,
-    }
+    house.map_or(false, |path| is_socket_at(rt, path).unwrap_or(false))
 }
 
 /// The sockets, with the way of reading HTTP, the log and the page that are asked for.
