@@ -1,7 +1,6 @@
 """The file that lives through a script of lives. After each life its rows, and the reports on copies of it, are those
 of a desk that may stand there by then. More than 200 lines: one file is looked at, cut and spoiled in one place."""
 import contextlib
-import json
 import os
 import random
 import shutil
@@ -12,7 +11,6 @@ from disks import Disk, Part, notes_in
 from driving import DESK, FILES, PATIENCE, lay, read_files
 from ledger import fill, is_settled, tables_of
 from plain_desk import Desk
-from shown import KINDS, change_indexes, kind_of
 from soak_answers import report_of
 from soak_lives import Life
 from soak_talk import Wrong, without_repeats
@@ -58,7 +56,7 @@ class Place:
         self.share, self.is_blind, self.has_syncs = share, is_blind, has_syncs
         shutil.rmtree(folder, ignore_errors=True)
         os.makedirs(folder)
-        self.desks, self.disk, self.lives, self.kind = [Desk()], Disk(), 0, None
+        self.desks, self.disk, self.lives = [Desk()], Disk(), 0
         self.unsynced = list(self.desks)  # what a power cut may leave
 
     def path(self, name="trips.db"):
@@ -67,8 +65,6 @@ class Place:
     def live(self, life):
         """One life, and a look at what it left. Gives what was said."""
         self.lives += 1
-        if self.lives == 1:
-            self.kind = life.setdefault("kind", kind_of(random.Random(json.dumps(life)).randrange(len(KINDS))))
         env = dict(life.get("env", {}))
         if self.is_noted(life):
             env["NOTE"] = self.path("notes")
@@ -100,17 +96,7 @@ class Place:
             self.count.add("cut off and done" if len(self.desks[0].events) > least else "cut off")
         if life.get("spoil") not in (None, "lose-event"):
             self.spoil(life["spoil"])
-        self.change_indexes()
         return one.talk
-
-    def change_indexes(self):
-        """Makes the file one of its kind, which the first life says, once it has tables. Then all that stands is synced."""
-        if not KINDS.get(self.kind):
-            return
-        lay(read_files(self.folder), self.path("look"))
-        if rows_in(self.path("look/trips.db")):
-            change_indexes(self.path(), self.kind)
-            self.disk, self.unsynced, self.kind = Disk(read_files(self.folder)), list(self.desks), None
 
     # Power cuts.
 

@@ -12,7 +12,6 @@ A life is a dictionary that JSON can hold:
   name, records  of load
   cut            the calls are noted; from 0 on the number for chance by which the power is cut afterwards
   spoil          how the file is spoiled afterwards
-  kind           of the first life: of which kind the file is, once it has tables (shown.py)
 """
 import contextlib
 import os
