@@ -126,6 +126,13 @@ class Browser:
         self.driver.switch_to.new_window(kind)
         return before, self.driver.current_window_handle
 
+    def replace_window(self):
+        """Closes the window, and has another one in its place."""
+        before, after = self.new_window()
+        self.driver.switch_to.window(before)
+        self.driver.close()
+        self.driver.switch_to.window(after)
+
     def one(self, css, what=""):
         return wait_until(lambda: next(iter(self.all(css)), None), what or css)
 

@@ -37,10 +37,7 @@ def between(scene, what, events):
         time.sleep(0.5)
         scene.desk.start()
     if "window" in events:
-        first, second = browser.new_window()
-        driver.switch_to.window(first)
-        driver.close()
-        driver.switch_to.window(second)
+        browser.replace_window()
         browser.open(scene.desk.url())
     network.mode = "pass"
     if "reload" in events:

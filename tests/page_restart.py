@@ -2,8 +2,17 @@
 import datetime
 
 from page_driving import wait_until
+from page_lost import click_is_lost
 from page_rules import look_at
 from page_scenes import FLIGHT, JUNE, TRANSFER, TWO, comes, option, plan, same
+
+
+def is_killed_before(scene, button):
+    """The desk is killed before the request of a button comes to it, and the page sees that the desk is away."""
+    click_is_lost(scene, button, button, "hold", ".acts")
+    scene.desk.kill()
+    scene.network.let_go.set()
+    scene.browser.shows("The desk cannot be reached", "#away")
 
 
 def after_restart(scene):
@@ -20,12 +29,7 @@ def after_restart(scene):
     desk.post("/journeys/3/abort/0", "anew-back")
     scene.shows_journey(1)
     browser.shows("My journeys (12)", "#nav")
-    network.mode = "hold"
-    browser.press("Do step 2", ".acts")
-    wait_until(lambda: network.posts, "the request")
-    desk.kill()
-    network.let_go.set()
-    browser.shows("The desk cannot be reached", "#away")
+    is_killed_before(scene, "Do step 2")
     network.mode = "pass"
     desk.start()
     browser.shows("The journey has ended", ".acts")
@@ -77,10 +81,7 @@ def restart_unseen(scene):
         under_way, ended = (scene.begins(TWO, f"{what}-{events}", 1) for what in ("run", "over"))
         back = goes_back(scene, f"back-{events}")
         if events == "window":
-            first, second = browser.new_window()
-            driver.switch_to.window(first)
-            driver.close()
-            driver.switch_to.window(second)
+            browser.replace_window()
         network.gets.hold()
         desk.post(f"/journeys/{ended}/step", f"over-{events}-2")
         desk.kill()
@@ -100,12 +101,7 @@ def restart_told_once(scene):
     saw that the desk was away; what was pressed for it is not told as refused."""
     browser, desk, network, driver = scene.browser, scene.desk, scene.network, scene.browser.driver
     back = goes_back(scene, "away")
-    network.mode = "hold"
-    browser.press("Give back step 2", ".acts")
-    wait_until(lambda: network.posts, "the request")
-    desk.kill()
-    network.let_go.set()
-    browser.shows("The desk cannot be reached", "#away")
+    is_killed_before(scene, "Give back step 2")
     looks_again(scene)
     network.mode = "pass"
     network.gets.hold()

@@ -9,45 +9,21 @@
 
    It prints how many steps there were in a round, and of the shortest round how many microseconds passed for a step,
    and how many of the processor the server took, which is the process PID. The server's file is to be new. */
-#include <arpa/inet.h>
-#include <netinet/in.h>
-#include <netinet/tcp.h>
-#include <stdio.h>
-#include <stdlib.h>
-#include <string.h>
-#include <sys/epoll.h>
-#include <sys/socket.h>
-#include <unistd.h>
-
+#include "clients.h"
 #include "times.h"
 
-enum { PLAN_STEPS = 24, MOST = 1000, LONGEST = 1 << 14 };
+enum { PLAN_STEPS = 24, LONGEST = 1 << 14 };
 
-/* a client, the page that it waits for, and how much of it came */
+/* a client: how many steps it has asked for, the page that it waits for, and how much of it came */
 struct client {
-  int stream, asked;
+  int asked;
   char expected[512];
   size_t length, came;
 };
 
 static struct client clients[MOST];
-static int count, journeys, steps, round_number, watched;
+static int count, journeys, steps, round_number;
 static const char *process;
-
-static void stop(const char *why) {
-  fprintf(stderr, "ask_many: %s\n", why);
-  exit(1);
-}
-
-static int connect_to(int port) {
-  int yes = 1, stream = socket(AF_INET, SOCK_STREAM, 0);
-  struct sockaddr_in address = {.sin_family = AF_INET, .sin_port = htons((unsigned short)port),
-                                .sin_addr.s_addr = htonl(INADDR_LOOPBACK)};
-  if (stream < 0 || setsockopt(stream, IPPROTO_TCP, TCP_NODELAY, &yes, sizeof yes) != 0 ||
-      connect(stream, (struct sockaddr *)&address, sizeof address) != 0)
-    stop("no connection");
-  return stream;
-}
 
 /* the agent of a client */
 static int agent_of(const struct client *client) { return (int)(client - clients); }
@@ -65,13 +41,14 @@ static void expect(struct client *client, const char *body) {
 }
 
 static void send_request(const struct client *client, const char *request, int length) {
-  if (write(client->stream, request, (size_t)length) != length) stop("a request could not be sent");
+  if (write(streams[agent_of(client)], request, (size_t)length) != length) stop("a request could not be sent");
 }
 
 /* Reads what came of the page. Returns whether it is whole. */
-static int take_page(struct client *client) {
+static int take_page(int at) {
+  struct client *client = &clients[at];
   char page[sizeof client->expected];
-  ssize_t got = read(client->stream, page, sizeof page);
+  ssize_t got = read(streams[at], page, sizeof page);
   if (got <= 0) stop("no page came");
   if (client->came + (size_t)got > client->length || memcmp(page, client->expected + client->came, (size_t)got) != 0) {
     fprintf(stderr, "ask_many: expected\n%s\nand got\n%.*s\n", client->expected, (int)got, page);
@@ -97,11 +74,12 @@ static void begin(struct client *client, int which) {
                    "Content-Length: %d\r\n\r\n%s",
                    agent_of(client), journey_of(client, which), length, plan);
   send_request(client, request, length);
-  while (!take_page(client)) continue;
+  while (!take_page(agent_of(client))) continue;
 }
 
 /* A client asks for its next step. */
-static void ask_step(struct client *client) {
+static void ask_step(int at) {
+  struct client *client = &clients[at];
   char request[256], body[128];
   int id = journey_of(client, client->asked / PLAN_STEPS), pos = client->asked % PLAN_STEPS + 1;
   sprintf(body, "{\"item\":\"T%d.1\",\"journey\":%d,\"pos\":%d,\"state\":\"%s\"}", pos, id, pos,
@@ -113,28 +91,6 @@ static void ask_step(struct client *client) {
                        "POST /journeys/%d/step HTTP/1.1\r\nHost: 127.0.0.1\r\nDesk-Agent: a%d\r\nDesk-Key: s%d-%d\r\n"
                        "Content-Length: 0\r\n\r\n",
                        id, agent_of(client), id, pos));
-}
-
-/* All clients make their steps. */
-static void make_steps(void) {
-  struct epoll_event events[MOST];
-  int left = steps > 0 ? count : 0;
-  for (int at = 0; at < left; at++) {
-    clients[at].asked = 0;
-    ask_step(&clients[at]);
-  }
-  while (left > 0) {
-    int ready = epoll_wait(watched, events, MOST, -1);
-    if (ready < 0) stop("epoll failed");
-    for (int at = 0; at < ready; at++) {
-      struct client *client = &clients[events[at].data.u32];
-      if (!take_page(client)) continue;
-      if (client->asked < steps)
-        ask_step(client);
-      else
-        left--;
-    }
-  }
 }
 
 int main(int words, char **word) {
@@ -150,17 +106,14 @@ int main(int words, char **word) {
   steps = atoi(word[7]);
   if (count < 1 || count > MOST || steps > journeys * PLAN_STEPS) stop("there are no such clients");
   for (int silent = atoi(word[4]); silent > 0; silent--) connect_to(port);
-  watched = epoll_create1(0);
-  for (int at = 0; at < count; at++) {
-    struct epoll_event event = {.events = EPOLLIN, .data.u32 = (unsigned)at};
-    clients[at].stream = connect_to(port);
-    if (epoll_ctl(watched, EPOLL_CTL_ADD, clients[at].stream, &event) != 0) stop("epoll failed");
-  }
+  connect_all(port, count);
   for (; round_number < rounds; round_number++) {
-    for (int at = 0; at < count; at++)
+    for (int at = 0; at < count; at++) {
+      clients[at].asked = 0;
       for (int which = 0; which < journeys; which++) begin(&clients[at], which);
+    }
     double spent_before = spent(process), start = now();
-    make_steps();
+    ask_all(count, steps, ask_step, take_page);
     double passed_now = now() - start, took_now = spent(process) - spent_before;
     if (round_number == 0 || passed_now < passed) passed = passed_now;
     if (round_number == 0 || took_now < took) took = took_now;
