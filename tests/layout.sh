@@ -36,7 +36,10 @@ printf '1. **One.** *2026-01-01; stands.* A.\n2. **Two.** no date\n' >"$copy/doc
   printf "A wrong body of \`edit\`.\n\n| a | The house's door |\n\n%s.\n" "$(printf 'word %.0s' {1..36})"
   printf '\n%.0s' {1..301}
 } >"$copy/docs/PAGE.md"
+mkdir -p "$copy/crates/one/src"
+printf '/// A seat,\n/// and the wide\n/// way.\nlet seats = "handed out";\n' >"$copy/crates/one/src/lib.rt"
 python3 "$copy/tests/words.py" --list >"$work/found"
+same "words.py on a comment" "1: 'the wide way'" "$(sed -n 's,^crates/one/src/lib.rt:\(.*\): .*,\1,p' "$work/found")"
 same "words.py on two phrases, a sentence and a page" "1: 3: 5: 306 lines" "$(sed -n 's,^docs/PAGE.md:\([0-9 ]*[:a-z]*\).*,\1,p' "$work/found" | xargs)"
 same "words.py on a decision" "docs/DECISIONS.md:2: not of the form: number, title, date, status" "$(tail -n 1 "$work/found")"
 same "words.py on the pages" "" "$(python3 tests/words.py >"$work/words" || python3 tests/words.py --list)"

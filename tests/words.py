@@ -1,5 +1,5 @@
 """Counts what the house style forbids in the pages and in the texts of help: phrases that only this repository uses, sentences of
-more than 35 words, pages of more than 300 lines, and decisions that are no record. A count above its limit fails. No limit is raised.
+more than 35 words, pages of more than 300 lines, and decisions that are no record. The phrases count in comments of sources, too. A count above its limit fails. No limit is raised.
 
 words.py            compares the counts with the limits, and ends with 1 where one is above
 words.py --list     prints each place that counts, page by page
@@ -31,6 +31,8 @@ PHRASES = [
     (r"want of memory", "out of memory"),
 ]
 PHRASES = [(re.compile(rf"\b(?:{phrase})\b", re.IGNORECASE), instead) for phrase, instead in PHRASES]
+# what has another sense where a comment speaks of journeys, of SQL and of `reason`
+SENSES = re.compile(r"seats?|edits?|.*reason", re.IGNORECASE)
 # in CHANGES alone: what stayed is not said
 UNCHANGED = re.compile(r"\bas (?:it|they) (?:was|were)\b", re.IGNORECASE)
 
@@ -104,6 +106,23 @@ def parts_of_help(source):
                 yield line, " ".join(text.split())
 
 
+class Comments(Text):
+    """The comments of a source: only their phrases count."""
+
+    def phrases(self):
+        return (found for found in super().phrases() if not SENSES.fullmatch(found[1]))
+
+    def sentences(self):
+        return ()
+
+
+def parts_of_source(source):
+    """The comments that have lines of their own, each with its lines as one."""
+    for comment in re.finditer(r"(?:^[ \t]*(?://|--).*\n)+", source, re.MULTILINE):
+        lines = (re.sub(r"^\s*(?://[/!]?|--)\s*", "", line) for line in comment[0].splitlines())
+        yield source.count("\n", 0, comment.start()) + 1, " ".join(lines)
+
+
 def bad_decisions():
     """Each decision that is no record, or whose number does not rise: its line, and why."""
     last, lines = 0, (TOP / DECISIONS).read_text(encoding="utf-8").splitlines()
@@ -121,11 +140,15 @@ def bad_decisions():
 
 
 def texts():
-    """All pages of the repository, and the texts of help."""
+    """All pages of the repository, the texts of help, and the comments of its sources."""
     for pattern, parts_of in (("*.md", parts_of_page), ("docs/*.md", parts_of_page), ("crates/help_texts/src/*.rt", parts_of_help)):
         for path in sorted(TOP.glob(pattern)):
             source = path.read_text(encoding="utf-8")
             yield Text(str(path.relative_to(TOP)), source, parts_of(source))
+    for path in sorted([*TOP.glob("crates/*/*/**/*.rt"), *TOP.glob("crates/*/*/**/*.antt")]):
+        if "out" not in path.relative_to(TOP).parts:
+            source = path.read_text(encoding="utf-8")
+            yield Comments(str(path.relative_to(TOP)), source, parts_of_source(source))
 
 
 def places():

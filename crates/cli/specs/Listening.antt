@@ -8,8 +8,8 @@ use Rattle.http_pages.specs.declared.answers.HtmlPage.{HtmlPage}
 use Rattle.http_sockets.specs.Options.{AddsPage, Options, options_of}
 use Rattle.http_sockets.specs.declared.limits.TheConstants.{PATIENCE}
 use Rattle.http_sockets.specs.declared.sockets.Sockets.{Sockets}
-use Rattle.http_ways.specs.declared.ways.Way.{Way}
-use Rattle.http_ways.specs.declared.ways.Way.TheVariants.{Profile, Wide}
+use Rattle.http_modes.specs.declared.modes.Mode.{Mode}
+use Rattle.http_modes.specs.declared.modes.Mode.TheVariants.{Strict, Lenient}
 use Rattle.cli.specs.Actions.{IsServedAs}
 use Rattle.cli.specs.declared.actions.Served.{Served}
 
@@ -23,16 +23,16 @@ IsSite true (Some site) = IsForBrowsers site.page
 IsSite true None = ⊥
 IsSite false site = site ≡ None
 
--- the way of libraries, proxies and pools, or the strict one
-abbrev pub way_of : (wide : Bool) → Way
-way_of wide = if wide then Wide else Profile
+-- the mode of libraries, proxies and pools, or the strict one
+abbrev pub mode_of : (wide : Bool) → Mode
+mode_of wide = if wide then Lenient else Strict
 
--- Sockets serve so: as many connections as are asked for, with the patience of this desk, the page, the way and the log.
+-- Sockets serve so: as many connections as are asked for, with the patience of this desk, the page, the mode and the log.
 pub record ServesAs (served : Served) (options : Options) : Type 0 where
   pub connections : options.connections ≡ served.connections
   pub patience : options.patience ≡ PATIENCE
   pub page : IsSite served.page options.page
-  pub way : options.way ≡ way_of served.wide
+  pub mode : options.mode ≡ mode_of served.wide
   pub log : options.log ≡ served.log
 
 -- sockets serve as their job asks
@@ -43,9 +43,9 @@ pub record ServesJob (job : Job) (sockets : Sockets) : Type 0 where
 
 -- The options of sockets after one more was chosen, or was not.
 
--- the way of libraries, proxies and pools, if it is asked for
+-- the mode of libraries, proxies and pools, if it is asked for
 abbrev pub widened : Bool → Options → Options
-widened wide old = record old { way = if wide then Wide else old.way }
+widened wide old = record old { mode = if wide then Lenient else old.mode }
 
 -- a log in this form, if one is asked for
 abbrev pub logged : Option LogForm → Options → Options

@@ -47,7 +47,7 @@ fn has_socket(rt: &HostRuntime, house: Option<&str>) -> bool {
     house.map_or(false, |path| is_socket_at(rt, path).unwrap_or(false))
 }
 
-/// The sockets, with the way of reading HTTP, the log and the page that are asked for.
+/// The sockets, with the mode of reading HTTP, the log and the page that are asked for.
 fn equipped<'a>(sockets: Sockets<'a>, served: Served<'_>) -> Result<Sockets<'a>, Ended>
     ensures options { IfOk result (λ equipped. ShowsPage served.entry.page
         (logged served.entry.log (widened served.entry.wide (options_of sockets.entry)))

@@ -74,7 +74,7 @@ batch_name = record (needed (codes "NAME")) { long = Some (codes "batch") }
 abbrev pub optional : Text → Rule
 optional id = record (new_rule id) { action = Some Set }
 
--- the port follows `--port`, the number of connections `--connections`, and the path of the house's door `--house`
+-- the port follows `--port`, the number of connections `--connections`, and the path of the administrator's socket `--house`
 abbrev pub port_number : Rule
 port_number = record (needed (codes "PORT")) { long = Some (codes "port") }
 

@@ -40,7 +40,7 @@ port_in value = number_named most_port (value (codes "PORT"))
 abbrev pub connections_in : (Text → Option Text) → Option ℕ
 connections_in value = number_named most_connections (value (codes "N"))
 
--- the path of the house's door, by its name
+-- the path of the administrator's socket, by its name
 abbrev pub house_in : (Text → Option Text) → Option Text
 house_in value = value (codes "PATH")
 

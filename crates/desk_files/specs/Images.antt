@@ -1,4 +1,4 @@
--- What the files of a desk may be found to hold, from one process to the next.
+-- What is recoverable from the files of a desk, from one process to the next.
 -- An image is what the log and the database file hold; one that may be left is what they may hold after a crash at this moment.
 use Rattle.std.specs.Prelude.{◌≡◌, ◌≢◌, ◌⊎◌, ⊤, ℕ, [], None, Some, IsTrue}
 use Rattle.sqlite_disk.specs.declared.Disk.{Ghosts}

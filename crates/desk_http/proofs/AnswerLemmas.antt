@@ -125,7 +125,7 @@ no_head_stops (Page site) m is = refl
 no_head_stops House sent.NoHead is = refl
 no_head_stops House (sent.Asks h body) is = absurd is
 
--- a request at the house's door stops it where it names nobody and asks for that, with a head that is not refused
+-- a request at the administrator's socket stops it where it names nobody and asks for that, with a head that is not refused
 pub house_stops : (r : Request) (asked refused c : Bool)
     → ((parts : Parts) (body : List ℕ) → IsRequest r parts body → asked ≡ asks_to_stop parts)
     → refused ≡ is_some r.complaint → c ≡ (r.is_unnamed && asked && not refused)

@@ -136,7 +136,7 @@ house_within : (found : Result Route Denied) (parts : Parts) (body : List ℕ) (
 house_within (Err denied) parts body c = λ same. cc
 house_within (Ok route) parts body c = demanded_within route (sender_of who.House parts body) c
 
--- those at the house's door
+-- those at the administrator's socket
 at_house_within : (unnamed stop metrics report : Bool) (parts : Parts) (body : List ℕ) (c : Command)
     → (if unnamed then house_if stop metrics report parts body else agents_demand parts body) ≡ Ok (Carry c.0 c.1)
     → IsTrue (is_request c.0)

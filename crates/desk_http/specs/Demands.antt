@@ -159,7 +159,7 @@ admitted_by parts =
 abbrev pub agents_demand : Parts → List ℕ → Result Demand Denied
 agents_demand parts body = asked_if (admitted_by parts) parts body
 
--- At the house's door.
+-- At the administrator's socket.
 
 -- it asks the desk to stop
 abbrev pub asks_to_stop : Parts → Bool

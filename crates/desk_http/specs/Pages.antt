@@ -25,8 +25,8 @@ use Rattle.http_pages.specs.Pages.{Paged, browsed_page, denied_page, monitored_p
 use Rattle.http_pages.specs.declared.routes.Denied.{Denied}
 use Rattle.http_log.specs.MetricsText.{metrics_text}
 use Rattle.http_log.specs.declared.counting.Metrics.{Metrics}
-use Rattle.outlooks.specs.Layouts.{why_data}
-use Rattle.outlooks.specs.Outlooks.{begun_as, nights_ahead, outlook_of}
+use Rattle.previews.specs.Layouts.{why_data}
+use Rattle.previews.specs.Previews.{begun_as, nights_ahead, preview_of}
 use Rattle.report_kinds.specs.Texts.{OfReport, asked_cells}
 use Rattle.reports.specs.Layouts.{stock_report}
 use Rattle.desk_http.specs.Demands.{Demand, Carry, SeeJourney, SeePlan, SeeWhy, SeeBegun, SeeUnfinished, SeeMine, SeeStock, SeeCells, SeeHealth, SeeMetrics, SeeAgent, SeePage, SeeReport, Stop, asks_to_stop, demand_of}
@@ -58,9 +58,9 @@ abbrev pub plan_page : Option Record → Paged
 plan_page (Some r) = value_page (plan_data r.plan)
 plan_page None = refused_page NoJourney
 
--- why a journey goes on or does not: its outlook, with what is free of each night of its next want
+-- why a journey goes on or does not: its preview, with what is free of each night of its next want
 abbrev pub why_shown : List Event → ℕ → Record → Data
-why_shown l id r = let o = outlook_of l id (begun_as r) in why_data o (nights_ahead l o.next)
+why_shown l id r = let o = preview_of l id (begun_as r) in why_data o (nights_ahead l o.next)
 
 -- the page of that; a journey that is not seen looks the same as one that does not exist
 abbrev pub why_page : List Event → ℕ → Option Record → Paged

@@ -73,8 +73,8 @@ impl Answer {
 /// Answers a message that came in at a door: carries out what it asks for, and lays out its page. What was counted is shown
 /// where it asks for that.
 ///
-/// Out of memory, it was carried out or not, and has no page. Store has a reason that the book gives; of a report, and of a part of
-/// the stock, nothing is said.
+/// Out of memory, it was carried out or not, and has no page. Store implies an I/O error, as the book tells it; of a
+/// report, and of a part of the stock, nothing is said.
 pub fn answer_to<B: Reporting>(
     alloc: Global,
     paths: &Paths,
@@ -138,7 +138,7 @@ fn stops(door: Door, request: &Request) -> bool
     }
 }
 
-/// Whether a request at the house's door is one of the house that the desk stop.
+/// Whether a request at the administrator's socket is one of the administrator that the desk stop.
 fn stops_at_house(request: &Request) -> bool
     ensures stops { (m : sent.Message) → IsTaken (taken.Asks request.now) m →
         result ≡ stops Door.House m }

@@ -88,7 +88,7 @@ impl From<AllocError> for Unmet {
     }
 }
 
-/// The demand of a request at a door, or the first thing that is wrong with it. At the house's door a request that names
+/// The demand of a request at a door, or the first thing that is wrong with it. At the administrator's socket a request that names
 /// nobody is the house's; at that with a page one for the page gets it.
 pub(crate) fn demand_in(
     alloc: Global,
@@ -106,7 +106,7 @@ pub(crate) fn demand_in(
     }
 }
 
-/// The demand of a request at the house's door.
+/// The demand of a request at the administrator's socket.
 fn demand_at_house(alloc: Global, paths: &Paths, request: &Request) -> Result<Demand, Unmet>
     ensures demand { (parts : Parts) → (body : List ℕ) → IsRequest request.now parts body →
         Demands (demand_of Door.House parts body) result }

@@ -1,4 +1,4 @@
-//! Why a journey goes on or does not: the page of its outlook. A view changes nothing.
+//! Why a journey goes on or does not: the page of its preview. A view changes nothing.
 ghost use Rattle.std.specs.Prelude.{◌≡◌, IfErr, IfOk, Some};
 ghost use Rattle.std.specs.String.{string_bytes};
 ghost use Rattle.serde_json.specs.Written.{compact_text};
@@ -6,7 +6,7 @@ ghost use Rattle.ledger.specs.Answer.{State};
 ghost use Rattle.ledger.specs.Ledger.{history};
 ghost use Rattle.saga_core.specs.Views.{record_of};
 ghost use Rattle.http_pages.specs.Pages.{page_said};
-ghost use Rattle.outlooks.specs.Outlooks.{IsTaken, latest_option as latest_option_of, nights_ahead as nights_ahead_of};
+ghost use Rattle.previews.specs.Previews.{IsTaken, latest_option as latest_option_of, nights_ahead as nights_ahead_of};
 ghost use Rattle.desk_http.specs.Answering.{Shows};
 ghost use Rattle.desk_http.specs.Pages.{own_journey, why_page, why_shown};
 ghost use Rattle.desk_http.specs.Reasons.{Views};
@@ -15,7 +15,7 @@ use crate::doors::Asker;
 use crate::showing::own_journey;
 use commands::{Item, Phase, Refusal};
 use http_pages::{Body, Page, refused_page, shown_page};
-use outlooks::{FreeNight, NextStep, latest_option, look_ahead, next_step, nights_shown, why_body};
+use previews::{FreeNight, NextStep, latest_option, look_ahead, next_step, nights_shown, why_body};
 use protocols::ServeFault;
 use saga_core::{Book, Listed, Record};
 use std::alloc::Global;
@@ -42,7 +42,7 @@ pub(crate) fn see_why<B: Book>(
     Ok(shown_page(Body::Json(body)))
 }
 
-/// The object of the outlook of a journey, in its compact text.
+/// The object of the preview of a journey, in its compact text.
 fn why_of_journey<B: Book>(
     alloc: Global,
     book: &mut B,
@@ -63,8 +63,8 @@ fn why_of_journey<B: Book>(
         return Err(ServeFault::Memory);
     };
     let nights = nights_ahead(alloc, book, &next)?;
-    let outlook = look_ahead(id, journey, next, &nights);
-    Ok(why_body(alloc, &outlook, &nights)?)
+    let preview = look_ahead(id, journey, next, &nights);
+    Ok(why_body(alloc, &preview, &nights)?)
 }
 
 /// The option with which the step at the position of a journey was done last, if the journey goes back.

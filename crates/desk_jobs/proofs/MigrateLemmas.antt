@@ -1,4 +1,4 @@
--- Whatever may be found after a migration, or with an index, stands for what the connection stood for. For migrate_over and index_over.
+-- Each recoverable state after a migration, or with an index, stands for what the connection stood for. For migrate_over and index_over.
 use Rattle.std.proofs.Common.{ℕ, inl, inr, arith}
 use Rattle.sqlite.specs.Store.{Ghosts}
 use Rattle.sqlite.specs.Held.{Held, state}

@@ -1,4 +1,4 @@
--- What may be found of a connection after a job, at every end: where its desk was for what comes to it, and what was written.
+-- What is recoverable of a connection after a job, at every end: where its desk was for what comes to it, and what was written.
 use Rattle.std.specs.Prelude.{ℕ, List, Option, IfSome, Result, Ok, Err}
 use Rattle.sqlite.specs.Store.{Ghosts}
 use Rattle.sqlite.specs.Held.{Held, state}
@@ -14,7 +14,7 @@ use Rattle.tables.specs.declared.books.TableBook.{TableBook}
 module _ {S : Type 0} (g : Ghosts S) where
   -- A job over a connection, to which this came, if that is known. `held` and `holds` are the bytes of its output.
   pub record Follows (old new : Held S) (input : Option Input) (held holds : Option (List ℕ)) (end : End) : Type 0 where
-    -- whatever may be found then stands for the end of an execution that goes on with one opening over the input
+    -- each recoverable state then stands for the end of an execution that goes on with one opening over the input
     pub left : HasCleanDisk (state g new) → IfSome input (LeavesOpened g old new held holds)
     -- where all was done, so does the connection itself
     pub there : HasCleanDisk (state g new) → IfSome input (λ i. IfDone end (StandsOpened g old new held holds i))

@@ -58,7 +58,7 @@ module _ {S : Type 0} (g : Ghosts S) (old new : Held S) where
     pub reason : HasCleanDisk (state g new) → end ≡ finish.Fault program.Store → FailsToRecover g old new
     pub fault : IfFault end IsFaultOfRecovery
     pub bad : EndsBadly end
-    -- whatever may be found stands for where the recovery stopped
+    -- each recoverable state stands for where the recovery stopped
     pub left : HasCleanDisk (state g new) → HasNotComeUp g old new
     pub leaves : Leaves
 

@@ -16,7 +16,7 @@ use Rattle.histories.specs.Stages.{LeavesRecovering, Stood}
 use Rattle.histories.proofs.OpeningLemmas.{answering_leads, answering_opens, recovering_leads}
 use Rattle.histories.proofs.StageLemmas.{not_begun}
 
--- where the connection stands for a state, so does whatever may be found
+-- where the connection stands for a state, so does each recoverable state
 pub stands_found : {S : Type 0} (g : Ghosts S) (h : Held S) (s : State) → HasCleanDisk (state g h) → Stood (state g h) s
     → (db : Trees) → (state g h).may_leave db → StandsAs db s
 stands_found g h s clean stood db may = (stood.0, (stood.1 clean).leaves db may)
@@ -64,7 +64,7 @@ module _ (law : EachMayReopen) where
           answering_opens law w world stands held holds input (Stood (state g new)) r
           (there (recovered w r.events) r.ends)
 
--- where the connection stands for the end, so does whatever may be found
+-- where the connection stands for the end, so does each recoverable state
 pub stands_leaves : {S : Type 0} (g : Ghosts S) (stands : State → Type 0) (new : Held S) (held holds : Option (List ℕ))
     (input : Input) → HasCleanDisk (state g new) → StandsAnswered g stands new held holds input
     → LeavesAnswered g stands new held holds input

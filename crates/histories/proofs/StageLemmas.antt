@@ -53,9 +53,9 @@ none_done asks = record {
 abbrev pub goes_nowhere : (w : List Moment) (asks : Asks) → GoesOnTo w asks w
 goes_nowhere w asks = record { progress = none_done asks; was_kept = false; goes = sym (append-nil w) }
 
--- What may be found.
+-- What is recoverable.
 
--- whatever may be found stands for one of two states
+-- each recoverable state stands for one of two states
 pub either : (c : Connected) (s t : State) → HasCleanDisk c → MayLeave c s t → (db : Trees) → c.may_leave db
     → StandsAs db s ⊎ StandsAs db t
 either c s t clean left db may = grind (arith, left)

@@ -11,7 +11,7 @@ use Rattle.desk_lines.specs.Lines.{lines, answer_line, answer_lines, state_after
 use Rattle.desk_lines.specs.Serving as of_lines
 use Rattle.desk_lines.specs.Worlds as by_line
 use Rattle.desk_http.specs.Pages.{state_after}
-use Rattle.http_ways.specs.Ways.{Said, Says}
+use Rattle.http_modes.specs.Modes.{Said, Says}
 use Rattle.http_conversations.specs.Exchanges.{Exchange}
 use Rattle.http_live.specs.Worlds.{AreDone, HasPage, Heard, asks_of}
 use Rattle.histories.specs.Openings.{Input, Lines, Connections, IsTold}
@@ -121,7 +121,7 @@ lines_tell x s bytes Store answered later carried parts left done =
 
 -- Exchanges.
 
-module _ (last : Exchange) (m : Said) (is_message : Says last.way last.bytes m) (is_lost : last.page ≡ None) where
+module _ (last : Exchange) (m : Said) (is_message : Says last.mode last.bytes m) (is_lost : last.page ≡ None) where
   -- the last one was carried out, and its page was lost
   pub done_next : (s : State) (before : List Exchange) (ms : List Heard) → AreDone s before ms
       → AreDone s (before ++ last ∷ []) (ms ++ (last.door, m.meant) ∷ [])

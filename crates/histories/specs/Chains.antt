@@ -1,4 +1,4 @@
--- Which databases may be found after an opening. `finds` says of a database that it may be; `held` and `holds` are the bytes of the
+-- Which databases are recoverable after an opening. `finds` says of a database that it may be; `held` and `holds` are the bytes of the
 -- writer.
 use Rattle.std.specs.Prelude.{ℕ, List, Option}
 use Rattle.sqlite.specs.Tree.{Trees}
@@ -19,6 +19,6 @@ pub record Leads (held holds : Option (List ℕ)) (input : Input) (w : List Mome
   pub goes : Reopens held holds input w end
   pub stands : StandsAs db (after start end)
 
--- each database that may be found stands for the end of such a world
+-- each recoverable database stands for the end of such a world
 abbrev pub LeadsEach : (Trees → Type 0) → Option (List ℕ) → Option (List ℕ) → Input → List Moment → Type 0
 LeadsEach finds held holds input w = (db : Trees) → finds db → Leads held holds input w db

@@ -1,4 +1,4 @@
--- How the worlds of a connection go on with one opening: what may be found after it, and what the connection stands for.
+-- How the worlds of a connection go on with one opening: what is recoverable after it, and what the connection stands for.
 use Rattle.std.specs.Prelude.{ℕ, List, Option}
 use Rattle.sqlite.specs.Tree.{Trees}
 use Rattle.sqlite.specs.Store.{Ghosts}
@@ -33,16 +33,16 @@ module _ {S : Type 0} (g : Ghosts S) (old : Held S) where
   HasComeUp stands = OfEachWorld (λ w. HasRecovered stands (reopened w))
 
 module _ {S : Type 0} (g : Ghosts S) (old new : Held S) where
-  -- the desk was not opened, or not recovered, and whatever may be found stands for where that stopped
+  -- the desk was not opened, or not recovered, and each recoverable state stands for where that stopped
   abbrev pub HasNotComeUp : Type 0
   HasNotComeUp = OfEachWorld g old (λ w. LeavesRecovering (state g new).may_leave (reopened w))
 
-  -- nobody asked anything of it: whatever may be found stands for the same
+  -- nobody asked anything of it: each recoverable state stands for the same
   abbrev pub StandsStill : Type 0
   StandsStill = OfEachWorld g old (λ w. (db : Trees) → (state g new).may_leave db → StandsAs db (after start w))
 
   module _ (held holds : Option (List ℕ)) (input : Input) where
-    -- whatever may be found after one opening over the input stands for the end of the world that goes on with it
+    -- each recoverable state after one opening over the input stands for the end of the world that goes on with it
     abbrev pub LeavesOpened : Type 0
     LeavesOpened = OfEachWorld g old (LeadsEach (state g new).may_leave held holds input)
 

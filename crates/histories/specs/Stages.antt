@@ -35,7 +35,7 @@ pub record Recovering (w : List Moment) (db : Trees) : Type 0 where
   pub world : IsWorld end
   pub stands : StandsAs db (after start end)
 
--- whatever may be found stands for where it stopped
+-- each recoverable state stands for where it stopped
 abbrev pub LeavesRecovering : (Trees → Type 0) → List Moment → Type 0
 LeavesRecovering finds w = (db : Trees) → finds db → Recovering w db
 
@@ -49,7 +49,7 @@ pub record Answering (held holds : Option (List ℕ)) (w : List Moment) (input :
   pub world : IsWorld end
   pub there : IsThere (after start end)
 
--- whatever may be found stands for the end of such a world
+-- each recoverable state stands for the end of such a world
 abbrev pub LeavesAnswering : (Trees → Type 0) → Option (List ℕ) → Option (List ℕ) → List Moment → Input → Type 0
 LeavesAnswering finds held holds w input =
     (db : Trees) → finds db → Answering held holds w input (StandsAs db)

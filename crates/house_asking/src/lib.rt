@@ -1,4 +1,4 @@
-//! Asking the desk that serves, at the house's door, over a reader and a writer.
+//! Asking the desk that serves, at the administrator's socket, over a reader and a writer.
 //!
 //! `ask` sends one request, and reads the whole page that answers it: a report, or that there is no such journey. Nothing
 //! is returned of a page that is not whole.

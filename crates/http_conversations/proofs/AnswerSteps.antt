@@ -5,8 +5,8 @@ use Rattle.commands.specs.declared.replies.Fault.{Fault}
 use Rattle.commands.specs.declared.replies.Fault.TheVariants as fault
 use Rattle.desk_http.specs.Pages.{closes, state_after, stops}
 use Rattle.desk_http.specs.declared.doors.Door.{Door}
-use Rattle.http_ways.specs.Pages.{AnswersAt, IsPageAt}
-use Rattle.http_ways.specs.Ways.{Said, Says}
+use Rattle.http_modes.specs.Pages.{AnswersAt, IsPageAt}
+use Rattle.http_modes.specs.Modes.{Said, Says}
 use Rattle.saga_core.specs.Runs.{Asks}
 use Rattle.protocols.specs.declared.faults.ServeFault.{ServeFault}
 use Rattle.protocols.specs.declared.faults.ServeFault.TheVariants.{Memory, Read, Store, Write}
@@ -62,7 +62,7 @@ module _ {sound : Type 0} {stood stands : State → Type 0} {leaves : State → 
   goes_on_at second fault.Store h k (inr t) leads = let e : fault.Store ≡ fault.Memory = leads.0 in absurd (cc)
 
 module _ {sound : Type 0} {stood stands : State → Type 0} {leaves : State → State → Type 0} {second : Option ℕ} where
-  module _ (h k : History) (count : ℕ) (m : Said) (is_open : h.stage ≡ Open) (says : Says h.way (take count h.waiting) m) where
+  module _ (h k : History) (count : ℕ) (m : Said) (is_open : h.stage ≡ Open) (says : Says h.mode (take count h.waiting) m) where
     -- the message got its page
     pub gets : (page : List ℕ) (c stop : Bool) → h.pending ≡ [] → k ≡ after_answer h count page c stop
         → c ≡ closes h.door m.meant → stop ≡ stops h.door m.meant

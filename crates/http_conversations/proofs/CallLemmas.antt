@@ -23,7 +23,7 @@ goes_on h k does x = elim does [
 pub goes_on_within : (h k : History) (most : ℕ) → GivesGoOn h k ⊎ (k ≡ h) → length h.waiting < most → length k.waiting < most
 goes_on_within h k most does within = grind arith
 
--- nothing was read, handed out or answered
+-- nothing was read, yielded or answered
 pub goes_on_quiet : (h k : History) → GivesGoOn h k ⊎ (k ≡ h) → IsQuiet h k
 goes_on_quiet h k does = grind arith
 
@@ -45,7 +45,7 @@ module _ {E : Type 0} {h k : History} {held holds : Option (List ℕ)} where
   pub sends_received : (result : Result ℕ E) → Sends held holds result h k → k.received ≡ h.received
   sends_received result did = grind arith
 
-  -- what was handed out was written
+  -- what was yielded was written
   pub sends_on : (result : Result ℕ E) (first : Option (List ℕ)) → Sends held holds result h k → Appends first held h.sent
       → Appends first holds k.sent
   sends_on result first did x = grind (arith, appends_more, appends_before)
@@ -67,7 +67,7 @@ module _ {E : Type 0} {h k : History} {remains remaining : Option (List ℕ)} {r
       → length h.waiting < before → length h.waiting < before + most → length k.waiting < before + most
   receives_within result most before did small wants within = grind (arith, kept_within, length-append)
 
-  -- nothing was handed out
+  -- nothing was yielded
   pub receives_sent : (result : Result ℕ E) → Receives remains remaining room result h k → k.sent ≡ h.sent
   receives_sent result did = grind arith
 

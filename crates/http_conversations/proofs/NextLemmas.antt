@@ -12,11 +12,11 @@ use Rattle.desk_http.specs.Pages.{IsPage, state_after}
 use Rattle.desk_http.specs.declared.doors.Door.{Door}
 use Rattle.desk_http.specs.declared.doors.Door.TheVariants.{Port}
 use Rattle.desk_http.specs.Serving.{ForNext}
-use Rattle.http_ways.specs.Pages.{IsPageAt}
-use Rattle.http_ways.specs.Ways.{Said, Says}
-use Rattle.http_ways.specs.declared.ways.Layout.TheVariants as layout
-use Rattle.http_ways.specs.declared.ways.Way.{Way}
-use Rattle.http_ways.specs.declared.ways.Way.TheVariants.{Profile}
+use Rattle.http_modes.specs.Pages.{IsPageAt}
+use Rattle.http_modes.specs.Modes.{Said, Says}
+use Rattle.http_modes.specs.declared.modes.Layout.TheVariants as layout
+use Rattle.http_modes.specs.declared.modes.Mode.{Mode}
+use Rattle.http_modes.specs.declared.modes.Mode.TheVariants.{Strict}
 use Rattle.http_conversations.specs.Answering.{AnswersFirst, LeadsAs}
 use Rattle.http_conversations.specs.History.{HasNoTurn, History, TakesFirst, after_received}
 use Rattle.http_conversations.specs.Serving.{AwaitsNext, FailsAt, GetsNext, IsAtPort, to_come}
@@ -62,12 +62,12 @@ pub ends_there : (h : History) (stream more : List ℕ) (before after : Option (
     → to_come h before ≡ Some stream → length more ≡ 0 → Consumes before after more → IsAtEnd after → HasNoMessage stream
 ends_there h stream more before after awaits no_turn was none read at_end = grind (arith, known, empty, append-nil)
 
--- Messages by the profile.
+-- Messages in strict mode.
 
--- what is said by the profile is a message of it
-plain_of : (way : Way) (bytes : List ℕ) (x : Said) → way ≡ Profile → Says way bytes x
+-- what is said in strict mode is a message of it
+plain_of : (mode : Mode) (bytes : List ℕ) (x : Said) → mode ≡ Strict → Says mode bytes x
     → IsMessage bytes x.meant × (x.layout ≡ layout.Profile)
-plain_of way bytes x plain is = subst (λ w. Says w bytes x) plain is
+plain_of mode bytes x plain is = subst (λ w. Says w bytes x) plain is
 
 -- its page is that of the message
 plain_page : {second : Option ℕ} (door : Door) (s : State) (x : Said) (bytes : List ℕ) → x.layout ≡ layout.Profile
@@ -84,12 +84,12 @@ module _ {h : History} {stream : List ℕ} (remaining : Option (List ℕ)) (port
   of_stream = known h.waiting stream remaining was
 
   -- the first bytes that wait are the next message of the stream
-  next_is : (count : ℕ) (said : Said) → Says h.way (take count h.waiting) said
+  next_is : (count : ℕ) (said : Said) → Says h.mode (take count h.waiting) said
       → BeginsWith stream said.meant (drop count h.waiting ++ of_stream.left)
   next_is count said says = grind (arith, begins, plain_of)
 
   -- so it is of the next message
-  for_next : (So : State → Type 0) (s : State) (count : ℕ) (said : Said) → Says h.way (take count h.waiting) said
+  for_next : (So : State → Type 0) (s : State) (count : ℕ) (said : Said) → Says h.mode (take count h.waiting) said
       → So (state_after h.door s said.meant) → ForNext stream (λ m. So (state_after Port s m))
   for_next So s count said says there = grind (arith, next_is)
 

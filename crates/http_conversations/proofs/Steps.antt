@@ -7,9 +7,9 @@ use Rattle.std.proofs.lemmas.Grind.{flat_map-append, common_steps}
 use Rattle.commands.specs.declared.replies.Fault.{Fault}
 use Rattle.desk_http.specs.Pages.{closes, stops}
 use Rattle.desk_http.specs.declared.doors.Door.{Door}
-use Rattle.http_ways.specs.Reading.{IsDueBy}
-use Rattle.http_ways.specs.Ways.{Said, Says}
-use Rattle.http_ways.specs.declared.ways.Way.{Way}
+use Rattle.http_modes.specs.Reading.{IsDueBy}
+use Rattle.http_modes.specs.Modes.{Said, Says}
+use Rattle.http_modes.specs.declared.modes.Mode.{Mode}
 use Rattle.http_conversations.specs.declared.conversation.Stage.{Stage}
 use Rattle.http_conversations.specs.declared.conversation.Stage.TheVariants.{Open, Closing, Failed}
 use Rattle.http_conversations.specs.Exchanges.{Exchange, AreAnswered, EndWithStop, IsAnswered, IsAt, IsBy, IsNoStop, StopAtLast, answer_of, bytes_of, pages_of, since}
@@ -17,14 +17,14 @@ use Rattle.http_conversations.specs.Answering.{LeavesTaken}
 use Rattle.http_conversations.specs.History.{AnswersOne, History, IsServed, Passes, TakesFirst, after_answer, after_failure, after_go_on, after_loss, after_received, after_sent, exchange, kept, new_history, stops_by}
 
 -- Nothing was done yet.
-pub begins : (door : Door) (way : Way) → IsServed (new_history door way)
-begins door way = record {
+pub begins : (door : Door) (mode : Mode) → IsServed (new_history door mode)
+begins door mode = record {
   rest = [];
   received = refl;
   waits = refl;
   answered = All-nil (IsAnswered false);
   at_door = All-nil (IsAt door);
-  by_way = All-nil (IsBy way);
+  in_mode = All-nil (IsBy mode);
   stopping = λ is. cc;
   sent = refl;
 }
@@ -41,12 +41,12 @@ receives h more x = record {
   waits = keeps_more h.stage h.waiting x.rest more x.waits;
   answered = x.answered;
   at_door = x.at_door;
-  by_way = x.by_way;
+  in_mode = x.in_mode;
   stopping = x.stopping;
   sent = x.sent;
 }
 
--- Bytes were handed out.
+-- Bytes were yielded.
 pub sends : (h : History) (count : ℕ) → IsServed h → IsServed (after_sent h count)
 sends h count x = record {
   rest = x.rest;
@@ -54,7 +54,7 @@ sends h count x = record {
   waits = x.waits;
   answered = x.answered;
   at_door = x.at_door;
-  by_way = x.by_way;
+  in_mode = x.in_mode;
   stopping = x.stopping;
   sent = grind (arith, append_assoc, take-append-drop);
 }
@@ -77,9 +77,9 @@ module _ (h : History) (is_open : h.stage ≡ Open) (x : IsServed h) where
   all_at_door : (e : Exchange) → e.door ≡ h.door → All (IsAt h.door) (h.exchanges ++ e ∷ [])
   all_at_door e is = All-append (IsAt h.door) h.exchanges (e ∷ []) x.at_door (one (IsAt h.door) e is)
 
-  -- all were read by the way, with one more
-  all_by_way : (e : Exchange) → e.way ≡ h.way → All (IsBy h.way) (h.exchanges ++ e ∷ [])
-  all_by_way e is = All-append (IsBy h.way) h.exchanges (e ∷ []) x.by_way (one (IsBy h.way) e is)
+  -- all were read in that mode, with one more
+  all_in_mode : (e : Exchange) → e.mode ≡ h.mode → All (IsBy h.mode) (h.exchanges ++ e ∷ [])
+  all_in_mode e is = All-append (IsBy h.mode) h.exchanges (e ∷ []) x.in_mode (one (IsBy h.mode) e is)
 
   -- the message is the first of what was not taken
   taken : (count : ℕ) (e : Exchange) → e.bytes ≡ take count h.waiting
@@ -90,7 +90,7 @@ module _ (h : History) (is_open : h.stage ≡ Open) (x : IsServed h) where
   pages_with : (e : Exchange) → pages_of (h.exchanges ++ e ∷ []) ++ [] ≡ pages_of h.exchanges ++ answer_of e
   pages_with e = grind (arith, append-nil, flat_map-append)
 
-  -- its page waits behind what was handed out
+  -- its page waits behind what was yielded
   paged : (count : ℕ) (page : List ℕ) → h.pending ≡ []
       → h.sent ++ page ≡ pages_of (h.exchanges ++ exchange h count (Some page) ∷ []) ++ []
   paged count page free = grind (arith, append-nil, append_assoc, pages_with)
@@ -100,7 +100,7 @@ module _ (h : History) (is_open : h.stage ≡ Open) (x : IsServed h) where
   unpaged count = grind (arith, append-nil, pages_with)
 
   -- where the message asks the desk to stop, it is the last
-  asked_last : (count : ℕ) (m : Said) (page : List ℕ) → Says h.way (take count h.waiting) m → stops h.door m.meant ≡ true
+  asked_last : (count : ℕ) (m : Said) (page : List ℕ) → Says h.mode (take count h.waiting) m → stops h.door m.meant ≡ true
       → EndWithStop (h.exchanges ++ exchange h count (Some page) ∷ [])
   asked_last count m page is asked = grind arith
 
@@ -112,11 +112,11 @@ module _ (h : History) (is_open : h.stage ≡ Open) (x : IsServed h) where
   waits_then : (c : Bool) (bytes : List ℕ) → (if c then [] else bytes) ≡ kept (if c then Closing else Open) bytes
   waits_then c bytes = grind arith
 
-  gets : (count : ℕ) (m : Said) (page : List ℕ) → Says h.way (take count h.waiting) m → h.pending ≡ []
+  gets : (count : ℕ) (m : Said) (page : List ℕ) → Says h.mode (take count h.waiting) m → h.pending ≡ []
       → IsServed (after_answer h count page (closes h.door m.meant) (stops h.door m.meant))
-  gets count m page is free = grind (arith, taken, waits_then, answered, all_at_door, all_by_way, asked_last, paged)
+  gets count m page is free = grind (arith, taken, waits_then, answered, all_at_door, all_in_mode, asked_last, paged)
 
-  loses : (count : ℕ) (m : Said) → Says h.way (take count h.waiting) m → IsServed (after_loss h count)
+  loses : (count : ℕ) (m : Said) → Says h.mode (take count h.waiting) m → IsServed (after_loss h count)
   loses count m is =
       let e = exchange h count None in record {
         rest = drop count h.waiting;
@@ -124,7 +124,7 @@ module _ (h : History) (is_open : h.stage ≡ Open) (x : IsServed h) where
         waits = refl;
         answered = (h.exchanges, e ∷ [], refl, all_open, record { message = m; is_message = is; has_none = refl });
         at_door = all_at_door e refl;
-        by_way = all_by_way e refl;
+        in_mode = all_in_mode e refl;
         stopping = λ is. cc;
         sent = unpaged count;
       }
@@ -136,7 +136,7 @@ module _ (h : History) (is_open : h.stage ≡ Open) (x : IsServed h) where
     waits = refl;
     answered = (h.exchanges, [], sym (append-nil h.exchanges), all_open, tt);
     at_door = x.at_door;
-    by_way = x.by_way;
+    in_mode = x.in_mode;
     stopping = λ is. cc;
     sent = x.sent;
   }
@@ -153,7 +153,7 @@ moved_within bytes count c = grind (arith, length-drop)
 pub takes_within : (r : Result Bool Fault) (h k : History) (most : ℕ) → TakesFirst r h k → length h.waiting < most → length k.waiting < most
 takes_within r h k most t within = grind (arith, moved_within)
 
--- nothing was read or handed out, at the same door and by the same way
+-- nothing was read or yielded, at the same door and in the same mode
 takes_passes : (r : Result Bool Fault) (h k : History) → TakesFirst r h k → Passes h k
 takes_passes r h k t = grind arith
 
@@ -174,11 +174,11 @@ takes_leaves r h k t = record { passes = takes_passes r h k t; one = takes_one r
 
 -- 100 Continue was given, or not.
 
--- by the profile it never is, and else once
-not_given : (way : Way) (bytes : List ℕ) (given : Bool) → IsDueBy way bytes given → given ≡ false
-not_given way bytes given due = grind arith
+-- in strict mode it never is, and else once
+not_given : (mode : Mode) (bytes : List ℕ) (given : Bool) → IsDueBy mode bytes given → given ≡ false
+not_given mode bytes given due = grind arith
 
-pub gives : (h : History) → h.pending ≡ [] → IsDueBy h.way h.waiting h.went_on → IsServed h → IsServed (after_go_on h)
+pub gives : (h : History) → h.pending ≡ [] → IsDueBy h.mode h.waiting h.went_on → IsServed h → IsServed (after_go_on h)
 gives h free due x = grind (arith, answered, append-nil, not_given)
 
 -- What stops the desk.
@@ -194,7 +194,7 @@ pub no_stop : (xs ys : List Exchange) → ys ≡ xs → StopAtLast false (since 
 no_stop xs ys same = grind (arith, drop-length)
 
 -- one message got its page
-one_stop : (stop : Bool) (e : Exchange) (m : Said) → Says e.way e.bytes m → IsSome e.page → stops e.door m.meant ≡ stop
+one_stop : (stop : Bool) (e : Exchange) (m : Said) → Says e.mode e.bytes m → IsSome e.page → stops e.door m.meant ≡ stop
     → StopAtLast stop (e ∷ [])
 one_stop true e m is page asked =
     ([], e, refl, All-nil IsNoStop, record { message = m; is_message = is; asked = asked; has_page = page })

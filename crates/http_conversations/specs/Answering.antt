@@ -5,10 +5,10 @@ use Rattle.ledger.specs.Answer.{State}
 use Rattle.commands.specs.declared.replies.Fault.{Fault}
 use Rattle.commands.specs.declared.replies.Fault.TheVariants.{Memory, Store}
 use Rattle.desk_http.specs.Pages.{state_after}
-use Rattle.http_ways.specs.Pages.{IsPageAt}
-use Rattle.http_ways.specs.Reading.{IsRead}
-use Rattle.http_ways.specs.Ways.{Said, Says}
-use Rattle.http_ways.specs.declared.ways.Arrived.{Arrived}
+use Rattle.http_modes.specs.Pages.{IsPageAt}
+use Rattle.http_modes.specs.Reading.{IsRead}
+use Rattle.http_modes.specs.Modes.{Said, Says}
+use Rattle.http_modes.specs.declared.modes.Arrived.{Arrived}
 use Rattle.http_conversations.specs.History.{AnswersOne, History, Passes, TakesFirst, exchange}
 use Rattle.http_conversations.specs.declared.conversation.Stage.TheVariants.{Failed}
 
@@ -18,8 +18,8 @@ LeavesAt stands leaves Memory s t = stands s ⊎ stands t
 LeavesAt stands leaves Store s t = leaves s t
 
 module _ (sound : Type 0) (stood stands : State → Type 0) (leaves : State → State → Type 0) (second : Option ℕ) where
-  -- Where what was taken leads the book: the page of a message is that of the state in which it was carried out, and by the wide
-  -- way has the date of this second, if the clock was read. Where no message was taken, the book stands as it stood.
+  -- Where what was taken leads the book: the page of a message is that of the state in which it was carried out, and in lenient
+  -- mode has the date of this second, if the clock was read. Where no message was taken, the book stands as it stood.
   abbrev pub LeadsAs : (result : Result Bool Fault) (old new : History) → TakesFirst result old new → Type 0
   LeadsAs (Ok true) old new taken =
       sound → (s : State) → stood s
@@ -42,7 +42,7 @@ pub record SeesLast (arrived : Arrived) (old new : History) : Type 0 where
   pub is_last : new.exchanges ≡ old.exchanges ++ exchange old count page ∷ []
   pub said : Said
   pub is_read : IsRead arrived said
-  pub says : Says old.way (take count old.waiting) said
+  pub says : Says old.mode (take count old.waiting) said
 
 -- the message that was taken is shown, as it was read; nothing is where none was taken
 abbrev pub Sees : Option Arrived → History → History → Type 0

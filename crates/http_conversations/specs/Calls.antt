@@ -17,7 +17,7 @@ pub record Receives {E : Type 0} (remains remaining : Option (List ℕ)) (room :
 
 -- one write of what is pending
 pub record Sends {E : Type 0} (held holds : Option (List ℕ)) (result : Result ℕ E) (old new : History) : Type 0 where
-  -- so many of the pending bytes were handed out
+  -- so many of the pending bytes were yielded
   pub ok : IfOk result (λ count. (new ≡ after_sent old count) × Appends held holds (take count old.pending))
   -- no more than were pending
   pub few : IfOk result (λ count. count ≤ length old.pending)

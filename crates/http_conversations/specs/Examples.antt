@@ -5,16 +5,16 @@ use Rattle.std.proofs.Common.{inl}
 use Rattle.ledger.specs.Answer.{State, start}
 use Rattle.saga_core.specs.Runs.{Asks}
 use Rattle.desk_http.specs.declared.doors.Door.TheVariants.{Port}
-use Rattle.http_ways.specs.Ways.{Says, unread}
-use Rattle.http_ways.specs.declared.ways.Layout.TheVariants as layout
-use Rattle.http_ways.specs.declared.ways.Way.TheVariants.{Profile}
+use Rattle.http_modes.specs.Modes.{Says, unread}
+use Rattle.http_modes.specs.declared.modes.Layout.TheVariants as layout
+use Rattle.http_modes.specs.declared.modes.Mode.TheVariants.{Strict}
 use Rattle.http_conversations.specs.Exchanges.{Exchange, bytes_of, pages_of}
 use Rattle.http_conversations.specs.History.{History, after_answer, after_loss, after_received, after_sent, new_history}
 use Rattle.http_conversations.specs.Reasons.{EndsFor, FailsAtLast, Meant, MayGoOn, asks_of}
 
--- `ac` came in one read, and `a` got the page `12`, one byte of which was handed out
+-- `ac` came in one read, and `a` got the page `12`, one byte of which was yielded
 abbrev pub answered_once : History
-answered_once = after_sent (after_answer (after_received (new_history Port Profile) (codes "ac")) 1 (codes "12") false false) 1
+answered_once = after_sent (after_answer (after_received (new_history Port Strict) (codes "ac")) 1 (codes "12") false false) 1
 
 pub other_byte_waits : answered_once.pending ≡ codes "2"
 other_byte_waits = refl
@@ -46,9 +46,9 @@ pub pages_without_it : pages_of page_lost.exchanges ≡ codes "12"
 pages_without_it = refl
 
 -- a message without a head, whose page was lost; it asks for nothing
-module _ (bytes : List ℕ) (says : Says Profile bytes (unread layout.Profile)) where
+module _ (bytes : List ℕ) (says : Says Strict bytes (unread layout.Profile)) where
   abbrev pub without_head : Exchange
-  without_head = record { door = Port; way = Profile; bytes = bytes; went_on = false; page = None }
+  without_head = record { door = Port; mode = Strict; bytes = bytes; went_on = false; page = None }
 
   abbrev pub no_head : Meant
   no_head = record { exchange = without_head; message = unread layout.Profile; is_message = says }

@@ -3,17 +3,17 @@ use Rattle.std.specs.Prelude.{◌≡◌, ⊤, ℕ, Bool, true, false, List, [], 
 use Rattle.std.specs.List.{flat_map}
 use Rattle.desk_http.specs.Pages.{closes, stops}
 use Rattle.desk_http.specs.declared.doors.Door.{Door}
-use Rattle.http_ways.specs.PageTexts.{go_on}
-use Rattle.http_ways.specs.Ways.{Said, Says}
-use Rattle.http_ways.specs.declared.ways.Way.{Way}
+use Rattle.http_modes.specs.PageTexts.{go_on}
+use Rattle.http_modes.specs.Modes.{Said, Says}
+use Rattle.http_modes.specs.declared.modes.Mode.{Mode}
 use Rattle.http_conversations.specs.declared.conversation.Stage.{Stage}
 use Rattle.http_conversations.specs.declared.conversation.Stage.TheVariants.{Open, Closing, Failed}
 
--- the door at which a message came in, the way by which it was read, its bytes, whether 100 Continue was given for it, and
+-- the door at which a message came in, the mode in which it was read, its bytes, whether 100 Continue was given for it, and
 -- the bytes of its page, unless the page was lost
 pub record Exchange : Type 0 where
   pub door : Door
-  pub way : Way
+  pub mode : Mode
   pub bytes : List ℕ
   pub went_on : Bool
   pub page : Option (List ℕ)
@@ -26,7 +26,7 @@ bytes_of exchanges = flat_map (λ x. x.bytes) exchanges
 abbrev pub go_on_if : Bool → List ℕ
 go_on_if given = if given then go_on else []
 
--- what was handed out for an exchange: 100 Continue, if it was given, and the page
+-- what was yielded for an exchange: 100 Continue, if it was given, and the page
 abbrev pub answer_of : Exchange → List ℕ
 answer_of x = go_on_if x.went_on ++ unwrap_or x.page []
 
@@ -37,23 +37,23 @@ pages_of exchanges = flat_map answer_of exchanges
 -- the bytes are a message, which closes or does not, and it has a page
 pub record IsAnswered (closing : Bool) (x : Exchange) : Type 0 where
   pub message : Said
-  pub is_message : Says x.way x.bytes message
+  pub is_message : Says x.mode x.bytes message
   pub closing_as : closes x.door message.meant ≡ closing
   pub has_page : IsSome x.page
 
 -- the bytes are a message, whose page was lost
 pub record IsLost (x : Exchange) : Type 0 where
   pub message : Said
-  pub is_message : Says x.way x.bytes message
+  pub is_message : Says x.mode x.bytes message
   pub has_none : x.page ≡ None
 
 -- the message came in at this door
 abbrev pub IsAt : Door → Exchange → Type 0
 IsAt door x = x.door ≡ door
 
--- the message was read by this way
-abbrev pub IsBy : Way → Exchange → Type 0
-IsBy way x = x.way ≡ way
+-- the message was read in this mode
+abbrev pub IsBy : Mode → Exchange → Type 0
+IsBy mode x = x.mode ≡ mode
 
 -- the last message is a request of the house that the desk stop
 pub record EndWithStop (exchanges : List Exchange) : Type 0 where
@@ -61,20 +61,20 @@ pub record EndWithStop (exchanges : List Exchange) : Type 0 where
   pub last : Exchange
   pub at_last : exchanges ≡ before ++ last ∷ []
   pub message : Said
-  pub is_message : Says last.way last.bytes message
+  pub is_message : Says last.mode last.bytes message
   pub asked : stops last.door message.meant ≡ true
 
 -- the message asked the desk to stop, and has its page
 pub record IsStop (x : Exchange) : Type 0 where
   pub message : Said
-  pub is_message : Says x.way x.bytes message
+  pub is_message : Says x.mode x.bytes message
   pub asked : stops x.door message.meant ≡ true
   pub has_page : IsSome x.page
 
 -- the message did not ask for that, or its page was lost
 pub record IsNoStop (x : Exchange) : Type 0 where
   pub message : Said
-  pub is_message : Says x.way x.bytes message
+  pub is_message : Says x.mode x.bytes message
   pub goes_on : (stops x.door message.meant ≡ false) ⊎ (x.page ≡ None)
 
 -- the last of these stops the desk, or none does; no other does

@@ -3,10 +3,10 @@ use Rattle.std.specs.Prelude.{◌≡◌, ◌≢◌, ◌≤◌, ◌<◌, ◌⊎�
 use Rattle.commands.specs.declared.replies.Fault.{Fault}
 use Rattle.desk_http.specs.Pages.{closes, stops}
 use Rattle.desk_http.specs.declared.doors.Door.{Door}
-use Rattle.http_ways.specs.PageTexts.{go_on}
-use Rattle.http_ways.specs.Reading.{IsDueBy}
-use Rattle.http_ways.specs.Ways.{Said, Says, SaysNothing}
-use Rattle.http_ways.specs.declared.ways.Way.{Way}
+use Rattle.http_modes.specs.PageTexts.{go_on}
+use Rattle.http_modes.specs.Reading.{IsDueBy}
+use Rattle.http_modes.specs.Modes.{Said, Says, SaysNothing}
+use Rattle.http_modes.specs.declared.modes.Mode.{Mode}
 use Rattle.http_conversations.specs.Exchanges.{Exchange, AreAnswered, EndWithStop, IsAt, IsBy, bytes_of, go_on_if, pages_of}
 use Rattle.http_conversations.specs.declared.conversation.Stage.{Stage}
 use Rattle.http_conversations.specs.declared.conversation.Stage.TheVariants.{Open, Closing, Failed}
@@ -15,8 +15,8 @@ use Rattle.http_conversations.specs.declared.conversation.TheConstants.{MOST_PEN
 pub record History : Type 0 where
   -- the door at which the messages come in
   pub door : Door
-  -- the way by which they are read
-  pub way : Way
+  -- the mode in which they are read
+  pub mode : Mode
   pub stage : Stage
   -- the message that was answered last asked the desk to stop
   pub stops : Bool
@@ -27,7 +27,7 @@ pub record History : Type 0 where
   pub waiting : List ℕ
   -- the messages that were taken, each with its page
   pub exchanges : List Exchange
-  -- all that was handed out, and what of the pages is not yet
+  -- all that was yielded, and what of the pages is not yet
   pub sent : List ℕ
   pub pending : List ℕ
 
@@ -37,7 +37,7 @@ kept Open bytes = bytes
 kept Closing bytes = []
 kept Failed bytes = []
 
--- True of every conversation: what was received begins with the messages of the exchanges, and what was handed out and
+-- True of every conversation: what was received begins with the messages of the exchanges, and what was yielded and
 -- then waits is their pages, and 100 Continue, if it was given for the next message.
 pub record IsServed (h : History) : Type 0 where
   pub rest : List ℕ
@@ -45,16 +45,16 @@ pub record IsServed (h : History) : Type 0 where
   pub waits : h.waiting ≡ kept h.stage rest
   pub answered : AreAnswered h.stage h.exchanges
   pub at_door : All (IsAt h.door) h.exchanges
-  pub by_way : All (IsBy h.way) h.exchanges
+  pub in_mode : All (IsBy h.mode) h.exchanges
   pub stopping : h.stops ≡ true → EndWithStop h.exchanges
   pub sent : h.sent ++ h.pending ≡ pages_of h.exchanges ++ go_on_if h.went_on
 
 -- Steps.
 
-abbrev pub new_history : Door → Way → History
-new_history door way = record {
+abbrev pub new_history : Door → Mode → History
+new_history door mode = record {
   door = door;
-  way = way;
+  mode = mode;
   stage = Open;
   stops = false;
   went_on = false;
@@ -70,14 +70,14 @@ abbrev pub after_received : History → List ℕ → History
 after_received h more =
     record h { received = h.received ++ more; waiting = kept h.stage (h.waiting ++ more) }
 
--- so many of the pending bytes were handed out
+-- so many of the pending bytes were yielded
 abbrev pub after_sent : History → ℕ → History
 after_sent h count = record h { sent = h.sent ++ take count h.pending; pending = drop count h.pending }
 
 -- the exchange with a message of so many bytes
 abbrev pub exchange : History → ℕ → Option (List ℕ) → Exchange
 exchange h count page =
-    record { door = h.door; way = h.way; bytes = take count h.waiting; went_on = h.went_on; page = page }
+    record { door = h.door; mode = h.mode; bytes = take count h.waiting; went_on = h.went_on; page = page }
 
 -- the first bytes were used; after a closing page, all are
 abbrev pub moved_on : History → ℕ → Bool → History
@@ -110,7 +110,7 @@ pub record GetsPage (old new : History) : Type 0 where
   pub free : old.pending ≡ []
   pub count : ℕ
   pub message : Said
-  pub is_message : Says old.way (take count old.waiting) message
+  pub is_message : Says old.mode (take count old.waiting) message
   pub page : List ℕ
   pub is : new ≡ after_answer old count page (closes old.door message.meant) (stops old.door message.meant)
 
@@ -119,7 +119,7 @@ pub record LosesPage (old new : History) : Type 0 where
   pub is_open : old.stage ≡ Open
   pub count : ℕ
   pub message : Said
-  pub is_message : Says old.way (take count old.waiting) message
+  pub is_message : Says old.mode (take count old.waiting) message
   pub is : new ≡ after_loss old count
 
 -- the first message got its page, or nothing changed; at a fault it lost its page, or was not looked at
@@ -136,21 +136,21 @@ after_go_on h = record h { went_on = true; pending = go_on }
 pub record GivesGoOn (old new : History) : Type 0 where
   pub is_open : old.stage ≡ Open
   pub free : old.pending ≡ []
-  pub due : IsDueBy old.way old.waiting old.went_on
+  pub due : IsDueBy old.mode old.waiting old.went_on
   pub is : new ≡ after_go_on old
 
 -- it is not to be given now: a page waits, or the conversation is over, or it is not due
 abbrev pub HasNoGoOn : History → Type 0
-HasNoGoOn h = (h.pending ≢ []) ⊎ (h.stage ≢ Open) ⊎ (¬ (IsDueBy h.way h.waiting h.went_on))
+HasNoGoOn h = (h.pending ≢ []) ⊎ (h.stage ≢ Open) ⊎ (¬ (IsDueBy h.mode h.waiting h.went_on))
 
 -- What may come next.
 
--- nothing was read, nothing was handed out, and its messages come in at the same door and are read by the same way
+-- nothing was read, nothing was yielded, and its messages come in at the same door and are read in the same mode
 pub record Passes (old new : History) : Type 0 where
   pub received : new.received ≡ old.received
   pub sent : new.sent ≡ old.sent
   pub door : new.door ≡ old.door
-  pub way : new.way ≡ old.way
+  pub mode : new.mode ≡ old.mode
 
 -- and no message was answered
 pub record IsQuiet (old new : History) : Type 0 where
@@ -166,9 +166,9 @@ pub record IsReady (h : History) : Type 0 where
 pub record AnswersOne (old new : History) : Type 0 where
   pub bytes : List ℕ
   pub one : new.exchanges
-      ≡ old.exchanges ++ record { door = old.door; way = old.way; bytes = bytes; went_on = old.went_on; page = Some new.pending } ∷ []
+      ≡ old.exchanges ++ record { door = old.door; mode = old.mode; bytes = bytes; went_on = old.went_on; page = Some new.pending } ∷ []
   pub message : Said
-  pub is_message : Says old.way bytes message
+  pub is_message : Says old.mode bytes message
   pub stopping : new.stops ≡ stops old.door message.meant
 
 -- a message was answered, and asked the desk to stop
@@ -179,7 +179,7 @@ stops_by (Err fault) h = false
 
 -- no message is to be answered now: a page waits, or the conversation is over, or no message is whole
 abbrev pub HasNoTurn : History → Type 0
-HasNoTurn h = (h.pending ≢ []) ⊎ (h.stage ≢ Open) ⊎ SaysNothing h.way h.waiting
+HasNoTurn h = (h.pending ≢ []) ⊎ (h.stage ≢ Open) ⊎ SaysNothing h.mode h.waiting
 
 -- it may read: no more pages wait than may, and no more bytes than a message may have
 pub record WantsRead (h : History) : Type 0 where

@@ -8,8 +8,8 @@ use Rattle.protocols.specs.declared.faults.ServeFault.{ServeFault}
 use Rattle.protocols.specs.declared.faults.ServeFault.TheVariants as serve
 use Rattle.desk_http.specs.Pages.{state_after}
 use Rattle.desk_http.specs.declared.doors.Door.{Door}
-use Rattle.http_ways.specs.Pages.{IsPageBy}
-use Rattle.http_ways.specs.Ways.{Said, Says}
+use Rattle.http_modes.specs.Pages.{IsPageBy}
+use Rattle.http_modes.specs.Modes.{Said, Says}
 use Rattle.http_conversations.specs.Exchanges.{Exchange, StopAtLast, since}
 use Rattle.http_conversations.specs.Reasons.{HasReasons}
 
@@ -21,7 +21,7 @@ Comes door s m None t = (t ≡ s) ⊎ (t ≡ state_after door s m.meant)
 -- an exchange leads from one state to the next
 pub record LeadsBy (s : State) (x : Exchange) (t : State) : Type 0 where
   pub message : Said
-  pub is_message : Says x.way x.bytes message
+  pub is_message : Says x.mode x.bytes message
   pub comes : Comes x.door s message x.page t
 
 -- exchanges lead from one state to another, each from where the one before led
@@ -39,7 +39,7 @@ pub record BreaksOff (leaves : State → State → Type 0) (s : State) (exchange
   pub last : Exchange
   pub at_last : exchanges ≡ before ++ last ∷ []
   pub message : Said
-  pub is_message : Says last.way last.bytes message
+  pub is_message : Says last.mode last.bytes message
   pub is_lost : last.page ≡ None
   pub at : State
   pub leads : Leads s before at

@@ -7,14 +7,14 @@ use Rattle.saga_core.specs.Runs.{Asks}
 use Rattle.desk_http.specs.Pages.{command_in, state_after}
 use Rattle.desk_http.specs.Reasons.{reason_in}
 use Rattle.desk_http.specs.Worlds.{asks_by}
-use Rattle.http_ways.specs.Ways.{Said, Says}
+use Rattle.http_modes.specs.Modes.{Said, Says}
 use Rattle.http_conversations.specs.Exchanges.{Exchange}
 
 -- an exchange, and what its message says
 pub record Meant : Type 0 where
   pub exchange : Exchange
   pub message : Said
-  pub is_message : Says exchange.way exchange.bytes message
+  pub is_message : Says exchange.mode exchange.bytes message
 
 -- what the message of an exchange asks for
 abbrev pub asks_with : Meant → Asks

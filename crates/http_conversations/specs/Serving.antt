@@ -1,4 +1,4 @@
--- What a conversation at the port does for its next message, by the profile. For serve.
+-- What a conversation at the port does for its next message, in strict mode. For serve.
 use Rattle.std.specs.Prelude.{◌≡◌, ◌⊎◌, ℕ, Bool, true, false, List, [], ◌++◌, take, drop, Option, Some, Result, Ok, Err, option_map, if◌then◌else◌}
 use Rattle.std.specs.Io.KnownBytes.{Appends}
 use Rattle.ledger.specs.Answer.{State}
@@ -8,7 +8,7 @@ use Rattle.protocols.specs.declared.faults.ServeFault.TheVariants.{Memory, Store
 use Rattle.desk_http.specs.Pages.{IsPage, closes, state_after}
 use Rattle.desk_http.specs.Serving.{ForNext}
 use Rattle.desk_http.specs.declared.doors.Door.TheVariants.{Port}
-use Rattle.http_ways.specs.declared.ways.Way.TheVariants.{Profile}
+use Rattle.http_modes.specs.declared.modes.Mode.TheVariants.{Strict}
 use Rattle.http_conversations.specs.History.{History}
 use Rattle.http_conversations.specs.declared.conversation.Stage.TheVariants.{Open, Closing}
 
@@ -16,10 +16,10 @@ use Rattle.http_conversations.specs.declared.conversation.Stage.TheVariants.{Ope
 abbrev pub to_come : History → Option (List ℕ) → Option (List ℕ)
 to_come h remaining = option_map (λ bytes. h.waiting ++ bytes) remaining
 
--- its messages come in at the port, and are read by the profile
+-- its messages come in at the port, and are read in strict mode
 pub record IsAtPort (h : History) : Type 0 where
   pub door : h.door ≡ Port
-  pub way : h.way ≡ Profile
+  pub mode : h.mode ≡ Strict
 
 -- the next of them may be answered
 pub record AwaitsNext (h : History) : Type 0 where
@@ -56,10 +56,10 @@ module _ (sound : Type 0) (stood stands : State → Type 0) (leaves : State → 
   FindsNext stream remaining h (Ok false) = FindsNone stream
   FindsNext stream remaining h (Err fault) = sound → (s : State) → stood s → FailsAt stream s fault
 
--- the door, the way, the stage and what waits to be answered are the same
+-- the door, the mode, the stage and what waits to be answered are the same
 pub record IsAsBefore (old new : History) : Type 0 where
   pub door : new.door ≡ old.door
-  pub way : new.way ≡ old.way
+  pub mode : new.mode ≡ old.mode
   pub stage : new.stage ≡ old.stage
   pub waiting : new.waiting ≡ old.waiting
 

@@ -13,8 +13,8 @@ use commands::{Fault, MOST_BYTES};
 use desk_http::Door;
 use http_log::Metrics;
 use http_messages::LONGEST_HEAD;
+use http_modes::{Arrived, Mode};
 use http_pages::Paths;
-use http_ways::{Arrived, Way};
 use protocols::ServeFault;
 use report_kinds::Reporting;
 use std::alloc::{AllocError, Global};
@@ -42,7 +42,7 @@ pub enum Stage {
 
 /// Messages come in, and each is answered once the page before it went out whole.
 ///
-/// It holds at most a message, one more read, and a page. The memory of what was used and of what went out is given back.
+/// It holds at most a message, one more read, and a page. The memory of what was used and of what went out is freed.
 #[derive(Drop)]
 pub struct Conversation {
     pub(crate) talk: Talk,
@@ -53,12 +53,12 @@ pub struct Conversation {
 impl Conversation {
     ghost use Rattle.http_conversations.specs.Conversations.{history};
 
-    /// Nothing was received at this door, where messages are read by this way. It allocates nothing.
-    pub fn new(alloc: Global, door: Door, way: Way) -> Conversation
-        ensures none { history result ≡ new_history door way }
+    /// Nothing was received at this door, where messages are read in this mode. It allocates nothing.
+    pub fn new(alloc: Global, door: Door, mode: Mode) -> Conversation
+        ensures none { history result ≡ new_history door mode }
     {
         Conversation {
-            talk: Talk::new(alloc, door, way),
+            talk: Talk::new(alloc, door, mode),
         }
     }
 
@@ -74,8 +74,8 @@ impl Conversation {
         self.talk.receive(buffer, reader)
     }
 
-    /// Answers the first message that waits, unless a page waits or the conversation is over, and reports whether it did. By
-    /// the wide way the page has the date of this second since 1970, if the clock was read. What was counted is shown where the
+    /// Answers the first message that waits, unless a page waits or the conversation is over, and reports whether it did. In
+    /// lenient mode the page has the date of this second since 1970, if the clock was read. What was counted is shown where the
     /// message asks for that. The message is shown, as it was read, also where its page is lost.
     ///
     /// Out of memory, the message was carried out or not, and its page is lost. Then, and where the store failed, the
@@ -105,7 +105,7 @@ impl Conversation {
     }
 
     /// Gives `100 Continue` where it is due, and reports whether it was: no page waits, the head of the next message asks for
-    /// it, nothing of its body came, and it was not given for this message before. By the profile it never is. The only fault
+    /// it, nothing of its body came, and it was not given for this message before. In strict mode it never is. The only fault
     /// is out of memory.
     pub fn go_on(&mut self) -> Result<bool, AllocError>
         ensures gives { GivesIfDue result (history self.old) (history self.new) }
@@ -167,8 +167,8 @@ impl Conversation {
     }
 
     /// True of every conversation, after any calls: what was received begins with the messages of its exchanges, and what
-    /// was handed out, and then what is pending, is their pages, up to and with the first that closes, each after its
-    /// `100 Continue`, where one was given. All came in at its door and were read by its way; where it says that the desk is
+    /// was written, and then what is pending, is their pages, up to and with the first that closes, each after its
+    /// `100 Continue`, where one was given. All came in at its door and were read in its mode; where it says that the desk is
     /// to stop, the last one is a request of the house for that.
     pub fn always_served(&self)
         ensures served { ∥ IsServed (history self.now) ∥₁ }

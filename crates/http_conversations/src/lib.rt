@@ -1,6 +1,6 @@
 //! A conversation with one peer over HTTP, with no socket of its own.
 //!
-//! `receive` reads once, `answer` answers the first message that waits, and `send` writes once. What was handed out, and
+//! `receive` reads once, `answer` answers the first message that waits, and `send` writes once. What was written, and
 //! then what waits to go out, is the pages of the first messages of what was received, in order, up to and with the first
 //! that closes.
 //!

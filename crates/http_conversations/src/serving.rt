@@ -1,4 +1,4 @@
-//! A conversation at the port with one reader and one writer, by the profile, until it is over.
+//! A conversation at the port with one reader and one writer, in strict mode, until it is over.
 ghost use Rattle.std.specs.Prelude.{◌≡◌, ◌<◌, ◌≤◌, ◌↔◌, ℕ, List, length, true, Ok, IfOk, IfErr, IfSome, OnOk};
 ghost use Rattle.std.specs.Io.KnownBytes.{Consumes, IsAtEnd};
 ghost use Rattle.ledger.specs.Answer.{State};
@@ -14,8 +14,8 @@ ghost use Rattle.http_conversations.specs.Serving.{AwaitsNext, FindsNext, HandsO
 use crate::conversation::{Conversation, MOST_READ, Stage};
 use desk_http::Door;
 use http_log::Metrics;
+use http_modes::Mode;
 use http_pages::Paths;
-use http_ways::Way;
 use protocols::ServeFault;
 use recovery::Ready;
 use report_kinds::Reporting;
@@ -30,7 +30,7 @@ pub struct Served {
 }
 
 /// Answers the messages of a connection at the port, each by its page, up to and including the first closing one. They are
-/// read by the profile.
+/// read in strict mode.
 ///
 /// Each page is written and flushed before the next message is read, and nothing is read while a whole message is
 /// buffered. A message that the end of the input cuts off gets no page.
@@ -112,7 +112,7 @@ fn serve_messages<R: Read, W: Write, B: Reporting>(
     ensures serves { Serves B.is_sound B.leaves B.has_failed book.old book.new
         ServeFault.Store result }
 {
-    let mut conversation = Conversation::new(alloc, Door::Port, Way::Profile);
+    let mut conversation = Conversation::new(alloc, Door::Port, Mode::Strict);
     for pages in 0..u64::MAX {
         let found = answer_next(paths, &mut conversation, buffer, reader, book)?;
         if !found {
@@ -184,7 +184,7 @@ fn read_more<R: Read>(
 
     ensures fault { IfErr result IsOfReading }
     ensures door { (history conversation.new).door ≡ (history conversation.old).door }
-    ensures way { (history conversation.new).way ≡ (history conversation.old).way }
+    ensures mode { (history conversation.new).mode ≡ (history conversation.old).mode }
 {
     if !conversation.wants_read() {
         return Err(ServeFault::Read);

@@ -1,7 +1,7 @@
 //! What a conversation holds, and each step of it.
 ghost use Rattle.std.specs.Prelude.{◌≡◌, ◌≢◌, ◌≤◌, [], length, drop, vec_capacity, Ok, false};
 ghost use Rattle.saga_core.specs.Calls.{Serves};
-ghost use Rattle.http_ways.specs.Reading.{IsFirstOfBy};
+ghost use Rattle.http_modes.specs.Reading.{IsFirstOfBy};
 ghost use Rattle.http_conversations.specs.Answering.{AnswersFirst, Sees, SeesLast};
 ghost use Rattle.http_conversations.specs.Calls.{GivesIfDue, Receives, Sends};
 ghost use Rattle.http_conversations.specs.Exchanges.{since};
@@ -14,9 +14,9 @@ use crate::conversation::Stage;
 use commands::Fault;
 use desk_http::{Answer, Door};
 use http_log::Metrics;
+use http_modes::{Arrived, Mode, answer_by, first_by, go_on_by, go_on_text};
 use http_pages::Paths;
 use http_server::Log;
-use http_ways::{Arrived, Way, answer_by, first_by, go_on_by, go_on_text};
 use protocols::ServeFault;
 use report_kinds::Reporting;
 use std::alloc::{AllocError, Global};
@@ -39,7 +39,7 @@ pub struct Taken {
 pub struct Talk {
     pub(crate) alloc: Global,
     pub(crate) door: Door,
-    pub(crate) way: Way,
+    pub(crate) mode: Mode,
     pub(crate) stage: Stage,
     /// The message that was answered last asked the desk to stop.
     pub(crate) stops: bool,
@@ -56,14 +56,14 @@ pub struct Talk {
 }
 
 impl Talk {
-    /// Nothing was received at this door, where messages are read by this way. It allocates nothing.
-    pub(crate) fn new(alloc: Global, door: Door, way: Way) -> Talk
-        ensures none { history_of result ≡ new_history door way }
+    /// Nothing was received at this door, where messages are read in this mode. It allocates nothing.
+    pub(crate) fn new(alloc: Global, door: Door, mode: Mode) -> Talk
+        ensures none { history_of result ≡ new_history door mode }
     {
         Talk {
             alloc,
             door,
-            way,
+            mode,
             stage: Stage::Open,
             stops: false,
             went_on: false,
@@ -128,7 +128,7 @@ impl Talk {
         if !matches!(self.stage, Stage::Open) || !self.pending.is_empty() {
             return Ok(false);
         }
-        match first_by(self.alloc, self.way, &self.waiting) {
+        match first_by(self.alloc, self.mode, &self.waiting) {
             Ok(Some((arrived, count))) => {
                 let answered = self.answer_first(paths, second, metrics, &arrived, count, book);
                 *seen = Some(arrived);
@@ -152,7 +152,7 @@ impl Talk {
         count: usize,
         book: &mut B,
     ) -> Result<bool, Fault>
-        requires first { IsFirstOfBy self.old.way self.old.waiting.items arrived.now count }
+        requires first { IsFirstOfBy self.old.mode self.old.waiting.items arrived.now count }
         requires ready { IsReady (history_of self.old) }
 
         ensures answers { AnswersFirst (B.is_sound book.new) (B.stands book.old)
@@ -246,7 +246,7 @@ impl Talk {
         if !matches!(self.stage, Stage::Open) || !self.pending.is_empty() {
             return Ok(false);
         }
-        if !go_on_by(self.way, &self.waiting, self.went_on) {
+        if !go_on_by(self.mode, &self.waiting, self.went_on) {
             return Ok(false);
         }
         self.pending = go_on_text(self.alloc)?;
@@ -266,7 +266,7 @@ impl Talk {
     }
 }
 
-/// Forgets the first bytes, which were used. Where none is left, their memory is given back.
+/// Forgets the first bytes, which were used. Where none is left, their memory is freed.
 fn forget(alloc: Global, bytes: &mut Vec<u8>, count: usize)
     requires { count ≤ length bytes.old.items }
     ensures rest { bytes.new.items ≡ drop count bytes.old.items }

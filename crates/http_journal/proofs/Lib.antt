@@ -1,2 +1,2 @@
-mod SeatLemmas
+mod SlotLemmas
 mod TextLemmas

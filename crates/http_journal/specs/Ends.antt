@@ -8,22 +8,22 @@ use Rattle.http_log.specs.declared.endings.Why.{Why}
 use Rattle.http_log.specs.declared.endings.Why.TheVariants.{Left, CutOff, NotTaken, Closed, Memory, Stopped}
 use Rattle.http_journal.specs.declared.known.Known.{Known}
 
--- somebody is at this seat
+-- somebody is at this slot
 abbrev pub is_taken : List Known → ℕ → Bool
-is_taken seats at = option_map_or (λ (known : Known). known.is_here) (slice_get seats at) false
+is_taken slots at = option_map_or (λ (known : Known). known.is_here) (slice_get slots at) false
 
 -- nobody is here
 abbrev pub IsNobody : Known → Type 0
 IsNobody known = known.is_here ≡ false
 
--- what was counted, once the connection of a seat ended, if one was there
+-- what was counted, once the connection of a slot ended, if one was there
 abbrev pub counted_end : List Known → ℕ → Why → Metrics → Metrics
-counted_end seats at why metrics = if is_taken seats at then with_end why metrics else metrics
+counted_end slots at why metrics = if is_taken slots at then with_end why metrics else metrics
 
--- the same, once each connection of so many seats ended since the desk did
+-- the same, once each connection of so many slots ended since the desk did
 abbrev pub counted_ends : ℕ → List Known → Metrics → Metrics
-counted_ends zero seats metrics = metrics
-counted_ends (suc at) seats metrics = counted_end seats at Stopped (counted_ends at seats metrics)
+counted_ends zero slots metrics = metrics
+counted_ends (suc at) slots metrics = counted_end slots at Stopped (counted_ends at slots metrics)
 
 -- the line of a connection that ended, if one was here
 abbrev pub end_line : Known → Why → Option (List ℕ)

@@ -1,4 +1,4 @@
--- What is kept of a seat, and counted, as its turn is seen.
+-- What is kept of a slot, and counted, as its turn is seen.
 use Rattle.std.specs.Prelude.{ℕ, ◌-◌, ◌/◌, ◌==◌, ◌&&◌, min, Bool, true, false, List, bytes_eq, codes, if◌then◌else◌, Option, Some, None, is_some, slice_get, slice_set}
 use Rattle.std.specs.Option.{option_map_or}
 use Rattle.std.specs.Time.{instant_nanos}
@@ -6,10 +6,10 @@ use Rattle.std.specs.declared.time.Instant.{Instant}
 use Rattle.http_log.specs.Counted.{with_command, with_end, with_request}
 use Rattle.http_log.specs.Counting.{most_times, one_more}
 use Rattle.http_log.specs.declared.counting.Metrics.{Metrics}
-use Rattle.http_live.specs.declared.seats.Standing.{Standing}
-use Rattle.http_live.specs.declared.seats.Standing.TheVariants as standing
+use Rattle.http_live.specs.declared.slots.Standing.{Standing}
+use Rattle.http_live.specs.declared.slots.Standing.TheVariants as standing
 use Rattle.http_messages.specs.declared.requests.Message.{Message}
-use Rattle.http_ways.specs.declared.ways.Arrived.{Arrived}
+use Rattle.http_modes.specs.declared.modes.Arrived.{Arrived}
 use Rattle.http_journal.specs.Ends.{why_of}
 use Rattle.http_journal.specs.Requests.{is_post, status_of}
 use Rattle.http_journal.specs.declared.known.Known.{Known}
@@ -20,12 +20,12 @@ micros_between (Some from) (Some to) = min ((instant_nanos to - instant_nanos fr
 micros_between (Some from) None = 0
 micros_between None to = 0
 
--- Of a seat.
+-- Of a slot.
 
--- the seats, of which this one is changed so, if it is there
-abbrev pub with_seat : (Known → Known) → ℕ → List Known → List Known
-with_seat change at seats =
-    option_map_or (λ (known : Known). slice_set seats at (change known)) (slice_get seats at) seats
+-- the slots, of which this one is changed so, if it is there
+abbrev pub with_slot : (Known → Known) → ℕ → List Known → List Known
+with_slot change at slots =
+    option_map_or (λ (known : Known). slice_set slots at (change known)) (slice_get slots at) slots
 
 -- a message, or part of one, waits to be answered, or does not
 abbrev pub with_part : Bool → Known → Known
@@ -57,7 +57,7 @@ counted_message status micros message metrics =
     if bytes_eq status (codes "200") && is_post message
     then with_command micros (with_request status metrics) else with_request status metrics
 
--- the same of a seat, if it is there, and a message was taken
+-- the same of a slot, if it is there, and a message was taken
 abbrev pub counted_answer : Option Known → Option Arrived → (status : List ℕ) → ℕ → Metrics → Metrics
 counted_answer (Some known) (Some arrived) status micros metrics =
     counted_message status micros arrived.message metrics

@@ -10,7 +10,7 @@ ghost use Rattle.http_log.specs.Shown.{is_printable};
 ghost use Rattle.http_journal.specs.Ends.{counted_end, counted_ends, is_taken, IsNobody};
 ghost use Rattle.http_journal.specs.Logging.{IsRecordOf, log_of};
 ghost use Rattle.http_journal.specs.Requests.{is_again};
-ghost use Rattle.http_journal.specs.Seen.{counted_answer, counted_over, counted_turn, is_busy, micros_between, with_answer, with_page, with_part, with_rest, with_seat};
+ghost use Rattle.http_journal.specs.Seen.{counted_answer, counted_over, counted_turn, is_busy, micros_between, with_answer, with_page, with_part, with_rest, with_slot};
 
 use crate::clocks::{micros_between, millis_of};
 use crate::known::Known;
@@ -18,7 +18,7 @@ use crate::texts::{ask_of, asked_by, is_post, refusal_in, status_in};
 use http_live::Standing;
 use http_log::{Asked, LogForm, Metrics, Peer, Recent, Why, opened_line, request_line, timed_line};
 use http_messages::Message;
-use http_ways::Arrived;
+use http_modes::Arrived;
 use log::info;
 use std::alloc::{AllocError, Global};
 use std::io;
@@ -83,22 +83,22 @@ pub struct Journal<'a> {
     /// How many connections came.
     came: u64,
     recent: Recent,
-    pub(crate) seats: Vec<Known>,
+    pub(crate) slots: Vec<Known>,
     /// When this turn began, if the clock was read.
     began: Option<Instant>,
 }
 
 impl<'a> Journal<'a> {
-    /// So many seats, at which nobody is. No log is written.
+    /// So many slots, at which nobody is. No log is written.
     pub fn new(rt: &'a HostRuntime, alloc: Global, count: usize) -> Result<Journal<'a>, AllocError>
-        ensures seats { IfOk result (λ journal. vec_len journal.seats ≡ count) }
-        ensures nobody { IfOk result (λ journal. All IsNobody journal.seats.items) }
+        ensures slots { IfOk result (λ journal. vec_len journal.slots ≡ count) }
+        ensures nobody { IfOk result (λ journal. All IsNobody journal.slots.items) }
         ensures unlogged { IfOk result (λ journal. log_of journal ≡ None) }
         ensures counted { IfOk result (λ journal. journal.metrics.connections ≡ 0) }
     {
-        let mut seats = Vec::with_capacity(alloc, count)?;
+        let mut slots = Vec::with_capacity(alloc, count)?;
         for _ in 0..count {
-            seats.push(Known::new())?;
+            slots.push(Known::new())?;
         }
         Ok(Journal {
             rt,
@@ -107,7 +107,7 @@ impl<'a> Journal<'a> {
             metrics: Metrics::new(),
             came: 0,
             recent: Recent::new(alloc),
-            seats,
+            slots,
             began: None,
         })
     }
@@ -120,10 +120,10 @@ impl<'a> Journal<'a> {
         self.form = Some(form);
     }
 
-    /// A connection takes a seat by a door. Which was there before is displaced. Out of memory, the line of that is left out.
+    /// A connection takes a slot by a door. Which was there before is displaced. Out of memory, the line of that is left out.
     pub fn comes(&mut self, at: usize, is_house: bool) -> Result<(), AllocError>
-        ensures counted { at < vec_len self.old.seats → self.new.metrics
-            ≡ with_connection (counted_end self.old.seats.items at Why.Displaced self.old.metrics) }
+        ensures counted { at < vec_len self.old.slots → self.new.metrics
+            ≡ with_connection (counted_end self.old.slots.items at Why.Displaced self.old.metrics) }
     {
         let displaced = self.ends(at, Why::Displaced);
         self.came = self.came.saturating_add(1);
@@ -131,7 +131,7 @@ impl<'a> Journal<'a> {
             number: self.came,
             is_house,
         };
-        let Some(known) = self.seats.get_mut(at) else {
+        let Some(known) = self.slots.get_mut(at) else {
             return displaced;
         };
         *known = Known::of(peer);
@@ -139,19 +139,19 @@ impl<'a> Journal<'a> {
         displaced
     }
 
-    /// A turn of a seat begins, at which a message, or part of one, waits to be answered, or does not. Nothing is written.
+    /// A turn of a slot begins, at which a message, or part of one, waits to be answered, or does not. Nothing is written.
     pub fn sees_received(&mut self, at: usize, has_part: bool)
         ensures counted { self.new.metrics ≡ self.old.metrics }
-        ensures seat { self.new.seats.items
-            ≡ with_seat (with_part has_part) at self.old.seats.items }
+        ensures slot { self.new.slots.items
+            ≡ with_slot (with_part has_part) at self.old.slots.items }
     {
         self.began = Instant::now(self.rt).ok();
-        if let Some(known) = self.seats.get_mut(at) {
+        if let Some(known) = self.slots.get_mut(at) {
             known.has_part = has_part;
         }
     }
 
-    /// A turn of a seat ended so, in which this message was taken, if one was, with this left of its page, after which the
+    /// A turn of a slot ended so, in which this message was taken, if one was, with this left of its page, after which the
     /// connection ends, or does not; a connection that is over has none. Out of memory, lines are left out.
     pub fn sees_page(
         &mut self,
@@ -162,7 +162,7 @@ impl<'a> Journal<'a> {
         closes: bool,
     ) -> Result<(), AllocError>
         ensures counted { (now : Option Instant) × (self.new.metrics ≡ counted_turn standing
-            (slice_get self.old.seats.items at) (option_copied seen.entry) page.now
+            (slice_get self.old.slots.items at) (option_copied seen.entry) page.now
             (micros_between self.old.began now) self.old.metrics) }
     {
         let now = Instant::now(self.rt).ok();
@@ -181,8 +181,8 @@ impl<'a> Journal<'a> {
         }
     }
 
-    /// The connection of a seat ended in its turn: its peer ended it, or memory ran out for a page.
-    #[tactic(auto, using(crate::proofs::SeatLemmas::counted_over_at_end, crate::proofs::SeatLemmas::copied_is_some))]
+    /// The connection of a slot ended in its turn: its peer ended it, or memory ran out for a page.
+    #[tactic(auto, using(crate::proofs::SlotLemmas::counted_over_at_end, crate::proofs::SlotLemmas::copied_is_some))]
     fn sees_end(
         &mut self,
         at: usize,
@@ -190,10 +190,10 @@ impl<'a> Journal<'a> {
         now: Option<Instant>,
     ) -> Result<(), AllocError>
         ensures counted { self.new.metrics
-            ≡ counted_over (slice_get self.old.seats.items at) (option_copied seen.entry)
+            ≡ counted_over (slice_get self.old.slots.items at) (option_copied seen.entry)
             (micros_between self.old.began now) self.old.metrics }
     {
-        let why = match self.seats.get(at) {
+        let why = match self.slots.get(at) {
             None => return Ok(()),
             Some(known) => known.why(seen.is_some()),
         };
@@ -203,24 +203,24 @@ impl<'a> Journal<'a> {
         self.ends(at, why)
     }
 
-    /// This is left of the page of a seat after a turn in which no message was answered.
+    /// This is left of the page of a slot after a turn in which no message was answered.
     fn keep_rest(&mut self, at: usize, standing: Standing, page: &[u8], now: Option<Instant>)
         ensures counted { self.new.metrics ≡ self.old.metrics }
-        ensures seat { self.new.seats.items
-            ≡ with_seat (with_rest (is_busy standing) (length page.now) now) at self.old.seats.items }
+        ensures slot { self.new.slots.items
+            ≡ with_slot (with_rest (is_busy standing) (length page.now) now) at self.old.slots.items }
     {
-        if let Some(known) = self.seats.get_mut(at) {
+        if let Some(known) = self.slots.get_mut(at) {
             known.goes_on(matches!(standing, Standing::Busy), page.len(), now);
         }
     }
 
-    /// This is the page of a seat, after which the connection ends, or does not.
+    /// This is the page of a slot, after which the connection ends, or does not.
     fn keep_page(&mut self, at: usize, page: &[u8], closes: bool)
-        ensures seat { self.new ≡ record self.old { seats = self.new.seats } }
-        ensures page { self.new.seats.items
-            ≡ with_seat (with_page (length page.now) closes) at self.old.seats.items }
+        ensures slot { self.new ≡ record self.old { slots = self.new.slots } }
+        ensures page { self.new.slots.items
+            ≡ with_slot (with_page (length page.now) closes) at self.old.slots.items }
     {
-        if let Some(known) = self.seats.get_mut(at) {
+        if let Some(known) = self.slots.get_mut(at) {
             known.unsent = page.len();
             known.closes = closes;
         }
@@ -237,17 +237,17 @@ impl<'a> Journal<'a> {
         now: Option<Instant>,
     ) -> Result<Option<String>, AllocError>
         ensures counted { self.new.metrics
-            ≡ counted_answer (slice_get self.old.seats.items at) (option_copied seen.entry) status.now
+            ≡ counted_answer (slice_get self.old.slots.items at) (option_copied seen.entry) status.now
             (micros_between self.old.began now) self.old.metrics }
-        ensures seat { self.new.seats.items
-            ≡ (if is_some (option_copied seen.entry) then with_seat with_answer at self.old.seats.items
-            else self.old.seats.items) }
+        ensures slot { self.new.slots.items
+            ≡ (if is_some (option_copied seen.entry) then with_slot with_answer at self.old.slots.items
+            else self.old.slots.items) }
         ensures written { IfOk result (λ line. is_some line
-            ≡ (is_some self.old.form && is_some seen.entry && nat_lt at (vec_len self.old.seats))) }
+            ≡ (is_some self.old.form && is_some seen.entry && nat_lt at (vec_len self.old.slots))) }
         ensures printable { IfOk result (λ line. IfSome line (λ text.
             IsTrue (list_all is_printable (string_bytes text)))) }
     {
-        let Some(known) = self.seats.get_mut(at) else {
+        let Some(known) = self.slots.get_mut(at) else {
             return Ok(None);
         };
         let Some(arrived) = seen else {
@@ -285,16 +285,16 @@ impl<'a> Journal<'a> {
         }
     }
 
-    /// The connection of a seat ended, if one was here. Out of memory, its line is left out.
+    /// The connection of a slot ended, if one was here. Out of memory, its line is left out.
     pub fn ends(&mut self, at: usize, why: Why) -> Result<(), AllocError>
         ensures counted { self.new.metrics
-            ≡ counted_end self.old.seats.items at why self.old.metrics }
-        ensures seats { vec_len self.new.seats ≡ vec_len self.old.seats }
-        ensures gone { is_taken self.new.seats.items at ≡ false }
+            ≡ counted_end self.old.slots.items at why self.old.metrics }
+        ensures slots { vec_len self.new.slots ≡ vec_len self.old.slots }
+        ensures gone { is_taken self.new.slots.items at ≡ false }
         ensures others { (other : ℕ) → other ≢ at
-            → slice_get self.new.seats.items other ≡ slice_get self.old.seats.items other }
+            → slice_get self.new.slots.items other ≡ slice_get self.old.slots.items other }
     {
-        let Some(known) = self.seats.get_mut(at) else {
+        let Some(known) = self.slots.get_mut(at) else {
             return Ok(());
         };
         if !known.is_here {
@@ -309,10 +309,10 @@ impl<'a> Journal<'a> {
     /// All connections end.
     pub fn ends_all(&mut self)
         ensures counted { self.new.metrics
-            ≡ counted_ends (vec_len self.old.seats) self.old.seats.items self.old.metrics }
-        ensures gone { All IsNobody self.new.seats.items }
+            ≡ counted_ends (vec_len self.old.slots) self.old.slots.items self.old.metrics }
+        ensures gone { All IsNobody self.new.slots.items }
     {
-        for at in 0..self.seats.len() {
+        for at in 0..self.slots.len() {
             let _ = self.ends(at, Why::Stopped);
         }
     }

@@ -1,4 +1,4 @@
-//! What the log knows of a seat.
+//! What the log knows of a slot.
 ghost use Rattle.std.specs.Prelude.{◌≡◌, ◌/◌, IfOk, IfSome, IsTrue, false, option_map, true};
 ghost use Rattle.std.specs.List.{list_all};
 ghost use Rattle.std.specs.String.{string_bytes};
@@ -9,7 +9,7 @@ use http_log::{Peer, Why, ended_line};
 use std::alloc::{AllocError, Global};
 use std::time::Instant;
 
-/// What the log knows of a seat.
+/// What the log knows of a slot.
 #[derive(Drop)]
 pub struct Known {
     /// Whether a connection is here.

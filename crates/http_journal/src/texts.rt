@@ -6,7 +6,7 @@ ghost use Rattle.http_journal.specs.Requests.{ask_of, both, digits_of, is_post, 
 use commands::{Agent, Key};
 use http_log::Asked;
 use http_messages::{AskedKind, Message, Request};
-use http_ways::{Arrived, Layout};
+use http_modes::{Arrived, Layout};
 
 /// The name of the member of a body that reports a refusal's number.
 const REFUSED: &[u8] = b"\"refused\":";

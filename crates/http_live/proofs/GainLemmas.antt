@@ -1,4 +1,4 @@
--- What a turn gains. For Connection::serve and Seat::serve.
+-- What a turn gains. For Connection::serve and Slot::serve.
 use Rattle.std.proofs.Common.{◌≡◌, ◌∙◌, ℕ, Bool, true, false, List, [], ◌∷◌, ◌++◌, Option, Ok, Err, refl, sym, ap, subst, inl, inr, append_assoc}
 use Rattle.std.specs.Prelude.{Some, None}
 use Rattle.commands.specs.declared.replies.Fault.{Fault}
@@ -6,8 +6,8 @@ use Rattle.http_conversations.specs.Exchanges.{Exchange}
 use Rattle.http_conversations.specs.History.{History, TakesFirst, exchange}
 use Rattle.http_live.specs.Endings.{is_stop}
 use Rattle.http_live.specs.Gains.{Gains, GainsOne, is_answer}
-use Rattle.http_live.specs.declared.seats.Standing.{Standing}
-use Rattle.http_live.specs.declared.seats.Standing.TheVariants.{Answered, Stopped, Over}
+use Rattle.http_live.specs.declared.slots.Standing.{Standing}
+use Rattle.http_live.specs.declared.slots.Standing.TheVariants.{Answered, Stopped, Over}
 
 -- where no message was answered, none stops the desk
 pub none_stops : (s : Standing) → is_answer s ≡ false → is_stop s ≡ false
@@ -52,7 +52,7 @@ gains_lost fault pending h k takes = elim takes [
   | inr fails ↦ inl (ap (λ (j : History). j.exchanges) fails.1)
 ]
 
--- Of a seat.
+-- Of a slot.
 
 module _ (left old new before after : List Exchange) (was : before ≡ left ++ old) (is : after ≡ left ++ new) where
   one_at : (page : Option (List ℕ)) → GainsOne page old new → GainsOne page before after

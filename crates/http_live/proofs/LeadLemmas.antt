@@ -29,7 +29,7 @@ ends_then true stands leaves xs ys a b x y = record {
   left = y.left;
 }
 
--- of a seat, those that its connection has more
+-- of a slot, those that its connection has more
 since_at : (left old new : List Exchange) → since (left ++ old) (left ++ new) ≡ since old new
 since_at left old new =
     ap (λ n. drop n (left ++ new)) (length-append left old) ∙ drop-append-add left new (length old)
@@ -58,7 +58,7 @@ module _ {B : Type 0} {is_sound : B → Type 0} {stands : B → State → Type 0
       subst (λ b. GoesOnByOne is_sound stands leaves may reason from to failed b xs zs) (sym same)
       (subst (GoesOnByOne is_sound stands leaves may reason from to failed turned xs) (sym kept) t)
 
-  -- of a seat
+  -- of a slot
   pub turn_at : (stopped : Bool) (left old new before after : List Exchange) → before ≡ left ++ old → after ≡ left ++ new
       → GoesOnByOne is_sound stands leaves may reason from to failed stopped old new
       → GoesOnByOne is_sound stands leaves may reason from to failed stopped before after

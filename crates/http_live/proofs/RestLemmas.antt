@@ -5,8 +5,8 @@ use Rattle.http_conversations.specs.History.{HasNoTurn, History}
 use Rattle.http_conversations.proofs.CallLemmas.{nothing_pending}
 use Rattle.http_live.specs.Endings.{ending_after, ends_stopped, is_stop, turn_stops}
 use Rattle.http_live.specs.Resting.{HasUnanswered, IsUsedUp}
-use Rattle.http_live.specs.declared.seats.Standing.{Standing}
-use Rattle.http_live.specs.declared.seats.Standing.TheVariants.{Between, Amid, Unsent, Lingering, Answered, Stopped, Busy, Over}
+use Rattle.http_live.specs.declared.slots.Standing.{Standing}
+use Rattle.http_live.specs.declared.slots.Standing.TheVariants.{Between, Amid, Unsent, Lingering, Answered, Stopped, Busy, Over}
 
 -- where no page waits and nothing is to be answered, all was used
 pub used_up : (h k : History) (b : Bool) → (h.pending ≢ [] → IsTrue b) → b ≡ false → HasNoTurn h → k ≡ h → IsUsedUp k

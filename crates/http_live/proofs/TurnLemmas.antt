@@ -9,16 +9,16 @@ use Rattle.std.specs.declared.io.traits.Write as Write
 use Rattle.ledger.specs.Answer.{State}
 use Rattle.saga_core.specs.Runs.{Asks}
 use Rattle.desk_http.specs.declared.doors.Door.{Door}
-use Rattle.http_ways.specs.declared.ways.Way.{Way}
+use Rattle.http_modes.specs.declared.modes.Mode.{Mode}
 use Rattle.http_conversations.specs.Leading.{GoesOnByOne, has_broken}
 use Rattle.http_live.specs.Arrivals.{arrivals_at}
 use Rattle.http_live.specs.Calls.{Admits, ChangesAt, ChangesOne, TakesTurns}
 use Rattle.http_live.specs.Endings.{turn_stops}
 use Rattle.http_live.specs.InTime.{ByTurns, InTime, Instant, IsInOrder, IsTurn, TakesSome, TakesTurn, came, ended, had_none, left, more, none, went_on}
-use Rattle.http_live.specs.Merging.{Seated, seated_at}
-use Rattle.http_live.specs.Seats.{HasStopAt, exchanges_at}
-use Rattle.http_live.specs.declared.seats.Seat.{Seat}
-use Rattle.http_live.specs.declared.seats.Standing.{Standing}
+use Rattle.http_live.specs.Merging.{Slotted, slotted_at}
+use Rattle.http_live.specs.Slots.{HasStopAt, exchanges_at}
+use Rattle.http_live.specs.declared.slots.Slot.{Slot}
+use Rattle.http_live.specs.declared.slots.Standing.{Standing}
 use Rattle.http_live.specs.declared.serving.Turn.{Turn}
 use Rattle.http_live.proofs.DoorLemmas.{admits_none, admits_one, admits_then}
 use Rattle.http_live.proofs.Merged.{merges_none, merges_set, merges_then}
@@ -26,22 +26,22 @@ use Rattle.http_live.proofs.RestLemmas.{asked_in_turn}
 use Rattle.http_live.proofs.WorldLemmas.{worlds_go_on}
 
 module _ {R W : Type 0} {r : Read.Ghosts R} {w : Write.Ghosts W} where
-  -- one seat of these has changed so
-  pub changes_one : (how : Seat R W r w → Seat R W r w → Type 0) (seats : List (Seat R W r w)) (i : ℕ) (d new : Seat R W r w)
-      → i < length seats → how (slice_index_or seats i d) new → ChangesOne how i seats (slice_set seats i new)
-  changes_one how seats i d new within so = record {
+  -- one slot of these has changed so
+  pub changes_one : (how : Slot R W r w → Slot R W r w → Type 0) (slots : List (Slot R W r w)) (i : ℕ) (d new : Slot R W r w)
+      → i < length slots → how (slice_index_or slots i d) new → ChangesOne how i slots (slice_set slots i new)
+  changes_one how slots i d new within so = record {
     within = within;
     new = new;
     is = refl;
-    so = subst (λ old. how old new) (get_or_default seats i d new within) so;
+    so = subst (λ old. how old new) (get_or_default slots i d new within) so;
   }
 
-module _ {R W : Type 0} {r : Read.Ghosts R} {w : Write.Ghosts W} {is_at : R → Door → Type 0} {is_by : R → Way → Type 0}
+module _ {R W : Type 0} {r : Read.Ghosts R} {w : Write.Ghosts W} {is_at : R → Door → Type 0} {is_by : R → Mode → Type 0}
     {is_pair : R → W → Type 0} where
   module _ {B : Type 0} {is_sound : B → Type 0} {stands : B → State → Type 0} {leaves : B → State → State → Type 0}
       {may : B → B → State → Asks → Type 0} {reason : B → B → State → State → Type 0} where
     -- no message was answered
-    turns_none : {book : B} (old new : List (Seat R W r w)) → map exchanges_at new ≡ map exchanges_at old → Admits is_at is_by is_pair old new
+    turns_none : {book : B} (old new : List (Slot R W r w)) → map exchanges_at new ≡ map exchanges_at old → Admits is_at is_by is_pair old new
         → TakesTurns is_at is_by is_pair is_sound stands leaves may reason book book false false old new []
     turns_none old new kept admits = record {
       served = merges_none (map exchanges_at old) (map exchanges_at new) kept;
@@ -50,37 +50,37 @@ module _ {R W : Type 0} {r : Read.Ghosts R} {w : Write.Ghosts W} {is_at : R → 
     }
 
     -- and nobody came
-    no_turns : {book : B} (seats : List (Seat R W r w))
-        → TakesTurns is_at is_by is_pair is_sound stands leaves may reason book book false false seats seats []
-    no_turns seats = turns_none seats seats refl (record { doors = λ doors. doors; ways = λ ways. ways; pairs = λ pairs. pairs })
+    no_turns : {book : B} (slots : List (Slot R W r w))
+        → TakesTurns is_at is_by is_pair is_sound stands leaves may reason book book false false slots slots []
+    no_turns slots = turns_none slots slots refl (record { doors = λ doors. doors; modes = λ modes. modes; pairs = λ pairs. pairs })
 
-    -- one seat has changed, if there is one of that number, and no message was answered
-    turns_quiet : {book : B} (how : Seat R W r w → Seat R W r w → Type 0) (i : ℕ) (before after : List (Seat R W r w))
-        → ((old new : Seat R W r w) → how old new → exchanges_at new ≡ exchanges_at old)
-        → ((d new : Seat R W r w) → i < length before → how (slice_index_or before i d) new → Admits is_at is_by is_pair before (slice_set before i new))
+    -- one slot has changed, if there is one of that number, and no message was answered
+    turns_quiet : {book : B} (how : Slot R W r w → Slot R W r w → Type 0) (i : ℕ) (before after : List (Slot R W r w))
+        → ((old new : Slot R W r w) → how old new → exchanges_at new ≡ exchanges_at old)
+        → ((d new : Slot R W r w) → i < length before → how (slice_index_or before i d) new → Admits is_at is_by is_pair before (slice_set before i new))
         → ChangesAt how i before after → TakesTurns is_at is_by is_pair is_sound stands leaves may reason book book false false before after []
     turns_quiet {book} how i before after kept admits changes = elim changes [
-      | inl x ↦ subst (λ seats. TakesTurns is_at is_by is_pair is_sound stands leaves may reason book book false false before seats []) (sym x.is)
+      | inl x ↦ subst (λ slots. TakesTurns is_at is_by is_pair is_sound stands leaves may reason book book false false before slots []) (sym x.is)
           (turns_none before (slice_set before i x.new) (map-set_same exchanges_at before i x.new x.new (kept _ x.new x.so))
           (admits x.new x.new x.within x.so))
-      | inr same ↦ subst (λ seats. TakesTurns is_at is_by is_pair is_sound stands leaves may reason book book false false before seats []) (sym same.1)
+      | inr same ↦ subst (λ slots. TakesTurns is_at is_by is_pair is_sound stands leaves may reason book book false false before slots []) (sym same.1)
           (no_turns before)
     ]
 
-    -- the connection of one seat went on
-    turns_set : {from to : B} {failed : Bool} (stopped : Bool) (seats : List (Seat R W r w)) (i : ℕ) (d new : Seat R W r w) → i < length seats
-        → (x : GoesOnByOne is_sound stands leaves may reason from to failed stopped (exchanges_at (slice_index_or seats i d)) (exchanges_at new))
-        → arrivals_at new ≡ arrivals_at (slice_index_or seats i d) → (stopped ≡ true → HasStopAt new)
-        → TakesTurns is_at is_by is_pair is_sound stands leaves may reason from to failed stopped seats (slice_set seats i new)
-        (seated_at i x.goes_on.exchanges)
-    turns_set stopped seats i d new within x same stop = record {
-      served = merges_set exchanges_at seats i d new within x;
-      asked = λ is. any-set HasStopAt seats i new within (stop is);
-      admits = admits_none seats i d new within same;
+    -- the connection of one slot went on
+    turns_set : {from to : B} {failed : Bool} (stopped : Bool) (slots : List (Slot R W r w)) (i : ℕ) (d new : Slot R W r w) → i < length slots
+        → (x : GoesOnByOne is_sound stands leaves may reason from to failed stopped (exchanges_at (slice_index_or slots i d)) (exchanges_at new))
+        → arrivals_at new ≡ arrivals_at (slice_index_or slots i d) → (stopped ≡ true → HasStopAt new)
+        → TakesTurns is_at is_by is_pair is_sound stands leaves may reason from to failed stopped slots (slice_set slots i new)
+        (slotted_at i x.goes_on.exchanges)
+    turns_set stopped slots i d new within x same stop = record {
+      served = merges_set exchanges_at slots i d new within x;
+      asked = λ is. any-set HasStopAt slots i new within (stop is);
+      admits = admits_none slots i d new within same;
     }
 
     -- turns after others
-    turns_then : {a b c : B} (failed stopped : Bool) (before between after : List (Seat R W r w)) (ms ns : List Seated) → (is_sound c → is_sound b)
+    turns_then : {a b c : B} (failed stopped : Bool) (before between after : List (Slot R W r w)) (ms ns : List Slotted) → (is_sound c → is_sound b)
         → TakesTurns is_at is_by is_pair is_sound stands leaves may reason a b false false before between ms
         → TakesTurns is_at is_by is_pair is_sound stands leaves may reason b c failed stopped between after ns
         → TakesTurns is_at is_by is_pair is_sound stands leaves may reason a c failed stopped before after (ms ++ ns)
@@ -91,36 +91,36 @@ module _ {R W : Type 0} {r : Read.Ghosts R} {w : Write.Ghosts W} {is_at : R → 
     }
 
 module _ {R W T B : Type 0} {r : Read.Ghosts R} {w : Write.Ghosts W} {took : T → Turn R W → T → Type 0}
-    {heard : T → ℕ → Standing → T → Type 0} {seen : T → T → Type 0} {is_at : R → Door → Type 0} {is_by : R → Way → Type 0}
+    {heard : T → ℕ → Standing → T → Type 0} {seen : T → T → Type 0} {is_at : R → Door → Type 0} {is_by : R → Mode → Type 0}
     {is_pair : R → W → Type 0} {is_sound : B → Type 0} {stands : B → State → Type 0} {leaves : B → State → State → Type 0}
     {may : B → B → State → Asks → Type 0} {reason : B → B → State → State → Type 0} where
   -- what one turn leaves
-  takes_turn : (failed stopped : Bool) (old : Instant r w T B) (added : List Seated) (new : Instant r w T B)
+  takes_turn : (failed stopped : Bool) (old : Instant r w T B) (added : List Slotted) (new : Instant r w T B)
       → IsTurn took heard seen is_at is_by is_pair is_sound stands leaves may reason failed stopped old added new
       → TakesTurns is_at is_by is_pair is_sound stands leaves may reason old.book new.book failed stopped
-      old.seats new.seats added
-  takes_turn _ _ _ _ _ (came from to before after book i door way reader writer took here read pair changes) =
+      old.slots new.slots added
+  takes_turn _ _ _ _ _ (came from to before after book i door mode reader writer took here read pair changes) =
       turns_quiet _ i before after (λ old new so. so.kept)
-      (λ d new within so. admits_one before i d new within reader writer door way so.arrived here read pair) changes
-  takes_turn _ _ _ _ _ (went_on from taken shown timed to before after old new i result took shows times seat told back) =
-      subst (λ seats. TakesTurns is_at is_by is_pair is_sound stands leaves may reason old new (has_broken result)
-      (turn_stops result) before seats (seated_at i seat.so.turn.goes_on.exchanges)) (sym seat.is)
-      (turns_set _ before i seat.new seat.new seat.within seat.so.turn seat.so.ends.arrivals
-      (λ is. seat.so.ends.stopped (asked_in_turn result is)))
-  takes_turn _ _ _ _ _ (had_none from to seats book i took past) = no_turns seats
+      (λ d new within so. admits_one before i d new within reader writer door mode so.arrived here read pair) changes
+  takes_turn _ _ _ _ _ (went_on from taken shown timed to before after old new i result took shows times slot told back) =
+      subst (λ slots. TakesTurns is_at is_by is_pair is_sound stands leaves may reason old new (has_broken result)
+      (turn_stops result) before slots (slotted_at i slot.so.turn.goes_on.exchanges)) (sym slot.is)
+      (turns_set _ before i slot.new slot.new slot.within slot.so.turn slot.so.ends.arrivals
+      (λ is. slot.so.ends.stopped (asked_in_turn result is)))
+  takes_turn _ _ _ _ _ (had_none from to slots book i took past) = no_turns slots
   takes_turn _ _ _ _ _ (left from to before after book i took changes) =
       turns_quiet _ i before after (λ old new so. so.left.kept) (λ d new within so. admits_none before i d new within so.left.arrivals) changes
-  takes_turn _ _ _ _ _ (ended from to seats book took) = no_turns seats
+  takes_turn _ _ _ _ _ (ended from to slots book took) = no_turns slots
 
   -- after it no book is sound that was not before
-  sound_turn : (failed stopped : Bool) (old : Instant r w T B) (added : List Seated) (new : Instant r w T B)
+  sound_turn : (failed stopped : Bool) (old : Instant r w T B) (added : List Slotted) (new : Instant r w T B)
       → IsTurn took heard seen is_at is_by is_pair is_sound stands leaves may reason failed stopped old added new
       → is_sound new.book → is_sound old.book
-  sound_turn _ _ _ _ _ (came from to before after book i door way reader writer took here read pair changes) sound = sound
-  sound_turn _ _ _ _ _ (went_on from taken shown timed to before after old new i result took shows times seat told back) sound = back sound
-  sound_turn _ _ _ _ _ (had_none from to seats book i took past) sound = sound
+  sound_turn _ _ _ _ _ (came from to before after book i door mode reader writer took here read pair changes) sound = sound
+  sound_turn _ _ _ _ _ (went_on from taken shown timed to before after old new i result took shows times slot told back) sound = back sound
+  sound_turn _ _ _ _ _ (had_none from to slots book i took past) sound = sound
   sound_turn _ _ _ _ _ (left from to before after book i took changes) sound = sound
-  sound_turn _ _ _ _ _ (ended from to seats book took) sound = sound
+  sound_turn _ _ _ _ _ (ended from to slots book took) sound = sound
 
   -- as much is said of a stop
   pub turn_as : {failed stopped other : Bool} {old new : Instant r w T B} → stopped ≡ other
@@ -144,13 +144,13 @@ module _ {R W T B : Type 0} {r : Read.Ghosts R} {w : Write.Ghosts W} {took : T �
   }
 
   -- what turn after turn leaves
-  takes_turns : (failed stopped : Bool) (first : Instant r w T B) (instants : List (Instant r w T B)) (merged : List Seated) (last : Instant r w T B)
+  takes_turns : (failed stopped : Bool) (first : Instant r w T B) (instants : List (Instant r w T B)) (merged : List Slotted) (last : Instant r w T B)
       → ByTurns took heard seen is_at is_by is_pair is_sound stands leaves may reason failed stopped first instants merged last
       → TakesTurns is_at is_by is_pair is_sound stands leaves may reason first.book last.book failed stopped
-      first.seats last.seats merged
-  takes_turns _ _ _ _ _ _ (none first) = no_turns first.seats
+      first.slots last.slots merged
+  takes_turns _ _ _ _ _ _ (none first) = no_turns first.slots
   takes_turns _ _ _ _ _ _ (more failed stopped first old new instants merged added earlier turn) =
-      turns_then failed stopped first.seats old.seats new.seats merged added (sound_turn failed stopped old added new turn)
+      turns_then failed stopped first.slots old.slots new.slots merged added (sound_turn failed stopped old added new turn)
       (takes_turns false false first instants merged old earlier) (takes_turn failed stopped old added new turn)
 
   -- in time the exchanges are one list
@@ -159,14 +159,14 @@ module _ {R W T B : Type 0} {r : Read.Ghosts R} {w : Write.Ghosts W} {took : T �
       → InTime took heard seen is_at is_by is_pair is_sound stands leaves may reason failed stopped first last
   in_time failed stopped first last settled x =
       let turns = takes_turns failed stopped first x.instants x.merged last x.by_turns in record {
-        worlds = worlds_go_on failed stopped (map exchanges_at first.seats) (map exchanges_at last.seats) x.merged settled turns.served;
+        worlds = worlds_go_on failed stopped (map exchanges_at first.slots) (map exchanges_at last.slots) x.merged settled turns.served;
         instants = x.instants;
         by_turns = x.by_turns;
         turns = turns;
       }
 
   -- what was answered before a turn leads to its instant, and what is answered in it and after it leads on
-  pub in_order : (failed stopped : Bool) (first : Instant r w T B) (instants : List (Instant r w T B)) (merged : List Seated) (last : Instant r w T B)
+  pub in_order : (failed stopped : Bool) (first : Instant r w T B) (instants : List (Instant r w T B)) (merged : List Slotted) (last : Instant r w T B)
       → ByTurns took heard seen is_at is_by is_pair is_sound stands leaves may reason failed stopped first instants merged last
       → (now : Instant r w T B) → Contains instants now
       → IsInOrder took heard seen is_at is_by is_pair is_sound stands leaves may reason failed stopped first now last merged

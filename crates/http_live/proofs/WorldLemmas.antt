@@ -11,7 +11,7 @@ use Rattle.desk_http.specs.Worlds.{asks_by}
 use Rattle.desk_http.proofs.WorldLemmas.{by-in_limits, leads-by, limits_of, one-asked}
 use Rattle.http_conversations.specs.Exchanges.{Exchange}
 use Rattle.http_conversations.specs.Leading.{Comes, Ends, Leads, LeadsBy}
-use Rattle.http_live.specs.Merging.{Merges, Seated, exchange_of}
+use Rattle.http_live.specs.Merging.{Merges, Slotted, exchange_of}
 use Rattle.http_live.specs.Worlds.{AreDone, GoesOnBy, HasPage, Heard, WorldsGoOn, asks_of}
 
 -- Messages at both doors.
@@ -143,10 +143,10 @@ goes_on_by true stands leaves w xs settled here e =
       under_way = refl;
     }
 
--- what the seats' exchanges merge to is how each world goes on
+-- what the slots' exchanges merge to is how each world goes on
 abbrev pub worlds_go_on : {B : Type 0} {is_sound : B → Type 0} {stands : B → State → Type 0} {leaves : B → State → State → Type 0}
     {may : B → B → State → Asks → Type 0} {reason : B → B → State → State → Type 0}
-    {from to : B} (failed stopped : Bool) (xs ys : List (List Exchange)) (merged : List Seated) → ((u : State) → stands to u → leaves to u u)
+    {from to : B} (failed stopped : Bool) (xs ys : List (List Exchange)) (merged : List Slotted) → ((u : State) → stands to u → leaves to u u)
     → Merges is_sound stands leaves may reason from to failed stopped xs ys merged
     → WorldsGoOn is_sound stands leaves may reason from to failed stopped xs ys
 worlds_go_on {stands = stands} {leaves = leaves} {from = from} {to = to} failed stopped xs ys merged settled m = record {

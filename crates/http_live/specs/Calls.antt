@@ -1,4 +1,4 @@
--- What a call leaves of a connection, of a seat, and of all seats.
+-- What a call leaves of a connection, of a slot, and of all slots.
 use Rattle.std.specs.Prelude.{◌≡◌, ◌⊎◌, ℕ, ◌<◌, ◌≤◌, Bool, true, false, List, [], ◌∷◌, ◌++◌, length, map, None, Result, Ok, IfErr, IfOk, IfSome, slice_index_or, slice_set}
 use Rattle.std.specs.declared.io.traits.Read as Read
 use Rattle.std.specs.declared.io.traits.Write as Write
@@ -7,20 +7,20 @@ use Rattle.saga_core.specs.Runs.{Asks}
 use Rattle.commands.specs.declared.replies.Fault.{Fault}
 use Rattle.commands.specs.declared.replies.Fault.TheVariants.{Store}
 use Rattle.desk_http.specs.declared.doors.Door.{Door}
-use Rattle.http_ways.specs.declared.ways.Way.{Way}
+use Rattle.http_modes.specs.declared.modes.Mode.{Mode}
 use Rattle.http_conversations.specs.Conversations.{history}
 use Rattle.http_conversations.specs.History.{History}
 use Rattle.http_conversations.specs.Leading.{GoesOnByOne, has_broken}
-use Rattle.http_live.specs.Arrivals.{AreAtTheirDoors, ArePairs, AreReadByTheirWays, arrival, arrival_of, arrivals_at}
+use Rattle.http_live.specs.Arrivals.{AreAtTheirDoors, ArePairs, AreReadInTheirModes, arrival, arrival_of, arrivals_at}
 use Rattle.http_live.specs.Endings.{turn_stops}
 use Rattle.http_live.specs.Gains.{Gains, is_answer}
-use Rattle.http_live.specs.Merging.{Merges, Seated}
+use Rattle.http_live.specs.Merging.{Merges, Slotted}
 use Rattle.http_live.specs.Resting.{Rests}
-use Rattle.http_live.specs.Seats.{HasDoor, HasStopAmong, HasStopAt, connections_at, exchanges_at, exchanges_with, pending_at, received_at, received_with}
+use Rattle.http_live.specs.Slots.{HasDoor, HasStopAmong, HasStopAt, connections_at, exchanges_at, exchanges_with, pending_at, received_at, received_with}
 use Rattle.http_live.specs.declared.connection.Connection.{Connection}
-use Rattle.http_live.specs.declared.seats.Seat.{Seat}
-use Rattle.http_live.specs.declared.seats.Standing.{Standing}
-use Rattle.http_live.specs.declared.seats.Standing.TheVariants.{Stopped}
+use Rattle.http_live.specs.declared.slots.Slot.{Slot}
+use Rattle.http_live.specs.declared.slots.Standing.{Standing}
+use Rattle.http_live.specs.declared.slots.Standing.TheVariants.{Stopped}
 
 module _ {R W : Type 0} {r : Read.Ghosts R} {w : Write.Ghosts W} where
   -- Of a connection.
@@ -49,79 +49,79 @@ module _ {R W : Type 0} {r : Read.Ghosts R} {w : Write.Ghosts W} where
     pub arrival : arrival_of new ≡ arrival_of old
     pub broken : IfErr result (λ fault. fault ≡ Store)
 
-  -- Of a seat.
+  -- Of a slot.
 
   -- no connection was here
-  pub record IsEmpty (seat : Seat R W r w) : Type 0 where
-    pub none : exchanges_at seat ≡ []
-    pub empty : connections_at seat ≡ []
+  pub record IsEmpty (slot : Slot R W r w) : Type 0 where
+    pub none : exchanges_at slot ≡ []
+    pub empty : connections_at slot ≡ []
 
   -- no message was answered, nobody came, and nothing was read
-  pub record IsLeft (old new : Seat R W r w) : Type 0 where
+  pub record IsLeft (old new : Slot R W r w) : Type 0 where
     pub kept : exchanges_at new ≡ exchanges_at old
     pub arrivals : arrivals_at new ≡ arrivals_at old
     pub unread : received_at new ≡ received_at old
 
   -- A turn has ended: the connection, if there is one, waits as its standing says; nobody came; where the answer is that the
   -- house asked the desk to stop, it did; only the store fails.
-  pub record EndsTurnAt (result : Result Standing Fault) (old new : Seat R W r w) : Type 0 where
+  pub record EndsTurnAt (result : Result Standing Fault) (old new : Slot R W r w) : Type 0 where
     pub rests : IfOk result
         (λ standing. IfSome new.connection (λ connection. Rests standing (history connection.conversation)))
     pub arrivals : arrivals_at new ≡ arrivals_at old
     pub stopped : result ≡ Ok Stopped → HasStopAt new
     pub broken : IfErr result (λ fault. fault ≡ Store)
 
-  -- a peer took the seat with these ends, by this door and this way
-  pub record IsTakenBy (reader : R) (writer : W) (door : Door) (way : Way) (old new : Seat R W r w) : Type 0 where
+  -- a peer took the slot with these ends, by this door and in this mode
+  pub record IsTakenBy (reader : R) (writer : W) (door : Door) (mode : Mode) (old new : Slot R W r w) : Type 0 where
     pub kept : exchanges_at new ≡ exchanges_at old
-    pub arrived : arrivals_at new ≡ arrivals_at old ++ arrival reader writer door way ∷ []
-    pub by : HasDoor door way new.connection
+    pub arrived : arrivals_at new ≡ arrivals_at old ++ arrival reader writer door mode ∷ []
+    pub by : HasDoor door mode new.connection
 
   -- the connection, if there was one, ended
-  pub record IsCleared (old new : Seat R W r w) : Type 0 where
+  pub record IsCleared (old new : Slot R W r w) : Type 0 where
     pub left : IsLeft old new
     pub none : new.connection ≡ None
 
   -- The connection, if there is one, went on by one message at most, which leads the book on. Its page waits, or was lost.
   pub record GoesOn {B : Type 0} (is_sound : B → Type 0) (stands : B → State → Type 0) (leaves : B → State → State → Type 0)
       (may : B → B → State → Asks → Type 0) (reason : B → B → State → State → Type 0) (from to : B)
-      (result : Result Standing Fault) (old new : Seat R W r w) : Type 0 where
+      (result : Result Standing Fault) (old new : Slot R W r w) : Type 0 where
     pub turn : GoesOnByOne is_sound stands leaves may reason from to (has_broken result) (turn_stops result) (exchanges_at old)
         (exchanges_at new)
     pub ends : EndsTurnAt result old new
     pub gains : IfOk result (λ standing. Gains standing (pending_at new) (exchanges_at old) (exchanges_at new))
 
-  -- Of all seats.
+  -- Of all slots.
 
-  -- one seat has changed so, and no other
-  pub record ChangesOne (how : Seat R W r w → Seat R W r w → Type 0) (at : ℕ) (before after : List (Seat R W r w)) : Type 0 where
+  -- one slot has changed so, and no other
+  pub record ChangesOne (how : Slot R W r w → Slot R W r w → Type 0) (at : ℕ) (before after : List (Slot R W r w)) : Type 0 where
     pub within : at < length before
-    pub new : Seat R W r w
+    pub new : Slot R W r w
     pub is : after ≡ slice_set before at new
     pub so : how (slice_index_or before at new) new
 
-  -- so has the seat of this number, if there is one, and no other
-  abbrev pub ChangesAt : (Seat R W r w → Seat R W r w → Type 0) → ℕ → List (Seat R W r w) → List (Seat R W r w) → Type 0
+  -- so has the slot of this number, if there is one, and no other
+  abbrev pub ChangesAt : (Slot R W r w → Slot R W r w → Type 0) → ℕ → List (Slot R W r w) → List (Slot R W r w) → Type 0
   ChangesAt how at before after = ChangesOne how at before after ⊎ ((length before ≤ at) × (after ≡ before))
 
   -- no message was answered, nobody came, and nothing was read
-  pub record AreLeft (old new : List (Seat R W r w)) : Type 0 where
+  pub record AreLeft (old new : List (Slot R W r w)) : Type 0 where
     pub kept : map exchanges_at new ≡ map exchanges_at old
     pub arrivals : map arrivals_at new ≡ map arrivals_at old
     pub unread : map received_at new ≡ map received_at old
 
-  -- who comes, comes by the door and the way of its reader, with the writer of the same peer
-  pub record Admits (is_at : R → Door → Type 0) (is_by : R → Way → Type 0) (is_pair : R → W → Type 0)
-      (old new : List (Seat R W r w)) : Type 0 where
+  -- who comes, comes by the door and in the mode of its reader, with the writer of the same peer
+  pub record Admits (is_at : R → Door → Type 0) (is_by : R → Mode → Type 0) (is_pair : R → W → Type 0)
+      (old new : List (Slot R W r w)) : Type 0 where
     pub doors : AreAtTheirDoors is_at old → AreAtTheirDoors is_at new
-    pub ways : AreReadByTheirWays is_by old → AreReadByTheirWays is_by new
+    pub modes : AreReadInTheirModes is_by old → AreReadInTheirModes is_by new
     pub pairs : ArePairs is_pair old → ArePairs is_pair new
 
   -- turns were taken, by which these exchanges were added
-  pub record TakesTurns (is_at : R → Door → Type 0) (is_by : R → Way → Type 0) (is_pair : R → W → Type 0) {B : Type 0}
+  pub record TakesTurns (is_at : R → Door → Type 0) (is_by : R → Mode → Type 0) (is_pair : R → W → Type 0) {B : Type 0}
       (is_sound : B → Type 0) (stands : B → State → Type 0) (leaves : B → State → State → Type 0)
       (may : B → B → State → Asks → Type 0) (reason : B → B → State → State → Type 0) (from to : B)
-      (store_failed stopped : Bool) (old new : List (Seat R W r w)) (merged : List Seated) : Type 0 where
+      (store_failed stopped : Bool) (old new : List (Slot R W r w)) (merged : List Slotted) : Type 0 where
     -- the book went on by them
     pub served : Merges is_sound stands leaves may reason from to store_failed stopped (map exchanges_at old) (map exchanges_at new) merged
     -- where they ended so, the house asked the desk to stop

@@ -3,8 +3,8 @@ use Rattle.std.specs.Prelude.{Bool, true, false, Option, Some, None, Result, Ok,
 use Rattle.commands.specs.declared.replies.Fault.{Fault}
 use Rattle.http_live.specs.declared.serving.Ending.{Ending}
 use Rattle.http_live.specs.declared.serving.Ending.TheVariants as ending
-use Rattle.http_live.specs.declared.seats.Standing.{Standing}
-use Rattle.http_live.specs.declared.seats.Standing.TheVariants.{Stopped}
+use Rattle.http_live.specs.declared.slots.Standing.{Standing}
+use Rattle.http_live.specs.declared.slots.Standing.TheVariants.{Stopped}
 
 -- serving ends where the house asked the desk to stop
 abbrev pub ending_after : Standing → Option Ending

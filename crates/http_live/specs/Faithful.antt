@@ -1,4 +1,4 @@
--- That the ends of a connection agree with what its conversation received and handed out.
+-- That the ends of a connection agree with what its conversation received and yielded.
 use Rattle.std.specs.Prelude.{◌≡◌, ℕ, List, [], ◌∷◌, Option}
 use Rattle.std.specs.Io.KnownBytes.{Appends, Consumes}
 

@@ -1,8 +1,8 @@
 -- What a turn gains: a message with its page, which waits to go out, or nothing.
 use Rattle.std.specs.Prelude.{◌≡◌, ℕ, ◌⊎◌, Bool, true, false, List, [], ◌∷◌, ◌++◌, Option, Some, None}
 use Rattle.http_conversations.specs.Exchanges.{Exchange}
-use Rattle.http_live.specs.declared.seats.Standing.{Standing}
-use Rattle.http_live.specs.declared.seats.Standing.TheVariants.{Answered, Stopped, Over}
+use Rattle.http_live.specs.declared.slots.Standing.{Standing}
+use Rattle.http_live.specs.declared.slots.Standing.TheVariants.{Answered, Stopped, Over}
 
 -- a message was answered in this turn
 abbrev pub is_answer : Standing → Bool

@@ -5,7 +5,7 @@ pub mod Endings
 pub mod Merging
 pub mod Examples
 pub mod Worlds
-pub mod Seats
+pub mod Slots
 pub mod Doors
 pub mod Arrivals
 pub mod Calls

@@ -1,15 +1,15 @@
 -- What a connection waits for after its turn.
 use Rattle.std.specs.Prelude.{◌≡◌, ◌≢◌, ◌⊎◌, [], true, false, ⊤}
-use Rattle.http_ways.specs.Ways.{SaysNothing}
+use Rattle.http_modes.specs.Modes.{SaysNothing}
 use Rattle.http_conversations.specs.History.{History}
 use Rattle.http_conversations.specs.declared.conversation.Stage.TheVariants.{Open, Closing}
-use Rattle.http_live.specs.declared.seats.Standing.{Standing}
-use Rattle.http_live.specs.declared.seats.Standing.TheVariants.{Between, Amid, Unsent, Lingering, Answered, Stopped, Busy, Over}
+use Rattle.http_live.specs.declared.slots.Standing.{Standing}
+use Rattle.http_live.specs.declared.slots.Standing.TheVariants.{Between, Amid, Unsent, Lingering, Answered, Stopped, Busy, Over}
 
--- each page was handed out, and no whole message waits for an answer
+-- each page was yielded, and no whole message waits for an answer
 pub record IsUsedUp (h : History) : Type 0 where
   pub sent : h.pending ≡ []
-  pub answered : (h.stage ≢ Open) ⊎ SaysNothing h.way h.waiting
+  pub answered : (h.stage ≢ Open) ⊎ SaysNothing h.mode h.waiting
 
 -- a page waits for its peer
 abbrev pub IsUnsent : History → Type 0
@@ -19,9 +19,9 @@ IsUnsent h = h.pending ≢ []
 pub record WaitsForMore (h : History) : Type 0 where
   pub is_open : h.stage ≡ Open
   pub sent : h.pending ≡ []
-  pub none : SaysNothing h.way h.waiting
+  pub none : SaysNothing h.mode h.waiting
 
--- every page was handed out, the last of which closes
+-- every page was yielded, the last of which closes
 pub record HasClosed (h : History) : Type 0 where
   pub closing : h.stage ≡ Closing
   pub sent : h.pending ≡ []

@@ -8,11 +8,11 @@ use Rattle.http_messages.specs.Messages.{Message}
 use Rattle.desk_http.specs.Pages.{command_in, state_after}
 use Rattle.desk_http.specs.Worlds.{asks_by}
 use Rattle.desk_http.specs.declared.doors.Door.{Door}
-use Rattle.http_ways.specs.Pages.{IsPageBy}
-use Rattle.http_ways.specs.Ways.{Said, Says}
+use Rattle.http_modes.specs.Pages.{IsPageBy}
+use Rattle.http_modes.specs.Modes.{Said, Says}
 use Rattle.http_conversations.specs.Exchanges.{Exchange, StopAtLast}
 use Rattle.http_conversations.specs.Reasons.{HasReasons}
-use Rattle.http_live.specs.Merging.{IsMerged, Seated, exchange_of}
+use Rattle.http_live.specs.Merging.{IsMerged, Slotted, exchange_of}
 
 -- a message that is meant, with the door at which it came in
 abbrev pub Heard : Type 0
@@ -32,7 +32,7 @@ HasPage door s m (Some page) = IsPageBy door s m page
 -- carried out or not.
 pub record IsDone (s t : State) (x : Exchange) (ms later : List Heard) : Type 0 where
   pub message : Said
-  pub is_message : Says x.way x.bytes message
+  pub is_message : Says x.mode x.bytes message
   pub page : HasPage x.door s message x.page
   pub done : ((ms ≡ (x.door, message.meant) ∷ later) × (t ≡ state_after x.door s message.meant))
       ⊎ ((x.page ≡ None) × (ms ≡ later) × (t ≡ s))
@@ -60,7 +60,7 @@ pub record EndsAmongExchanges (stands : State → Type 0) (leaves : State → St
   pub messages : List Heard
   pub done : AreDone (after start w) before messages
   pub next : Said
-  pub is_next : Says last.way last.bytes next
+  pub is_next : Says last.mode last.bytes next
   pub among : EndsAmong stands leaves w (asks_of (messages ++ (last.door, next.meant) ∷ [])) true
   pub answered : among.progress.answered ≡ asks_of messages
   pub under_way : among.progress.under_way ≡ asks_of ((last.door, next.meant) ∷ [])
@@ -70,12 +70,12 @@ abbrev pub GoesOnBy : Bool → (State → Type 0) → (State → State → Type 
 GoesOnBy false stands leaves w exchanges = EndsWithExchanges stands leaves w exchanges
 GoesOnBy true stands leaves w exchanges = EndsAmongExchanges stands leaves w exchanges
 
--- Each world at whose end the book stood goes on by the exchanges of all seats, merged, of which the last stops the desk,
+-- Each world at whose end the book stood goes on by the exchanges of all slots, merged, of which the last stops the desk,
 -- or none does. Where the store failed at the last, there was a reason.
 pub record WorldsGoOn {B : Type 0} (is_sound : B → Type 0) (stands : B → State → Type 0) (leaves : B → State → State → Type 0)
     (may : B → B → State → Asks → Type 0) (reason : B → B → State → State → Type 0) (old new : B)
     (store_failed stopped : Bool) (before after : List (List Exchange)) : Type 0 where
-  pub merged : List Seated
+  pub merged : List Slotted
   pub is_merged : IsMerged before after merged
   pub stopping : StopAtLast stopped (map exchange_of merged)
   pub worlds : is_sound new → (w : List Moment) → StandsAtEnd (stands old) w

@@ -8,14 +8,14 @@ ghost use Rattle.http_live.specs.Endings.{is_stop, turn_stops};
 ghost use Rattle.http_live.specs.Gains.{Gains, is_answer};
 ghost use Rattle.http_live.specs.Faithful.{Faithful};
 
-use crate::seats::Standing;
+use crate::slots::Standing;
 use commands::Fault;
 use desk_http::Door;
 use http_conversations::{Conversation, MOST_READ, Stage};
 use http_log::Metrics;
+use http_modes::{Arrived, Mode};
 use http_pages::Paths;
 use http_server::Log;
-use http_ways::{Arrived, Way};
 use report_kinds::Reporting;
 use std::alloc::Global;
 use std::io::{self, ErrorKind, Read, Write};
@@ -35,34 +35,40 @@ pub struct Connection<R: Read + Drop, W: Write + Drop> {
 impl<R: Read + Drop, W: Write + Drop> Connection<R, W> {
     ghost use Rattle.http_live.specs.Arrivals.{arrival, arrival_of};
     ghost use Rattle.http_live.specs.Calls.{EndsTurn, IsUnanswered, IsUnread, StepsOn};
-    ghost use Rattle.http_live.specs.Seats.{exchanges_with};
+    ghost use Rattle.http_live.specs.Slots.{exchanges_with};
     ghost use Rattle.http_live.specs.Resting.{IsUnsent, IsUsedUp, Rests};
 
-    /// Nothing was read or written. Its messages come in at this door, and are read by this way.
-    pub(crate) fn new(alloc: Global, door: Door, way: Way, reader: R, writer: W) -> Connection<R, W>
+    /// Nothing was read or written. Its messages come in at this door, and are read in this mode.
+    pub(crate) fn new(
+        alloc: Global,
+        door: Door,
+        mode: Mode,
+        reader: R,
+        writer: W,
+    ) -> Connection<R, W>
         ensures none { exchanges_with result ≡ [] }
         ensures door { (history result.conversation).door ≡ door }
-        ensures arrival { arrival_of result ≡ arrival reader writer door way }
-        ensures way { (history result.conversation).way ≡ way }
+        ensures arrival { arrival_of result ≡ arrival reader writer door mode }
+        ensures mode { (history result.conversation).mode ≡ mode }
     {
         let came = Log::new().and(&reader, &writer);
         Connection {
             reader,
             writer,
-            conversation: Conversation::new(alloc, door, way),
+            conversation: Conversation::new(alloc, door, mode),
             came,
         }
     }
 
     /// True of every connection, while it is here and when it left: where its ends report their bytes, what was received
-    /// was read from the one, and what was handed out was written to the other.
+    /// was read from the one, and what the conversation yielded was written to the other.
     pub fn always_faithful(&self)
         ensures faithful { ∥ Faithful R.remaining W.contents self.now.came.items self.now.reader
             self.now.writer
             (history self.now.conversation).received (history self.now.conversation).sent ∥₁ }
     {}
 
-    /// True of every connection: what was handed out, and then what waits, is the pages of the first messages of what was
+    /// True of every connection: what was written, and then what waits, is the pages of the first messages of what was
     /// received, in order, up to and with the first that closes.
     pub fn always_served(&self)
         ensures served { ∥ IsServed (history self.now.conversation) ∥₁ }
@@ -70,7 +76,7 @@ impl<R: Read + Drop, W: Write + Drop> Connection<R, W> {
         self.conversation.always_served();
     }
 
-    /// A turn: what waits is handed out, or else one message is answered and shown, or else more is read. The clock shows this
+    /// A turn: what waits is written, or else one message is answered and shown, or else more is read. The clock shows this
     /// second, if it was read.
     pub(crate) fn serve<B: Reporting>(
         &mut self,
@@ -186,7 +192,7 @@ impl<R: Read + Drop, W: Write + Drop> Connection<R, W> {
         self.conversation.send(&mut self.writer)
     }
 
-    /// Hands out what waits. Where the peer does not take it, more is read, as long as no more pages wait than may.
+    /// Writes what waits. Where the peer does not take it, more is read, as long as no more pages wait than may.
     fn push(&mut self, buffer: &mut [u8]) -> Standing
         requires small { length buffer.old ≤ MOST_READ }
 
@@ -203,8 +209,8 @@ impl<R: Read + Drop, W: Write + Drop> Connection<R, W> {
         }
     }
 
-    /// Hands out what waits, and does nothing else. It is over where nothing waits.
-    pub(crate) fn hand_out(&mut self) -> Standing
+    /// Writes what waits, and does nothing else. It is over where nothing waits.
+    pub(crate) fn flush(&mut self) -> Standing
         ensures left { IsUnread self.old self.new }
     {
         if !self.conversation.wants_write() {

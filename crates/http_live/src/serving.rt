@@ -1,4 +1,4 @@
-//! Where turns come from; serving the connections of all seats, and ending those that are left.
+//! Where turns come from; serving the connections of all slots, and ending those that are left.
 
 ghost use Rattle.http_conversations.specs.Leading.{has_broken};
 ghost use Rattle.http_live.specs.Calls.{AreLeft, ChangesAt, IsTakenBy};
@@ -7,41 +7,41 @@ ghost use Rattle.http_live.specs.InTime.{InTime, Sees, TakesSome, TakesTurn, ins
 ghost use Rattle.saga_core.specs.Calls.{Serves};
 ghost use Rattle.std.specs.Prelude.{◌≡◌, ◌≤◌, ⊤, ℕ, length, false, true, Ok, Err, Some, IfErr};
 ghost use Rattle.desk_http.specs.declared.doors.Door.{Door};
-ghost use Rattle.http_live.specs.Doors.{ComesByItsDoor, ComesByItsWay, ComesWithBoth, EndsOnlyIf};
-ghost use Rattle.http_live.specs.declared.seats.Standing.{Standing};
+ghost use Rattle.http_live.specs.Doors.{ComesByItsDoor, ComesInItsMode, ComesWithBoth, EndsOnlyIf};
+ghost use Rattle.http_live.specs.declared.slots.Standing.{Standing};
 ghost use Rattle.http_live.specs.declared.serving.Turn.{Turn};
 ghost use Rattle.http_log.specs.declared.counting.Metrics.{Metrics};
-ghost use Rattle.http_ways.specs.declared.ways.Way.{Way};
+ghost use Rattle.http_modes.specs.declared.modes.Mode.{Mode};
 
-use crate::seats::{Seat, Standing};
+use crate::slots::{Slot, Standing};
 use commands::Fault;
 use desk_http::Door;
 use http_conversations::MOST_READ;
 use http_log::Metrics;
+use http_modes::{Arrived, Mode};
 use http_pages::Paths;
-use http_ways::{Arrived, Way};
 use recovery::Ready;
 use report_kinds::Reporting;
 use std::alloc::Global;
 use std::io::{Read, Write};
 
-/// Serves the connections of all seats, turn by turn, until no turn comes, the house asks the desk to stop, or the store
+/// Serves the connections of all slots, turn by turn, until no turn comes, the house asks the desk to stop, or the store
 /// fails. Where the house asks, no further message is answered; its page waits.
 ///
 /// Out of memory, no turn was taken.
 pub fn serve_many<T: Turns, B: Reporting>(
     alloc: Global,
-    seats: &mut [Seat<T::Reader, T::Writer>],
+    slots: &mut [Slot<T::Reader, T::Writer>],
     turns: &mut T,
     book: &mut Ready<B>,
 ) -> Result<Ending, Fault>
     ensures in_time { InTime T.took T.heard T.seen T.is_at T.is_by T.is_pair B.is_sound B.stands
         B.leaves B.may_act B.has_reason (has_broken result) (has_stopped result)
-        (instant turns.old seats.old book.old) (instant turns.new seats.new book.new) }
+        (instant turns.old slots.old book.old) (instant turns.new slots.new book.new) }
     ensures over { result ≡ Ok Ending.NoTurn → T.is_over turns.new }
 
     ensures memory { result ≡ Err Fault.Memory →
-        (seats.new ≡ seats.old) × (turns.new ≡ turns.old) × (book.new ≡ book.old) }
+        (slots.new ≡ slots.old) × (turns.new ≡ turns.old) × (book.new ≡ book.old) }
     ensures serves { Serves B.is_sound B.leaves B.has_failed book.old book.new Fault.Store result }
 {
     let Ok(paths) = Paths::new(alloc) else {
@@ -50,14 +50,14 @@ pub fn serve_many<T: Turns, B: Reporting>(
     let Ok(mut buffer) = vec![in alloc; 0u8; MOST_READ] else {
         return Err(Fault::Memory);
     };
-    serve_turns(alloc, &paths, seats, buffer.as_mut_slice(), turns, book)
+    serve_turns(alloc, &paths, slots, buffer.as_mut_slice(), turns, book)
 }
 
 /// The same over any book, by way of a buffer.
 fn serve_turns<T: Turns, B: Reporting>(
     alloc: Global,
     paths: &Paths,
-    seats: &mut [Seat<T::Reader, T::Writer>],
+    slots: &mut [Slot<T::Reader, T::Writer>],
     buffer: &mut [u8],
     turns: &mut T,
     book: &mut B,
@@ -66,14 +66,14 @@ fn serve_turns<T: Turns, B: Reporting>(
 
     ensures turns { TakesSome T.took T.heard T.seen T.is_at T.is_by T.is_pair B.is_sound B.stands
         B.leaves B.may_act B.has_reason (has_broken result) (has_stopped result)
-        (instant turns.old seats.old book.old) (instant turns.new seats.new book.new) }
+        (instant turns.old slots.old book.old) (instant turns.new slots.new book.new) }
     ensures over { result ≡ Ok Ending.NoTurn → T.is_over turns.new }
 
     ensures broken { IfErr result (λ fault. fault ≡ Fault.Store) }
     ensures serves { Serves B.is_sound B.leaves B.has_failed book.old book.new Fault.Store result }
 {
     for _ in 0..u64::MAX {
-        let ending = take_turn(alloc, paths, seats, buffer, turns, book)?;
+        let ending = take_turn(alloc, paths, slots, buffer, turns, book)?;
         match ending {
             Some(ending) => return Ok(ending),
             None => {}
@@ -86,7 +86,7 @@ fn serve_turns<T: Turns, B: Reporting>(
 fn take_turn<T: Turns, B: Reporting>(
     alloc: Global,
     paths: &Paths,
-    seats: &mut [Seat<T::Reader, T::Writer>],
+    slots: &mut [Slot<T::Reader, T::Writer>],
     buffer: &mut [u8],
     turns: &mut T,
     book: &mut B,
@@ -95,33 +95,33 @@ fn take_turn<T: Turns, B: Reporting>(
 
     ensures turn { TakesTurn T.took T.heard T.seen T.is_at T.is_by T.is_pair B.is_sound B.stands
         B.leaves B.may_act B.has_reason (has_broken result) (ends_stopped result)
-        (instant turns.old seats.old book.old) (instant turns.new seats.new book.new) }
+        (instant turns.old slots.old book.old) (instant turns.new slots.new book.new) }
     ensures over { result ≡ Ok (Some Ending.NoTurn) → T.is_over turns.new }
 
     ensures broken { IfErr result (λ fault. fault ≡ Fault.Store) }
     ensures serves { Serves B.is_sound B.leaves B.has_failed book.old book.new Fault.Store result }
 {
     match turns.next_turn() {
-        Turn::Comes(at, door, way, reader, writer) => {
-            welcome::<T>(alloc, seats, at, door, way, reader, writer);
+        Turn::Comes(at, door, mode, reader, writer) => {
+            welcome::<T>(alloc, slots, at, door, mode, reader, writer);
             Ok(None)
         }
         Turn::Ready(at) => {
-            if at < seats.len() {
-                show_received(seats, turns, at);
+            if at < slots.len() {
+                show_received(slots, turns, at);
                 let mut seen = None;
                 let second = turns.second();
                 let metrics = turns.metrics();
-                let standing = seats[at].serve(paths, second, &metrics, buffer, &mut seen, book)?;
-                show_page(seats, turns, at, standing, seen.as_ref());
+                let standing = slots[at].serve(paths, second, &metrics, buffer, &mut seen, book)?;
+                show_page(slots, turns, at, standing, seen.as_ref());
                 turns.hear(at, standing);
                 return Ok(ending_after(standing));
             }
             Ok(None)
         }
         Turn::Leaves(at) => {
-            if at < seats.len() {
-                seats[at].clear();
+            if at < slots.len() {
+                slots[at].clear();
             }
             Ok(None)
         }
@@ -129,18 +129,18 @@ fn take_turn<T: Turns, B: Reporting>(
     }
 }
 
-/// Shows whether something was received at a seat and may be answered, before its turn.
-fn show_received<T: Turns>(seats: &[Seat<T::Reader, T::Writer>], turns: &mut T, at: usize)
+/// Shows whether something was received at a slot and may be answered, before its turn.
+fn show_received<T: Turns>(slots: &[Slot<T::Reader, T::Writer>], turns: &mut T, at: usize)
     ensures sees { Sees T.seen turns.old turns.new }
 {
-    if let Some(seat) = seats.get(at) {
-        turns.see_received(at, seat.has_unanswered());
+    if let Some(slot) = slots.get(at) {
+        turns.see_received(at, slot.has_unanswered());
     }
 }
 
-/// Shows the message that was answered at a seat, if one was, and its page, after its turn.
+/// Shows the message that was answered at a slot, if one was, and its page, after its turn.
 fn show_page<T: Turns>(
-    seats: &[Seat<T::Reader, T::Writer>],
+    slots: &[Slot<T::Reader, T::Writer>],
     turns: &mut T,
     at: usize,
     standing: Standing,
@@ -148,37 +148,37 @@ fn show_page<T: Turns>(
 )
     ensures sees { Sees T.seen turns.old turns.new }
 {
-    if let Some(seat) = seats.get(at) {
-        turns.see_page(at, standing, seen, seat.unsent(), seat.closes());
+    if let Some(slot) = slots.get(at) {
+        turns.see_page(at, standing, seen, slot.unsent(), slot.closes());
     }
 }
 
-/// A peer takes a seat, by its door and its way. Where there is no such seat, it is let go.
+/// A peer takes a slot, by its door and in its mode. Where there is no such slot, it is let go.
 fn welcome<T: Turns>(
     alloc: Global,
-    seats: &mut [Seat<T::Reader, T::Writer>],
+    slots: &mut [Slot<T::Reader, T::Writer>],
     at: usize,
     door: Door,
-    way: Way,
+    mode: Mode,
     reader: T::Reader,
     writer: T::Writer,
 )
-    ensures taken { ChangesAt (IsTakenBy reader writer door way) at seats.old seats.new }
+    ensures taken { ChangesAt (IsTakenBy reader writer door mode) at slots.old slots.new }
 {
-    if at >= seats.len() {
+    if at >= slots.len() {
         return;
     }
-    seats[at].take(alloc, door, way, reader, writer);
+    slots[at].take(alloc, door, mode, reader, writer);
 }
 
-/// Hands out the pages that wait, turn by turn, until no turn comes, and reports whether none does. Nothing is read, and no
+/// Writes the pages that wait, turn by turn, until no turn comes, and reports whether none does. Nothing is read, and no
 /// message is answered; a connection for which nothing waits is over, and a peer that comes is let go.
-pub fn finish_many<T: Turns>(seats: &mut [Seat<T::Reader, T::Writer>], turns: &mut T) -> bool
-    ensures left { AreLeft seats.old seats.new }
+pub fn finish_many<T: Turns>(slots: &mut [Slot<T::Reader, T::Writer>], turns: &mut T) -> bool
+    ensures left { AreLeft slots.old slots.new }
     ensures over { result ≡ true → T.is_over turns.new }
 {
     for _ in 0..u64::MAX {
-        if !finish_turn(seats, turns) {
+        if !finish_turn(slots, turns) {
             return true;
         }
     }
@@ -186,53 +186,53 @@ pub fn finish_many<T: Turns>(seats: &mut [Seat<T::Reader, T::Writer>], turns: &m
 }
 
 /// Takes the next turn, and reports whether there was one.
-fn finish_turn<T: Turns>(seats: &mut [Seat<T::Reader, T::Writer>], turns: &mut T) -> bool
-    ensures left { AreLeft seats.old seats.new }
+fn finish_turn<T: Turns>(slots: &mut [Slot<T::Reader, T::Writer>], turns: &mut T) -> bool
+    ensures left { AreLeft slots.old slots.new }
     ensures over { result ≡ false → T.is_over turns.new }
 {
     match turns.next_turn() {
         Turn::Comes(_, _, _, _, _) => true,
         Turn::Ready(at) => {
-            hand_out_at(seats, turns, at);
+            flush_at(slots, turns, at);
             true
         }
         Turn::Leaves(at) => {
-            clear_at(seats, at);
+            clear_at(slots, at);
             true
         }
         Turn::End => false,
     }
 }
 
-/// Hands out what waits at a seat.
-fn hand_out_at<T: Turns>(seats: &mut [Seat<T::Reader, T::Writer>], turns: &mut T, at: usize)
-    ensures left { AreLeft seats.old seats.new }
+/// Writes what waits at a slot.
+fn flush_at<T: Turns>(slots: &mut [Slot<T::Reader, T::Writer>], turns: &mut T, at: usize)
+    ensures left { AreLeft slots.old slots.new }
 {
-    if at >= seats.len() {
+    if at >= slots.len() {
         return;
     }
-    let standing = seats[at].hand_out();
+    let standing = slots[at].flush();
     turns.hear(at, standing);
 }
 
-/// The connection of a seat ends.
-fn clear_at<R: Read + Drop, W: Write + Drop>(seats: &mut [Seat<R, W>], at: usize)
-    ensures left { AreLeft seats.old seats.new }
+/// The connection of a slot ends.
+fn clear_at<R: Read + Drop, W: Write + Drop>(slots: &mut [Slot<R, W>], at: usize)
+    ensures left { AreLeft slots.old slots.new }
 {
-    if at >= seats.len() {
+    if at >= slots.len() {
         return;
     }
-    seats[at].clear();
+    slots[at].clear();
 }
 
 /// What happens next.
 #[derive(Drop)]
 pub enum Turn<R, W> {
-    /// A peer takes this seat, by this door and this way. Who had it before leaves.
-    Comes(usize, Door, Way, R, W),
-    /// The connection of this seat may go on.
+    /// A peer takes this slot, by this door and in this mode. Who had it before leaves.
+    Comes(usize, Door, Mode, R, W),
+    /// The connection of this slot may go on.
     Ready(usize),
-    /// The connection of this seat is ended.
+    /// The connection of this slot is ended.
     Leaves(usize),
     /// No turn comes.
     End,
@@ -247,8 +247,8 @@ pub trait Turns {
     /// What this reader gives comes in at this door.
     ghost is_at: { Self.Reader → Door → Type 0 };
 
-    /// What this reader gives is read by this way.
-    ghost is_by: { Self.Reader → Way → Type 0 };
+    /// What this reader gives is read in this mode.
+    ghost is_by: { Self.Reader → Mode → Type 0 };
 
     /// What is written to this writer goes to the peer whose bytes this reader gives.
     ghost is_pair: { Self.Reader → Self.Writer → Type 0 };
@@ -259,7 +259,7 @@ pub trait Turns {
     /// The source gave this turn, and went on from the one to the other.
     ghost took: { Self → Turn Self.Reader Self.Writer → Self → Type 0 } = { λ _ _ _. ⊤ };
 
-    /// It heard for what the connection of this seat waits, and went on from the one to the other.
+    /// It heard for what the connection of this slot waits, and went on from the one to the other.
     ghost heard: { Self → ℕ → Standing → Self → Type 0 } = { λ _ _ _ _. ⊤ };
 
     /// It was shown something, or asked for the time, and went on from the one to the other.
@@ -268,11 +268,11 @@ pub trait Turns {
     /// This is what it counted.
     ghost counted: { Self → Metrics → Type 0 } = { λ _ _. ⊤ };
 
-    /// Waits for the next turn. A peer comes by the door of its reader, and is read by the way of its reader. Its pages go to
+    /// Waits for the next turn. A peer comes by the door of its reader, and is read in the mode of its reader. Its pages go to
     /// the writer of the same peer.
     fn next_turn(&mut self) -> Turn<Self::Reader, Self::Writer>
         ensures door { ComesByItsDoor is_at result }
-        ensures way { ComesByItsWay is_by result }
+        ensures mode { ComesInItsMode is_by result }
         ensures pair { ComesWithBoth is_pair result }
         ensures over { EndsOnlyIf (is_over self.new) result }
         ensures takes { took self.old result self.new };
@@ -280,7 +280,7 @@ pub trait Turns {
     /// The administrator stops the desk: nobody comes any more, and no turn comes once the pages that wait had time to go out.
     fn stop(&mut self) {}
 
-    /// What the clock shows, in seconds since 1970, if it can be read. Pages by the wide way have its date.
+    /// What the clock shows, in seconds since 1970, if it can be read. Pages in lenient mode have its date.
     fn second(&mut self) -> Option<u64>
         ensures sees { Sees seen self.old self.new }
     {
@@ -291,17 +291,17 @@ pub trait Turns {
     fn metrics(&self) -> Metrics
         ensures counted { counted self.now result };
 
-    /// Sees whether a message, or part of one, waits at a seat to be answered in its turn, which comes next. Nothing depends on
+    /// Sees whether a message, or part of one, waits at a slot to be answered in its turn, which comes next. Nothing depends on
     /// it: a log may be kept so.
-    fn see_received(&mut self, _seat: usize, _has_part: bool)
+    fn see_received(&mut self, _slot: usize, _has_part: bool)
         ensures sees { Sees seen self.old self.new }
     {}
 
-    /// Sees how a turn of a seat ended, the message that was taken in it, if one was, what is left of the page, and whether the
+    /// Sees how a turn of a slot ended, the message that was taken in it, if one was, what is left of the page, and whether the
     /// connection ends after it. Nothing depends on it.
     fn see_page(
         &mut self,
-        _seat: usize,
+        _slot: usize,
         _standing: Standing,
         _seen: Option<&Arrived>,
         _page: &[u8],
@@ -310,9 +310,9 @@ pub trait Turns {
         ensures sees { Sees seen self.old self.new }
     {}
 
-    /// Hears what the connection of a seat waits for after its turn.
-    fn hear(&mut self, seat: usize, standing: Standing)
-        ensures hears { heard self.old seat standing self.new };
+    /// Hears what the connection of a slot waits for after its turn.
+    fn hear(&mut self, slot: usize, standing: Standing)
+        ensures hears { heard self.old slot standing self.new };
 }
 
 /// Why no more turns are taken.

@@ -21,7 +21,7 @@ const MOST_TARGET: usize = 128;
 pub struct Peer {
     /// Its number, in the order in which they came, from 1 on.
     pub number: u64,
-    /// Whether it came by the house's door.
+    /// Whether it came by the administrator's socket.
     pub is_house: bool,
 }
 

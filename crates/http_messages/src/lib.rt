@@ -1,4 +1,4 @@
-//! The messages of a stream of bytes, by two grammars: the desk's profile of HTTP/1.1, and the wide one of RFC 9112, by which
+//! The messages of a stream of bytes, by two grammars: the desk's profile of HTTP/1.1 (strict mode), and that of RFC 9112 (lenient mode), by which
 //! libraries, proxies and pools write.
 //!
 //! `first_message` and `first_wide_message` return the first message of bytes as soon as it is whole. What the desk refuses a

@@ -1,4 +1,4 @@
-//! What the wide way asks of a head.
+//! What lenient mode asks of a head.
 ghost use Rattle.http_messages.specs.Fields.{IsNoHeadFor};
 ghost use Rattle.http_messages.specs.WideHeads.{IsDeniedFront};
 

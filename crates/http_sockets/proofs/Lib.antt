@@ -1,3 +1,3 @@
-pub mod SeatLemmas
+pub mod SlotLemmas
 pub mod TurnLemmas
 pub mod WaitingLemmas

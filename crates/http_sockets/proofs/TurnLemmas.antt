@@ -8,18 +8,18 @@ use Rattle.http_sockets.specs.declared.places.WriteEnd.{WriteEnd}
 use Rattle.http_sockets.specs.declared.sockets.Sockets.{Sockets}
 use Rattle.http_sockets.specs.Counts.{IsFewer, IsNoMore, one_fewer}
 use Rattle.http_sockets.specs.Options.{still_to_come}
-use Rattle.http_sockets.specs.Turns.{IsComing, IsFirst, IsSeated, IsUnseated}
+use Rattle.http_sockets.specs.Turns.{IsComing, IsFirst, IsAdmitted, IsTurnedAway}
 
 -- a turn of somebody needs no reason that none comes
 pub some_turn : {R W : Type 0} (reason : Type 0) (turn : Turn R W) → EndsOnlyIf ⊥ turn → EndsOnlyIf reason turn
-some_turn reason (Comes at door way reader writer) some = tt
+some_turn reason (Comes at door mode reader writer) some = tt
 some_turn reason (Ready at) some = tt
 some_turn reason (Leaves at) some = tt
 some_turn reason End some = absurd some
 
 -- who comes takes no turn of others
 pub first_of_coming : (turn : Turn ReadEnd WriteEnd) (old new : Sockets) → IsComing turn → IsFirst turn old new
-first_of_coming (Comes at door way reader writer) old new comes = tt
+first_of_coming (Comes at door mode reader writer) old new comes = tt
 first_of_coming (Ready at) old new comes = absurd comes
 first_of_coming (Leaves at) old new comes = absurd comes
 first_of_coming End old new comes = absurd comes
@@ -54,29 +54,29 @@ no_more_both (Some o) None new one other = absurd one
 no_more_both (Some o) (Some m) None one other = absurd other
 no_more_both (Some o) (Some m) (Some n) one other = omega arith
 
--- nobody took a seat, and nobody after that
-pub unseated_both : (old mid new : Sockets) → IsUnseated old mid → IsUnseated mid new → IsUnseated old new
-unseated_both old mid new one other = record {
-  seats = other.seats ∙ one.seats;
+-- nobody took a slot, and nobody after that
+pub turned_away_both : (old mid new : Sockets) → IsTurnedAway old mid → IsTurnedAway mid new → IsTurnedAway old new
+turned_away_both old mid new one other = record {
+  slots = other.slots ∙ one.slots;
   no_more = no_more_both (still_to_come old) (still_to_come mid) (still_to_come new) one.no_more other.no_more;
   round = other.round ∙ one.round;
   to_begin = other.to_begin ∙ one.to_begin;
   tick = other.tick ∙ one.tick;
 }
 
--- nobody took a seat, and then somebody did
-pub seated_after : (old mid new : Sockets) (turn : Turn ReadEnd WriteEnd) → IsUnseated old mid → IsSeated mid new turn
-    → IsSeated old new turn
-seated_after old mid new turn one other = record {
+-- nobody took a slot, and then somebody did
+pub admitted_after : (old mid new : Sockets) (turn : Turn ReadEnd WriteEnd) → IsTurnedAway old mid → IsAdmitted mid new turn
+    → IsAdmitted old new turn
+admitted_after old mid new turn one other = record {
   comes = other.comes;
-  seats = rw (one.tick, one.seats) at other.seats;
+  slots = rw (one.tick, one.slots) at other.slots;
   round = other.round ∙ one.round;
   to_begin = other.to_begin ∙ one.to_begin;
 }
 
-pub unseated_same : (now : Sockets) → IsUnseated now now
-unseated_same now = record {
-  seats = refl;
+pub turned_away_same : (now : Sockets) → IsTurnedAway now now
+turned_away_same now = record {
+  slots = refl;
   no_more = no_more_same (still_to_come now);
   round = refl;
   to_begin = refl;

@@ -4,7 +4,7 @@ use Rattle.std.specs.List.{list_all}
 use Rattle.http_sockets.specs.declared.places.Places.{Places}
 use Rattle.http_sockets.specs.declared.sockets.Sockets.{Sockets}
 
--- no seat has a peer
+-- no slot has a peer
 abbrev pub are_free : Places → Bool
 are_free places = list_all (λ place. is_none place.socket) places.places.items
 

@@ -1,7 +1,7 @@
 pub mod Doors
 pub mod Ends
 pub mod Owed
-pub mod Seats
+pub mod Slots
 pub mod Places
 pub mod Turns
 pub mod Listening

@@ -1,7 +1,7 @@
 -- What a peer owes.
 use Rattle.std.specs.Prelude.{Bool, true, false, not}
-use Rattle.http_live.specs.declared.seats.Standing.{Standing}
-use Rattle.http_live.specs.declared.seats.Standing.TheVariants.{Between, Amid, Unsent, Lingering, Answered, Stopped, Busy, Over}
+use Rattle.http_live.specs.declared.slots.Standing.{Standing}
+use Rattle.http_live.specs.declared.slots.Standing.TheVariants.{Between, Amid, Unsent, Lingering, Answered, Stopped, Busy, Over}
 use Rattle.http_log.specs.declared.endings.Why.{Why}
 use Rattle.http_log.specs.declared.endings.Why.TheVariants.{LateRequest, LatePage, Closed}
 use Rattle.http_sockets.specs.declared.places.Owed.{Owed}
@@ -44,7 +44,7 @@ shows_life Busy = true
 shows_life Answered = true
 shows_life _ = false
 
--- why a seat is ended whose peer owes this for too long
+-- why a slot is ended whose peer owes this for too long
 abbrev pub why_owing : Owed → Why
 why_owing Nothing = Closed
 why_owing Message = LateRequest

@@ -1,13 +1,13 @@
--- All seats, and whose turn comes.
+-- All slots, and whose turn comes.
 use Rattle.std.specs.Prelude.{ℕ, List}
 use Rattle.http_sockets.specs.declared.places.Place.{Place}
 use Rattle.http_sockets.specs.declared.places.Places.{Places}
 
--- what is known of each seat
-abbrev pub seats_of : Places → List Place
-seats_of places = places.places.items
+-- what is known of each slot
+abbrev pub slots_of : Places → List Place
+slots_of places = places.places.items
 
--- the seats that have a turn in this round, in their order, and those that have one in the next round
+-- the slots that have a turn in this round, in their order, and those that have one in the next round
 abbrev pub round_of : Places → List ℕ
 round_of places = places.round.items
 

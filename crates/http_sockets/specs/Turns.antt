@@ -1,9 +1,9 @@
--- How the seats change by turns.
+-- How the slots change by turns.
 use Rattle.std.specs.Prelude.{◌≡◌, ◌⊎◌, ⊤, ◌++◌, ◌∷◌, ℕ, List, [], Option, Some, None}
 use Rattle.std.specs.declared.alloc.Global.{Global}
 use Rattle.std.specs.declared.rc.Rc.{Rc}
-use Rattle.http_live.specs.declared.seats.Standing.{Standing}
-use Rattle.http_live.specs.declared.seats.Standing.TheVariants.{Between, Amid, Unsent, Lingering, Answered, Stopped, Busy, Over}
+use Rattle.http_live.specs.declared.slots.Standing.{Standing}
+use Rattle.http_live.specs.declared.slots.Standing.TheVariants.{Between, Amid, Unsent, Lingering, Answered, Stopped, Busy, Over}
 use Rattle.http_live.specs.declared.serving.Turn.{Turn}
 use Rattle.http_live.specs.declared.serving.Turn.TheVariants.{Comes, Ready, Leaves, End}
 use Rattle.http_sockets.specs.declared.places.Place.{Place}
@@ -13,43 +13,43 @@ use Rattle.http_sockets.specs.declared.places.WriteEnd.{WriteEnd}
 use Rattle.http_sockets.specs.declared.sockets.Sockets.{Sockets}
 use Rattle.http_sockets.specs.Counts.{IsNoMore}
 use Rattle.http_sockets.specs.Options.{still_to_come}
-use Rattle.http_sockets.specs.Places.{round_of, seats_of}
-use Rattle.http_sockets.specs.Seats.{Changes, IsChosen, cleared, heard_so, overdue_from, queued, served, taken}
+use Rattle.http_sockets.specs.Places.{round_of, slots_of}
+use Rattle.http_sockets.specs.Slots.{Changes, IsChosen, cleared, heard_so, overdue_from, queued, served, taken}
 
--- what is known of each seat
-abbrev pub seats_in : Sockets → List Place
-seats_in sockets = seats_of sockets.places
+-- what is known of each slot
+abbrev pub slots_in : Sockets → List Place
+slots_in sockets = slots_of sockets.places
 
--- a peer takes a seat, with the socket of its reader
+-- a peer takes a slot, with the socket of its reader
 pub record Takes (tick at : ℕ) (reader : ReadEnd) (old new : List Place) : Type 0 where
   pub socket : Rc Socket Global
   pub same : socket.value ≡ reader.0.value
   pub taken : Changes (taken socket tick) at old new
 
--- who comes takes the seat that is chosen, who leaves has it no more, and who is ready has had its turn
+-- who comes takes the slot that is chosen, who leaves has it no more, and who is ready has had its turn
 abbrev pub ByTurn : ℕ → Turn ReadEnd WriteEnd → List Place → List Place → Type 0
-ByTurn tick (Comes at door way reader writer) old new = IsChosen old at × Takes tick at reader old new
+ByTurn tick (Comes at door mode reader writer) old new = IsChosen old at × Takes tick at reader old new
 ByTurn tick (Ready at) old new = Changes served at old new
 ByTurn tick (Leaves at) old new = Changes cleared at old new
 ByTurn tick End old new = new ≡ old
 
 -- somebody comes in this turn
 abbrev pub IsComing : Turn ReadEnd WriteEnd → Type 0
-IsComing (Comes at door way reader writer) = ⊤
+IsComing (Comes at door mode reader writer) = ⊤
 IsComing (Ready at) = ⊥
 IsComing (Leaves at) = ⊥
 IsComing End = ⊥
 
--- a peer took a seat in this turn
-pub record IsSeated (old new : Sockets) (turn : Turn ReadEnd WriteEnd) : Type 0 where
+-- a peer took a slot in this turn
+pub record IsAdmitted (old new : Sockets) (turn : Turn ReadEnd WriteEnd) : Type 0 where
   pub comes : IsComing turn
-  pub seats : ByTurn old.tick turn (seats_in old) (seats_in new)
+  pub slots : ByTurn old.tick turn (slots_in old) (slots_in new)
   pub round : round_of new.places ≡ round_of old.places
   pub to_begin : new.to_begin ≡ old.to_begin
 
--- nobody took a seat, and no more may come
-pub record IsUnseated (old new : Sockets) : Type 0 where
-  pub seats : seats_in new ≡ seats_in old
+-- nobody took a slot, and no more may come
+pub record IsTurnedAway (old new : Sockets) : Type 0 where
+  pub slots : slots_in new ≡ slots_in old
   pub no_more : IsNoMore (still_to_come old) (still_to_come new)
   pub round : round_of new.places ≡ round_of old.places
   pub to_begin : new.to_begin ≡ old.to_begin
@@ -57,22 +57,22 @@ pub record IsUnseated (old new : Sockets) : Type 0 where
 
 -- who leaves is the first of those that are ended, and who is ready is the first of the round
 abbrev pub IsFirst : Turn ReadEnd WriteEnd → Sockets → Sockets → Type 0
-IsFirst (Comes at door way reader writer) old new = ⊤
+IsFirst (Comes at door mode reader writer) old new = ⊤
 IsFirst (Ready at) old new = round_of old.places ≡ at ∷ round_of new.places
 IsFirst (Leaves at) old new = old.leaving.items ≡ at ∷ new.leaving.items
 IsFirst End old new = ⊥
 
 -- a turn of this round was taken, or there is none
 abbrev pub TurnTaken : Sockets → Sockets → Option (Turn ReadEnd WriteEnd) → Type 0
-TurnTaken old new None = (seats_in new ≡ seats_in old) × (round_of old.places ≡ [])
-TurnTaken old new (Some turn) = ByTurn old.tick turn (seats_in old) (seats_in new) × IsFirst turn old new
+TurnTaken old new None = (slots_in new ≡ slots_in old) × (round_of old.places ≡ [])
+TurnTaken old new (Some turn) = ByTurn old.tick turn (slots_in old) (slots_in new) × IsFirst turn old new
 
 -- no tick passed; or those that owe something for too long now are ended
 abbrev pub EndsLate : Sockets → Sockets → Type 0
 EndsLate old new = ((new.tick ≡ old.tick) × (new.leaving.items ≡ old.leaving.items))
-    ⊎ (new.leaving.items ≡ old.leaving.items ++ overdue_from new.tick old.patience 0 (seats_in new))
+    ⊎ (new.leaving.items ≡ old.leaving.items ++ overdue_from new.tick old.patience 0 (slots_in new))
 
--- what follows a turn that ended so: whose connection is over has the seat no more, and who has more to do at once has one more
+-- what follows a turn that ended so: whose connection is over has the slot no more, and who has more to do at once has one more
 -- turn, unless memory runs out
 abbrev pub Follows : Standing → ℕ → List Place → List Place → Type 0
 Follows Over at old new = Changes cleared at old new
@@ -84,7 +84,7 @@ Follows Unsent at old new = new ≡ old
 Follows Lingering at old new = new ≡ old
 Follows Stopped at old new = new ≡ old
 
--- a turn of a seat ended so at this tick
+-- a turn of a slot ended so at this tick
 pub record HearsSo (standing : Standing) (tick at : ℕ) (old new : List Place) : Type 0 where
   pub between : List Place
   pub heard : Changes (heard_so standing tick) at old between

@@ -3,7 +3,7 @@
 //! What no contract can say is kept here: what the system reports, and who comes and goes. All that is answered is
 //! answered by `http_live`.
 //!
-//! Words: a *tick* is a tenth of a second; a *round* is one turn of each seat that may go on; *patience* is how long a peer
+//! Words: a *tick* is a tenth of a second; a *round* is one turn of each slot that may go on; *patience* is how long a peer
 //! may owe the rest of a message, or to take a page.
 #![tactic(auto)]
 

@@ -14,7 +14,7 @@ use std::fs;
 use std::io::{self, ErrorKind};
 use std::net::{IpAddr, Ipv4Addr, SocketAddr};
 
-/// The tokens of the two listeners, and of the first seat.
+/// The tokens of the two listeners, and of the first slot.
 const PORT: usize = 0;
 
 const PATH: usize = 1;
@@ -112,8 +112,8 @@ pub(crate) struct Listeners<'a> {
 }
 
 impl<'a> Listeners<'a> {
-    ghost use Rattle.http_sockets.specs.Places.{seats_of};
-    ghost use Rattle.http_sockets.specs.Seats.{AddWaiting};
+    ghost use Rattle.http_sockets.specs.Places.{slots_of};
+    ghost use Rattle.http_sockets.specs.Slots.{AddWaiting};
     ghost use Rattle.http_sockets.specs.Waiting.{Accepts, all_heard, heard, may_wait, none_heard, waiting_at};
 
     /// Listens on a port of 127.0.0.1, and on a path if there is one, which its owner alone may open. Whether it is this port,
@@ -164,10 +164,10 @@ impl<'a> Listeners<'a> {
         self.hear(PATH);
     }
 
-    /// Takes in what the system reported: who may come, and which seats may go on.
-    #[tactic(auto, using(crate::proofs::SeatLemmas::waiting_same, crate::proofs::SeatLemmas::waiting_both))]
+    /// Takes in what the system reported: who may come, and which slots may go on.
+    #[tactic(auto, using(crate::proofs::SlotLemmas::waiting_same, crate::proofs::SlotLemmas::waiting_both))]
     pub(crate) fn take_in(&mut self, events: &Events, places: &mut Places) -> io::Result<()>
-        ensures seats { AddWaiting (seats_of places.old) (seats_of places.new) }
+        ensures slots { AddWaiting (slots_of places.old) (slots_of places.new) }
     {
         for event in events.iter() {
             let token = event.token().0;

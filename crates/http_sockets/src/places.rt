@@ -1,15 +1,15 @@
-//! The two ends of a connection over a socket, and what is known of each seat: its socket, what its peer owes, and since when.
+//! The two ends of a connection over a socket, and what is known of each slot: its socket, what its peer owes, and since when.
 
 ghost use Rattle.std.specs.Prelude.{◌≡◌, ◌++◌, All, IfNone, IfOk, MatchOption, OnErr, OnOk, ◌↔◌, IsTrue, if◌then◌else◌, [], length, option_to_list, take, true, ◌<◌};
 ghost use Rattle.std.specs.Io.{ReadsAtMost, WritesAtMost};
 ghost use Rattle.std.specs.Io.KnownBytes.{Appends, Consumes, IsAtEnd, Keeps};
 ghost use Rattle.http_sockets.specs.Owed.{is_owed_anew, owed_after, shows_life};
-ghost use Rattle.http_sockets.specs.Seats.{HaveTurns};
+ghost use Rattle.http_sockets.specs.Slots.{HaveTurns};
 
 use desk_http::{Door, Site};
 use http_live::Standing;
 use http_log::Why;
-use http_ways::Way;
+use http_modes::Mode;
 use mio::net::{TcpStream, UnixStream};
 use mio::{Interest, Registry, Token};
 use std::alloc::{AllocError, Global};
@@ -35,7 +35,7 @@ enum Owed {
     End,
 }
 
-/// What is known of a seat.
+/// What is known of a slot.
 #[derive(Drop)]
 struct Place {
     socket: Option<Rc<Socket>>,
@@ -48,11 +48,11 @@ struct Place {
     is_queued: bool,
 }
 
-/// All seats, and whose turn comes.
+/// All slots, and whose turn comes.
 #[derive(Drop)]
 pub(crate) struct Places {
     places: Vec<Place>,
-    /// The seats that have a turn in this round, and those that have one in the next round.
+    /// The slots that have a turn in this round, and those that have one in the next round.
     round: VecDeque<usize>,
     next: VecDeque<usize>,
     ghost turns: { HaveTurns places.items round.items next.items },
@@ -60,14 +60,14 @@ pub(crate) struct Places {
 
 impl Places {
     ghost use Rattle.http_sockets.specs.Ends.{are_free};
-    ghost use Rattle.http_sockets.specs.Places.{next_of, round_of, seats_of};
-    ghost use Rattle.http_sockets.specs.Seats.{AddWaiting, Changes, IsChosen, cleared, heard_so, is_free, overdue_from, queued, served, taken, why_overdue};
+    ghost use Rattle.http_sockets.specs.Places.{next_of, round_of, slots_of};
+    ghost use Rattle.http_sockets.specs.Slots.{AddWaiting, Changes, IsChosen, cleared, heard_so, is_free, overdue_from, queued, served, taken, why_overdue};
 
-    /// So many seats, all free.
-    #[tactic(auto, using(crate::proofs::SeatLemmas::turns_none))]
+    /// So many slots, all free.
+    #[tactic(auto, using(crate::proofs::SlotLemmas::turns_none))]
     pub(crate) fn new(alloc: Global, count: usize) -> Result<Places, AllocError>
-        ensures count { IfOk result (λ places. length (seats_of places) ≡ count) }
-        ensures free { IfOk result (λ places. All (λ seat. is_free seat ≡ true) (seats_of places)) }
+        ensures count { IfOk result (λ places. length (slots_of places) ≡ count) }
+        ensures free { IfOk result (λ places. All (λ slot. is_free slot ≡ true) (slots_of places)) }
     {
         let round = VecDeque::with_capacity(alloc, count)?;
         let next = VecDeque::with_capacity(alloc, count)?;
@@ -88,10 +88,10 @@ impl Places {
         })
     }
 
-    /// A free seat, or the one whose peer is silent for longest.
-    #[tactic(auto, using(crate::proofs::SeatLemmas::chosen_free, crate::proofs::SeatLemmas::chosen_of_all, crate::proofs::SeatLemmas::quiet_takes, crate::proofs::SeatLemmas::quiet_keeps))]
+    /// A free slot, or the one whose peer is silent for longest.
+    #[tactic(auto, using(crate::proofs::SlotLemmas::chosen_free, crate::proofs::SlotLemmas::chosen_of_all, crate::proofs::SlotLemmas::quiet_takes, crate::proofs::SlotLemmas::quiet_keeps))]
     pub(crate) fn choose(&self) -> usize
-        ensures chosen { IsChosen (seats_of self.now) result }
+        ensures chosen { IsChosen (slots_of self.now) result }
     {
         let (mut best, mut oldest) = (0, u64::MAX);
         for (at, place) in self.places.iter().enumerate() {
@@ -105,16 +105,16 @@ impl Places {
         best
     }
 
-    /// Whether no seat has a peer.
+    /// Whether no slot has a peer.
     pub(crate) fn are_free(&self) -> bool
         ensures free { result ≡ are_free self.now }
     {
         self.places.iter().all(|place| place.socket.is_none())
     }
 
-    /// A peer takes the seat at this tick.
+    /// A peer takes the slot at this tick.
     pub(crate) fn take(&mut self, at: usize, socket: Rc<Socket>, tick: u64)
-        ensures taken { Changes (taken socket tick) at (seats_of self.old) (seats_of self.new) }
+        ensures taken { Changes (taken socket tick) at (slots_of self.old) (slots_of self.new) }
         ensures round { round_of self.new ≡ round_of self.old }
     {
         if let Some(place) = self.places.get_mut(at) {
@@ -125,9 +125,9 @@ impl Places {
         }
     }
 
-    /// The seat is free.
+    /// The slot is free.
     pub(crate) fn clear(&mut self, at: usize)
-        ensures cleared { Changes cleared at (seats_of self.old) (seats_of self.new) }
+        ensures cleared { Changes cleared at (slots_of self.old) (slots_of self.new) }
     {
         if let Some(place) = self.places.get_mut(at) {
             place.socket = None;
@@ -135,18 +135,18 @@ impl Places {
         }
     }
 
-    /// What the connection of a seat waits for at this tick.
+    /// What the connection of a slot waits for at this tick.
     pub(crate) fn hear(&mut self, at: usize, standing: Standing, tick: u64)
-        ensures heard { Changes (heard_so standing tick) at (seats_of self.old) (seats_of self.new) }
+        ensures heard { Changes (heard_so standing tick) at (slots_of self.old) (slots_of self.new) }
     {
         if let Some(place) = self.places.get_mut(at) {
             place.hear(standing, tick);
         }
     }
 
-    /// Why a seat is ended whose peer has owed something for too long.
+    /// Why a slot is ended whose peer has owed something for too long.
     pub(crate) fn why_overdue(&self, at: usize) -> Why
-        ensures why { result ≡ why_overdue (seats_of self.now) at }
+        ensures why { result ≡ why_overdue (slots_of self.now) at }
     {
         match self.places.get(at).map(|place| place.owed) {
             Some(Owed::Message) => Why::LateRequest,
@@ -155,12 +155,12 @@ impl Places {
         }
     }
 
-    /// The seat has a turn in the next round, unless it has one already, or nobody has the seat.
-    #[tactic(auto, using(crate::proofs::SeatLemmas::waiting_same))]
+    /// The slot has a turn in the next round, unless it has one already, or nobody has the slot.
+    #[tactic(auto, using(crate::proofs::SlotLemmas::waiting_same))]
     pub(crate) fn queue(&mut self, at: usize) -> Result<(), AllocError>
-        ensures queued { OnOk result (Changes queued at (seats_of self.old) (seats_of self.new)) }
-        ensures err { OnErr result (seats_of self.new ≡ seats_of self.old) }
-        ensures waiting { AddWaiting (seats_of self.old) (seats_of self.new) }
+        ensures queued { OnOk result (Changes queued at (slots_of self.old) (slots_of self.new)) }
+        ensures err { OnErr result (slots_of self.new ≡ slots_of self.old) }
+        ensures waiting { AddWaiting (slots_of self.old) (slots_of self.new) }
     {
         let Some(place) = self.places.get_mut(at) else {
             return Ok(());
@@ -173,12 +173,12 @@ impl Places {
         Ok(())
     }
 
-    /// The next seat of this round has its turn.
+    /// The next slot of this round has its turn.
     pub(crate) fn serve(&mut self) -> Option<usize>
         ensures first { round_of self.old ≡ option_to_list result ++ round_of self.new }
         ensures none { IfNone result (round_of self.old ≡ []) }
-        ensures seats { MatchOption result (seats_of self.new ≡ seats_of self.old)
-            (λ at. Changes served at (seats_of self.old) (seats_of self.new)) }
+        ensures slots { MatchOption result (slots_of self.new ≡ slots_of self.old)
+            (λ at. Changes served at (slots_of self.old) (slots_of self.new)) }
     {
         let at = self.round.pop_front()?;
         if let Some(place) = self.places.get_mut(at) {
@@ -188,23 +188,23 @@ impl Places {
     }
 
     /// The next round begins.
-    #[tactic(auto, using(crate::proofs::SeatLemmas::turns_swapped))]
+    #[tactic(auto, using(crate::proofs::SlotLemmas::turns_swapped))]
     pub(crate) fn begin_round(&mut self)
-        ensures seats { seats_of self.new ≡ seats_of self.old }
+        ensures slots { slots_of self.new ≡ slots_of self.old }
         ensures round { round_of self.new ≡ next_of self.old }
         ensures next { next_of self.new ≡ round_of self.old }
     {
         mem::swap(&mut self.round, &mut self.next);
     }
 
-    /// Whether no seat has a turn in the next round.
+    /// Whether no slot has a turn in the next round.
     pub(crate) fn is_idle(&self) -> bool
         ensures idle { IsTrue result ↔ (next_of self.now ≡ []) }
     {
         self.next.is_empty()
     }
 
-    /// Adds the seats whose peers have owed something for more than so many ticks.
+    /// Adds the slots whose peers have owed something for more than so many ticks.
     pub(crate) fn add_overdue(
         &self,
         tick: u64,
@@ -212,7 +212,7 @@ impl Places {
         overdue: &mut VecDeque<usize>,
     ) -> Result<(), AllocError>
         ensures added { OnOk result
-            (overdue.new.items ≡ overdue.old.items ++ overdue_from tick patience 0 (seats_of self.now)) }
+            (overdue.new.items ≡ overdue.old.items ++ overdue_from tick patience 0 (slots_of self.now)) }
     {
         for (at, place) in self.places.iter().enumerate() {
             if place.is_overdue(tick, patience) {
@@ -224,7 +224,7 @@ impl Places {
 }
 
 impl Place {
-    ghost use Rattle.http_sockets.specs.Seats.{heard_so, is_overdue};
+    ghost use Rattle.http_sockets.specs.Slots.{heard_so, is_overdue};
 
     /// What its connection waits for at this tick. After its closing page, nothing more is written.
     fn hear(&mut self, standing: Standing, tick: u64)
@@ -299,9 +299,9 @@ pub(crate) enum Socket {
     Path(UnixStream),
 }
 
-/// The end that is read, and the way by which that is read.
+/// The end that is read, and the mode in which that is read.
 #[derive(Drop)]
-pub struct ReadEnd(Rc<Socket>, Way);
+pub struct ReadEnd(Rc<Socket>, Mode);
 
 /// The end that is written to.
 #[derive(Drop)]
@@ -342,13 +342,13 @@ impl Socket {
     }
 }
 
-/// The two ends of a socket, whose messages are read by this way.
-pub(crate) fn ends_of(socket: &Rc<Socket>, way: Way) -> Result<(ReadEnd, WriteEnd), AllocError>
+/// The two ends of a socket, whose messages are read in this mode.
+pub(crate) fn ends_of(socket: &Rc<Socket>, mode: Mode) -> Result<(ReadEnd, WriteEnd), AllocError>
     ensures read { IfOk result (λ ends. ends.0.0.value ≡ socket.now.value) }
-    ensures way { IfOk result (λ ends. ends.0.1 ≡ way) }
+    ensures mode { IfOk result (λ ends. ends.0.1 ≡ mode) }
     ensures write { IfOk result (λ ends. ends.1.0.value ≡ socket.now.value) }
 {
-    Ok((ReadEnd(socket.clone()?, way), WriteEnd(socket.clone()?)))
+    Ok((ReadEnd(socket.clone()?, mode), WriteEnd(socket.clone()?)))
 }
 
 impl Read for ReadEnd {

@@ -11,10 +11,10 @@ use crate::places::{Places, ReadEnd, Socket, WriteEnd, ends_of};
 use crate::rounds::{Rounds, turn_of_rounds};
 use desk_http::{Door, Site};
 use http_journal::Journal;
-use http_live::{SEATS, Standing, Turn, Turns};
+use http_live::{SLOTS, Standing, Turn, Turns};
 use http_log::{LogForm, Metrics, Why};
+use http_modes::{Arrived, Mode};
 use http_pages::HtmlPage;
-use http_ways::{Arrived, Way};
 use mio::{Events, Poll, Token};
 use std::alloc::{AllocError, Global};
 use std::collections::VecDeque;
@@ -34,10 +34,10 @@ const EVENTS: usize = 256;
 /// For how many ticks pages that wait may still be taken once the desk stops: five seconds.
 const STOPPING: u64 = 50;
 
-/// How many peers take a seat in one round, at most.
+/// How many peers take a slot in one round, at most.
 const WELCOMES: usize = 32;
 
-/// The sockets, and the seats that may go on.
+/// The sockets, and the slots that may go on.
 #[derive(Drop)]
 pub struct Sockets<'a> {
     rt: &'a HostRuntime,
@@ -57,10 +57,10 @@ pub struct Sockets<'a> {
     listeners: Listeners<'a>,
     /// The page that is served at the port, if one is.
     page: Option<Site>,
-    /// By which way requests are read.
-    way: Way,
+    /// In which mode requests are read.
+    mode: Mode,
     places: Places,
-    /// The seats that are ended.
+    /// The slots that are ended.
     leaving: VecDeque<usize>,
     /// How many rounds may still begin.
     to_begin: u64,
@@ -73,9 +73,9 @@ pub struct Sockets<'a> {
 impl<'a> Sockets<'a> {
     ghost use Rattle.http_sockets.specs.Ends.{HasWaited, HaveLeft, is_failed};
     ghost use Rattle.http_sockets.specs.Doors.{ComesAt, ComesBy, ComesOver};
-    ghost use Rattle.http_sockets.specs.Options.{AddsPage, options_of, options_within, page_at_port, still_to_come, way_to_come};
-    ghost use Rattle.http_sockets.specs.Seats.{AddWaiting};
-    ghost use Rattle.http_sockets.specs.Turns.{EndsLate, IsSeated, IsUnseated, seats_in};
+    ghost use Rattle.http_sockets.specs.Options.{AddsPage, options_of, options_within, page_at_port, still_to_come, mode_to_come};
+    ghost use Rattle.http_sockets.specs.Slots.{AddWaiting};
+    ghost use Rattle.http_sockets.specs.Turns.{EndsLate, IsAdmitted, IsTurnedAway, slots_in};
     ghost use Rattle.http_sockets.specs.Waiting.{all_heard, may_wait, waiting_at};
 
     /// Listens on a port of 127.0.0.1, and on a path if there is one, which its owner alone may open. Who comes is served
@@ -91,9 +91,9 @@ impl<'a> Sockets<'a> {
     {
         let poll = Poll::new(rt)?;
         let events = Events::with_capacity(alloc, EVENTS)?;
-        let places = Places::new(alloc, SEATS)?;
-        let leaving = VecDeque::with_capacity(alloc, SEATS)?;
-        let journal = Journal::new(rt, alloc, SEATS)?;
+        let places = Places::new(alloc, SLOTS)?;
+        let leaving = VecDeque::with_capacity(alloc, SLOTS)?;
+        let journal = Journal::new(rt, alloc, SLOTS)?;
         let clock = Instant::now(rt)?;
         let listeners = Listeners::bind(rt, alloc, poll.registry(), port, path)?;
         Ok(Sockets {
@@ -109,7 +109,7 @@ impl<'a> Sockets<'a> {
             events,
             listeners,
             page: None,
-            way: Way::Profile,
+            mode: Mode::Strict,
             places,
             leaving,
             to_begin: u64::MAX,
@@ -144,9 +144,9 @@ impl<'a> Sockets<'a> {
 
     /// Who comes from now on may speak HTTP as libraries, proxies and pools do.
     pub fn widen(&mut self)
-        ensures options { options_of self.new ≡ record (options_of self.old) { way = Way.Wide } }
+        ensures options { options_of self.new ≡ record (options_of self.old) { mode = Mode.Lenient } }
     {
-        self.way = Way::Wide;
+        self.mode = Mode::Lenient;
     }
 
     /// Whether no turn came since the system failed to report what happens.
@@ -165,7 +165,7 @@ impl<'a> Sockets<'a> {
         sockets.listeners.end(rt);
     }
 
-    /// Whether one more peer may take a seat in this round.
+    /// Whether one more peer may take a slot in this round.
     fn welcomes(&self) -> bool
         ensures waits { IsTrue result → may_wait (waiting_at self.now.listeners) ≡ true }
         ensures round { IsTrue result → self.now.welcomed < WELCOMES }
@@ -174,12 +174,12 @@ impl<'a> Sockets<'a> {
         self.welcomed < WELCOMES && self.to_come != Some(0) && self.listeners.may_wait()
     }
 
-    /// The next peer takes a seat, if one waits.
-    #[tactic(auto, using(crate::proofs::TurnLemmas::unseated_same, crate::proofs::TurnLemmas::unseated_both, crate::proofs::TurnLemmas::seated_after, crate::proofs::TurnLemmas::fewer_of))]
+    /// The next peer takes a slot, if one waits.
+    #[tactic(auto, using(crate::proofs::TurnLemmas::turned_away_same, crate::proofs::TurnLemmas::turned_away_both, crate::proofs::TurnLemmas::admitted_after, crate::proofs::TurnLemmas::fewer_of))]
     fn welcome(&mut self) -> Option<Turn<ReadEnd, WriteEnd>>
         ensures turn { IfSome result IsTurn }
-        ensures seated { MatchOption result (IsUnseated self.old self.new)
-            (IsSeated self.old self.new) }
+        ensures admitted { MatchOption result (IsTurnedAway self.old self.new)
+            (IsAdmitted self.old self.new) }
         ensures limit { OnSome result (IsFewer (still_to_come self.old) (still_to_come self.new)) }
     {
         for _ in 0..WELCOMES {
@@ -193,18 +193,18 @@ impl<'a> Sockets<'a> {
         None
     }
 
-    /// Who waits takes a seat. A peer that finds no memory is let go.
+    /// Who waits takes a slot. A peer that finds no memory is let go.
     #[tactic(auto, using(crate::proofs::TurnLemmas::one_no_more, crate::proofs::TurnLemmas::no_more_same))]
     fn greet(&mut self) -> Option<Turn<ReadEnd, WriteEnd>>
         ensures turn { IfSome result IsTurn }
-        ensures seated { MatchOption result (IsUnseated self.old self.new)
-            (IsSeated self.old self.new) }
+        ensures admitted { MatchOption result (IsTurnedAway self.old self.new)
+            (IsAdmitted self.old self.new) }
         ensures limit { OnSome result
             (still_to_come self.new ≡ one_fewer (still_to_come self.old)) }
     {
         self.welcomed = self.welcomed.saturating_add(1);
         match self.listeners.accept() {
-            Accepted::Came(socket) => match self.seated(socket) {
+            Accepted::Came(socket) => match self.admitted(socket) {
                 Ok(turn) => Some(turn),
                 Err(_) => None,
             },
@@ -216,17 +216,17 @@ impl<'a> Sockets<'a> {
         }
     }
 
-    /// A peer takes the seat that is chosen, by the door of its socket, at the port by that with the page that is served now, if
-    /// one is. It is read by the way that is now. One peer fewer may come after it.
+    /// A peer takes the slot that is chosen, by the door of its socket, at the port by that with the page that is served now, if
+    /// one is. It is read in the mode that is set now. One peer fewer may come after it.
     #[tactic(auto, using(crate::proofs::TurnLemmas::one_no_more))]
-    fn seated(&mut self, socket: Socket) -> io::Result<Turn<ReadEnd, WriteEnd>>
+    fn admitted(&mut self, socket: Socket) -> io::Result<Turn<ReadEnd, WriteEnd>>
         ensures turn { IfOk result IsTurn }
-        ensures now { IfOk result (ComesBy (way_to_come self.old)) }
+        ensures now { IfOk result (ComesBy (mode_to_come self.old)) }
         ensures page { IfOk result (ComesAt (page_at_port self.old)) }
         ensures same { IfOk result (ComesOver socket) }
-        ensures seated { IfOk result (IsSeated self.old self.new) }
+        ensures admitted { IfOk result (IsAdmitted self.old self.new) }
         ensures limit { still_to_come self.new ≡ one_fewer (still_to_come self.old) }
-        ensures err { OnErr result (IsUnseated self.old self.new) }
+        ensures err { OnErr result (IsTurnedAway self.old self.new) }
     {
         self.to_come = one_fewer(self.to_come);
         let at = self.places.choose();
@@ -234,16 +234,16 @@ impl<'a> Sockets<'a> {
         socket.register(self.poll.registry(), Token(at.saturating_add(FIRST)))?;
         let socket = Rc::new(self.alloc, socket)?;
         let door = socket.door(self.page);
-        let (reader, writer) = ends_of(&socket, self.way)?;
+        let (reader, writer) = ends_of(&socket, self.mode)?;
         self.places.take(at, socket, self.tick);
         let _ = self.journal.comes(at, matches!(door, Door::House));
-        Ok(Turn::Comes(at, door, self.way, reader, writer))
+        Ok(Turn::Comes(at, door, self.mode, reader, writer))
     }
 
-    /// Waits until a seat may go on or somebody comes, or a tick is over, and takes in what the system reports.
-    #[tactic(auto, using(crate::proofs::SeatLemmas::waiting_same, crate::proofs::SeatLemmas::waiting_both))]
+    /// Waits until a slot may go on or somebody comes, or a tick is over, and takes in what the system reports.
+    #[tactic(auto, using(crate::proofs::SlotLemmas::waiting_same, crate::proofs::SlotLemmas::waiting_both))]
     fn hear_system(&mut self) -> io::Result<()>
-        ensures seats { AddWaiting (seats_in self.old) (seats_in self.new) }
+        ensures slots { AddWaiting (slots_in self.old) (slots_in self.new) }
         ensures rounds { self.new.to_begin ≡ self.old.to_begin }
     {
         let is_idle = self.places.is_idle() && !self.welcomes();
@@ -256,9 +256,9 @@ impl<'a> Sockets<'a> {
     }
 
     /// Begins the next round, once the system has reported.
-    #[tactic(auto, using(crate::proofs::SeatLemmas::waiting_same, crate::proofs::SeatLemmas::waiting_both))]
+    #[tactic(auto, using(crate::proofs::SlotLemmas::waiting_same, crate::proofs::SlotLemmas::waiting_both))]
     fn begin_round(&mut self) -> io::Result<()>
-        ensures seats { AddWaiting (seats_in self.old) (seats_in self.new) }
+        ensures slots { AddWaiting (slots_in self.old) (slots_in self.new) }
         ensures begun { OnOk result (self.new.to_begin < self.old.to_begin) }
     {
         let to_begin = self.to_begin.checked_sub(1);
@@ -269,9 +269,9 @@ impl<'a> Sockets<'a> {
         self.count_ticks()
     }
 
-    /// At each tick the listeners are asked again, and the seats whose peers owe something for too long are ended.
+    /// At each tick the listeners are asked again, and the slots whose peers owe something for too long are ended.
     fn count_ticks(&mut self) -> io::Result<()>
-        ensures seats { seats_in self.new ≡ seats_in self.old }
+        ensures slots { slots_in self.new ≡ slots_in self.old }
         ensures rounds { self.new.to_begin ≡ self.old.to_begin }
         ensures late { OnOk result (EndsLate self.old self.new) }
         ensures asked { self.new.tick ≢ self.old.tick → waiting_at self.new.listeners
@@ -318,8 +318,8 @@ impl<'a> Sockets<'a> {
 
 impl Rounds for Sockets<'_> {
     ghost use Rattle.http_sockets.specs.Ends.{IsAtEnd};
-    ghost use Rattle.http_sockets.specs.Seats.{AddWaiting};
-    ghost use Rattle.http_sockets.specs.Turns.{TurnTaken, seats_in};
+    ghost use Rattle.http_sockets.specs.Slots.{AddWaiting};
+    ghost use Rattle.http_sockets.specs.Turns.{TurnTaken, slots_in};
 
     type Turn = Turn<ReadEnd, WriteEnd>;
 
@@ -355,11 +355,11 @@ impl Rounds for Sockets<'_> {
         self.has_waited() || self.have_left()
     }
 
-    #[tactic(auto, using(crate::proofs::SeatLemmas::waiting_same, crate::proofs::SeatLemmas::waiting_both))]
+    #[tactic(auto, using(crate::proofs::SlotLemmas::waiting_same, crate::proofs::SlotLemmas::waiting_both))]
     fn wait(&mut self) -> io::Result<()>
         ensures begun { OnOk result (self.new.to_begin < self.old.to_begin) }
         ensures err { OnErr result (IsOver self.new) }
-        ensures seats { AddWaiting (seats_in self.old) (seats_in self.new) }
+        ensures slots { AddWaiting (slots_in self.old) (slots_in self.new) }
     {
         let begun = self.begin_round();
         self.has_failed = self.has_failed || begun.is_err();
@@ -369,8 +369,8 @@ impl Rounds for Sockets<'_> {
 
 impl Turns for Sockets<'_> {
     ghost use Rattle.http_sockets.specs.Options.{still_to_come};
-    ghost use Rattle.http_sockets.specs.Seats.{AddWaiting};
-    ghost use Rattle.http_sockets.specs.Turns.{HearsSo, seats_in};
+    ghost use Rattle.http_sockets.specs.Slots.{AddWaiting};
+    ghost use Rattle.http_sockets.specs.Turns.{HearsSo, slots_in};
 
     type Reader = ReadEnd;
 
@@ -394,24 +394,24 @@ impl Turns for Sockets<'_> {
     }
 
     /// Each connection has a turn, in which its page may go out. After five seconds no turn comes.
-    #[tactic(auto, using(crate::proofs::SeatLemmas::waiting_same, crate::proofs::SeatLemmas::waiting_both))]
+    #[tactic(auto, using(crate::proofs::SlotLemmas::waiting_same, crate::proofs::SlotLemmas::waiting_both))]
     fn stop(&mut self)
         ensures nobody { still_to_come self.new ≡ Some 0 }
         ensures last { IfSome self.new.last (λ last. last ≤ self.old.tick + STOPPING) }
         ensures ends { IsSome self.new.last }
-        ensures seats { AddWaiting (seats_in self.old) (seats_in self.new) }
+        ensures slots { AddWaiting (slots_in self.old) (slots_in self.new) }
     {
         self.to_come = Some(0);
         self.last = Some(self.tick.saturating_add(STOPPING));
-        for at in 0..SEATS {
+        for at in 0..SLOTS {
             let _ = self.places.queue(at);
         }
     }
 
     fn second(&mut self) -> Option<u64> {
-        match self.way {
-            Way::Profile => None,
-            Way::Wide => second_of(SystemTime::now(self.rt)),
+        match self.mode {
+            Mode::Strict => None,
+            Mode::Lenient => second_of(SystemTime::now(self.rt)),
         }
     }
 
@@ -435,7 +435,7 @@ impl Turns for Sockets<'_> {
     }
 
     fn hear(&mut self, at: usize, standing: Standing)
-        ensures heard { HearsSo standing self.old.tick at (seats_in self.old) (seats_in self.new) }
+        ensures heard { HearsSo standing self.old.tick at (slots_in self.old) (slots_in self.new) }
     {
         self.places.hear(at, standing, self.tick);
         match standing {

@@ -1,4 +1,4 @@
--- What may be found after any number of invocations over a new desk.
+-- What is recoverable after any number of invocations over a new desk.
 use Rattle.std.specs.Prelude.{◌≡◌, List, []}
 use Rattle.sqlite_wal.specs.Recovery.{Image}
 use Rattle.ledger.specs.World.{Moment, IsWorld}

@@ -1,4 +1,4 @@
-//! What the files may be found to hold after any number of invocations.
+//! What may be read from the files after any number of invocations.
 //!
 //! A law is the contract of a function that does nothing: who calls it may use the law.
 ghost use Rattle.std.specs.Prelude.{[], ◌∷◌};

@@ -19,7 +19,7 @@ abbrev pub is_transaction : Item → Bool
 is_transaction (Transaction i c) = true
 is_transaction _ = false
 
--- a step was compensated: its places were given back
+-- a step was compensated: its places were returned
 abbrev pub is_compensation : Item → Bool
 is_compensation (Compensation i c) = true
 is_compensation _ = false

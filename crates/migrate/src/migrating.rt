@@ -100,7 +100,7 @@ fn bring_over<S: Alter>(conn: &mut Connection<S>, meta: Meta) -> Result<(), Migr
 ///
 /// A store without tables and tables of another version are refused, and nothing changes. After a fault a crash leaves
 /// the old tables or the new ones; the connection itself, if it is open, still shows the old ones. Over a store that is
-/// up, whose tables of version 1 represent a state, `Store` has a reason: the disk failed or refused, the commit ran out
+/// up, whose tables of version 1 represent a state, `Store` implies an error: the disk failed or refused, the commit ran out
 /// of memory, or the ledger has 2^62 or more events.
 pub fn migrate<S: Alter>(conn: &mut Connection<S>) -> Result<Migrated, MigrateFault>
     requires idle { Idle conn.old }

@@ -19,8 +19,8 @@ use Rattle.sql_model.specs.Keeping.{MayLeave, StoodFor}
 use Rattle.http_conversations.specs.Exchanges.{Exchange}
 use Rattle.http_conversations.specs.Leading.{has_broken}
 use Rattle.http_live.specs.Merging.{exchange_of}
-use Rattle.http_live.specs.Seats.{connections_at}
-use Rattle.http_live.specs.declared.seats.Seat.{Seat}
+use Rattle.http_live.specs.Slots.{connections_at}
+use Rattle.http_live.specs.declared.slots.Slot.{Slot}
 use Rattle.http_live.specs.Whole.{EndsOver, GoOnByTurns}
 use Rattle.http_live.specs.Worlds as by_exchange
 use Rattle.http_live.specs.declared.serving.Ending.{Ending}
@@ -88,9 +88,9 @@ pub stood_leaves : (c : Connected) (s : State) → StoodFor Two c s → MayLeave
 stood_leaves c s stood clean db may = inl ((stood clean).leaves db may)
 
 -- what each connection was sent is known of every connection
-sent_their_pages : {R W : Type 0} {r : Read.Ghosts R} {w : Write.Ghosts W} (seats : List (Seat R W r w)) → AreSentTheirPages seats
-sent_their_pages seats j e inside k f there =
-    let c = get_or (connections_at (get_or seats j e)) k f in record { pages = c.conversation.served; ends = c.faithful }
+sent_their_pages : {R W : Type 0} {r : Read.Ghosts R} {w : Write.Ghosts W} (slots : List (Slot R W r w)) → AreSentTheirPages slots
+sent_their_pages slots j e inside k f there =
+    let c = get_or (connections_at (get_or slots j e)) k f in record { pages = c.conversation.served; ends = c.faithful }
 
 module _ {S : Type 0} (g : Ghosts S) (b : TableBook S g) (new : Held S) where
   -- nobody could come
@@ -146,11 +146,11 @@ module _ {S : Type 0} (g : Ghosts S) (b : TableBook S g) (new : Held S) where
         came = record {
           began = began;
           listened = listened;
-          seats = on.seats;
+          slots = on.slots;
           doors = on.doors;
-          ways = on.ways;
+          modes = on.modes;
           pairs = on.pairs;
-          peers = sent_their_pages on.seats;
+          peers = sent_their_pages on.slots;
           before = on.before;
           none = on.none;
           merged = worlds.merged;

@@ -15,13 +15,13 @@ use Rattle.saga_core.specs.Books.{LeavesJust}
 use Rattle.http_conversations.specs.Conversations.{history}
 use Rattle.http_conversations.specs.Exchanges.{Exchange, StopAtLast}
 use Rattle.http_conversations.specs.History.{IsServed}
-use Rattle.http_live.specs.Arrivals.{AreAtTheirDoors, ArePairs, AreReadByTheirWays}
-use Rattle.http_live.specs.Merging.{IsMerged, Seated, exchange_of}
+use Rattle.http_live.specs.Arrivals.{AreAtTheirDoors, ArePairs, AreReadInTheirModes}
+use Rattle.http_live.specs.Merging.{IsMerged, Slotted, exchange_of}
 use Rattle.http_live.specs.Faithful.{Faithful}
-use Rattle.http_live.specs.Seats.{connections_at, exchanges_at}
+use Rattle.http_live.specs.Slots.{connections_at, exchanges_at}
 use Rattle.http_live.specs.declared.connection.Connection.{Connection}
 use Rattle.http_live.specs.Whole.{EndsOver, StopsAs}
-use Rattle.http_live.specs.declared.seats.Seat.{Seat}
+use Rattle.http_live.specs.declared.slots.Slot.{Slot}
 use Rattle.http_live.specs.declared.serving.Ending.{Ending}
 use Rattle.http_live.specs.declared.serving.Ending.TheVariants.{NoTurn, Stopped, Spent}
 use Rattle.http_live.specs.declared.serving.Turns as Turns
@@ -66,7 +66,7 @@ abbrev pub IsFrom : End → Ended → Type 0
 IsFrom end ended = ended ≡ record { end = end; cause = cause_of_end end }
 
 module _ {R W : Type 0} {r : Read.Ghosts R} {w : Write.Ghosts W} where
-  -- What was handed out to the peer of a connection is a prefix of the pages of its exchanges, with each 100 Continue that
+  -- What was written to the peer of a connection is a prefix of the pages of its exchanges, with each 100 Continue that
   -- was given, and what was received begins with their messages. Where its ends report their bytes, that was written to the
   -- one, and this was read from the other.
   pub record IsSentItsPages (c : Connection R W r w) : Type 0 where
@@ -74,27 +74,27 @@ module _ {R W : Type 0} {r : Read.Ghosts R} {w : Write.Ghosts W} where
     pub ends : ∥ Faithful r.remaining w.contents c.came.items c.reader c.writer (history c.conversation).received
         (history c.conversation).sent ∥₁
 
-  -- so it is with each connection of the seats, also with those that ended
-  abbrev pub AreSentTheirPages : List (Seat R W r w) → Type 0
-  AreSentTheirPages seats = All (λ seat. All IsSentItsPages (connections_at seat)) seats
+  -- so it is with each connection of the slots, also with those that ended
+  abbrev pub AreSentTheirPages : List (Slot R W r w) → Type 0
+  AreSentTheirPages slots = All (λ slot. All IsSentItsPages (connections_at slot)) slots
 
 -- Who came to a desk that served until this end, and the exchanges with them, in the order in which they were carried out: those of
--- seats that had none before, merged. Each connection came by the door and the way of its reader, with the writer of the same peer,
+-- slots that had none before, merged. Each connection came by the door and in the mode of its reader, with the writer of the same peer,
 -- which was sent its pages. `listened_for` says what is known of the source of their turns as listening began.
 -- Serving ended for a reason, and where the administrator stopped it, by the last exchange.
 pub record CameFrom {T R W : Type 0} (r : Read.Ghosts R) (w : Write.Ghosts W) (t : Turns.Ghosts T R W) (has_failed : T → Bool)
     (listened_for : T → Type 0) (e : End) (exchanges : List Exchange) : Type 0 where
   pub began : T
   pub listened : listened_for began
-  pub seats : List (Seat R W r w)
-  pub doors : AreAtTheirDoors t.is_at seats
-  pub ways : AreReadByTheirWays t.is_by seats
-  pub pairs : ArePairs t.is_pair seats
-  pub peers : AreSentTheirPages seats
+  pub slots : List (Slot R W r w)
+  pub doors : AreAtTheirDoors t.is_at slots
+  pub modes : AreReadInTheirModes t.is_by slots
+  pub pairs : ArePairs t.is_pair slots
+  pub peers : AreSentTheirPages slots
   pub before : List (List Exchange)
   pub none : All (λ earlier. earlier ≡ []) before
-  pub merged : List Seated
-  pub is_merged : IsMerged before (map exchanges_at seats) merged
+  pub merged : List Slotted
+  pub is_merged : IsMerged before (map exchanges_at slots) merged
   pub are : exchanges ≡ map exchange_of merged
   pub ending : Result Ending Fault
   pub stopped : Bool

@@ -11,8 +11,8 @@ use Rattle.holder_reports.specs.HoldingLayouts.{holdings_shown}
 use Rattle.holder_reports.specs.Holdings.{cells_asked, holdings_in}
 use Rattle.holder_reports.specs.Layouts.{holders_in}
 use Rattle.month_reports.specs.MonthReports.{asked_months, months_in}
-use Rattle.outlooks.specs.Layouts.{why_of}
-use Rattle.outlooks.specs.Outlooks.{begun_as}
+use Rattle.previews.specs.Layouts.{why_of}
+use Rattle.previews.specs.Previews.{begun_as}
 use Rattle.reports.specs.Formats.{history_in, journeys_in, stock_in}
 use Rattle.saga_core.specs.Views.{IsStock, record_of}
 use Rattle.saga_core.specs.declared.records.Record.{Record}

@@ -15,7 +15,7 @@ use Rattle.filters.specs.declared.cells.CellFilter.{CellFilter}
 use Rattle.ledger.specs.Ledger.{Event}
 use Rattle.ledger.proofs.Cells.{is_cell-same}
 use Rattle.saga_core.specs.Views.{IsStock, places_at, places_of, places_said}
-use Rattle.outlooks.specs.Nights.{night_with, nights_in, nights_of}
+use Rattle.previews.specs.Nights.{night_with, nights_in, nights_of}
 use Rattle.report_writers.specs.Whys.{LetsCellsOf}
 
 -- each number of a range is within it

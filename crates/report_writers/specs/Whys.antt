@@ -6,14 +6,14 @@ use Rattle.allotment.specs.Want.{Wanted}
 use Rattle.filters.specs.CellFilters.{is_cell_of}
 use Rattle.filters.specs.declared.cells.CellFilter.{CellFilter}
 use Rattle.ledger.specs.Ledger.{Event}
-use Rattle.outlooks.specs.Outlooks.{begun_as, nights_ahead, outlook_of}
+use Rattle.previews.specs.Previews.{begun_as, nights_ahead, preview_of}
 use Rattle.saga_core.specs.declared.records.Record.{Record}
 use Rattle.report_writers.specs.declared.whys.Seen.{Seen}
 
--- what was read is the outlook of the journey, and what is free of the nights of its next want
+-- what was read is the preview of the journey, and what is free of the nights of its next want
 pub record IsSeenOf (l : List Event) (id : ℕ) (journey : Record) (seen : Seen) : Type 0 where
-  pub outlook_is : seen.outlook ≡ outlook_of l id (begun_as journey)
-  pub nights_are : seen.nights.items ≡ nights_ahead l (outlook_of l id (begun_as journey)).next
+  pub preview_is : seen.preview ≡ preview_of l id (begun_as journey)
+  pub nights_are : seen.nights.items ≡ nights_ahead l (preview_of l id (begun_as journey)).next
 
 -- the filter lets each cell of a want through that is of its kind
 abbrev pub LetsCellsOf : Wanted → CellFilter → Type 0

@@ -4,9 +4,9 @@ ghost use Rattle.ledger.specs.Ledger.{history};
 ghost use Rattle.saga_core.specs.Views.{record_of, IsStock};
 ghost use Rattle.allotment.specs.declared.cells.Cell.{Cell};
 ghost use Rattle.allotment.specs.declared.places.Held.{Held};
-ghost use Rattle.outlooks.specs.Layouts.{why_of};
-ghost use Rattle.outlooks.specs.Nights.{nights_of};
-ghost use Rattle.outlooks.specs.Outlooks.{begun_as, latest_option as latest_option_of, nights_ahead, IsTaken};
+ghost use Rattle.previews.specs.Layouts.{why_of};
+ghost use Rattle.previews.specs.Nights.{nights_of};
+ghost use Rattle.previews.specs.Previews.{begun_as, latest_option as latest_option_of, nights_ahead, IsTaken};
 ghost use Rattle.report_kinds.specs.Texts.{OfReport};
 ghost use Rattle.report_kinds.specs.declared.report.Report.TheVariants as kind;
 ghost use Rattle.report_writers.specs.Writing.{ShowsDesk, ShowsIn, WritesIfThere, WritesText};
@@ -17,8 +17,8 @@ use allotment::{Night, Want};
 use commands::{Fault, Phase};
 use desk_sql::Version;
 use filters::CellFilter;
-use outlooks::{
-    FreeNight, NextStep, Outlook, latest_option, look_ahead, next_step, read_nights, why_text,
+use previews::{
+    FreeNight, NextStep, Preview, latest_option, look_ahead, next_step, read_nights, why_text,
 };
 use report_rows::{FoundRows, Progress, start_cells, start_items};
 use reports::{Format, ReportFault};
@@ -29,10 +29,10 @@ use sqlite::{Alter, Connection};
 use std::alloc::Global;
 use std::io::Write;
 
-/// What was read of a journey: its outlook, and what is free of the nights of its next want.
+/// What was read of a journey: its preview, and what is free of the nights of its next want.
 #[derive(Drop)]
 struct Seen {
-    outlook: Outlook,
+    preview: Preview,
     nights: Vec<FreeNight>,
 }
 
@@ -51,7 +51,7 @@ pub(crate) fn write_why<S: Alter, O: Write>(
 {
     match read_journey(alloc, conn, version, id) {
         Ok(Some(journey)) => {
-            written(write_outlook(alloc, format, id, &journey, version, conn, out))
+            written(write_preview(alloc, format, id, &journey, version, conn, out))
         }
         Ok(None) => Ok(false),
         Err(fault) => Err(fault.into()),
@@ -59,7 +59,7 @@ pub(crate) fn write_why<S: Alter, O: Write>(
 }
 
 /// Writes the report of a journey.
-fn write_outlook<S: Alter, O: Write>(
+fn write_preview<S: Alter, O: Write>(
     alloc: Global,
     format: Format,
     id: u64,
@@ -74,12 +74,12 @@ fn write_outlook<S: Alter, O: Write>(
         WritesText (O.contents out.old) (O.contents out.new)
         (why_of format s.ledger id (begun_as journey.now)) result) }
 {
-    let seen = read_outlook(alloc, id, journey, version, conn)?;
-    why_text(alloc, format, &seen.outlook, seen.nights.as_slice(), out)
+    let seen = read_preview(alloc, id, journey, version, conn)?;
+    why_text(alloc, format, &seen.preview, seen.nights.as_slice(), out)
 }
 
-/// Reads the outlook of a journey over a connection.
-fn read_outlook<S: Alter>(
+/// Reads the preview of a journey over a connection.
+fn read_preview<S: Alter>(
     alloc: Global,
     id: u64,
     journey: &Record,
@@ -94,8 +94,8 @@ fn read_outlook<S: Alter>(
     let taken = read_taken(id, journey, version, conn)?;
     let next = next_step(journey, taken)?;
     let nights = nights_ahead(alloc, &next, conn)?;
-    let outlook = look_ahead(id, journey, next, nights.as_slice());
-    Ok(Seen { outlook, nights })
+    let preview = look_ahead(id, journey, next, nights.as_slice());
+    Ok(Seen { preview, nights })
 }
 
 /// Reads the option with which the step at the position of a journey was done last, if the journey goes back.

@@ -54,9 +54,9 @@ pub crash_leaves_no_more :
     (leaves : State → State → Type 0) → LeavesNoMore (λ s t. s ≡ t) leaves → leaves start start
 crash_leaves_no_more leaves no_more = no_more start start refl
 
-pub first_row_is_handed_out :
+pub first_row_is_yielded :
     (rests : List ℕ → Type 0) (found : Option ℕ) → Hands (λ rows. rows ≡ 7 ∷ []) rests found → found ≡ Some 7
-first_row_is_handed_out rests found hands = (hands (7 ∷ []) refl).0
+first_row_is_yielded rests found hands = (hands (7 ∷ []) refl).0
 
 -- Reasons.
 

@@ -1,4 +1,4 @@
--- Why a query that hands out its rows one at a time fails. For the functions that return the next row.
+-- Why a query that returns its rows one at a time fails. For the functions that return the next row.
 use Rattle.std.proofs.Common.{◌≡◌, inl, inr, ℕ, List, [], append-nil, length, Bool, true, false, Ok, eq-eqb, sym, ap, subst, ◌∙◌}
 use Rattle.std.proofs.lemmas.Bool.{and_from, le-leb}
 use Rattle.sqlite.specs.declared.error.Error.{Error}

@@ -1,4 +1,4 @@
--- Rows that are handed out of cells and journeys which keep their limits tell something, and can be read. For `cell_rows` and
+-- Rows that are returned one at a time of cells and journeys which keep their limits tell something, and can be read. For `cell_rows` and
 -- `brief_rows`.
 use Rattle.std.proofs.Common.{◌≡◌, inl, inr, List, [], ◌∷◌, map, Some, IsTrue, refl, sym, ap, subst, ◌∙◌, ◌&&◌, IsSome}
 use Rattle.std.specs.List.{AllByRecursion}

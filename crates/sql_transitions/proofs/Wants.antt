@@ -147,7 +147,7 @@ stock-taken l m w rows some stand allots holds =
         → (if v then n - held l x - w.count else n - held l x) ≡ n - held m x
     go x n v e = search (rules, arith)
 
--- after a want is given back, its nights have that many more, if no more places were held than allotted
+-- after a want is returned, its nights have that many more, if no more places were held than allotted
 pub stock-given : (l m : List Event) (w : Wanted) (rows : List StockRow) → 1 ≤ w.nights
     → StockStands l rows → ((x : Cell) → allotment m x ≡ allotment l x)
     → ((x : Cell) → held l x ≡ held m x + places_in x (Some w))

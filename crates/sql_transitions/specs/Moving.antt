@@ -54,7 +54,7 @@ with_transaction num journeys j want step option cursor t =
     with_move num journeys j (Transaction step option) cursor
     (marks_step j step option 1 (takes_want want t))
 
--- a step was compensated: its want is given back, its option is no longer taken, and the save-point
+-- a step was compensated: its want is returned, its option is no longer taken, and the save-point
 -- after it is dropped
 abbrev pub with_compensation : ℕ → ℕ → ℕ → Wanted → ℕ → ℕ → Cursor → Tables → Tables
 with_compensation num journeys j want step option cursor t =

@@ -93,7 +93,7 @@ may_give w r t is it = record {
   short = all_some (λ (s : StockRow). IsShort (length s.supplier + length s.product)) (is_within r) t.stock it.cells;
 }
 
--- what is held may be given back
+-- what is held may be returned
 room : (r : NightRange) (count : ℕ) (rows : List StockRow)
     → AllByRecursion (λ (s : StockRow). is_within r s ≡ true → (s.free + count ≤ s.allot) × (s.allot < 2 ^ 63)) rows
     → AllByRecursion (λ (s : StockRow). is_within r s ≡ true → s.free + count < 2 ^ 63) rows

@@ -48,7 +48,7 @@ pub fn write_transaction<S: Alter>(
     )
 }
 
-/// Writes the rows of a step that is compensated: its want is given back, its option is no longer marked as taken, and
+/// Writes the rows of a step that is compensated: the places of its want are returned, its option is no longer marked as taken, and
 /// the save-point after the step is deleted.
 pub fn write_compensation<S: Alter>(
     tx: &mut Transaction<'_, S>,

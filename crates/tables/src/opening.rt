@@ -139,7 +139,7 @@ fn read_version<S: Alter>(conn: &mut Connection<S>) -> Result<Version, OpenFault
 /// Finds the state that the store of a connection represents: a desk with its tables, or a new desk, which gets its
 /// tables. Tables of version 1 are only read; no book is made of them.
 ///
-/// Over a store that is up, and that has no tables or keeps a desk, `Store` has a reason: the disk failed or refused, or
+/// Over a store that is up, and that has no tables or keeps a desk, `Store` implies an error: the disk failed or refused, or
 /// the commit of new tables ran out of memory.
 pub fn open_from<S: Alter>(mut conn: Connection<S>) -> Result<Opened<S>, (Connection<S>, OpenFault)>
     requires idle { Idle conn }

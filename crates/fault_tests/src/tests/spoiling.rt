@@ -1,4 +1,4 @@
-//! Wrong bodies of `act`, as switches of these tests: what a desk would answer that allocates after its commit, or that
+//! Mutants of `act`, as switches of these tests: what a desk would answer that allocates after its commit, or that
 //! takes a failed commit for a done one. The environment names one by `SPOIL`, and then the tests have to fail.
 use commands::{Fault, Reply};
 use std::alloc::Global;

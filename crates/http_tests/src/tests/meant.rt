@@ -84,7 +84,7 @@ const OF_NOBODY: [(&str, &str, Page); 2] = [
     ("GET /agent", "Desk-For: ann\r\n", NO_AGENT),
 ];
 
-// at the house's door what names nobody is the house's, and what is meant for somebody is not
+// at the administrator's socket what names nobody is the house's, and what is meant for somebody is not
 #[rattlefmt::skip]
 const OF_THE_HOUSE: [(&str, &str, Page); 4] = [
     ("GET /agent",      "",                  OF_DESK),

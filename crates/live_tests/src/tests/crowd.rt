@@ -1,15 +1,15 @@
-//! A source of turns over few seats: peers come at any time, some in place of others, go on in a random order, and some
+//! A source of turns over few slots: peers come at any time, some in place of others, go on in a random order, and some
 //! are cut off.
 ghost use Rattle.std.specs.Prelude.{◌≡◌};
-ghost use Rattle.http_ways.specs.declared.ways.Way.TheVariants.{Profile};
+ghost use Rattle.http_modes.specs.declared.modes.Mode.TheVariants.{Strict};
 
 use crate::tests::dice::Dice;
 use crate::tests::ends::{Notes, Pieces, Sink};
 use crate::tests::peers::Peer;
 use http_live::{Metrics, Standing, Turn, Turns};
-use http_ways::Way;
+use http_modes::Mode;
 
-/// How many seats the peers share.
+/// How many slots the peers share.
 const SHARED: u64 = 3;
 
 /// How a peer fared.
@@ -19,7 +19,7 @@ pub enum Fate {
     Open,
     /// Its connection ended in a turn of its own.
     Over,
-    /// It was ended, or another one took its seat.
+    /// It was ended, or another one took its slot.
     Cut,
 }
 
@@ -28,8 +28,8 @@ pub struct Crowd<'a> {
     pub peers: &'a [Peer],
     pub notes: &'a Notes,
     pub dice: Dice,
-    /// The peer of each seat.
-    pub seated: [Option<usize>; 3],
+    /// The peer of each slot.
+    pub slotted: [Option<usize>; 3],
     /// How many peers came.
     pub came: usize,
     /// How many turns are left.
@@ -40,10 +40,10 @@ pub struct Crowd<'a> {
 }
 
 impl<'a> Crowd<'a> {
-    /// Nobody is at a seat any more.
-    fn leaves(&mut self, seat: usize, fate: Fate) {
-        let peer = match self.seated.get_mut(seat) {
-            Some(seated) => seated.take(),
+    /// Nobody is at a slot any more.
+    fn leaves(&mut self, slot: usize, fate: Fate) {
+        let peer = match self.slotted.get_mut(slot) {
+            Some(slotted) => slotted.take(),
             None => None,
         };
         if let Some(peer) = peer {
@@ -54,13 +54,13 @@ impl<'a> Crowd<'a> {
     }
 
     /// The next peer comes, if there is one more: its two ends.
-    fn comes(&mut self, seat: usize) -> Option<(Pieces<'a>, Sink<'a>)> {
+    fn comes(&mut self, slot: usize) -> Option<(Pieces<'a>, Sink<'a>)> {
         let at = self.came;
         let peer = self.peers.get(at)?;
         self.came = at.saturating_add(1);
-        self.leaves(seat, Fate::Cut);
-        if let Some(seated) = self.seated.get_mut(seat) {
-            *seated = Some(at);
+        self.leaves(slot, Fate::Cut);
+        if let Some(slotted) = self.slotted.get_mut(slot) {
+            *slotted = Some(at);
         }
         let reader = Pieces {
             door: peer.door,
@@ -70,7 +70,7 @@ impl<'a> Crowd<'a> {
             dice: Dice::new(self.dice.roll(1_000_000)),
         };
         let writer = Sink {
-            seat: at,
+            slot: at,
             notes: self.notes,
             room: peer.room,
             step: peer.write_step,
@@ -87,7 +87,7 @@ impl<'a> Turns for Crowd<'a> {
 
     ghost is_at = { λ reader door. reader.door ≡ door };
 
-    ghost is_by = { λ reader way. way ≡ Profile };
+    ghost is_by = { λ reader mode. mode ≡ Strict };
 
     ghost is_pair = { λ reader writer. Unit {0} };
 
@@ -98,19 +98,19 @@ impl<'a> Turns for Crowd<'a> {
             return Turn::End;
         }
         self.left -= 1;
-        let seat = self.dice.roll(SHARED) as usize;
+        let slot = self.dice.roll(SHARED) as usize;
         match self.dice.roll(80) {
             0 => {
-                self.leaves(seat, Fate::Cut);
-                Turn::Leaves(seat)
+                self.leaves(slot, Fate::Cut);
+                Turn::Leaves(slot)
             }
-            1..=6 => match self.comes(seat) {
+            1..=6 => match self.comes(slot) {
                 Some((reader, writer)) => {
-                    Turn::Comes(seat, reader.door, Way::Profile, reader, writer)
+                    Turn::Comes(slot, reader.door, Mode::Strict, reader, writer)
                 }
-                None => Turn::Ready(seat),
+                None => Turn::Ready(slot),
             },
-            _ => Turn::Ready(seat),
+            _ => Turn::Ready(slot),
         }
     }
 
@@ -118,14 +118,14 @@ impl<'a> Turns for Crowd<'a> {
         Metrics::new()
     }
 
-    fn hear(&mut self, seat: usize, standing: Standing) {
+    fn hear(&mut self, slot: usize, standing: Standing) {
         match standing {
             Standing::Answered | Standing::Stopped => {
-                if let Some(Some(peer)) = self.seated.get(seat) {
+                if let Some(Some(peer)) = self.slotted.get(slot) {
                     let _ = self.order.push(*peer);
                 }
             }
-            Standing::Over => self.leaves(seat, Fate::Over),
+            Standing::Over => self.leaves(slot, Fate::Over),
             _ => {}
         }
     }

@@ -4,7 +4,7 @@ use desk_http::Door;
 use std::cell::RefCell;
 use std::io::{self, ErrorKind, Read, Write};
 
-/// What was written to each seat.
+/// What was written to each slot.
 pub type Notes = RefCell<Vec<Vec<u8>>>;
 
 /// Gives its bytes in pieces. After the last byte it reports the end, or fails.
@@ -40,7 +40,7 @@ impl Read for Pieces<'_> {
 /// Takes bytes in pieces, and notes them. It fails at the first byte for which it has no room.
 #[derive(Drop)]
 pub struct Sink<'a> {
-    pub seat: usize,
+    pub slot: usize,
     pub notes: &'a Notes,
     pub room: usize,
     /// How many bytes a write takes, at most.
@@ -54,7 +54,7 @@ impl Sink<'_> {
         let Ok(mut notes) = self.notes.try_borrow_mut() else {
             return Err(io::Error::from(ErrorKind::Other));
         };
-        if let Some(taken) = notes.get_mut(self.seat) {
+        if let Some(taken) = notes.get_mut(self.slot) {
             taken.extend_from_slice(bytes)?;
         }
         self.room = self.room.saturating_sub(bytes.len());

@@ -113,7 +113,7 @@ fn served_in_order(
         peers,
         notes: &notes,
         dice: Dice::new(seed),
-        seated: [None, None, None],
+        slotted: [None, None, None],
         came: 0,
         left: TURNS,
         order: Vec::new(alloc),

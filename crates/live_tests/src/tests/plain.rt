@@ -4,7 +4,7 @@ use crate::tests::ends::Notes;
 use crate::tests::peers::{FLIGHT, Peer, TWO_SEATS};
 use crate::tests::schedule::Schedule;
 use http_conversations::serve;
-use http_live::{Ending, Turns, empty_seats, finish_many, serve_many};
+use http_live::{Ending, Turns, empty_slots, finish_many, serve_many};
 use memory_book::MemBook;
 use recovery::{Ready, recover};
 use std::alloc::Global;
@@ -72,7 +72,7 @@ fn random_peers(rt: &impl Abort, alloc: Global, dice: &mut Dice) -> Vec<Peer> {
     peers
 }
 
-/// What was written to each peer, and the seats in the order in which their messages were answered.
+/// What was written to each peer, and the slots in the order in which their messages were answered.
 #[derive(Drop)]
 pub struct Run {
     pub written: Vec<Vec<u8>>,
@@ -81,17 +81,17 @@ pub struct Run {
     pub ending: Ending,
 }
 
-/// The turns of a schedule are served by a desk, on seats of their own.
+/// The turns of a schedule are served by a desk, on slots of their own.
 pub fn serve_all<T: Turns>(
     rt: &impl Abort,
     alloc: Global,
     turns: &mut T,
     desk: &mut Ready<MemBook>,
 ) -> Ending {
-    let mut seats = empty_seats(alloc).expect(rt, "memory");
-    let ended = serve_many(alloc, seats.as_mut_slice(), turns, desk);
+    let mut slots = empty_slots(alloc).expect(rt, "memory");
+    let ended = serve_many(alloc, slots.as_mut_slice(), turns, desk);
     let ending = ended.expect(rt, "memory");
-    finish_many(seats.as_mut_slice(), turns);
+    finish_many(slots.as_mut_slice(), turns);
     ending
 }
 
@@ -142,11 +142,11 @@ pub fn plainly(
         pages.push(Vec::new(alloc)).expect(rt, "memory");
     }
     for at in order {
-        let count = asked.get_mut(*at).expect(rt, "a seat");
+        let count = asked.get_mut(*at).expect(rt, "a slot");
         let peer = peers.get(*at).expect(rt, "a peer");
         let mut request = peer.requests.get(*count).expect(rt, "a request").as_slice();
         *count = count.saturating_add(1);
-        let writer = pages.get_mut(*at).expect(rt, "a seat");
+        let writer = pages.get_mut(*at).expect(rt, "a slot");
         let ended = serve(alloc, &mut request, writer, &mut desk);
         assert!(rt; ended.is_ok(), "{ended:?}");
     }
@@ -186,6 +186,6 @@ fn nobody_waits_for_a_hundred_requests_of_another(rt: HostRuntime) {
     }
     let mut desk = new_desk(&rt, alloc);
     let run = served(&rt, alloc, &mut desk, peers.as_slice(), 1, true);
-    let at = run.order.iter().position(|seat| *seat == 1);
+    let at = run.order.iter().position(|slot| *slot == 1);
     assert!(rt; run.order.len() == 101 && at.unwrap_or(101) < 10, "{at:?}");
 }

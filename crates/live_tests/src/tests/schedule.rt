@@ -1,25 +1,25 @@
 //! A source of turns: every peer comes, and then one after another may go on, in a random order or in turn.
 ghost use Rattle.std.specs.Prelude.{◌≡◌};
-ghost use Rattle.http_ways.specs.declared.ways.Way.TheVariants.{Profile};
+ghost use Rattle.http_modes.specs.declared.modes.Mode.TheVariants.{Strict};
 
 use crate::tests::dice::Dice;
 use crate::tests::ends::{Notes, Pieces, Sink};
 use crate::tests::peers::Peer;
 use http_live::{Metrics, Standing, Turn, Turns};
-use http_ways::Way;
+use http_modes::Mode;
 
 #[derive(Drop)]
 pub struct Schedule<'a> {
     pub peers: &'a [Peer],
     pub notes: &'a Notes,
     pub dice: Dice,
-    /// Whether the seats go on in turn.
+    /// Whether the slots go on in turn.
     pub is_fair: bool,
     /// How many peers came.
     pub came: usize,
     /// How many turns are left.
     pub left: u64,
-    /// The seats whose messages were answered, in order.
+    /// The slots whose messages were answered, in order.
     pub order: Vec<usize>,
 }
 
@@ -30,16 +30,16 @@ impl<'a> Turns for Schedule<'a> {
 
     ghost is_at = { λ reader door. reader.door ≡ door };
 
-    ghost is_by = { λ reader way. way ≡ Profile };
+    ghost is_by = { λ reader mode. mode ≡ Strict };
 
     ghost is_pair = { λ reader writer. Unit {0} };
 
     ghost is_over = { λ schedule. schedule.left ≡ 0 };
 
     fn next_turn(&mut self) -> Turn<Pieces<'a>, Sink<'a>> {
-        let seat = self.came;
-        if let Some(peer) = self.peers.get(seat) {
-            self.came = seat.saturating_add(1);
+        let slot = self.came;
+        if let Some(peer) = self.peers.get(slot) {
+            self.came = slot.saturating_add(1);
             let reader = Pieces {
                 door: peer.door,
                 left: peer.sent.as_slice(),
@@ -48,13 +48,13 @@ impl<'a> Turns for Schedule<'a> {
                 dice: Dice::new(self.dice.roll(1_000_000)),
             };
             let writer = Sink {
-                seat,
+                slot,
                 notes: self.notes,
                 room: peer.room,
                 step: peer.write_step,
                 dice: Dice::new(self.dice.roll(1_000_000)),
             };
-            return Turn::Comes(seat, peer.door, Way::Profile, reader, writer);
+            return Turn::Comes(slot, peer.door, Mode::Strict, reader, writer);
         }
         if self.left == 0 {
             return Turn::End;
@@ -71,9 +71,9 @@ impl<'a> Turns for Schedule<'a> {
         Metrics::new()
     }
 
-    fn hear(&mut self, seat: usize, standing: Standing) {
+    fn hear(&mut self, slot: usize, standing: Standing) {
         if standing == Standing::Answered || standing == Standing::Stopped {
-            let _ = self.order.push(seat);
+            let _ = self.order.push(slot);
         }
     }
 }

@@ -49,7 +49,7 @@ fn only_the_house_stops_the_desk(rt: HostRuntime) {
             for _ in 0..count {
                 pages.extend_from_slice(page).expect(&rt, "memory");
             }
-            let written = run.written.first().expect(&rt, "a seat");
+            let written = run.written.first().expect(&rt, "a slot");
             assert!(rt; *written == pages, "{door:?} {seed}");
         }
     }

@@ -5,8 +5,8 @@ use super::{agent, cell, with_room};
 use allotment::{Cell, Held};
 use commands::{Cursor, Fault, Phase};
 use failing_streams::Sink;
-use outlooks::{FreeNight, NextStep, look_ahead, next_step, read_nights, why_body, why_text};
 use plan::Plan;
+use previews::{FreeNight, NextStep, look_ahead, next_step, read_nights, why_body, why_text};
 use reports::{Format, ReportFault};
 use saga_core::{Listed, Record};
 use savepoints::Marks;
@@ -206,8 +206,8 @@ fn a_journey_says_why_it_does_not_go_on(rt: HostRuntime) {
             Ok(nights) => nights,
             Err(fault) => panic!(rt; "{case}: {fault:?}"),
         };
-        let outlook = look_ahead(7, &journey, next, &nights);
-        let body = why_body(alloc, &outlook, &nights).expect(&rt, "memory");
+        let preview = look_ahead(7, &journey, next, &nights);
+        let body = why_body(alloc, &preview, &nights).expect(&rt, "memory");
         let [text, objects, records, object] = expected;
         for (format, whole) in [
             (Format::Text, text),
@@ -215,7 +215,7 @@ fn a_journey_says_why_it_does_not_go_on(rt: HostRuntime) {
             (Format::Csv, records),
         ] {
             let mut out = with_room(&rt, alloc);
-            let answer = why_text(alloc, format, &outlook, &nights, &mut out);
+            let answer = why_text(alloc, format, &preview, &nights, &mut out);
             assert!(rt;
                 answer == Ok(()) && out.as_slice() == whole.as_bytes(),
                 "{case}: {answer:?}"
@@ -275,11 +275,11 @@ fn a_writer_that_fails_has_a_prefix(rt: HostRuntime) -> Result<(), AllocError> {
         panic!(rt; "the journey is undone");
     };
     let none: [FreeNight; 0] = [];
-    let outlook = look_ahead(7, &journey, next, &none);
+    let preview = look_ahead(7, &journey, next, &none);
     let whole = UNDONE[0].as_bytes();
     for room in 0..whole.len() {
         let mut sink = Sink::new(alloc, 5, room)?;
-        let answer = why_text(alloc, Format::Text, &outlook, &none, &mut sink);
+        let answer = why_text(alloc, Format::Text, &preview, &none, &mut sink);
         assert!(rt;
             answer == Err(ReportFault::Write) && sink.taken() == &whole[..room],
             "{room}: {answer:?}"

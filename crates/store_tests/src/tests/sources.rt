@@ -191,7 +191,7 @@ impl<R: Abort> Session<R> for Changed<'_> {
 }
 
 #[test]
-fn each_source_hands_out_its_rows_anew(rt: HostRuntime) -> Result<(), Fail> {
+fn each_source_yields_its_rows_anew(rt: HostRuntime) -> Result<(), Fail> {
     let alloc = rt.alloc();
     for &(change, expected) in &TOLD {
         let closed = ClosedFile::new(alloc).open_for(&rt, alloc, &mut TwoJourneys)?;

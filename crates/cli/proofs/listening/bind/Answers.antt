@@ -19,13 +19,13 @@ module _ (connections : Option ℕ) (house : Option (Bor (List ℕ))) (wide : Bo
   chosen : (page : Bool) (log : Option LogForm) (options : Options) → ShowsPage page (logged log fresh) options
       → ServesAs (as_asked page log) options
   chosen true (Some form) options (page, is, shown) =
-      subst (ServesAs (as_asked true (Some form))) (sym shown.1) (record { connections = refl; patience = refl; page = is; way = refl; log = refl })
+      subst (ServesAs (as_asked true (Some form))) (sym shown.1) (record { connections = refl; patience = refl; page = is; mode = refl; log = refl })
   chosen true None options (page, is, shown) =
-      subst (ServesAs (as_asked true None)) (sym shown.1) (record { connections = refl; patience = refl; page = is; way = refl; log = refl })
+      subst (ServesAs (as_asked true None)) (sym shown.1) (record { connections = refl; patience = refl; page = is; mode = refl; log = refl })
   chosen false (Some form) options same =
-      subst (ServesAs (as_asked false (Some form))) (sym same) (record { connections = refl; patience = refl; page = refl; way = refl; log = refl })
+      subst (ServesAs (as_asked false (Some form))) (sym same) (record { connections = refl; patience = refl; page = refl; mode = refl; log = refl })
   chosen false None options same =
-      subst (ServesAs (as_asked false None)) (sym same) (record { connections = refl; patience = refl; page = refl; way = refl; log = refl })
+      subst (ServesAs (as_asked false None)) (sym same) (record { connections = refl; patience = refl; page = refl; mode = refl; log = refl })
 
 pub returns-in-Ok-clause-serves : goal.returns-in-Ok-clause-serves
 returns-in-Ok-clause-serves c =

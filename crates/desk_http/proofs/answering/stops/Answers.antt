@@ -1,4 +1,4 @@
--- A request stops the desk at the house's door alone.
+-- A request stops the desk at the administrator's socket alone.
 use Rattle.std.proofs.Common.{◌≡◌, false, refl, sym, subst}
 use Rattle.desk_http.specs.Pages.{stops}
 use Rattle.desk_http.proofs.answering.stops.Goals as goal

@@ -12,7 +12,7 @@ returns-in-Port c = record {
       (c.agents_demand.ensures.demand parts body is);
 }
 
--- at the house's door
+-- at the administrator's socket
 pub returns-in-House : goal.returns-in-House
 returns-in-House c = record {
   demand = λ parts body is.

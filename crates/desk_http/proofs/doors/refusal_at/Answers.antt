@@ -12,7 +12,7 @@ returns-in-Port c = record {
       subst (λ door. c.args.request.now.complaint ≡ refusal_at door parts) (sym c.in-Port.is) is.complaint;
 }
 
--- at the house's door
+-- at the administrator's socket
 pub returns-in-House : goal.returns-in-House
 returns-in-House c = record {
   refusal = λ parts body is.

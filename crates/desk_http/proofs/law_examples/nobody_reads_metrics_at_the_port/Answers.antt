@@ -1,4 +1,4 @@
--- The port is not the house's door.
+-- The port is not the administrator's socket.
 use Rattle.std.proofs.Common.{◌≡◌, ap}
 use Rattle.desk_http.specs.Laws.{is_for_house}
 use Rattle.desk_http.specs.declared.doors.Door.TheVariants.{House, Port}

@@ -1,4 +1,4 @@
--- A journey that is seen is one of the ledger, and its page shows its outlook.
+-- A journey that is seen is one of the ledger, and its page shows its preview.
 use Rattle.std.proofs.Common.{◌≡◌, ◌∙◌, ap, sym, ℕ, List, None, Some}
 use Rattle.http_pages.specs.Pages.{Paged, Value}
 use Rattle.http_pages.specs.declared.heads.Status.TheVariants.{Fine}

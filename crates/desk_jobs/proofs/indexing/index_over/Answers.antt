@@ -1,4 +1,4 @@
--- Whatever may be found stands for what the connection stood for, whether its tables got the index or not.
+-- Each recoverable state stands for what the connection stood for, whether its tables got the index or not.
 use Rattle.desk_jobs.proofs.MigrateLemmas.{indexed_still}
 use Rattle.desk_jobs.proofs.indexing.index_over.Goals as goal
 

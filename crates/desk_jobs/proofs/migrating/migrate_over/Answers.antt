@@ -1,4 +1,4 @@
--- Whatever may be found stands for what the connection stood for, whether its tables were migrated or not.
+-- Each recoverable state stands for what the connection stood for, whether its tables were migrated or not.
 use Rattle.desk_jobs.proofs.MigrateLemmas.{migrated_still, unmigrated_still}
 use Rattle.desk_jobs.proofs.migrating.migrate_over.Goals as goal
 

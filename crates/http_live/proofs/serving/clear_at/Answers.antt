@@ -1,18 +1,18 @@
--- The connection of a seat ends, with its exchanges kept.
+-- The connection of a slot ends, with its exchanges kept.
 use Rattle.std.proofs.Math.Seq.{map-set_same}
 use Rattle.http_live.specs.Arrivals.{arrivals_at}
-use Rattle.http_live.specs.Seats.{exchanges_at, received_at}
+use Rattle.http_live.specs.Slots.{exchanges_at, received_at}
 use Rattle.http_live.proofs.serving.clear_at.Goals as goal
 
 pub returns : goal.returns
 returns g c =
-    let seats = c.args.seats.now in
-    let seat = c.index-seats-at.result in
+    let slots = c.args.slots.now in
+    let slot = c.index-slots-at.result in
     let left = c.clear.ensures.left in
     record {
       left = record {
-        kept = map-set_same exchanges_at seats c.args.at _ seat left.kept;
-        arrivals = map-set_same arrivals_at seats c.args.at _ seat left.arrivals;
-        unread = map-set_same received_at seats c.args.at _ seat left.unread;
+        kept = map-set_same exchanges_at slots c.args.at _ slot left.kept;
+        arrivals = map-set_same arrivals_at slots c.args.at _ slot left.arrivals;
+        unread = map-set_same received_at slots c.args.at _ slot left.unread;
       };
     }

@@ -3,4 +3,4 @@ use Rattle.http_live.proofs.serving.finish_many.Given as goal
 
 -- what was exchanged and received so far is what was before, and nobody came
 abbrev pub invariant-loop : goal.invariant-loop
-invariant-loop g l = AreLeft l.fn.seats l.seats
+invariant-loop g l = AreLeft l.fn.slots l.slots

@@ -10,7 +10,7 @@ use Rattle.http_live.proofs.serving.serve_turns.Goals as goal
 -- no turn was taken yet
 pub loop-init : goal.loop-init
 loop-init g c = record {
-  turns = no_turn (instant c.args.turns.now c.args.seats.now c.args.book.now);
+  turns = no_turn (instant c.args.turns.now c.args.slots.now c.args.book.now);
   stays = stays_alone c.args.book.now;
 }
 

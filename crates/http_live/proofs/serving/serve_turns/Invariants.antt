@@ -9,6 +9,6 @@ invariant-loop g l =
     let book = g.B.Book in
     let turns = g.T.Turns in record {
       turns : TakesSome turns.took turns.heard turns.seen turns.is_at turns.is_by turns.is_pair book.is_sound book.stands book.leaves
-          book.may_act book.has_reason false false (instant l.fn.turns l.fn.seats l.fn.book) (instant l.turns l.seats l.book);
+          book.may_act book.has_reason false false (instant l.fn.turns l.fn.slots l.fn.book) (instant l.turns l.slots l.book);
       stays : Stays book.is_sound book.leaves book.has_failed l.fn.book l.book;
     }

@@ -1,9 +1,9 @@
--- A peer takes one seat.
+-- A peer takes one slot.
 use Rattle.std.proofs.Common.{inl}
 use Rattle.http_live.proofs.TurnLemmas.{changes_one}
 use Rattle.http_live.proofs.serving.welcome.Goals as goal
 
 pub returns : goal.returns
 returns g c = record {
-  taken = inl (changes_one _ c.args.seats.now c.args.at c.index-seats-at.result _ c.if-at-seats.false c.take.ensures.taken);
+  taken = inl (changes_one _ c.args.slots.now c.args.at c.index-slots-at.result _ c.if-at-slots.false c.take.ensures.taken);
 }

@@ -1,6 +1,6 @@
 -- The nights of the want, if there is a next step.
 use Rattle.std.proofs.Common.{◌≡◌, sym, subst, IfOk}
-use Rattle.outlooks.specs.Outlooks.{nights_ahead}
+use Rattle.previews.specs.Previews.{nights_ahead}
 use Rattle.report_writers.proofs.ShowLemmas.{shows_as}
 use Rattle.report_writers.proofs.whys.nights_ahead.Goals as goal
 

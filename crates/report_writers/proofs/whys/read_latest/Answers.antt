@@ -1,4 +1,4 @@
--- The items that were handed out are the history in each state that was kept.
+-- The items that were returned are the history in each state that was kept.
 use Rattle.std.proofs.Common.{refl, rules}
 use Rattle.report_writers.proofs.ShowLemmas.{shows_items}
 use Rattle.report_writers.proofs.whys.read_latest.Goals as goal

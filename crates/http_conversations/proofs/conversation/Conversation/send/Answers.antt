@@ -1,4 +1,4 @@
--- What was handed out is a prefix of what waited.
+-- What was yielded is a prefix of what waited.
 use Rattle.std.proofs.Math.Logic.{∥∥₁_map}
 use Rattle.http_conversations.proofs.CallLemmas.{sends_if, sends_within}
 use Rattle.http_conversations.proofs.conversation.Conversation.send.Goals as goal

@@ -12,7 +12,7 @@ invariant_of-self g c =
           (passes g.R.Read.remaining g.W.Write.contents s.came.items s.reader s.writer (history s.conversation) (history c.go_on.new.self) c.go_on.ensures.quiet.passes);
     }
 
--- it was given, at the same door and by the same way
+-- it was given, at the same door and in the same mode
 pub returns-in-Ok-clause-left : goal.returns-in-Ok-clause-left
 returns-in-Ok-clause-left g c =
     let s = c.args.self.now in

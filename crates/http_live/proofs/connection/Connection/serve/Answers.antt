@@ -1,4 +1,4 @@
--- Where nothing was to be answered, every page was handed out. What stops the desk, and what a turn gains.
+-- Where nothing was to be answered, every page was yielded. What stops the desk, and what a turn gains.
 use Rattle.std.proofs.Common.{Ok, ap, refl, sym, ◌∙◌}
 use Rattle.commands.specs.declared.replies.Fault.TheVariants.{Memory}
 use Rattle.http_conversations.specs.Conversations.{history}
@@ -9,7 +9,7 @@ use Rattle.http_live.proofs.LeadLemmas.{turn_as, turn_none}
 use Rattle.http_live.proofs.RestLemmas.{used_up}
 use Rattle.http_live.proofs.connection.Connection.serve.Goals as goal
 
--- what waits is handed out
+-- what waits is yielded
 pub returns-then-wants_write-clause-turn : goal.returns-then-wants_write-clause-turn
 returns-then-wants_write-clause-turn g c =
     let steps = c.push.ensures.steps in

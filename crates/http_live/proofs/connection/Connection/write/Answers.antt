@@ -1,4 +1,4 @@
--- What was handed out was written to the writer.
+-- What was yielded was written to the writer.
 use Rattle.std.proofs.Math.Logic.{∥∥₁_map}
 use Rattle.http_conversations.specs.Conversations.{history}
 use Rattle.http_live.proofs.Ends.{writes}

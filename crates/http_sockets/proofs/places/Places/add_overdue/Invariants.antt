@@ -1,6 +1,6 @@
--- The late seats so far were added.
+-- The late slots so far were added.
 use Rattle.std.proofs.Common.{◌≡◌, ◌++◌, take}
-use Rattle.http_sockets.specs.Seats.{overdue_from}
+use Rattle.http_sockets.specs.Slots.{overdue_from}
 use Rattle.http_sockets.proofs.places.Places.add_overdue.Given as goal
 
 abbrev pub invariant-loop-at : goal.invariant-loop-at

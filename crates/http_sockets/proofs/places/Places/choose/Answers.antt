@@ -1,6 +1,6 @@
--- One more seat, which is better than the best so far or is not.
+-- One more slot, which is better than the best so far or is not.
 use Rattle.std.proofs.Common.{◌≡◌, ◌∙◌, false, is_none, not, ap, arith}
-use Rattle.http_sockets.proofs.SeatLemmas.{quiet_keeps, quiet_takes}
+use Rattle.http_sockets.proofs.SlotLemmas.{quiet_keeps, quiet_takes}
 use Rattle.http_sockets.proofs.places.Places.choose.Goals.{then-place-oldest, else-place-oldest}
 use Rattle.http_sockets.proofs.places.Places.choose.Goals as goal
 

@@ -1,6 +1,6 @@
 -- One more.
 use Rattle.std.proofs.Common.{refl}
-use Rattle.http_sockets.proofs.SeatLemmas.{new_more}
+use Rattle.http_sockets.proofs.SlotLemmas.{new_more}
 use Rattle.http_sockets.proofs.places.Places.new.Goals as goal
 
 pub loop-preserved : goal.loop-preserved

@@ -1,5 +1,5 @@
--- So many seats so far.
-use Rattle.http_sockets.proofs.SeatLemmas.{AreNew}
+-- So many slots so far.
+use Rattle.http_sockets.proofs.SlotLemmas.{AreNew}
 use Rattle.http_sockets.proofs.places.Places.new.Given as goal
 
 abbrev pub invariant-loop : goal.invariant-loop

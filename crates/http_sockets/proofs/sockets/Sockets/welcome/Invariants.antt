@@ -1,6 +1,6 @@
--- Nobody took a seat so far.
-use Rattle.http_sockets.specs.Turns.{IsUnseated}
+-- Nobody took a slot so far.
+use Rattle.http_sockets.specs.Turns.{IsTurnedAway}
 use Rattle.http_sockets.proofs.sockets.Sockets.welcome.Given as goal
 
 abbrev pub invariant-loop : goal.invariant-loop
-invariant-loop l = IsUnseated l.initial.self l.self
+invariant-loop l = IsTurnedAway l.initial.self l.self

@@ -1,0 +1,6 @@
+pub mod Modes
+pub mod Reading
+pub mod Pages
+pub mod Laws
+pub mod PageTexts
+pub mod PageExamples

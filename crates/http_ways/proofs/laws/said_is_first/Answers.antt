@@ -1,6 +1,0 @@
--- A stream has one first message.
-use Rattle.http_ways.proofs.SaidLemmas.{said_is_first}
-use Rattle.http_ways.proofs.laws.said_is_first.Goals as goal
-
-pub returns : goal.returns
-returns c = record { law = said_is_first }

@@ -1,4 +1,0 @@
-pub mod FloatLemmas
-pub mod NightLemmas
-pub mod LatestLemmas
-pub mod OutlookLemmas

@@ -1,0 +1,32 @@
+-- The object of a preview contains no floats, so its compact text is known. For why_body.
+use Rattle.std.proofs.Common.{refl, ◌≡◌, false, List, [], ◌∷◌, ◌++◌, map, Option, Some, None, arith}
+use Rattle.serde_json.specs.View.{items_of}
+use Rattle.serde_json.specs.Written.{has_float, items_have_float, members_have_float}
+use Rattle.commands.specs.declared.items.Phase.{Phase}
+use Rattle.json_members.specs.Objects.{Named, members, target_member}
+use Rattle.previews.specs.Layouts.{free_data, want_member, why_data}
+use Rattle.previews.specs.declared.nights.FreeNight.{FreeNight}
+use Rattle.previews.specs.declared.steps.NextStep.{NextStep}
+use Rattle.previews.specs.declared.steps.Preview.{Preview}
+
+-- a list of nights contains no float
+no_float-nights : (nights : List FreeNight)
+    → items_have_float (items_of (map (λ (n : FreeNight). free_data n.night n.free) nights)) ≡ false
+no_float-nights [] = refl
+no_float-nights (n ∷ later) = grind (arith, no_float-nights later)
+
+-- nor do the members after the nights
+no_float-last : (phase : Phase) (next : Option NextStep) → members_have_float (members (target_member phase ++ want_member next)) ≡ false
+no_float-last phase next = grind arith
+
+-- nor does the object
+pub no_float-why : (o : Preview) (nights : List FreeNight) → has_float (why_data o nights) ≡ false
+no_float-why o nights = go o.next (no_float-last o.brief.cursor.phase o.next)
+  where
+    later : Option NextStep → List Named
+    later next = target_member o.brief.cursor.phase ++ want_member next
+
+    go : (next : Option NextStep) → members_have_float (members (later next)) ≡ false
+        → has_float (why_data (record o { next = next }) nights) ≡ false
+    go None last = rw (no_float-nights nights) last
+    go (Some next) last = rw (no_float-nights nights) last

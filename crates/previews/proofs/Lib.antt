@@ -1,0 +1,4 @@
+pub mod FloatLemmas
+pub mod NightLemmas
+pub mod LatestLemmas
+pub mod PreviewLemmas

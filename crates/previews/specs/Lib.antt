@@ -1,0 +1,5 @@
+pub mod Nights
+pub mod Previews
+pub mod Layouts
+pub mod Members
+pub mod Examples
