@@ -201,12 +201,14 @@ def nothing_is_fetched(scene):
 
 def large_stock(scene):
     """A stock of 40,000 cells is read every twenty seconds at most where it is shown, and not beside a journey, but for the question before
-    all steps."""
-    browser, desk, network, count, times = scene.browser, scene.desk, scene.network, 40_000, []
+    all steps. The month of one supplier that is shown is read in between."""
+    browser, desk, network, count, times, parts = scene.browser, scene.desk, scene.network, 40_000, [], []
     last = option("flight", "AL", "LAST")
     many = "".join(f"{'cover':8} {'MANY':8} {f'P{n // 28}':8} 2031-01-{n % 28 + 1:02} {1:6} {0:6} {1:6}\n" for n in range(count))
 
     def in_front(request):
+        if request.where.path.startswith("/stock/"):
+            parts.append(request.where.path)
         if request.where.path != "/stock":
             return None
         times.append(time.monotonic())
@@ -236,6 +238,14 @@ def large_stock(scene):
     scene.begins(plan(TRANSFER), "opened", agent="bob")
     browser.press("Stock")
     wait_until(lambda: len(times) > 3, "it is read once its view is opened")
+    same("no supplier is chosen, and no part is read", [], parts)
+    free = lambda: browser.one('[data-f="flight AL A1 2030-06-01"]').get_attribute("aria-label")
+    for name, value in (("kind", "flight"), ("supplier", "AL")):
+        browser.picks(f'[data-f="filter.{name}"]', value)
+    before = free()
+    scene.begins(plan(FLIGHT), "part", 1, "bob")
+    wait_until(lambda: free() != before, "a place that is taken")
+    same("what was read for that", (["/stock/2030-06-01/2030-06-30/flight/AL"], 4), (sorted({*parts}), len(times)))
 
 
 def by_what_is_held(scene):

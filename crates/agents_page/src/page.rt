@@ -2,7 +2,7 @@
 
 /// What the page may load and do: its own style and script, and requests to the desk that served it.
 pub const POLICY: &str =
-    r#"default-src 'none'; script-src 'sha256-eQ8iDqhm3EMI5qhMgmOCBu4jXwdu9xh2bO41FLV3tsA='; style-src 'sha256-v/aN891YSYsU5LbsCJGC/2lHDiq8mbGuZChwuWO8NmE='; connect-src 'self'; frame-ancestors 'none'; base-uri 'none'; form-action 'none'"#;
+    r#"default-src 'none'; script-src 'sha256-XuQKrG8A6BJGw3eoKEfcZJMW9MloqiLjUWsxlxKU+KI='; style-src 'sha256-v/aN891YSYsU5LbsCJGC/2lHDiq8mbGuZChwuWO8NmE='; connect-src 'self'; frame-ancestors 'none'; base-uri 'none'; form-action 'none'"#;
 
 /// The page, in HTML.
 pub const PAGE: &str = r##"<!doctype html>
@@ -692,6 +692,7 @@ const FOLDER = location.pathname.replace(/[^/]*$/, ''), HOME = location.origin +
 const MARK = FOLDER === '/' ? 'desk.' : `desk${FOLDER}.`;
 
 const $ = id => document.getElementById(id);
+const clock = () => performance.now();
 const night = time => new Date(time).toISOString().slice(0, 10);
 const plus = (from, days) => night(Date.parse(from) + days * 864e5);
 // dated(..): how the language writes a night, or a month; of what each part has
@@ -776,13 +777,13 @@ const product = w => [h('span', { class: 'kind ' + w.kind }, kindText(w.kind)), 
 // nothing is drawn anew between the press of a button and its release, which has to find it, nor while a field tells its change and the
 // focus is on its way. A press that is never released holds nothing back for long
 let pressed = -Infinity, isChanging = false;
-const isHeld = () => isChanging || performance.now() - pressed < 2000;
+const isHeld = () => isChanging || clock() - pressed < 2000;
 const listen = (names, act) => names.split(' ').forEach(name => document.addEventListener(name, act, true));
 listen('mousedown', event => {
-  if (event.button === 0 && event.target.closest('button, a, label')) pressed = performance.now();
+  if (event.button === 0 && event.target.closest('button, a, label')) pressed = clock();
 });
 listen('keydown', event => {
-  if (event.key === ' ' && event.target.closest('button, [type=checkbox]')) pressed = performance.now();
+  if (event.key === ' ' && event.target.closest('button, [type=checkbox]')) pressed = clock();
   // a date is typed part by part
   if (event.target.type === 'date' && event.key !== 'Tab') event.target.isTyped = true;
 });
@@ -845,7 +846,7 @@ let agent = kept(session, 'agent', kept(local, 'agent', ''));
 // the agent whom a server in front of the desk names, if one does, and whether this is known
 let given = '', isKnown = false;
 let view = 'stock', number = 0, turn = 0;
-let stockText = null, stockAt = 0, isOpened = false, stock = new Map(), months = [];
+let stockText = null, stockAt = 0, partAt = 0, isOpened = false, stock = new Map(), months = [];
 let own = new Map(), histories = new Map(), plans = new Map(), whys = new Map(), complete = false;
 // the agency's numbers of journeys, each with the plan that was begun under it; whether the desk says why a step would not fit
 let bookings = {}, knowsWhy = true;
@@ -938,19 +939,20 @@ async function look() {
   looking = true;
   // not at its end, since a page that is left gets no answer either
   keep(session, 'away', wasAway);
-  const mine = turn, whose = agent, id = number;
+  const mine = turn, whose = agent, id = number, part = partOf();
   let met = 'here', bad = '', now = '';
-  for (const [name, part] of Object.entries({
+  for (const [name, see] of Object.entries({
     health: async () => {
       if (given && waiting().some(one => one.agent !== given)) await identify();
       // where a server in front hides it, all is asked for each time
       try { now = JSON.stringify(await ask('/health', page => page.events >= 0)); } catch (why) { if (why.why !== 'barred') throw why; }
     },
-    stock: isStockDue() && lookAtStock, own: lookAtOwn,
+    stock: isStockDue() && lookAtStock, [part]: part && !isStockDue() && clock() > partAt && (() => lookAtPart(part, mine)),
+    own: lookAtOwn,
     [`one ${id}`]: view === 'journey' && (() => lookAtOne(id, mine)),
   })) {
-    if (!part || mine !== turn || (now && read.get(name) === now && !settling.has(id))) continue;
-    try { await part(mine); if (mine === turn) read.set(name, now); } catch (caught) {
+    if (!see || mine !== turn || (now && read.get(name) === now && !settling.has(id))) continue;
+    try { await see(mine); if (mine === turn) read.set(name, now); } catch (caught) {
       let why = caught;
       try { if (await isAnother(why, whose)) break; } catch (failed) { why = failed; }
       if (why instanceof Refused) { bad = refusalText(why.page); break; }
@@ -972,18 +974,29 @@ async function look() {
   timer = setTimeout(look, reached === 'away' ? AGAIN : NEWS);
 }
 
-// isStockDue(): where it is shown, a tab reads 131 kB of it a second at most, so 8,000 cells at each look; where its view is opened, five times as much
+// where the stock is shown, a tab reads 131 kB of it a second at most; where its view is opened, five times as much
 const needsStock = () => view === 'stock' || view === 'plan' || !knowsWhy;
-const isStockDue = () => stockText === null || (needsStock() && performance.now() - stockAt > stockText.length / (isOpened ? 655 : 131));
+const isStockDue = () => stockText === null || (needsStock() && clock() - stockAt > stockText.length / (isOpened ? 655 : 131));
 async function lookAtStock(mine) {
   const text = await get('/stock', isStock);
   if (mine !== turn) return;
-  stockAt = performance.now();
+  stockAt = clock();
   isOpened = false;
-  if (text === stockText) return;
   stockText = text;
   stock = new Map();
-  let least = '', most = '';
+  months = [];
+  takeCells(text);
+}
+// between two readings of all, the month that is shown of one supplier: a desk finds that at once
+const partOf = () => needsStock() && filter.kind && filter.supplier
+  && `/stock/${filter.month}-01/${daysIn(filter.month).at(-1)}/${NAMES.map(name => filter[name]).join('/')}`.replace(/\/$/, '');
+async function lookAtPart(path, mine) {
+  const text = await get(path, isStock);
+  partAt = clock() + text.length / 131;
+  if (mine === turn) takeCells(text);
+}
+function takeCells(text) {
+  let [least, most] = [months[0], months.at(-1)];
   for (const line of text.split('\n')) {
     const [kind, supplier, product, when, allot, , free] = line.trim().split(/\s+/);
     if (!KINDS.includes(kind) || !isNight(when)) continue;
@@ -992,7 +1005,7 @@ async function lookAtStock(mine) {
     stock.get(name).nights.set(when, { allot: +allot, free: +free });
     const month = when.slice(0, 7);
     if (!least || month < least) least = month;
-    if (month > most) most = month;
+    if (!most || month > most) most = month;
   }
   months = [];
   for (let month = least; least && month <= most; month = plus(month + '-28', 7).slice(0, 7)) months.push(month);
@@ -1053,7 +1066,7 @@ async function readMine(after, into, mine) {
     if (mine !== turn) return false;
     for (const one of page) into.set(one.journey, one);
     if (page.length < PAGE) return true;
-    after = page[page.length - 1].journey;
+    after = page.at(-1).journey;
   }
 }
 
@@ -1533,7 +1546,7 @@ function settleFilter() {
   if (!months.includes(filter.month)) {
     const today = night(Date.now()).slice(0, 7);
     filter.month = months.find(month => month >= today && all.some(one => [...one.nights.keys()].some(when => when.startsWith(month))))
-      || months[months.length - 1] || '';
+      || months.at(-1) || '';
   }
 }
 
@@ -1634,7 +1647,7 @@ $('cals').addEventListener('keydown', event => {
     ? all.filter(one => one.dataset.night <= plus(when, by)).pop() : all.find(one => one.dataset.night >= plus(when, by));
   const to = {
     ArrowLeft: () => near(-1), ArrowRight: () => near(1), ArrowUp: () => rows ? rows(-1) : near(-7), ArrowDown: () => rows ? rows(1) : near(7),
-    Home: () => all[0], End: () => all[all.length - 1]
+    Home: () => all[0], End: () => all.at(-1)
   }[event.key];
   if (to) {
     event.preventDefault();
@@ -1651,7 +1664,7 @@ $('cals').addEventListener('keydown', event => {
     if (!month) return;
     setFilter({ month });
     const same = [...$('cals').querySelectorAll(`.night[data-of="${at.dataset.of}"]`)];
-    if (same.length) focusNight(same.find(one => one.dataset.night.slice(8) >= when.slice(8)) || same[same.length - 1]);
+    if (same.length) focusNight(same.find(one => one.dataset.night.slice(8) >= when.slice(8)) || same.at(-1));
     else $('filters').querySelector('[data-f="month"]').focus();
   } else if (event.key === 'Escape' && chosen) {
     event.preventDefault();
@@ -1749,7 +1762,7 @@ function setDraft(next) {
   end('new');
   draft = next;
   badStep = 0;
-  if (draft.steps.length) draft.steps[draft.steps.length - 1].save = false;
+  if (draft.steps.length) draft.steps.at(-1).save = false;
   keep(local, 'draft.' + agent, draft);
   draw();
 }
@@ -2098,10 +2111,10 @@ async function useAgain(plan) {
 // actions: what may be done now, and nothing else
 function actions(one, plan, way, sending, seen) {
   if (!isOpen(one)) return h('p', { class: 'acts soft', tabindex: -1, 'data-rest': true }, t('over.' + one.state));
-  const id = number, wait = sending.length > 0 || settling.has(id), drawnAt = performance.now();
+  const id = number, wait = sending.length > 0 || settling.has(id), drawnAt = clock();
   const off = { 'aria-disabled': wait && 'true' }, next = way.pos + 1, isBack = one.state === 'back';
   // the second click of two quick ones was not meant for what stands here since the first
-  const isQuick = event => event && event.detail > 1 && performance.now() - drawnAt < 400;
+  const isQuick = event => event && event.detail > 1 && clock() - drawnAt < 400;
   const act = (path, what, all) => event => wait || isQuick(event) || send(`/journeys/${id}/${path}`, '', what, id, seen, all);
   const left = plan.steps.length - way.pos, doAll = async () => {
     try { await lookAtStock(turn); } catch { /* by the stock that is known */ }
