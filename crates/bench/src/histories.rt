@@ -1,5 +1,5 @@
 //! How long it takes to read a journey and its history from an opened desk.
-use report_rows::start_items;
+use report_writers::start_items;
 use saga_core::RowSource;
 use sqlite::{Alter, Connection};
 use std::alloc::Global;

@@ -21,8 +21,8 @@ use Rattle.tables.specs.declared.faults.OpenFault.TheVariants as opening
 use Rattle.tables.specs.declared.opening.Opened.{Opened}
 use Rattle.histories.specs.Following.{EachMayReopen}
 use Rattle.histories.proofs.FollowLemmas.{not_opened}
-use Rattle.openings.specs.Connections.{RefusesOtherTables}
-use Rattle.openings.specs.Ends.{end_of_open}
+use Rattle.desk_jobs.specs.Connections.{RefusesOtherTables}
+use Rattle.desk_jobs.specs.OpeningEnds.{end_of_open}
 use Rattle.desk_jobs.specs.Ends.{IsFaultOfLoad, IsFaultOfRecovery, IsFaultOfRun, IsOfBook, IsOfWriting}
 use Rattle.desk_jobs.specs.Jobs.{NotReady}
 use Rattle.desk_jobs.proofs.ReasonLemmas.{opening_fails}

@@ -17,7 +17,7 @@ use Rattle.sql_model.specs.Keeping.{StoodFor}
 use Rattle.sql_model.specs.Standing.{IsDesk}
 use Rattle.tables.specs.BookTerms.{StandsBook}
 use Rattle.tables.specs.declared.books.TableBook.{TableBook}
-use Rattle.openings.specs.Connections.{MayBeLeft, Represents}
+use Rattle.desk_jobs.specs.Connections.{MayBeLeft, Represents}
 use Rattle.program_ends.specs.Ends.{EndsBadly, IfDone}
 use Rattle.program_ends.specs.declared.ends.End.{End}
 use Rattle.program_ends.specs.declared.ends.End.TheVariants as finish

@@ -11,7 +11,7 @@ use Rattle.tables.specs.BookTerms.{StandsBook}
 use Rattle.tables.specs.Keeping.{StoodFor}
 use Rattle.tables.specs.Making.{LetsGo}
 use Rattle.tables.specs.declared.books.TableBook.{TableBook}
-use Rattle.openings.specs.Connections.{Represents}
+use Rattle.desk_jobs.specs.Connections.{Represents}
 use Rattle.desk_jobs.specs.Jobs.{LeavesDesk}
 
 -- what recovery made of some states it made of fewer, and so of what follows from the new ones

@@ -10,7 +10,7 @@ use Rattle.sqlite.specs.Held.{Held}
 use Rattle.tables.specs.BookTerms.{LeavesBook, StandsBook}
 use Rattle.tables.specs.Making.{LetsGo}
 use Rattle.tables.specs.declared.books.TableBook.{TableBook}
-use Rattle.openings.specs.Connections.{MayBeLeft, Represents}
+use Rattle.desk_jobs.specs.Connections.{MayBeLeft, Represents}
 use Rattle.desk_jobs.specs.Loading.{EndsLoad, EndsWith}
 use Rattle.desk_jobs.proofs.JobLemmas.{represented}
 

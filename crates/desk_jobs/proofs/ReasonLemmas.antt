@@ -25,8 +25,8 @@ use Rattle.protocols.specs.declared.faults.ServeFault.{ServeFault}
 use Rattle.protocols.specs.declared.faults.ServeFault.TheVariants as serve
 use Rattle.tables.specs.declared.faults.OpenFault.{OpenFault}
 use Rattle.tables.specs.declared.faults.OpenFault.TheVariants as opening
-use Rattle.openings.specs.Connections.{Represents}
-use Rattle.openings.specs.Ends.{end_of_open}
+use Rattle.desk_jobs.specs.Connections.{Represents}
+use Rattle.desk_jobs.specs.OpeningEnds.{end_of_open}
 use Rattle.recovery.specs.Growing.{Grew, room_of, with_events}
 use Rattle.recovery.specs.Reasons.{AreMoves, IsStepOrStop, MayActThen, MayRecover, NoState}
 use Rattle.recovery.specs.Recovers.{AreRecovery, RecoversSome}

@@ -6,3 +6,5 @@ pub mod Migrating
 pub mod Notes
 pub mod Reasons
 pub mod Running
+pub mod Connections
+pub mod OpeningEnds

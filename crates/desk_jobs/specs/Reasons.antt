@@ -22,7 +22,7 @@ use Rattle.tables.specs.Acting.{AreShort, MayAct, MayActSince, rowids_for}
 use Rattle.tables.specs.BookTerms.{StandsBook}
 use Rattle.tables.specs.declared.books.TableBook.{TableBook}
 use Rattle.histories.specs.Openings.{ask_of_batch}
-use Rattle.openings.specs.Connections.{Represents}
+use Rattle.desk_jobs.specs.Connections.{Represents}
 
 -- how many rowids recovery and these asks after it take at most: recovery one for each event for which the ledger has room, and
 -- one for the move that finds it full

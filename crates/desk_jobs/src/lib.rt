@@ -8,6 +8,7 @@
 //! a new desk.
 #![tactic(auto)]
 
+mod ends;
 mod field_notes;
 mod indexing;
 mod loading;
@@ -17,6 +18,7 @@ mod opening;
 mod recovering;
 mod running;
 
+pub use ends::end_of_opening;
 pub use field_notes::note_wrong_field;
 pub use indexing::{index_over, tell_indexed};
 pub use loading::load_over;

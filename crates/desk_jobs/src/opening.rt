@@ -3,8 +3,8 @@ ghost use Rattle.std.specs.Prelude.{IfErr, IfOk};
 ghost use Rattle.desk_sql.specs.Calls.{Idle};
 ghost use Rattle.desk_jobs.specs.Jobs.{NotReady, OpensBook, Readies};
 
+use crate::ends::end_of_opening;
 use histories::reopenings;
-use openings::end_of_opening;
 use program_ends::End;
 use protocols::ServeFault;
 use recovery::{Ready, recover};

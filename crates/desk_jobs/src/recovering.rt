@@ -6,7 +6,7 @@ ghost use Rattle.sqlite.specs.State.{HasCleanDisk};
 ghost use Rattle.streams.specs.Written.{WroteFront};
 ghost use Rattle.recovery.specs.Recovers.{Recovers};
 ghost use Rattle.program_ends.specs.Ends.{EndsJob, IfDone};
-ghost use Rattle.openings.specs.Connections.{Represents};
+ghost use Rattle.desk_jobs.specs.Connections.{Represents};
 ghost use Rattle.desk_sql.specs.Calls.{Idle};
 ghost use Rattle.desk_jobs.specs.Ends.{EndsWriting, IsOfWriting, recovered_line};
 ghost use Rattle.desk_jobs.specs.Following.{Follows, end_of_recovery};

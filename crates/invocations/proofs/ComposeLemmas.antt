@@ -31,7 +31,7 @@ use Rattle.histories.specs.Stages.{Stood}
 use Rattle.histories.specs.Worlds.{Reopens}
 use Rattle.histories.proofs.FollowLemmas.{stands_found}
 use Rattle.histories.proofs.StageLemmas.{goes_nowhere}
-use Rattle.openings.specs.Connections.{RepresentsIn, StillRepresents}
+use Rattle.desk_jobs.specs.Connections.{RepresentsIn, StillRepresents}
 use Rattle.invocations.specs.Invocations.{asked, unasked, GoesOnOver, Invocation, RanTo, Reaches, StandsIn}
 
 -- What a job did, as an invocation.

@@ -25,3 +25,15 @@ pub mod Allotted
 pub mod Places
 pub mod Answers
 pub mod Outcomes
+pub mod Events
+pub mod Taking
+pub mod Inductions
+pub mod Histories
+pub mod Positions
+pub mod Items
+pub mod Taken
+pub mod Allotments
+pub mod PlacesMoved
+pub mod Free
+pub mod Moves
+pub mod Answering

@@ -2,7 +2,7 @@
 use Rattle.std.proofs.Common.{◌≡◌, ℕ, ◌⊎◌, List, [], ◌∷◌, refl, arith, eqb-true, inl, Bool, true, filter, max, Option, IsTrue}
 use Rattle.std.proofs.lemmas.Bool.{and_parts, or_cases}
 use Rattle.plan.specs.PlanModel.{Planned}
-use Rattle.savepoints.specs.Rules.{is_save_point, greatest, last_save, refused_target, may_turn}
+use Rattle.plan.specs.Rules.{is_save_point, greatest, last_save, refused_target, may_turn}
 
 -- p is the start, or a save-point that stands
 abbrev pub IsTarget : Planned → (ℕ → Bool) → ℕ → ℕ → Type 0

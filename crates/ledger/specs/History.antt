@@ -1,11 +1,11 @@
 -- The history of a journey: the items that it made, in order. What stands of it, where the journey is, and what may
--- come next. A rule on positions and counts alone is in the crate savepoints; here the position and the counts are read
+-- come next. A rule on positions and counts alone is in the crate plan; here the position and the counts are read
 -- off the items.
 use Rattle.std.specs.Prelude.{ℕ, ◌+◌, ◌==◌, ◌&&◌, ◌||◌, not, Bool, true, false, List, [], ◌∷◌, length, reverse, nat_lt, if◌then◌else◌, count_by, Option, Some, None}
 use Rattle.std.specs.List.{list_any}
 use Rattle.allotment.specs.Want.{Wanted}
 use Rattle.plan.specs.PlanModel.{Planned, step_count}
-use Rattle.savepoints.specs.Rules as rules
+use Rattle.plan.specs.Rules as rules
 use Rattle.commands.specs.declared.items.Cause.TheVariants.{Stop, Refused, Asked}
 use Rattle.commands.specs.declared.items.Item.{Item}
 use Rattle.commands.specs.declared.items.Item.TheVariants.{Transaction, Compensation, Turn, Save}

@@ -11,3 +11,8 @@ pub mod Examples
 pub mod JourneyExamples
 pub mod KeyExamples
 pub mod RecoveryExamples
+pub mod Cursors
+pub mod JourneyChanges
+pub mod Legal
+pub mod AnswerChanges
+pub mod TransitionExamples

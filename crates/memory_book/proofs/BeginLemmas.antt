@@ -12,9 +12,9 @@ use Rattle.commands.specs.declared.replies.Reply.TheVariants as reply
 use Rattle.ledger.specs.Answer.{State, Answer, answer, asker, most_events}
 use Rattle.ledger.specs.Replies.{answer_begin}
 use Rattle.ledger.specs.Ledger.{Began, journeys}
-use Rattle.ledger_transitions.proofs.Allotments.{allotment-began}
-use Rattle.ledger_transitions.proofs.Events.{journeys-began, history-began}
-use Rattle.ledger_transitions.proofs.Places.{held-began}
+use Rattle.ledger.proofs.Allotments.{allotment-began}
+use Rattle.ledger.proofs.Events.{journeys-began, history-began}
+use Rattle.ledger.proofs.PlacesMoved.{held-began}
 use Rattle.saga_core.specs.Views.{places_of}
 use Rattle.memory_book.specs.MemoryStock.{stock_at}
 use Rattle.memory_book.specs.Memory.{begun_as, Tells, TellEach, StandsFor, IsCarriedOut}

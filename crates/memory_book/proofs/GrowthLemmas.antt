@@ -13,7 +13,7 @@ use Rattle.ledger.specs.Answer.{State, Kept, Answer, kept_after, limited, most_e
 use Rattle.ledger.specs.Replies.{refused}
 use Rattle.ledger.specs.Ledger.{Event, allotment, held, history, journeys, is_allowed}
 use Rattle.ledger.proofs.Growing.{IsLegal-append}
-use Rattle.ledger_transitions.proofs.Events.{length-more}
+use Rattle.ledger.proofs.Events.{length-more}
 use Rattle.saga_core.specs.Views.{Places, places_of}
 use Rattle.memory_book.specs.Memory.{begun_as, batch_of, Tells, TellEach, StandsFor, IsCarriedOut, KeepsBook}
 use Rattle.memory_book.specs.MemoryAnswers.{kept_in, AreKeptAlike}

@@ -16,16 +16,16 @@ use Rattle.ledger.specs.Answer.{State, answer, asker, limited, most_events}
 use Rattle.ledger.specs.Replies.{Answer, answer_known, answer_load, answer_new, loaded}
 use Rattle.ledger.proofs.Answers.{IsAllowedEvent, answer-allowed}
 use Rattle.ledger.specs.Ledger.{Event, Loaded, Began, Did, batches_named, allotment, held, is_not_below_held, is_batch, IsLegal}
-use Rattle.ledger_transitions.proofs.Allotments.{allotment-loaded_last}
-use Rattle.ledger_transitions.proofs.Events.{journeys-loaded, history-loaded}
-use Rattle.ledger_transitions.proofs.Places.{held-loaded, held_within, held_none}
+use Rattle.ledger.proofs.Allotments.{allotment-loaded_last}
+use Rattle.ledger.proofs.Events.{journeys-loaded, history-loaded}
+use Rattle.ledger.proofs.PlacesMoved.{held-loaded, held_within, held_none}
 use Rattle.saga_core.specs.Views.{Places, places_of}
 use Rattle.memory_book.specs.MemoryStock.{stock_at, is_below_in, set_to, LoadsRows, last_row}
 use Rattle.memory_book.specs.Memory.{begun_as, Tells, loads, StandsFor, IsCarriedOut}
 use Rattle.memory_book.specs.declared.stock.Stock.{Stock}
 use Rattle.memory_book.specs.declared.mem_book.MemBook.{MemBook}
 use Rattle.memory_book.proofs.GrowthLemmas.{Grows, places_left, places_of-parts, limited-room, stands-grown}
-use Rattle.ledger_transitions.specs.JourneyChanges.{newer}
+use Rattle.ledger.specs.JourneyChanges.{newer}
 
 -- Known batches.
 

@@ -13,12 +13,12 @@ use Rattle.ledger.specs.Answer.{State}
 use Rattle.ledger.specs.Ledger as l
 use Rattle.ledger.specs.Ledger.{Event, Did, journey_at, history, allotment, held, places_in, is_allowed, fits, IsLegal}
 use Rattle.ledger.specs.History.{next_want}
-use Rattle.ledger_transitions.specs.Answers.{moves}
-use Rattle.ledger_transitions.specs.JourneyChanges.{cursor_after}
-use Rattle.ledger_transitions.proofs.Allotments.{allotment-did}
-use Rattle.ledger_transitions.proofs.Events.{journeys-did, history-did_same, history-did_other}
-use Rattle.ledger_transitions.proofs.Histories.{follows, may_come-allowed}
-use Rattle.ledger_transitions.proofs.Places.{held-transaction, held-compensation, held-turn, held-save, held_within}
+use Rattle.ledger.specs.AnswerChanges.{moves}
+use Rattle.ledger.specs.JourneyChanges.{cursor_after}
+use Rattle.ledger.proofs.Allotments.{allotment-did}
+use Rattle.ledger.proofs.Events.{journeys-did, history-did_same, history-did_other}
+use Rattle.ledger.proofs.Histories.{follows, may_come-allowed}
+use Rattle.ledger.proofs.PlacesMoved.{held-transaction, held-compensation, held-turn, held-save, held_within}
 use Rattle.saga_core.specs.Views.{places_of}
 use Rattle.memory_book.specs.MemoryStock.{with_less, with_back, stock_at, ChangesFor}
 use Rattle.memory_book.specs.Memory.{begun_as, Tells, TellEach, StandsFor, IsCarriedOut, IsSameJourney}

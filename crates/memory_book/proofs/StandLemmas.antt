@@ -3,7 +3,7 @@ use Rattle.std.proofs.Common.{◌≡◌, ℕ, suc, ◌<◌, ◌⊎◌, [], lengt
 use Rattle.std.proofs.lemmas.Option.{slice_get-map, slice_get_past}
 use Rattle.ledger.specs.Answer.{State}
 use Rattle.ledger.specs.Ledger.{journey_at, history}
-use Rattle.ledger_transitions.proofs.Events.{history-none}
+use Rattle.ledger.proofs.Events.{history-none}
 use Rattle.saga_core.specs.Views.{record_of, record_of_journey}
 use Rattle.memory_book.specs.Memory.{begun_as, StandsFor}
 use Rattle.saga_core.specs.declared.records.Record.{Record}

@@ -5,7 +5,7 @@ use Rattle.std.proofs.lemmas.Option.{same_Some, slice_get_read}
 use Rattle.allotment.specs.Want.{Wanted}
 use Rattle.allotment.specs.declared.cells.Cell.{Cell}
 use Rattle.plan.specs.PlanModel.{Planned}
-use Rattle.savepoints.specs.Rules as rules
+use Rattle.plan.specs.Rules as rules
 use Rattle.commands.specs.declared.items.Cause.TheVariants as cause
 use Rattle.commands.specs.declared.items.Cursor.{Cursor}
 use Rattle.commands.specs.declared.items.Item.{Item}
@@ -19,14 +19,14 @@ use Rattle.ledger.specs.Replies.{Answer, answer_move, seen_journey, step_choices
 use Rattle.ledger.specs.Ledger as l
 use Rattle.ledger.specs.Ledger.{journey_at, history, allotment, held, fits, has_free}
 use Rattle.ledger.specs.History.{net, last_of, position_of, refusals, phase, is_finished}
-use Rattle.ledger_transitions.specs.Answers.{moves}
-use Rattle.ledger_transitions.specs.Cursors.{cursor_of, marks_of}
-use Rattle.ledger_transitions.proofs.Answering.{step-fits, step-refused, step-back}
-use Rattle.ledger_transitions.proofs.Free.{has_free-by_held, fits-by_test}
-use Rattle.ledger_transitions.proofs.Histories.{follows}
-use Rattle.ledger_transitions.proofs.Moves.{move-finished, seen}
-use Rattle.ledger_transitions.proofs.Positions.{last_standing, back_above}
-use Rattle.ledger_transitions.proofs.Taken.{refused_target_by-marks}
+use Rattle.ledger.specs.AnswerChanges.{moves}
+use Rattle.ledger.specs.Cursors.{cursor_of, marks_of}
+use Rattle.ledger.proofs.Answering.{step-fits, step-refused, step-back}
+use Rattle.ledger.proofs.Free.{has_free-by_held, fits-by_test}
+use Rattle.ledger.proofs.Histories.{follows}
+use Rattle.ledger.proofs.Moves.{move-finished, seen}
+use Rattle.ledger.proofs.Positions.{last_standing, back_above}
+use Rattle.ledger.proofs.Taken.{refused_target_by-marks}
 use Rattle.saga_core.specs.Views.{Places}
 use Rattle.memory_book.specs.MemoryStock.{has_free_in, fits_in_stock, fits_some}
 use Rattle.memory_book.specs.MemoryNext.{step_said}

@@ -5,18 +5,18 @@ use Rattle.std.specs.Ordering.{nat_cmp}
 use Rattle.std.proofs.lemmas.List.{length-append, map-append}
 use Rattle.std.proofs.Math.Seq.{take-append_seam}
 use Rattle.plan.specs.PlanModel.{Planned}
-use Rattle.savepoints.specs.Marks.{is_taken_in, same_marks}
+use Rattle.plan.specs.Marks.{is_taken_in, same_marks}
 use Rattle.commands.specs.declared.items.Cursor.{Cursor}
 use Rattle.commands.specs.declared.items.Item.{Item}
 use Rattle.commands.specs.declared.items.Item.TheVariants.{Transaction, Compensation, Turn, Save}
 use Rattle.ledger.specs.History.{net, position_of, may_come}
 use Rattle.ledger.specs.Ledger as l
 use Rattle.ledger.proofs.Standing.{net-transaction, net-turn, net-save}
-use Rattle.ledger_transitions.specs.JourneyChanges.{cursor_after}
-use Rattle.ledger_transitions.specs.Cursors.{cursor_of, marks_of}
-use Rattle.ledger_transitions.proofs.Histories.{Follows}
-use Rattle.ledger_transitions.proofs.Items.{cursor_of-more, net-compensation}
-use Rattle.ledger_transitions.proofs.Taken.{marks_of-save, marks_of-compensation, marks_of-transaction, marks_of-turn}
+use Rattle.ledger.specs.JourneyChanges.{cursor_after}
+use Rattle.ledger.specs.Cursors.{cursor_of, marks_of}
+use Rattle.ledger.proofs.Histories.{Follows}
+use Rattle.ledger.proofs.Items.{cursor_of-more, net-compensation}
+use Rattle.ledger.proofs.Taken.{marks_of-save, marks_of-compensation, marks_of-transaction, marks_of-turn}
 use Rattle.memory_book.specs.MemoryJourneys.{taken_after, stands_after}
 use Rattle.memory_book.specs.Memory.{begun_as, Tells, IsSameJourney}
 use Rattle.memory_book.specs.declared.journeys.Journey.{Journey}

@@ -10,7 +10,7 @@ use Rattle.commands.specs.declared.replies.Refusal.{Refusal}
 use Rattle.commands.specs.declared.replies.Reply.{Reply}
 use Rattle.ledger.specs.Answer.{State, answer, asker, carried_out}
 use Rattle.ledger.specs.Replies.{Answer, refused, sees, seen_journey}
-use Rattle.ledger_transitions.specs.Answers.{moves}
+use Rattle.ledger.specs.AnswerChanges.{moves}
 use Rattle.ledger.specs.History.{net, is_finished}
 use Rattle.ledger.specs.Ledger as l
 use Rattle.ledger.specs.Ledger.{Event, Loaded, IsLegal, history, journeys}

@@ -6,7 +6,7 @@ use Rattle.commands.specs.declared.items.Item.TheVariants.{Transaction, Compensa
 use Rattle.commands.specs.declared.items.Cursor.{Cursor}
 use Rattle.commands.specs.declared.items.Phase.TheVariants.{Run, Back}
 use Rattle.ledger.specs.History.{is_going_back, is_open}
-use Rattle.savepoints.specs.Marks.{last_mark}
+use Rattle.plan.specs.Marks.{last_mark}
 
 -- the option belongs to the step at this place, counted from 0
 abbrev pub IsOptionAt : Planned → ℕ → ℕ → Type 0

@@ -3,8 +3,8 @@ use Rattle.std.specs.Prelude.{ℕ, ◌+◌, ◌-◌, Bool, List, slice_index, if
 use Rattle.std.specs.FinSet as set
 use Rattle.std.specs.Ordering.{nat_cmp}
 use Rattle.plan.specs.PlanModel.{Planned}
-use Rattle.savepoints.specs.Marks.{is_taken_in}
-use Rattle.savepoints.specs.Rules as rules
+use Rattle.plan.specs.Marks.{is_taken_in}
+use Rattle.plan.specs.Rules as rules
 use Rattle.commands.specs.declared.items.Cause.TheVariants as cause
 use Rattle.commands.specs.declared.items.Cursor.{Cursor}
 use Rattle.commands.specs.declared.items.Item.{Item}

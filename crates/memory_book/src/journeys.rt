@@ -4,9 +4,8 @@ ghost use Rattle.memory_book.specs.MemoryJourneys.{IsPlaced};
 
 use allotment::Want;
 use commands::{Agent, Ask, Cursor, Item, Phase};
-use plan::Plan;
+use plan::{Marks, Plan, option_at};
 use saga_core::{Brief, Record, cursor_after};
-use savepoints::{Marks, option_at};
 use std::alloc::{AllocError, Global};
 
 /// The start of a journey.
@@ -34,13 +33,13 @@ impl Journey {
     ghost use Rattle.std.specs.Prelude.{◌≡◌, ◌+◌, ◌-◌, ◌<◌, ◌≤◌, [], ◌∷◌, ◌++◌, length, slice_index, OnOk, IfOk, IsTrue, Some, ℕ};
     ghost use Rattle.std.specs.Option.{option_copied};
     ghost use Rattle.plan.specs.PlanModel.{is_plan, want_at};
-    ghost use Rattle.savepoints.specs.Rules as rules;
-    ghost use Rattle.savepoints.specs.Marks.{is_taken_in};
+    ghost use Rattle.plan.specs.Rules as rules;
+    ghost use Rattle.plan.specs.Marks.{is_taken_in};
     ghost use Rattle.commands.specs.declared.items.Phase.{Phase};
     ghost use Rattle.ledger.specs.History.{is_going_back};
     ghost use Rattle.ledger.specs.Answer.{asker};
     ghost use Rattle.ledger.specs.Replies.{sees};
-    ghost use Rattle.ledger_transitions.specs.JourneyChanges.{cursor_after};
+    ghost use Rattle.ledger.specs.JourneyChanges.{cursor_after};
     ghost use Rattle.memory_book.specs.Memory.{begun_as, Tells};
     ghost use Rattle.memory_book.specs.MemoryJourneys.{IsOptionAt, taken_after, stands_after, IsNext};
     ghost use Rattle.memory_book.specs.Memory.{HasRoom, IsSameJourney};

@@ -6,8 +6,8 @@ ghost use Rattle.memory_book.specs.MemoryNext.{turn_said, save_said, step_said};
 
 use crate::journeys::Journey;
 use commands::{Agent, Cause, Item, Refusal};
+use plan::Turn;
 use saga_core::{Brief, Move, decide, is_finished};
-use savepoints::Turn;
 
 /// Whether the journey has a number above this one and is unfinished.
 pub fn is_unfinished_above(brief: &Brief, after: u64) -> bool

@@ -8,7 +8,7 @@ use Rattle.desk_sql.specs.declared.meta.Meta.{Meta}
 use Rattle.desk_sql.specs.Rows.{Tables, MetaRow}
 use Rattle.sql_model.specs.ExpectedRows.{entries_called, meta_in}
 use Rattle.sql_model.specs.Standing.{StandsIn}
-use Rattle.sql_transitions.proofs.Conditions as conditions
+use Rattle.sql_model.proofs.Conditions as conditions
 use Rattle.migrate.specs.Copying.{items_below}
 use Rattle.migrate.specs.Migrating.{AreNumbersOf, migrated}
 use Rattle.migrate.proofs.Ranges.{items_below-all}

@@ -17,3 +17,7 @@ pub mod SpellLemmas
 pub mod MemberLemmas
 pub mod JsonOptionLemmas
 pub mod JsonKeptLemmas
+pub mod FlagsLemmas
+pub mod ChoiceLemmas
+pub mod WalkLemmas
+pub mod LandingLemmas

@@ -10,3 +10,8 @@ pub mod PlanJson
 pub mod JsonLevels
 pub mod PlanData
 pub mod Examples
+pub mod Rules
+pub mod Turns
+pub mod Marks
+pub mod Flags
+pub mod SavePointExamples

@@ -1,4 +1,4 @@
-//! Tests of `allotment`, `plan` and `savepoints`: wants and plans with their texts, places, and where a journey turns, with
+//! Tests of `allotment` and `plan`: wants and plans with their texts, places, and where a journey turns, with
 //! values from outside.
 #![tactic(auto)]
 

@@ -8,7 +8,7 @@ use Rattle.commands.specs.declared.items.Item.{Item}
 use Rattle.commands.specs.declared.items.Item.TheVariants.{Transaction, Compensation, Turn, Save}
 use Rattle.ledger.specs.History.{net, last_of, is_compensation_of}
 use Rattle.ledger.proofs.Lists.{last_of-is, last_of-append}
-use Rattle.ledger_transitions.specs.JourneyChanges.{newer}
+use Rattle.ledger.specs.JourneyChanges.{newer}
 use Rattle.saga_core.specs.RowSources.{Hands}
 use Rattle.reports.proofs.TakeLemmas.{Taken, taken_all, taken_more, taken_none}
 use Rattle.previews.specs.Previews.{latest_option, option_done}

@@ -8,7 +8,7 @@ use Rattle.allotment.specs.Want.{Wanted}
 use Rattle.allotment.specs.declared.cells.Cell.{Cell}
 use Rattle.allotment.specs.declared.places.Held.{Held}
 use Rattle.ledger.specs.Ledger.{Event, has_free, fits, IsLegal}
-use Rattle.ledger_transitions.proofs.Free.{has_free-by_held, fits-by_test}
+use Rattle.ledger.proofs.Free.{has_free-by_held, fits-by_test}
 use Rattle.saga_core.specs.Views.{Places, at_night, night_said, places_of, places_shown}
 use Rattle.previews.specs.Nights.{has_room, night_among, night_with, nights_among, nights_of}
 use Rattle.previews.specs.declared.nights.FreeNight.{FreeNight}

@@ -16,15 +16,15 @@ use Rattle.ledger.specs.History.{net, last_of, position_of, refusals, phase, is_
 use Rattle.ledger.specs.Ledger.{Event, Journey, journey_at, history, fits, item_of}
 use Rattle.ledger.specs.Replies.{answer_move, compensation, step_choices}
 use Rattle.ledger.proofs.Coming.{step-may_come, compensation-may_come}
-use Rattle.ledger_transitions.specs.Answers.{moves}
-use Rattle.ledger_transitions.specs.Cursors.{cursor_of, marks_of}
-use Rattle.ledger_transitions.proofs.Answering.{step-fits, step-refused, step-back}
-use Rattle.ledger_transitions.proofs.Histories.{Follows, follows, is_option_of}
-use Rattle.ledger_transitions.proofs.Moves.{find-first, find-next, move-finished, seen}
-use Rattle.ledger_transitions.proofs.Positions.{back_above, last_standing, running_below}
-use Rattle.ledger_transitions.proofs.Taken.{refused_target_by-marks}
-use Rattle.savepoints.specs.Marks.{is_taken_in}
-use Rattle.savepoints.specs.Rules as rules
+use Rattle.ledger.specs.AnswerChanges.{moves}
+use Rattle.ledger.specs.Cursors.{cursor_of, marks_of}
+use Rattle.ledger.proofs.Answering.{step-fits, step-refused, step-back}
+use Rattle.ledger.proofs.Histories.{Follows, follows, is_option_of}
+use Rattle.ledger.proofs.Moves.{find-first, find-next, move-finished, seen}
+use Rattle.ledger.proofs.Positions.{back_above, last_standing, running_below}
+use Rattle.ledger.proofs.Taken.{refused_target_by-marks}
+use Rattle.plan.specs.Marks.{is_taken_in}
+use Rattle.plan.specs.Rules as rules
 use Rattle.saga_core.specs.Views.{record_of, record_of_journey}
 use Rattle.saga_core.specs.declared.records.Record.{Record}
 use Rattle.saga_core.specs.declared.deciding.Move.{Move}

@@ -2,7 +2,7 @@
 use Rattle.std.specs.Prelude.{◌≡◌, ◌+◌, ◌≤◌, ℕ, ◌==◌, Bool, true, false, List, [], filter_map, find, if◌then◌else◌, Option, Some, None, option_map, option_and_then}
 use Rattle.allotment.specs.Want.{Wanted}
 use Rattle.plan.specs.PlanModel.{Planned, option_count, step_count, want_at}
-use Rattle.savepoints.specs.Rules.{next_option}
+use Rattle.plan.specs.Rules.{next_option}
 use Rattle.commands.specs.Request.{Step}
 use Rattle.commands.specs.declared.items.Item.{Item}
 use Rattle.commands.specs.declared.items.Item.TheVariants.{Transaction, Compensation, Turn, Save}

@@ -2,7 +2,7 @@
 ghost use Rattle.std.specs.Prelude.{◌≡◌, ◌+◌, ◌<◌, ℕ, List, [], IfErr, IfOk, IfSome, IsOk, IsSome, OnOk, option_map};
 ghost use Rattle.commands.specs.declared.items.Phase.TheVariants.{Run};
 ghost use Rattle.ledger.specs.Ledger.{Event, history, IsLegal};
-ghost use Rattle.ledger_transitions.specs.JourneyChanges.{newer};
+ghost use Rattle.ledger.specs.JourneyChanges.{newer};
 ghost use Rattle.previews.specs.declared.steps.NextStep.{NextStep};
 ghost use Rattle.plan.specs.PlanModel.{step_count};
 ghost use Rattle.previews.specs.Previews.{begun_as, FitsNext, HasOption, IsStepDown, IsStepUp, latest_option as latest_option_of, next_of, nights_ahead, option_done, preview_of, step_of, IsJourneyOf, IsTaken};
@@ -11,9 +11,8 @@ ghost use Rattle.reports.specs.Writing.{Takes};
 use crate::nights::{FreeNight, fits_nights};
 use allotment::Want;
 use commands::{Cause, Cursor, Fault, Item, Phase};
-use plan::Plan;
+use plan::{Plan, option_at};
 use saga_core::{Brief, Move, Record, RowSource, decide};
-use savepoints::option_at;
 
 /// The item that a step makes if the next want fits, and the want of that item.
 #[derive(Clone, Copy, Debug, PartialEq, Eq)]

@@ -16,7 +16,7 @@ use Rattle.program_ends.specs.Ends.{IfRefused, fault_of_report}
 use Rattle.program_ends.specs.declared.ends.End.{End}
 use Rattle.program_ends.specs.declared.ends.End.TheVariants as finish
 use Rattle.program_ends.specs.declared.faults.ProgramFault.{ProgramFault}
-use Rattle.openings.specs.Ends.{end_of_open}
+use Rattle.desk_jobs.specs.OpeningEnds.{end_of_open}
 use Rattle.program_jobs.specs.Jobs.{EndsReport, RefusesAbsent, RefusesToShow}
 use Rattle.program_jobs.specs.Reporting.{IsFaultOfReport, Reports}
 use Rattle.report_kinds.specs.declared.report.Report.{Report}

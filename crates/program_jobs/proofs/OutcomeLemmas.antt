@@ -6,7 +6,7 @@ use Rattle.sqlite.specs.Held.{Held, state}
 use Rattle.sqlite.specs.State.{HasCleanDisk}
 use Rattle.recovery.specs.Recovers.{Recovers}
 use Rattle.histories.specs.Openings.{Nothing}
-use Rattle.openings.specs.Connections.{Represents}
+use Rattle.desk_jobs.specs.Connections.{Represents}
 use Rattle.desk_jobs.specs.Following.{Follows}
 use Rattle.desk_jobs.specs.Jobs.{NotReady}
 use Rattle.program_ends.specs.Causes.{cause_of_end, cause_of_load}

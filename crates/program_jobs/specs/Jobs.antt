@@ -7,7 +7,7 @@ use Rattle.commands.specs.declared.replies.Refusal.{Refusal}
 use Rattle.desk_sql.specs.Calls.{Idle}
 use Rattle.desk_sql.specs.declared.versions.Version.{Version}
 use Rattle.ledger.specs.Answer.{State}
-use Rattle.openings.specs.Connections.{RepresentsIn, StillRepresents}
+use Rattle.desk_jobs.specs.Connections.{RepresentsIn, StillRepresents}
 use Rattle.program_ends.specs.Ends.{EndsJob, IfFault, IfRefused}
 use Rattle.program_ends.specs.declared.ends.End.{End}
 use Rattle.sql_model.specs.Keeping.{WasClean}

@@ -11,7 +11,7 @@ use Rattle.ledger.specs.Ledger.{Event}
 use Rattle.recovery.specs.Growing.{with_events}
 use Rattle.recovery.specs.Recovers.{IsRecovery}
 use Rattle.histories.specs.Openings.{File, Nothing, asks_of_file}
-use Rattle.openings.specs.Connections.{MayBeLeft, Represents}
+use Rattle.desk_jobs.specs.Connections.{MayBeLeft, Represents}
 use Rattle.program_ends.specs.Ends.{EndsBadly, IfDone}
 use Rattle.program_ends.specs.declared.ends.End.{End}
 use Rattle.program_ends.specs.declared.ends.End.TheVariants as finish

@@ -13,7 +13,7 @@ use Rattle.migrate.specs.Indexing.{HasIndex}
 use Rattle.migrate.specs.Outcomes.{Migrates}
 use Rattle.histories.specs.Following.{StandsStill}
 use Rattle.histories.specs.Openings.{Lines, Nothing}
-use Rattle.openings.specs.Connections.{Represents, RepresentsIn}
+use Rattle.desk_jobs.specs.Connections.{Represents, RepresentsIn}
 use Rattle.program_ends.specs.Causes.{cause_of_end, cause_of_load}
 use Rattle.program_ends.specs.Ends.{IfDone}
 use Rattle.program_ends.specs.declared.ends.End.{End}

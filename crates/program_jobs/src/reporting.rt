@@ -6,7 +6,7 @@ ghost use Rattle.sqlite.specs.State.{HasCleanDisk};
 ghost use Rattle.desk_sql.specs.Calls.{Idle};
 ghost use Rattle.desk_sql.specs.declared.versions.Version.{Version};
 ghost use Rattle.ledger.specs.Answer.{State};
-ghost use Rattle.openings.specs.Connections.{RepresentsIn};
+ghost use Rattle.desk_jobs.specs.Connections.{RepresentsIn};
 ghost use Rattle.report_kinds.specs.Texts.{IsOfJourney};
 ghost use Rattle.report_kinds.specs.declared.report.Report.{Report};
 ghost use Rattle.report_writers.specs.Writing.{WritesIfThere};
@@ -14,7 +14,7 @@ ghost use Rattle.program_jobs.specs.Jobs.{EndsReport, KeepsDesk, RefusesAbsent, 
 ghost use Rattle.program_jobs.specs.Reporting.{end_of_report, Reports, ReportsIfThere, ShowsOpened};
 
 use commands::Refusal;
-use openings::end_of_opening;
+use desk_jobs::end_of_opening;
 use program_ends::End;
 use report_kinds::Report;
 use report_writers::write_report;

@@ -4,7 +4,7 @@ ghost use Rattle.sqlite.specs.State.{HasCleanDisk};
 ghost use Rattle.desk_sql.specs.Calls.{Idle};
 ghost use Rattle.desk_sql.specs.declared.versions.Version.{Version};
 ghost use Rattle.ledger.specs.Answer.{State};
-ghost use Rattle.openings.specs.Connections.{RepresentsIn};
+ghost use Rattle.desk_jobs.specs.Connections.{RepresentsIn};
 ghost use Rattle.program_jobs.specs.Jobs.{EndsReport, KeepsDesk, RefusesToShow};
 ghost use Rattle.program_jobs.specs.Reporting.{Reports};
 

@@ -13,7 +13,7 @@ use Rattle.ledger.specs.History.{phase, is_running, is_finished, is_open, last_s
 use Rattle.ledger.specs.Ledger.{Event, Did, Journey, journey_at, history, is_in, may_do}
 use Rattle.ledger.specs.Laws.{HasOneStep}
 use Rattle.ledger.specs.Recovery.{last_save_of}
-use Rattle.ledger_transitions.proofs.Moves.{seen, find-first}
+use Rattle.ledger.proofs.Moves.{seen, find-first}
 use Rattle.recovery.proofs.AskLemmas.{Moves}
 
 -- a journey that is in some phase exists

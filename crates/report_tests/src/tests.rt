@@ -10,10 +10,9 @@ use allotment::{Cell, Held};
 use commands::{Agent, Cause, Cursor, Fault, Item, Phase};
 use failing_streams::Sink;
 use fakes::Failing;
-use plan::{Plan, PlanFault};
+use plan::{Marks, Plan, PlanFault};
 use reports::{Format, ReportFault, history_text, stock_text, unfinished_text};
 use saga_core::{Brief, Listed, Record};
-use savepoints::Marks;
 use std::alloc::{AllocError, Global};
 use std::process::Abort;
 

@@ -2,3 +2,14 @@ pub mod WriteLemmas
 pub mod StockLemmas
 pub mod WhyLemmas
 pub mod ShowLemmas
+pub mod HandedStock
+pub mod HandedCells
+pub mod HandedBriefs
+pub mod HeldRows
+pub mod HandedHolders
+pub mod HandedRows
+pub mod NightOrder
+pub mod NightlyStock
+pub mod ToldHoldings
+pub mod HandedHoldings
+pub mod HoldingValues

@@ -22,7 +22,7 @@ use Rattle.saga_core.specs.Views.{are_in_order, cell_cmp}
 use Rattle.streams.specs.Written.{WroteFront}
 use Rattle.streams.proofs.ByteLemmas.{appends_more}
 use Rattle.reports.specs.declared.faults.ReportFault.{ReportFault}
-use Rattle.report_rows.specs.declared.progress.Progress.{Progress}
+use Rattle.report_writers.specs.declared.progress.Progress.{Progress}
 use Rattle.sqlite.specs.Store.{Ghosts}
 use Rattle.sqlite.specs.Held.{Held}
 use Rattle.report_kinds.specs.Texts.{asked_cells}

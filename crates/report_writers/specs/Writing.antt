@@ -24,7 +24,7 @@ use Rattle.reports.specs.declared.formats.JourneyReport.{JourneyReport}
 use Rattle.streams.specs.Written.{WroteFront}
 use Rattle.sql_model.specs.Keeping.{KeepsIn}
 use Rattle.sql_model.specs.Standing.{IsDesk}
-use Rattle.report_rows.specs.declared.progress.Progress.{Progress}
+use Rattle.report_writers.specs.declared.progress.Progress.{Progress}
 
 module _ {S : Type 0} (g : Ghosts S) where
   -- this is shown of each desk that the connection kept, and the connection was only read

@@ -2,13 +2,16 @@
 ghost use Rattle.std.specs.Prelude.{◌≡◌, false, List};
 ghost use Rattle.reports.specs.Formats.{stock_in};
 ghost use Rattle.saga_core.specs.Views.{IsStock};
-ghost use Rattle.report_rows.specs.RowsLeft.{AreCellsOf};
+ghost use Rattle.report_writers.specs.RowsLeft.{AreCellsOf};
 ghost use Rattle.report_kinds.specs.Texts.{asked_cells};
 ghost use Rattle.report_writers.specs.Writing.{cells_of_kind, ShowsCells, ShowsDesk, WritesCells, WritesJourneys, WritesText};
 
+use crate::brief_rows::start_journeys;
+use crate::cell_rows::start_cells;
+use crate::found_rows::FoundRows;
+use crate::progress::Progress;
 use allotment::{Cell, Held, Kind};
 use filters::{CellFilter, JourneyFilter};
-use report_rows::{FoundRows, Progress, start_cells, start_journeys};
 use reports::{
     Format, JourneyReport, ReportFault, begin_stock, end_stock, journeys_text, stock_lines,
 };

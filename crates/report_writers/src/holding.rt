@@ -8,10 +8,13 @@ ghost use Rattle.holder_reports.specs.Layouts.{holders_in};
 ghost use Rattle.saga_core.specs.Views.{IsStock};
 ghost use Rattle.report_writers.specs.Writing.{ShowsDesk, WritesText};
 
+use crate::found_rows::FoundRows;
+use crate::holder_rows::start_holders;
+use crate::holding_rows::start_holdings;
+use crate::progress::Progress;
 use allotment::{Cell, Held};
 use filters::CellFilter;
 use holder_reports::{holders_text, holdings_text};
-use report_rows::{FoundRows, Progress, start_holders, start_holdings};
 use reports::{Format, ReportFault};
 use sql_model::fault_of;
 use sqlite::{Alter, Connection};

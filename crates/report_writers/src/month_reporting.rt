@@ -5,10 +5,12 @@ ghost use Rattle.month_reports.specs.MonthReports.{asked_months, months_in};
 ghost use Rattle.saga_core.specs.Views.{IsStock};
 ghost use Rattle.report_writers.specs.Writing.{ShowsDesk, WritesText};
 
+use crate::cell_rows::start_stock;
+use crate::found_rows::FoundRows;
+use crate::progress::Progress;
 use allotment::{Cell, Held};
 use filters::CellFilter;
 use month_reports::{MonthReport, months_text};
-use report_rows::{FoundRows, Progress, start_stock};
 use reports::ReportFault;
 use sql_model::fault_of;
 use sqlite::{Alter, Connection};

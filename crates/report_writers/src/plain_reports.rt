@@ -4,8 +4,11 @@ ghost use Rattle.reports.specs.Formats.{stock_in, unfinished_in};
 ghost use Rattle.saga_core.specs.Views.{IsStock, unfinished_of};
 ghost use Rattle.report_writers.specs.Writing.{ShowsDesk, WritesText};
 
+use crate::brief_rows::start_unfinished;
+use crate::cell_rows::start_stock;
+use crate::found_rows::FoundRows;
+use crate::progress::Progress;
 use allotment::{Cell, Held};
-use report_rows::{FoundRows, Progress, start_stock, start_unfinished};
 use reports::{Format, ReportFault, stock_text, unfinished_text};
 use sql_model::fault_of;
 use sqlite::{Alter, Connection};

@@ -12,6 +12,10 @@ ghost use Rattle.report_kinds.specs.declared.report.Report.TheVariants as kind;
 ghost use Rattle.report_writers.specs.Writing.{ShowsDesk, ShowsIn, WritesIfThere, WritesText};
 ghost use Rattle.report_writers.specs.Whys.{IsSeenOf, LetsCellsOf};
 
+use crate::cell_rows::start_cells;
+use crate::found_rows::FoundRows;
+use crate::item_rows::start_items;
+use crate::progress::Progress;
 use crate::writing::written;
 use allotment::{Night, Want};
 use commands::{Fault, Phase};
@@ -20,7 +24,6 @@ use filters::CellFilter;
 use previews::{
     FreeNight, NextStep, Preview, latest_option, look_ahead, next_step, read_nights, why_text,
 };
-use report_rows::{FoundRows, Progress, start_cells, start_items};
 use reports::{Format, ReportFault};
 use saga_core::Record;
 use sql_model::fault_of;

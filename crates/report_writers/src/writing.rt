@@ -12,6 +12,7 @@ ghost use Rattle.report_writers.specs.Writing.{ShowsDesk, ShowsIn, WritesIfThere
 
 use crate::asked_reports::{write_asked, write_kinds};
 use crate::holding::{write_holders, write_holdings};
+use crate::item_rows::start_items;
 use crate::month_reporting::write_months;
 use crate::plain_reports::{write_unfinished, write_whole_stock};
 use crate::whys::write_why;
@@ -19,7 +20,6 @@ use allotment::{Cell, Held};
 use desk_sql::Version;
 use filters::{CellFilter, JourneyFilter, Phases};
 use report_kinds::Report;
-use report_rows::start_items;
 use reports::{Format, JourneyReport, ReportFault, history_text};
 use saga_core::Record;
 use sql_reads::read_journey;

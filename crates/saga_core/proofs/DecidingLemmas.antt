@@ -4,8 +4,8 @@ use Rattle.std.proofs.lemmas.Bool.{and_from}
 use Rattle.std.specs.FinSet as set
 use Rattle.std.specs.Ordering.{nat_cmp}
 use Rattle.plan.specs.PlanModel.{Planned}
-use Rattle.savepoints.specs.Marks.{is_taken_in}
-use Rattle.savepoints.specs.Rules as rules
+use Rattle.plan.specs.Marks.{is_taken_in}
+use Rattle.plan.specs.Rules as rules
 use Rattle.commands.specs.declared.items.Cause.TheVariants.{Stop, Refused, Asked}
 use Rattle.commands.specs.declared.items.Cursor.{Cursor}
 use Rattle.commands.specs.declared.items.Item.{Item}
@@ -17,9 +17,9 @@ use Rattle.ledger.specs.Recovery.{is_forward}
 use Rattle.ledger.proofs.Coming.{step-comes, step-may_come, compensation-comes, compensation-may_come, refused-comes, refused-may_come}
 use Rattle.ledger.proofs.Modes.{told_apart}
 use Rattle.ledger.proofs.Standing.{compensates}
-use Rattle.ledger_transitions.proofs.Histories.{Follows, follows-of}
-use Rattle.ledger_transitions.proofs.Positions.{back_above, last_standing}
-use Rattle.ledger_transitions.proofs.Taken.{refused_target_by-marks}
+use Rattle.ledger.proofs.Histories.{Follows, follows-of}
+use Rattle.ledger.proofs.Positions.{back_above, last_standing}
+use Rattle.ledger.proofs.Taken.{refused_target_by-marks}
 use Rattle.saga_core.specs.Deciding.{names, IsHere, NamesOnlyStep, NamesStep}
 use Rattle.saga_core.specs.declared.deciding.Move.TheVariants as move
 

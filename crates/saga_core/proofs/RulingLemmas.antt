@@ -1,9 +1,9 @@
 -- The answers of the rules to turns and save-points are the rulings on them. For who executes them.
 use Rattle.std.proofs.Common.{◌≡◌, ℕ, Bool, List, Some, refl, ap, ◌∙◌, if◌then◌else◌, Ok, Err, arith}
 use Rattle.plan.specs.PlanModel.{Planned}
-use Rattle.savepoints.specs.Marks.{is_taken_in}
-use Rattle.savepoints.specs.Turns.{may_be_made}
-use Rattle.savepoints.specs.declared.turns.Turn.TheVariants as turn
+use Rattle.plan.specs.Marks.{is_taken_in}
+use Rattle.plan.specs.Turns.{may_be_made}
+use Rattle.plan.specs.declared.turns.Turn.TheVariants as turn
 use Rattle.commands.specs.declared.items.Cause.TheVariants as causes
 use Rattle.commands.specs.declared.items.Cursor.{Cursor}
 use Rattle.commands.specs.declared.items.Item.{Item}
@@ -15,13 +15,13 @@ use Rattle.commands.specs.declared.replies.Refusal.TheVariants.{NoSavePoint, NoS
 use Rattle.ledger.specs.Replies.{Answer, refused, answer_move, abort_choices, stop_choices, save_choices}
 use Rattle.ledger.specs.Ledger.{Event, Journey, journey_at, history, IsLegal}
 use Rattle.ledger.specs.History.{position_of, phase, is_finished}
-use Rattle.ledger_transitions.specs.Answers.{moves}
-use Rattle.ledger_transitions.specs.JourneyChanges.{target_of}
-use Rattle.ledger_transitions.specs.Cursors.{cursor_of, marks_of}
-use Rattle.ledger_transitions.proofs.Answering.{abort-answer, stop-answer, save-answer, save-back, runs, goes_back}
-use Rattle.ledger_transitions.proofs.Histories.{follows}
-use Rattle.ledger_transitions.proofs.Moves.{move-finished}
-use Rattle.ledger_transitions.proofs.Taken.{last_save_by-marks, is_save_point_by-marks}
+use Rattle.ledger.specs.AnswerChanges.{moves}
+use Rattle.ledger.specs.JourneyChanges.{target_of}
+use Rattle.ledger.specs.Cursors.{cursor_of, marks_of}
+use Rattle.ledger.proofs.Answering.{abort-answer, stop-answer, save-answer, save-back, runs, goes_back}
+use Rattle.ledger.proofs.Histories.{follows}
+use Rattle.ledger.proofs.Moves.{move-finished}
+use Rattle.ledger.proofs.Taken.{last_save_by-marks, is_save_point_by-marks}
 use Rattle.saga_core.specs.Rulings.{turn_said, save_said, Fits}
 
 -- one of two answers, by a test, is one of two moves, by the same test

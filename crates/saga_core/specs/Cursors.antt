@@ -4,7 +4,7 @@ use Rattle.commands.specs.declared.items.Cause.{Cause}
 use Rattle.commands.specs.declared.items.Cursor.{Cursor}
 use Rattle.commands.specs.declared.items.Item.{Item}
 use Rattle.commands.specs.declared.items.Item.TheVariants.{Transaction, Compensation}
-use Rattle.ledger_transitions.specs.JourneyChanges.{phase_up, phase_down, phase_back, used_after}
+use Rattle.ledger.specs.JourneyChanges.{phase_up, phase_down, phase_back, used_after}
 
 -- the cursor of a journey of so many steps after one more step
 abbrev pub stepped_up : ℕ → Cursor → Cursor

@@ -9,8 +9,8 @@ use Rattle.commands.specs.declared.items.Item.{Item}
 use Rattle.commands.specs.declared.items.Item.TheVariants.{Transaction, Compensation, Turn}
 use Rattle.ledger.specs.History.{is_open, may_come}
 use Rattle.ledger.specs.Recovery.{is_forward}
-use Rattle.ledger_transitions.specs.Cursors.{cursor_of, marks_of}
-use Rattle.ledger_transitions.specs.Legal.{HasHistory}
+use Rattle.ledger.specs.Cursors.{cursor_of, marks_of}
+use Rattle.ledger.specs.Legal.{HasHistory}
 use Rattle.saga_core.specs.declared.deciding.Move.{Move}
 use Rattle.saga_core.specs.declared.deciding.Move.TheVariants as move
 

@@ -8,8 +8,8 @@ use Rattle.commands.specs.declared.items.Phase.TheVariants.{Run}
 use Rattle.ledger.specs.Examples.{done}
 use Rattle.ledger.specs.History.{may_come}
 use Rattle.ledger.specs.Recovery.{is_forward}
-use Rattle.ledger_transitions.specs.Cursors.{marks_of}
-use Rattle.ledger_transitions.specs.Examples.{at, three_flights, three_flights_have_a_history}
+use Rattle.ledger.specs.Cursors.{marks_of}
+use Rattle.ledger.specs.TransitionExamples.{at, three_flights, three_flights_have_a_history}
 use Rattle.saga_core.specs.Deciding.{names, IsHere, NamesOnlyStep, NamesStep}
 use Rattle.saga_core.specs.declared.deciding.Move.{Move}
 

@@ -4,7 +4,7 @@ use Rattle.std.specs.FinSet as set
 use Rattle.std.specs.FinSet.{contains-empty}
 use Rattle.std.specs.Ordering.{nat_cmp}
 use Rattle.plan.specs.PlanModel.{Planned}
-use Rattle.savepoints.specs.declared.turns.Turn.TheVariants as turn
+use Rattle.plan.specs.declared.turns.Turn.TheVariants as turn
 use Rattle.commands.specs.Names.{house}
 use Rattle.commands.specs.Request.{Begin, Step}
 use Rattle.commands.specs.declared.items.Cause.TheVariants as cause

@@ -3,10 +3,10 @@ use Rattle.std.specs.Prelude.{◌≡◌, ℕ, ◌&&◌, not, nat_lt, if◌then�
 use Rattle.std.specs.FinSet as set
 use Rattle.std.specs.Ordering.{nat_cmp}
 use Rattle.plan.specs.PlanModel.{Planned}
-use Rattle.savepoints.specs.Marks.{is_taken_in}
-use Rattle.savepoints.specs.Rules as rules
-use Rattle.savepoints.specs.Turns.{turn_target, may_be_made}
-use Rattle.savepoints.specs.declared.turns.Turn.{Turn}
+use Rattle.plan.specs.Marks.{is_taken_in}
+use Rattle.plan.specs.Rules as rules
+use Rattle.plan.specs.Turns.{turn_target, may_be_made}
+use Rattle.plan.specs.declared.turns.Turn.{Turn}
 use Rattle.commands.specs.declared.items.Cause.{Cause}
 use Rattle.commands.specs.declared.items.Cursor.{Cursor}
 use Rattle.commands.specs.declared.items.Item.{Item}
@@ -15,8 +15,8 @@ use Rattle.commands.specs.declared.replies.Refusal.{Refusal}
 use Rattle.commands.specs.declared.replies.Refusal.TheVariants.{Finished, NoSavePoint, NoSave}
 use Rattle.ledger.specs.History.{is_running, is_finished}
 use Rattle.ledger.specs.Replies.{Answer, refused}
-use Rattle.ledger_transitions.specs.Answers.{moves}
-use Rattle.ledger_transitions.specs.JourneyChanges.{target_of}
+use Rattle.ledger.specs.AnswerChanges.{moves}
+use Rattle.ledger.specs.JourneyChanges.{target_of}
 
 -- the turn to the target of the rules, if it may be made
 abbrev pub turn_said : Planned → Cursor → set.FinSet nat_cmp → Turn → Cause → Result Item Refusal

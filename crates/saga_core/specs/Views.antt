@@ -13,7 +13,7 @@ use Rattle.commands.specs.declared.replies.Reply.{Reply}
 use Rattle.ledger.specs.History.{is_finished}
 use Rattle.ledger.specs.Ledger.{Event, Journey, journeys, journey_at, numbers, history, allotment, held}
 use Rattle.ledger.specs.Answer.{KeptReply, State}
-pub use Rattle.ledger_transitions.specs.Cursors.{cursor_of, marks_of}
+pub use Rattle.ledger.specs.Cursors.{cursor_of, marks_of}
 use Rattle.saga_core.specs.declared.records.Record.{Record}
 use Rattle.saga_core.specs.declared.records.Brief.{Brief}
 use Rattle.saga_core.specs.declared.records.Counts.{Counts}

@@ -1,7 +1,7 @@
 //! Where a journey is after its next item.
 ghost use Rattle.std.specs.Prelude.{◌≡◌, ◌≤◌, ◌<◌, ◌^◌};
 ghost use Rattle.plan.specs.PlanModel.{step_count};
-ghost use Rattle.ledger_transitions.specs.JourneyChanges.{used_after as used_after_rule, phase_down as phase_down_rule, phase_up as phase_up_rule, cursor_after as after_rule};
+ghost use Rattle.ledger.specs.JourneyChanges.{used_after as used_after_rule, phase_down as phase_down_rule, phase_up as phase_up_rule, cursor_after as after_rule};
 ghost use Rattle.saga_core.specs.Cursors.{stepped_up, stepped_down, turned_to, IsWithin};
 
 use commands::{Cause, Cursor, Item, Phase};

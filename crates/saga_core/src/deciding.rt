@@ -5,13 +5,12 @@
 ghost use Rattle.std.specs.Prelude.{◌≡◌, ℕ, ◌+◌, ◌<◌, ◌↔◌, IsTrue, IsFalse};
 ghost use Rattle.plan.specs.PlanModel.{step_count};
 ghost use Rattle.ledger.specs.History.{is_finished};
-ghost use Rattle.savepoints.specs.Marks.{is_taken_in};
-ghost use Rattle.savepoints.specs.Rules as rules;
+ghost use Rattle.plan.specs.Marks.{is_taken_in};
+ghost use Rattle.plan.specs.Rules as rules;
 ghost use Rattle.saga_core.specs.Deciding.{IsOptionOf, NamesOnlyStep, NamesStep};
 
 use commands::{Cursor, Phase};
-use plan::Plan;
-use savepoints::{Marks, Turn, option_at, target};
+use plan::{Marks, Plan, Turn, option_at, target};
 
 /// What a step does. Steps and their options are numbered from 1.
 #[derive(Clone, Copy, Debug, PartialEq, Eq)]

@@ -1,7 +1,6 @@
 //! What a book reports of journeys.
 use commands::{Agent, Cursor, Item};
-use plan::Plan;
-use savepoints::Marks;
+use plan::{Marks, Plan};
 
 /// A journey: the agent who began it, its plan, its cursor, and the save-points that it took while it ran.
 #[derive(Drop)]

@@ -4,12 +4,11 @@
 ghost use Rattle.std.specs.Prelude.{◌≡◌, ℕ, ◌<◌, IsTrue};
 ghost use Rattle.plan.specs.PlanModel.{step_count};
 ghost use Rattle.ledger.specs.History as h;
-ghost use Rattle.ledger_transitions.specs.JourneyChanges.{target_of};
+ghost use Rattle.ledger.specs.JourneyChanges.{target_of};
 ghost use Rattle.saga_core.specs.Rulings.{turn_said, save_said};
 
 use commands::{Cause, Cursor, Item, Phase, Refusal};
-use plan::Plan;
-use savepoints::{Marks, Turn, is_save_point, target};
+use plan::{Marks, Plan, Turn, is_save_point, target};
 
 /// Whether a journey in this phase goes forward.
 pub fn is_running(phase: Phase) -> bool

@@ -2,10 +2,10 @@
 use Rattle.std.proofs.Common.{◌≡◌, ℕ, ◌+◌, ◌<◌, ◌≤◌, List, Option, Some, None, true, false, Bool, refl, sym, ap, subst, ◌∙◌, arith, option_map, if◌then◌else◌, nat_lt, Result, Ok, nat_cmp}
 use Rattle.std.specs.FinSet as set
 use Rattle.plan.specs.PlanModel.{Planned, step_count, want_at}
-use Rattle.savepoints.specs.Marks.{is_taken_in}
-use Rattle.savepoints.specs.Rules as rules
+use Rattle.plan.specs.Marks.{is_taken_in}
+use Rattle.plan.specs.Rules as rules
 use Rattle.std.proofs.lemmas.Bool.Decides.{nat_tests}
-use Rattle.savepoints.specs.declared.turns.Turn.TheVariants as turn
+use Rattle.plan.specs.declared.turns.Turn.TheVariants as turn
 use Rattle.commands.specs.declared.items.Cause.{Cause}
 use Rattle.commands.specs.declared.items.Cause.TheVariants as causes
 use Rattle.saga_core.specs.Rulings.{turn_said, Fits}
@@ -25,10 +25,10 @@ use Rattle.commands.specs.declared.replies.Refusal.TheVariants.{NoSavePoint}
 use Rattle.ledger.specs.History.{is_finished, position_of}
 use Rattle.ledger.specs.Ledger.{Journey, fits, history}
 use Rattle.ledger.specs.Replies.{Answer, sees, seen_journey, answer_move, abort_choices, step_choices}
-use Rattle.ledger_transitions.proofs.Histories.{follows}
-use Rattle.ledger_transitions.proofs.Positions.{last_standing}
-use Rattle.ledger_transitions.specs.JourneyChanges.{cursor_after}
-use Rattle.ledger_transitions.specs.Cursors.{cursor_of, marks_of}
+use Rattle.ledger.proofs.Histories.{follows}
+use Rattle.ledger.proofs.Positions.{last_standing}
+use Rattle.ledger.specs.JourneyChanges.{cursor_after}
+use Rattle.ledger.specs.Cursors.{cursor_of, marks_of}
 use Rattle.saga_core.specs.Views.{record_of, record_of_journey}
 use Rattle.saga_core.specs.Deciding.{NamesStep}
 use Rattle.saga_core.specs.declared.deciding.Move.{Move}

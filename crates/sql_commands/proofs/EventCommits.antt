@@ -26,7 +26,7 @@ use Rattle.sql_writes.specs.declared.events.JourneyBegun.{JourneyBegun}
 use Rattle.sql_writes.specs.declared.events.Event.TheVariants.{Begin, Load}
 use Rattle.sql_commands.specs.Answering.{AnswersAgain, Counts, Finds, IsKeptLine, ReadsReply}
 use Rattle.sql_writes.specs.Kinds.{LeadsTo}
-use Rattle.sql_transitions.proofs.Keeping.{outcome-room, outcome-full}
+use Rattle.sql_model.proofs.Keeping.{outcome-room, outcome-full}
 use Rattle.sql_commands.proofs.Executing.{IsUnmoved, LeadsToOutcome}
 use Rattle.sql_commands.proofs.LeadLemmas.{leads_of, due_leads_at, due_replied}
 use Rattle.sql_commands.proofs.TextLengths.{line_text}
@@ -55,7 +55,7 @@ use Rattle.commands.specs.Limits.{most_rows}
 use Rattle.commands.specs.Names.{is_agent, is_batch_name}
 use Rattle.commands.specs.declared.replies.Reply.TheVariants as reply
 use Rattle.ledger.specs.Replies.{loaded}
-use Rattle.ledger_transitions.specs.JourneyChanges.{cursor_after}
+use Rattle.ledger.specs.JourneyChanges.{cursor_after}
 use Rattle.sql_reads.proofs.ReadReasons.{few_journeys}
 use Rattle.sql_writes.specs.declared.events.BatchLoaded.{BatchLoaded}
 use Rattle.sql_commands.specs.declared.moves.Made.{Made}

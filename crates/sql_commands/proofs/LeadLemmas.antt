@@ -11,18 +11,18 @@ use Rattle.commands.specs.declared.items.Item.TheVariants as item
 use Rattle.commands.specs.declared.replies.Reply.{Reply}
 use Rattle.ledger.specs.Answer.{State, kept_for, state_with, Outcome, asker, answer_within, is_request, most_events, carried_out, outcome}
 use Rattle.ledger.specs.Ledger.{Did, Journey, journeys, journey_at, history, is_allowed, fits}
-use Rattle.ledger_transitions.specs.JourneyChanges.{cursor_after}
-use Rattle.ledger_transitions.specs.Cursors.{cursor_of}
-use Rattle.ledger_transitions.proofs.Places.{transaction_fits}
+use Rattle.ledger.specs.JourneyChanges.{cursor_after}
+use Rattle.ledger.specs.Cursors.{cursor_of}
+use Rattle.ledger.proofs.PlacesMoved.{transaction_fits}
 use Rattle.desk_sql.specs.Rows.{Tables}
 use Rattle.sql_model.specs.Beginning.{with_answer}
 use Rattle.sql_model.specs.Standing.{IsDesk, StandsFor}
-use Rattle.sql_transitions.proofs.Conditions.{items_below, nights_have_free, nights_have_room}
-use Rattle.sql_transitions.proofs.GivingBack.{compensation_stands}
-use Rattle.sql_transitions.proofs.Plans.{wanted_nights, wanted_count}
-use Rattle.sql_transitions.proofs.Saving.{save_stands}
-use Rattle.sql_transitions.proofs.Taking.{transaction_stands}
-use Rattle.sql_transitions.proofs.Turning.{turn_stands}
+use Rattle.sql_model.proofs.Conditions.{items_below, nights_have_free, nights_have_room}
+use Rattle.sql_model.proofs.GivingBack.{compensation_stands}
+use Rattle.sql_model.proofs.Plans.{wanted_nights, wanted_count}
+use Rattle.sql_model.proofs.Saving.{save_stands}
+use Rattle.sql_model.proofs.Taking.{transaction_stands}
+use Rattle.sql_model.proofs.Turning.{turn_stands}
 use Rattle.sql_writes.specs.Kinds.{Fits, LeadsTo, rows_after}
 use Rattle.sql_writes.specs.declared.events.Numbers.{Numbers}
 use Rattle.sql_writes.specs.declared.events.Event.{Event}
@@ -34,7 +34,7 @@ use Rattle.commands.specs.declared.replies.Reply.TheVariants as reply
 use Rattle.ledger.specs.Replies.{Answer, refused, seen_journey, answer_move, step_choices, abort_choices, stop_choices, save_choices}
 use Rattle.saga_core.specs.declared.records.Record.{Record}
 use Rattle.desk_sql.specs.declared.meta.Meta.{Meta}
-use Rattle.sql_transitions.proofs.Keeping.{outcome-room, outcome-no_event, outcome-full, outcome-event}
+use Rattle.sql_model.proofs.Keeping.{outcome-room, outcome-no_event, outcome-full, outcome-event}
 use Rattle.sql_commands.specs.Placing.{begun_as}
 use Rattle.sql_commands.specs.declared.moves.Motion.{Motion}
 use Rattle.sql_commands.specs.declared.moves.Motion.TheVariants as motion

@@ -26,10 +26,10 @@ use Rattle.desk_sql.specs.declared.batches.BatchFound.{BatchFound}
 use Rattle.desk_sql.specs.declared.meta.Meta.{Meta}
 use Rattle.sql_model.specs.ExpectedRows.{batch_text}
 use Rattle.sql_model.specs.Standing.{StandsFor, IsDesk}
-use Rattle.sql_transitions.proofs.Batches.{batch_read, named_good}
-use Rattle.sql_transitions.proofs.Keeping.{outcome-room, outcome-no_event, outcome-full, outcome-event}
-use Rattle.sql_transitions.proofs.Lines.{same_batch}
-use Rattle.sql_transitions.proofs.Loading.{load_stands}
+use Rattle.sql_model.proofs.Batches.{batch_read, named_good}
+use Rattle.sql_model.proofs.Keeping.{outcome-room, outcome-no_event, outcome-full, outcome-event}
+use Rattle.sql_model.proofs.Lines.{same_batch}
+use Rattle.sql_model.proofs.Loading.{load_stands}
 use Rattle.sql_writes.specs.declared.events.Numbers.{Numbers}
 use Rattle.sql_writes.specs.declared.events.BatchLoaded.{BatchLoaded}
 use Rattle.sql_writes.specs.declared.events.Event.TheVariants as event

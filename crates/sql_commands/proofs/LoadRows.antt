@@ -29,8 +29,8 @@ use Rattle.sql_model.specs.ExpectedRows.{batch_text}
 use Rattle.sql_model.specs.Reading.{stock_row_of}
 use Rattle.sql_model.specs.Standing.{IsDesk}
 use Rattle.sql_model.proofs.StockRows.{has_shown, shown_has}
-use Rattle.sql_transitions.specs.Loading.{put_rows}
-use Rattle.sql_transitions.proofs.Fitting.{held_told, held_untold}
+use Rattle.sql_model.specs.Loading.{put_rows}
+use Rattle.sql_model.proofs.Fitting.{held_told, held_untold}
 use Rattle.sql_writes.specs.Loads.{put_each}
 use Rattle.sql_writes.proofs.RunLemmas.{take-more}
 use Rattle.sql_commands.specs.Loading.{GetsPlaces, HavePlaces, row_loaded}

@@ -40,27 +40,27 @@ use Rattle.commands.specs.declared.items.Cursor.{Cursor}
 use Rattle.commands.specs.declared.items.Item.{Item}
 use Rattle.commands.specs.declared.items.Item.TheVariants as item
 use Rattle.ledger.specs.History.{next_want}
-use Rattle.ledger_transitions.proofs.Histories.{may_come-allowed}
-use Rattle.ledger_transitions.proofs.Places.{held-compensation, held_within, places_in-cell, transaction_fits}
+use Rattle.ledger.proofs.Histories.{may_come-allowed}
+use Rattle.ledger.proofs.PlacesMoved.{held-compensation, held_within, places_in-cell, transaction_fits}
 use Rattle.saga_core.specs.Views.{Places, places_of}
 use Rattle.sql_model.specs.Spelling.{IsSpelled}
 use Rattle.sql_model.proofs.StockRows.{stock_at-row}
 use Rattle.sql_reads.proofs.GoodStock.{good_row}
-use Rattle.sql_transitions.proofs.Conditions.{items_below, nights_have_free}
-use Rattle.sql_transitions.proofs.Plans.{wanted_nights}
-use Rattle.sql_transitions.proofs.Ranges.{range_row}
-use Rattle.sql_transitions.proofs.Saving.{save-new}
-use Rattle.sql_transitions.proofs.Wants.{wanted_row}
+use Rattle.sql_model.proofs.Conditions.{items_below, nights_have_free}
+use Rattle.sql_model.proofs.Plans.{wanted_nights}
+use Rattle.sql_model.proofs.Ranges.{range_row}
+use Rattle.sql_model.proofs.Saving.{save-new}
+use Rattle.sql_model.proofs.Wants.{wanted_row}
 use Rattle.sql_commands.specs.Moving.{Says, IsDue, IsEventOf, asked_for}
 use Rattle.sql_commands.proofs.LeadLemmas.{IsMade}
 use Rattle.commands.specs.declared.replies.Reply.TheVariants as reply
 use Rattle.ledger.proofs.Growing.{is_item_allowed-may_do}
-use Rattle.ledger_transitions.specs.JourneyChanges.{cursor_after}
-use Rattle.ledger_transitions.specs.Cursors.{cursor_of}
+use Rattle.ledger.specs.JourneyChanges.{cursor_after}
+use Rattle.ledger.specs.Cursors.{cursor_of}
 use Rattle.saga_core.specs.declared.records.Record.{Record}
 use Rattle.desk_sql.specs.declared.meta.Meta.{Meta}
 use Rattle.sql_model.proofs.Accepting.{moved-good}
-use Rattle.sql_transitions.proofs.Moves.{cursor_next}
+use Rattle.sql_model.proofs.Moves.{cursor_next}
 use Rattle.sql_commands.specs.Placing.{begun_as}
 use Rattle.sql_commands.specs.declared.moves.Motion.{Motion}
 use Rattle.sql_commands.proofs.Possible.{item_allowed}

@@ -5,7 +5,7 @@ use Rattle.std.proofs.lemmas.Bool.{and_parts, or_cases}
 use Rattle.sqlite_rules.specs.Lists.{Has}
 use Rattle.sqlite_rules.proofs.ListLemmas.{has_right, test_has}
 use Rattle.plan.specs.PlanModel.{Planned, is_marked_at, option_count, step_count}
-use Rattle.savepoints.proofs.OptionLemmas.{one_le-option_count}
+use Rattle.plan.proofs.ChoiceLemmas.{one_le-option_count}
 use Rattle.commands.specs.declared.items.Cause.TheVariants as cause
 use Rattle.commands.specs.declared.items.Item.{Item}
 use Rattle.commands.specs.declared.items.Item.TheVariants as item
@@ -22,9 +22,9 @@ use Rattle.ledger.proofs.Lists.{find-passes, last_of-is}
 use Rattle.ledger.proofs.Modes.{running-rises}
 use Rattle.ledger.proofs.Standing.{compensates}
 use Rattle.ledger.proofs.Targets.{IsTarget, last_save-target, refused-target, asked-target}
-use Rattle.ledger_transitions.specs.Answers.{moves}
-use Rattle.ledger_transitions.specs.Cursors.{cursor_of}
-use Rattle.ledger_transitions.proofs.Histories.{Follows, follows, is_option_of}
+use Rattle.ledger.specs.AnswerChanges.{moves}
+use Rattle.ledger.specs.Cursors.{cursor_of}
+use Rattle.ledger.proofs.Histories.{Follows, follows, is_option_of}
 use Rattle.saga_core.specs.declared.records.Record.{Record}
 use Rattle.sql_model.specs.Standing.{IsDesk}
 use Rattle.sql_commands.specs.Moving.{asked_for}

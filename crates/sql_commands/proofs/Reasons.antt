@@ -14,9 +14,9 @@ use Rattle.ledger.specs.Answer.{State}
 use Rattle.ledger.specs.History.{is_open, is_refused_turn, phase, position_of}
 use Rattle.ledger.specs.Ledger.{Event, Loaded, Began, Did, Journey, journeys, journey_at, history, IsLegal}
 use Rattle.ledger.proofs.Lists.{number-within}
-use Rattle.ledger_transitions.proofs.Histories.{Follows, follows}
-use Rattle.ledger_transitions.proofs.Positions.{running_below, back_above, last_standing}
-use Rattle.ledger_transitions.specs.Cursors.{cursor_of}
+use Rattle.ledger.proofs.Histories.{Follows, follows}
+use Rattle.ledger.proofs.Positions.{running_below, back_above, last_standing}
+use Rattle.ledger.specs.Cursors.{cursor_of}
 use Rattle.saga_core.specs.Views.{record_of}
 use Rattle.sql_model.specs.Spelling.{IsSpelled}
 use Rattle.sql_model.specs.Standing.{IsDesk}

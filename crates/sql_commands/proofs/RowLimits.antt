@@ -14,7 +14,7 @@ use Rattle.commands.specs.Limits.{longest_agent}
 use Rattle.commands.specs.Names.{is_agent, is_agent_byte}
 use Rattle.ledger.specs.Answer.{State}
 use Rattle.ledger.specs.Ledger.{Event, Loaded, Began, Did, Journey, batches_named, history, journey_at, journeys}
-use Rattle.ledger_transitions.proofs.Places.{number_within}
+use Rattle.ledger.proofs.PlacesMoved.{number_within}
 use Rattle.desk_sql.specs.FoundRows.{is_named}
 use Rattle.desk_sql.specs.Rows.{Tables, BatchRow, JourneyRow, StepRow}
 use Rattle.desk_sql.specs.Writable.{HasJourney, IsShort}
@@ -27,9 +27,9 @@ use Rattle.sql_model.proofs.Numbering.{counted_stands}
 use Rattle.sql_model.proofs.RecordRows.{plan_good}
 use Rattle.sql_reads.proofs.GoodStock.{good_row}
 use Rattle.sql_reads.proofs.ReadReasons.{number_low}
-use Rattle.sql_transitions.proofs.Batches.{batch_found}
-use Rattle.sql_transitions.proofs.Plans.{want_good}
-use Rattle.sql_transitions.proofs.Taken.{row_told}
+use Rattle.sql_model.proofs.Batches.{batch_found}
+use Rattle.sql_model.proofs.Plans.{want_good}
+use Rattle.sql_model.proofs.Taken.{row_told}
 use Rattle.sql_writes.specs.Permits.{HasNoOptions, HaveShortAgents, HaveShortCells, HaveShortOptions}
 
 -- Texts.

@@ -9,10 +9,10 @@ use Rattle.commands.specs.declared.items.Item.{Item}
 use Rattle.commands.specs.declared.items.Item.TheVariants as item
 use Rattle.commands.specs.declared.items.Phase.{Phase}
 use Rattle.commands.specs.declared.items.Phase.TheVariants.{Run, Back, Ended, Undone}
-use Rattle.ledger_transitions.specs.JourneyChanges.{phase_up, phase_down, phase_back, cursor_after}
+use Rattle.ledger.specs.JourneyChanges.{phase_up, phase_down, phase_back, cursor_after}
 use Rattle.desk_sql.specs.Changes.{IsSmallCursor}
 use Rattle.sql_model.specs.ExpectedRows.{target_of}
-use Rattle.sql_transitions.specs.Moving.{cursor_written}
+use Rattle.sql_model.specs.Moving.{cursor_written}
 use Rattle.sql_writes.specs.Kinds.{IsSmall}
 use Rattle.sql_writes.specs.declared.events.Event.{Event}
 use Rattle.sql_commands.specs.Moving.{IsEventOf}

@@ -2,8 +2,8 @@
 -- `step_outcome`.
 use Rattle.std.proofs.Common.{◌≡◌, ℕ, true, false, List, Option, Some, None, refl, ap, sym, ◌∙◌, subst, option_map, Result, ◌==◌, Bool, IsTrue, ap₂, eqb-true, ◌↔◌, Ok, Err}
 use Rattle.plan.specs.PlanModel.{Planned}
-use Rattle.savepoints.specs.declared.turns.Turn.{Turn as Reason}
-use Rattle.savepoints.specs.declared.turns.Turn.TheVariants as turn
+use Rattle.plan.specs.declared.turns.Turn.{Turn as Reason}
+use Rattle.plan.specs.declared.turns.Turn.TheVariants as turn
 use Rattle.commands.specs.declared.items.Cause.{Cause}
 use Rattle.commands.specs.declared.items.Cause.TheVariants as causes
 use Rattle.commands.specs.declared.items.Cursor.{Cursor}
@@ -14,15 +14,15 @@ use Rattle.commands.specs.declared.replies.Refusal.TheVariants.{NoSavePoint, NoS
 use Rattle.ledger.specs.Answer.{State}
 use Rattle.ledger.specs.Replies.{answer_move, sees, seen_journey, abort_choices, stop_choices, save_choices, step_choices}
 use Rattle.ledger.specs.Ledger.{Event, Journey, journey_at, history, IsLegal, fits}
-use Rattle.ledger_transitions.specs.Cursors.{cursor_of, marks_of}
-use Rattle.ledger_transitions.proofs.Moves.{seen, unseen, seen-none, move-finished}
+use Rattle.ledger.specs.Cursors.{cursor_of, marks_of}
+use Rattle.ledger.proofs.Moves.{seen, unseen, seen-none, move-finished}
 use Rattle.saga_core.specs.Views.{record_of, record_of_journey}
 use Rattle.saga_core.proofs.RulingLemmas.{abort_ruled, save_ruled, stop_ruled}
 use Rattle.saga_core.specs.Rulings.{turn_said, save_said, Fits}
 use Rattle.saga_core.specs.declared.records.Record.{Record}
 use Rattle.sql_commands.specs.Placing.{begun_as, IsSeen}
 use Rattle.std.proofs.lemmas.Bool.{and_parts}
-use Rattle.savepoints.specs.Rules as rules
+use Rattle.plan.specs.Rules as rules
 use Rattle.commands.specs.declared.items.Cause.TheVariants.{Stop, Refused, Asked}
 use Rattle.commands.specs.declared.items.Item.TheVariants.{Transaction, Compensation, Turn, Save}
 use Rattle.commands.specs.declared.items.Phase.{Phase}
@@ -30,7 +30,7 @@ use Rattle.commands.specs.declared.items.Phase.TheVariants.{Run, Ended, Undone}
 use Rattle.ledger.specs.History.{next_want, phase, is_running, is_finished, is_open, may_come}
 use Rattle.ledger.specs.Recovery.{is_forward}
 use Rattle.ledger.proofs.Coming.{compensation-comes, step-comes, refused-comes, compensation-may_come}
-use Rattle.ledger_transitions.proofs.Answering.{step-answer}
+use Rattle.ledger.proofs.Answering.{step-answer}
 use Rattle.saga_core.specs.Deciding.{names, NamesStep}
 use Rattle.saga_core.specs.declared.deciding.Move.{Move}
 use Rattle.saga_core.specs.declared.deciding.Move.TheVariants as move

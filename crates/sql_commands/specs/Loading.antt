@@ -19,7 +19,7 @@ use Rattle.desk_sql.specs.declared.meta.Meta.{Meta}
 use Rattle.sql_model.specs.ExpectedRows.{batch_text}
 use Rattle.sql_model.specs.Reading.{stock_row_of}
 use Rattle.sql_model.specs.Standing.{IsDesk}
-use Rattle.sql_transitions.specs.Loading.{loaded_row}
+use Rattle.sql_model.specs.Loading.{loaded_row}
 use Rattle.sql_commands.specs.Answering.{Counts}
 
 -- Known batches.

@@ -18,8 +18,8 @@ use Rattle.ledger.specs.Answer.{State, asker, answer_within, kept_for}
 use Rattle.ledger.specs.History.{net, last_of}
 use Rattle.ledger.specs.Ledger.{Journey, journey_at, history, fits}
 use Rattle.ledger.specs.Replies.{Answer}
-use Rattle.savepoints.specs.Rules as rules
-use Rattle.ledger_transitions.specs.JourneyChanges.{cursor_after}
+use Rattle.plan.specs.Rules as rules
+use Rattle.ledger.specs.JourneyChanges.{cursor_after}
 use Rattle.saga_core.specs.declared.records.Record.{Record}
 use Rattle.desk_sql.specs.declared.meta.Meta.{Meta}
 use Rattle.sql_model.specs.Standing.{IsDesk}

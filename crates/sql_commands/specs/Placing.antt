@@ -10,7 +10,7 @@ use Rattle.ledger.specs.Ledger as l
 use Rattle.ledger.specs.Ledger.{journey_at, history}
 use Rattle.ledger.specs.Answer.{State}
 use Rattle.ledger.specs.Replies.{seen_journey}
-use Rattle.ledger_transitions.specs.Cursors.{cursor_of, marks_of}
+use Rattle.ledger.specs.Cursors.{cursor_of, marks_of}
 use Rattle.saga_core.specs.declared.records.Record.{Record}
 use Rattle.sql_reads.specs.Reading.{stand_of}
 use Rattle.sql_reads.specs.declared.reads.Stand.{Stand}

@@ -15,7 +15,7 @@ use Rattle.plan.specs.PlanModel.{Planned, StepPlan, is_plan, numbered}
 use Rattle.commands.specs.declared.items.Cursor.{Cursor}
 use Rattle.ledger.specs.Ledger.{Event, Journey, journeys, journey_at, history, is_allowed, IsLegal}
 use Rattle.ledger.proofs.Growing.{induct, journeys-began, journeys-loaded, journeys-did}
-use Rattle.savepoints.specs.Marks.{last_mark, is_taken_in, AreInRange, same_marks}
+use Rattle.plan.specs.Marks.{last_mark, is_taken_in, AreInRange, same_marks}
 use Rattle.saga_core.specs.Views.{marks_of, record_of}
 use Rattle.saga_core.specs.declared.records.Record.{Record}
 use Rattle.desk_sql.specs.Rows.{JourneyRow, StepRow}

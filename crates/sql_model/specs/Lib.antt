@@ -11,3 +11,5 @@ pub mod Schemas
 pub mod SchemaExamples
 pub mod Spelling
 pub mod Examples
+pub mod Moving
+pub mod Loading

@@ -4,7 +4,7 @@ use Rattle.plan.specs.PlanModel.{StepPlan, numbered, option_count, want_at}
 use Rattle.ledger.specs.Answer.{State}
 use Rattle.ledger.specs.Ledger.{history}
 use Rattle.ledger.proofs.Lists.{find-passes}
-use Rattle.ledger_transitions.proofs.Histories.{follows}
+use Rattle.ledger.proofs.Histories.{follows}
 use Rattle.sqlite_rules.specs.Lists.{Has}
 use Rattle.sqlite_rules.proofs.ListLemmas.{has_found, has_filtered}
 use Rattle.sqlite_rules.proofs.ProbeLemmas.{mapped_has}
@@ -15,7 +15,7 @@ use Rattle.sql_model.specs.ExpectedRows.{is_standing, step_rows}
 use Rattle.sql_model.specs.Standing.{StandsFor, IsDesk}
 use Rattle.sql_model.proofs.Readings.{options_read, options_there}
 use Rattle.sql_model.proofs.OptionRows.{option_row_at}
-use Rattle.sql_transitions.proofs.Taken.{taken_row, row_told}
+use Rattle.sql_model.proofs.Taken.{taken_row, row_told}
 use Rattle.sql_reads.proofs.ReadPlans.{want_one}
 use Rattle.sql_reads.specs.OptionChoice.{IsRowChosen, IsTakenChosen, IsNextChoice, IsLastChoice, is_taken_row}
 use Rattle.sql_reads.specs.declared.plan_rows.Choice.{Choice}

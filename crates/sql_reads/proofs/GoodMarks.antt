@@ -5,11 +5,11 @@ use Rattle.std.proofs.lemmas.Bool.{and_from, le-leb, or_left, or_right}
 use Rattle.sqlite_rules.specs.Lists.{Has}
 use Rattle.sqlite_rules.proofs.ListLemmas.{all_from}
 use Rattle.allotment.specs.Limits.{is_between}
-use Rattle.savepoints.specs.Marks.{last_mark}
+use Rattle.plan.specs.Marks.{last_mark}
 use Rattle.ledger.specs.History.{is_taken}
 use Rattle.ledger.specs.Ledger.{Event, history, IsLegal, Journey, journey_at}
 use Rattle.ledger.proofs.Ledgers.{all_go}
-use Rattle.ledger_transitions.proofs.Histories.{follows}
+use Rattle.ledger.proofs.Histories.{follows}
 
 any_has : (xs : List ℕ) (q : ℕ) → Has xs q → list_any (λ x. x == q) xs ≡ true
 any_has [] q h = absurd h

@@ -12,7 +12,7 @@ use Rattle.ledger.specs.Answer.{State}
 use Rattle.ledger.specs.History.{net}
 use Rattle.ledger.specs.Ledger.{Journey, journey_at, history}
 use Rattle.ledger.proofs.Lists.{find-passes, last_of-is}
-use Rattle.ledger_transitions.proofs.Histories.{follows, is_option_of}
+use Rattle.ledger.proofs.Histories.{follows, is_option_of}
 use Rattle.desk_sql.specs.Rows.{Tables, StepRow}
 use Rattle.desk_sql.specs.FoundRows.{FindsOptions, is_option_of as is_of_option, is_step_of, step_of}
 use Rattle.desk_sql.specs.Readable.{HaveOptionTexts}
@@ -22,8 +22,8 @@ use Rattle.sql_model.specs.Standing.{StandsFor, IsDesk}
 use Rattle.sql_model.proofs.OptionRows.{option_row_at}
 use Rattle.sql_model.proofs.Readings.{options_read, options_there}
 use Rattle.sql_model.proofs.RecordRows.{plan_good}
-use Rattle.sql_transitions.proofs.Plans.{want_good}
-use Rattle.sql_transitions.proofs.Taken.{last_wanted, row_told, taken_row, taken_row_there}
+use Rattle.sql_model.proofs.Plans.{want_good}
+use Rattle.sql_model.proofs.Taken.{last_wanted, row_told, taken_row, taken_row_there}
 use Rattle.sql_reads.specs.PlanRows.{TellsWant}
 use Rattle.sql_reads.proofs.GoodTexts.{want_texts}
 use Rattle.sql_reads.specs.OptionChoice.{AreOfStep, HasStep, HasTaken, IsOfOption, TakesLast, is_taken_row}

@@ -17,7 +17,7 @@ use Rattle.saga_core.specs.declared.records.Brief.{Brief}
 use Rattle.saga_core.specs.declared.records.Record.{Record}
 use Rattle.saga_core.specs.declared.records.Trace.{Trace}
 use Rattle.plan.specs.PlanModel.{Planned, step_count}
-use Rattle.savepoints.specs.Marks.{is_taken_in, AreInRange}
+use Rattle.plan.specs.Marks.{is_taken_in, AreInRange}
 use Rattle.std.specs.FinSet as set
 use Rattle.std.specs.Ordering.{nat_cmp}
 use Rattle.desk_sql.specs.FoundRows.{journey_of, item_of}

@@ -22,9 +22,8 @@ use desk_sql::{
     ItemFound, NightRange, Version, find_journey, find_marks, find_nights, find_steps,
     first_unfinished, read_meta,
 };
-use plan::Plan;
+use plan::{Marks, Plan};
 use saga_core::{Brief, Record};
-use savepoints::Marks;
 use sql_model::fault_of;
 use sqlite::{Alter, Connection, Error};
 use std::alloc::Global;

@@ -4,7 +4,7 @@ ghost use Rattle.std.specs.List.{AllByRecursion, list_any};
 ghost use Rattle.allotment.specs.Cells.{kind_number};
 ghost use Rattle.allotment.specs.Limits.{is_between, is_night, most_places};
 ghost use Rattle.commands.specs.Names.{is_agent};
-ghost use Rattle.savepoints.specs.Marks.{is_taken_in, last_mark, AreInRange};
+ghost use Rattle.plan.specs.Marks.{is_taken_in, last_mark, AreInRange};
 ghost use Rattle.saga_core.specs.Views.{night_said};
 ghost use Rattle.desk_sql.specs.FoundRows.{item_of};
 ghost use Rattle.desk_sql.specs.Stock.{stock_of};
@@ -16,9 +16,8 @@ use crate::reads::Stand;
 use allotment::{Cell, Code, Held, Kind, MOST_PLACES, Night};
 use commands::{Agent, Cause, Cursor, Fault, Item, Phase};
 use desk_sql::{CellFound, Cursor as CursorFound, ItemFound, JourneyFound, NightFound};
-use plan::Plan;
+use plan::{LAST_MARK, Marks, Plan};
 use saga_core::{Brief, Record};
-use savepoints::{LAST_MARK, Marks};
 use std::alloc::Global;
 
 /// The phase with this number and target.

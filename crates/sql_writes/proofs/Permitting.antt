@@ -25,7 +25,7 @@ use Rattle.sql_model.specs.ExpectedRows.{phase_number}
 use Rattle.sql_writes.specs.CellLoads.{LacksCell, MayAddCell}
 use Rattle.sql_writes.specs.Weeks.{MayAddWeek}
 use Rattle.sql_model.specs.Reading.{IsRangeOf, stock_row_of}
-use Rattle.sql_transitions.specs.Moving.{cursor_written, item_written}
+use Rattle.sql_model.specs.Moving.{cursor_written, item_written}
 use Rattle.sql_writes.specs.declared.events.Numbers.{Numbers}
 use Rattle.sql_writes.specs.Writing.{HaveRoomFor}
 use Rattle.sql_writes.specs.Runs.{HasShortTexts, LacksWeek}

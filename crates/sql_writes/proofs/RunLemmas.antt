@@ -8,14 +8,14 @@ use Rattle.desk_sql.specs.Rows.{Tables, StockRow}
 use Rattle.desk_sql.specs.Stock.{AreApart as AreCellsApart, put, puts_cell, with_places}
 use Rattle.sql_model.specs.Reading.{stock_row_of}
 use Rattle.sql_model.specs.Standing.{AreApart, is_same_stock}
-use Rattle.sql_transitions.specs.Loading.{loaded_row}
-use Rattle.sql_transitions.proofs.Puts.{cells_apart, once-rows}
+use Rattle.sql_model.specs.Loading.{loaded_row}
+use Rattle.sql_model.proofs.Puts.{cells_apart, once-rows}
 use Rattle.sql_writes.specs.Loads.{put_each, puts_each, MayLoad}
 use Rattle.sql_writes.specs.Runs.{HasShortTexts, nights_later, IsLater, IsRun, is_until, sets_until, known_until, put_rows, AreNew, adds_each}
 use Rattle.sql_writes.proofs.Permitting.{short_put}
 use Rattle.sql_writes.specs.Permits.{HaveShortCells}
 use Rattle.desk_sql.specs.Writable.{IsShort}
-use Rattle.sql_transitions.proofs.Changing.{once-changed}
+use Rattle.sql_model.proofs.Changing.{once-changed}
 use Rattle.sql_writes.specs.Weeks.{next_night, nights_from}
 use Rattle.sql_writes.proofs.RunRows.{nights-more}
 use Rattle.sql_writes.proofs.RunPuts.{put_new, run_some, run_known, run_new}

@@ -2,7 +2,7 @@
 use Rattle.std.specs.Prelude.{◌<◌, ◌^◌}
 use Rattle.desk_sql.specs.Rows.{Tables}
 use Rattle.desk_sql.specs.Changes.{AreItemsBelow, IsSmallCursor}
-use Rattle.sql_transitions.specs.Moving.{cursor_written, with_transaction, with_compensation, with_turn, with_save}
+use Rattle.sql_model.specs.Moving.{cursor_written, with_transaction, with_compensation, with_turn, with_save}
 use Rattle.sql_writes.specs.declared.events.Numbers.{Numbers}
 use Rattle.sql_writes.specs.declared.events.StepMade.{StepMade}
 use Rattle.sql_writes.specs.declared.events.TurnMade.{TurnMade}

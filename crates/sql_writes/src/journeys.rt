@@ -8,7 +8,7 @@ ghost use Rattle.sql_writes.specs.Events.{IsSmallStep, IsSmallTurn, IsSmallSave,
 ghost use Rattle.sql_writes.specs.Permits.{MayDo, MayMoveOn, MaySave, MayUndo, MayAdd, MayGiveWant, MayTakeWant};
 ghost use Rattle.desk_sql.specs.Stock.{IsSmallRange};
 ghost use Rattle.sql_model.specs.Reading.{IsRangeOf};
-ghost use Rattle.sql_transitions.specs.Moving.{cursor_written, item_written, with_item, with_move, takes_want, gives_want};
+ghost use Rattle.sql_model.specs.Moving.{cursor_written, item_written, with_item, with_move, takes_want, gives_want};
 
 use crate::events::{Numbers, SaveMade, StepMade, TurnMade};
 use allotment::{Code, Want};

@@ -14,7 +14,7 @@ use Rattle.ledger.specs.Answer.{State, KeptReply, outcome, outcome_for, state_wi
 use Rattle.ledger.proofs.Phases.{passing}
 use Rattle.ledger.proofs.Deciding.{no_finished_goes_on}
 use Rattle.ledger.proofs.Recovering.{AreAllowedAfter-split}
-use Rattle.ledger_transitions.proofs.Events.{journeys-loaded, journeys-did, journey_count-began, journey_at-loaded, journey_at-did, journey_at-began_other, history-loaded, history-began, history-did_other}
+use Rattle.ledger.proofs.Events.{journeys-loaded, journeys-did, journey_count-began, journey_at-loaded, journey_at-did, journey_at-began_other, history-loaded, history-began, history-did_other}
 use Rattle.saga_core.specs.Views.{brief_of, first_unfinished, is_unfinished_above}
 use Rattle.saga_core.specs.declared.records.Brief.{Brief}
 use Rattle.saga_core.proofs.FirstLemmas.{Tells, tells, IsFirst, first-found, first-none}

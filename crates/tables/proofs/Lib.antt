@@ -13,3 +13,8 @@ pub mod NewDesks
 pub mod ActingLemmas
 pub mod SinceLemmas
 pub mod Founding
+pub mod BriefLists
+pub mod OwnedLists
+pub mod StockLists
+pub mod StockOrder
+pub mod Taken

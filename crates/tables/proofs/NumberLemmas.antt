@@ -13,7 +13,7 @@ use Rattle.plan.specs.PlanModel.{Planned, is_plan}
 use Rattle.ledger.specs.History.{phase, is_finished, is_open}
 use Rattle.ledger.specs.Ledger.{Event, Loaded, Began, Did, Journey, journeys, journey_at, history, is_in, is_allowed, numbers, IsLegal}
 use Rattle.ledger.proofs.Phases.{passing}
-use Rattle.ledger_transitions.proofs.Events.{journey_at-loaded, journey_at-did, journey_at-began_other, journey_at-began_new, history-loaded, history-began, history-began_new, history-did_same, history-did_other, numbers-loaded, numbers-did, numbers-began}
+use Rattle.ledger.proofs.Events.{journey_at-loaded, journey_at-did, journey_at-began_other, journey_at-began_new, history-loaded, history-began, history-began_new, history-did_same, history-did_other, numbers-loaded, numbers-did, numbers-began}
 use Rattle.saga_core.specs.Views.{brief_of, unfinished_of}
 use Rattle.saga_core.specs.declared.records.Brief.{Brief}
 use Rattle.saga_core.proofs.FirstLemmas.{Tells, tells, untold}

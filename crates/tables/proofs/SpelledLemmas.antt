@@ -15,7 +15,7 @@ use Rattle.commands.specs.declared.replies.Reply.TheVariants as reply
 use Rattle.ledger.specs.History.{is_finished, phase}
 use Rattle.ledger.specs.Ledger.{Event, Loaded, Began, Did, Journey, batches_named, history, is_not_below_held, journey_at, journeys, may_do}
 use Rattle.ledger.specs.Answer.{Answer, KeptReply, State, abort_choices, answer_load, answer_move, answer_new, answer_within, are_same_rows, asker, kept_for, limited, most_events, moved, outcome, outcome_for, refused, save_choices, seen_journey, start, state_with, step_choices, stop_choices}
-use Rattle.ledger_transitions.proofs.Events.{journey_at-began_new, journey_at-began_other, journey_at-did, journey_at-loaded}
+use Rattle.ledger.proofs.Events.{journey_at-began_new, journey_at-began_other, journey_at-did, journey_at-loaded}
 use Rattle.sql_model.specs.Spelling.{IsSpelled}
 use Rattle.tables.specs.Asking.{HasAgent}
 

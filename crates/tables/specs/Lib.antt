@@ -8,3 +8,4 @@ pub mod Making
 pub mod Opening
 pub mod Reading
 pub mod UnfinishedCount
+pub mod StockLeft

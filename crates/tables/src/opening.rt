@@ -79,7 +79,7 @@ impl<S: Alter> Opened<S> {
         read_journey(alloc, &mut self.conn, self.version, id)
     }
 
-    /// Lends the connection, for instance to `report_rows::start_stock` and `start_unfinished`, whose rows borrow it. When
+    /// Lends the connection, for instance to `report_writers::start_stock` and `start_unfinished`, whose rows borrow it. When
     /// they are let go, what was opened has the connection as they left it.
     pub fn connection(&mut self) -> &mut Connection<S>
         ensures* lends { sem 𝓛 (LendsConnection S.row S.Store self.entry result) }

@@ -1,8 +1,7 @@
 // The next step of a journey, by a table. The tries of the plan are a column of their own.
 use crate::tests::calls::holds;
-use plan::Plan;
+use plan::{Marks, Plan};
 use saga_core::{Cursor, Move, Phase, decide};
-use savepoints::Marks;
 use std::process::Abort;
 use std::test::Fail;
 

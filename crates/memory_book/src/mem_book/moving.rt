@@ -6,9 +6,8 @@ use crate::mem_book::MemBook;
 use crate::next::{saved, stepped, turned};
 use crate::stock::Stock;
 use commands::{Ask, Cause, Cursor, Item, Refusal, Reply};
-use plan::Plan;
+use plan::{Plan, Turn};
 use saga_core::{cursor_after, is_running};
-use savepoints::Turn;
 use std::alloc::AllocError;
 
 /// The reply to the journey at this place, which made this item and is now at this cursor.
@@ -52,8 +51,8 @@ impl MemBook {
     ghost use Rattle.commands.specs.Request.{Request};
     ghost use Rattle.ledger.specs.Answer.{State, asker, answer, answer_within, is_request, most_events};
     ghost use Rattle.ledger.specs.Ledger.{Did, is_allowed};
-    ghost use Rattle.ledger_transitions.specs.Answers.{moves};
-    ghost use Rattle.savepoints.specs.Rules as rules;
+    ghost use Rattle.ledger.specs.AnswerChanges.{moves};
+    ghost use Rattle.plan.specs.Rules as rules;
     ghost use Rattle.commands.specs.declared.items.Phase.TheVariants as Phase;
     ghost use Rattle.memory_book.specs.MemoryStock.{fits_some};
     ghost use Rattle.memory_book.specs.Memory.{StandsFor, IsCarriedOut, CarriesOut, KeepsBook};

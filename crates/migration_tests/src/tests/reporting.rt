@@ -5,7 +5,7 @@ use crate::tests::old_desks::{IN_A_ROUND, OldJourney, cells, is_unfinished, jour
 use crate::tests::old_files::old_file;
 use allotment::{Cell, Held};
 use memory_files::Session;
-use report_rows::{FoundRows, Progress, start_items, start_stock, start_unfinished};
+use report_writers::{FoundRows, Progress, start_items, start_stock, start_unfinished};
 use saga_core::{Brief, RowSource};
 use sqlite::{Alter, Connection};
 use std::alloc::{AllocError, Global};

@@ -2,8 +2,7 @@
 ghost use Rattle.std.specs.Prelude.{◌≡◌, ◌<◌, IfSome, IsTrue};
 
 use crate::tests::texts::holds;
-use plan::Plan;
-use savepoints::{Marks, NoSavePoint, Turn, is_save_point, last_save, option_at, target};
+use plan::{Marks, NoSavePoint, Plan, Turn, is_save_point, last_save, option_at, target};
 use std::alloc::Global;
 use std::process::Abort;
 

@@ -5,11 +5,10 @@ use super::{agent, cell, with_room};
 use allotment::{Cell, Held};
 use commands::{Cursor, Fault, Phase};
 use failing_streams::Sink;
-use plan::Plan;
+use plan::{Marks, Plan};
 use previews::{FreeNight, NextStep, look_ahead, next_step, read_nights, why_body, why_text};
 use reports::{Format, ReportFault};
 use saga_core::{Listed, Record};
-use savepoints::Marks;
 use std::alloc::{AllocError, Global};
 use std::process::Abort;
 

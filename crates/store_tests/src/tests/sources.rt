@@ -5,7 +5,7 @@ use crate::tests::helping::{book_over, run};
 use allotment::{Cell, Held};
 use commands::{Fault, Item};
 use memory_files::{ClosedFile, Session};
-use report_rows::{FoundRows, Progress, start_items, start_stock, start_unfinished};
+use report_writers::{FoundRows, Progress, start_items, start_stock, start_unfinished};
 use saga_core::{Brief, RowSource};
 use sqlite::{Alter, Connection};
 use std::alloc::{AllocError, Global};

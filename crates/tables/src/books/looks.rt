@@ -2,12 +2,12 @@
 ghost use Rattle.std.specs.Prelude.{◌≡◌, length};
 
 use crate::books::TableBook;
+use crate::brief_lists::read_unfinished;
 use crate::counting::count_unfinished;
 use commands::Fault;
 use saga_core::{Brief, Counts};
 use sql_commands::read_counts;
 use sql_reads::{LARGEST, read_first_unfinished};
-use sql_views::read_unfinished;
 use sqlite::Alter;
 
 impl<S: Alter> TableBook<S> {

@@ -3,7 +3,7 @@ use Rattle.std.proofs.Common.{Some, sym, subst}
 use Rattle.sqlite.specs.Held.{state}
 use Rattle.sqlite.specs.State.{HasCleanDisk}
 use Rattle.tables.specs.BookTerms.{StandsBook}
-use Rattle.openings.specs.Connections.{Represents}
+use Rattle.desk_jobs.specs.Connections.{Represents}
 use Rattle.program_ends.specs.declared.ends.End.TheVariants as finish
 use Rattle.histories.specs.Openings.{Nothing}
 use Rattle.desk_jobs.proofs.FollowLemmas.{follows_not_up, follows_unasked, follows_up}

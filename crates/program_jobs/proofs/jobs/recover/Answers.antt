@@ -2,7 +2,7 @@
 use Rattle.std.proofs.Common.{subst, ℕ, Some, Result, IfOk, IfErr}
 use Rattle.recovery.specs.Recovers.{Recovers}
 use Rattle.histories.specs.Openings.{Nothing}
-use Rattle.openings.specs.Connections.{Represents}
+use Rattle.desk_jobs.specs.Connections.{Represents}
 use Rattle.program_ends.specs.declared.ends.End.{End}
 use Rattle.desk_jobs.specs.Following.{Follows, end_of_recovery}
 use Rattle.desk_jobs.specs.Jobs.{NotReady}

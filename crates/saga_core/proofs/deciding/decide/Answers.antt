@@ -1,6 +1,6 @@
 -- In each phase the move names the one item that may come next.
 use Rattle.std.proofs.Common.{◌≡◌, arith}
-use Rattle.savepoints.specs.Rules as rules
+use Rattle.plan.specs.Rules as rules
 use Rattle.saga_core.proofs.DecidingLemmas.{only-take, one-take, only-turn, one-turn, only-undo, one-undo}
 use Rattle.saga_core.proofs.deciding.decide.Goals as goal
 

@@ -1,6 +1,6 @@
 use Rattle.std.proofs.Common.{◌∙◌, ap, sym, subst}
 use Rattle.commands.specs.declared.items.Cursor.{Cursor}
-use Rattle.ledger_transitions.specs.JourneyChanges.{cursor_after}
+use Rattle.ledger.specs.JourneyChanges.{cursor_after}
 use Rattle.sql_writes.specs.declared.events.Event.{Event}
 use Rattle.sql_writes.specs.declared.events.Event.TheVariants.{Transaction, Compensation}
 use Rattle.sql_commands.specs.Moving.{IsEventOf}

@@ -1,7 +1,7 @@
 -- The numbers of a turn to the start are small.
 use Rattle.std.proofs.Common.{arith, subst, sym}
 use Rattle.desk_sql.specs.Changes.{IsSmallCursor}
-use Rattle.sql_transitions.specs.Moving.{cursor_written}
+use Rattle.sql_model.specs.Moving.{cursor_written}
 use Rattle.sql_commands.proofs.SmallLemmas.{turned_to_start_small}
 use Rattle.sql_commands.proofs.moves.turn_to_start.Goals as goal
 

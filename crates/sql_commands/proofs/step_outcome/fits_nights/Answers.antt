@@ -2,7 +2,7 @@
 use Rattle.std.proofs.Common.{◌≡◌, ◌∙◌, ap, rules}
 use Rattle.allotment.specs.Places.{fits_in}
 use Rattle.sql_reads.proofs.ReadLemmas.{read_err, read_ok}
-use Rattle.sql_transitions.proofs.Fitting.{fits_told}
+use Rattle.sql_model.proofs.Fitting.{fits_told}
 use Rattle.sql_commands.proofs.step_outcome.fits_nights.Goals as goal
 
 pub returns-in-Ok : goal.returns-in-Ok

@@ -1,7 +1,7 @@
 -- The numbers of a step that is done are small.
 use Rattle.std.proofs.Common.{arith, sym, subst}
 use Rattle.desk_sql.specs.Changes.{IsSmallCursor}
-use Rattle.sql_transitions.specs.Moving.{cursor_written}
+use Rattle.sql_model.specs.Moving.{cursor_written}
 use Rattle.sql_commands.proofs.SmallLemmas.{stepped_up_small}
 use Rattle.sql_commands.proofs.step_outcome.step_up.Goals as goal
 

@@ -2,7 +2,7 @@
 use Rattle.std.proofs.Common.{sym, ap, subst, ◌∙◌, rules, arith}
 use Rattle.desk_sql.specs.Stock.{HaveRoom, gives_nights}
 use Rattle.desk_sql.specs.Writable.{MayGiveNights}
-use Rattle.sql_transitions.proofs.Ranges.{gives_range}
+use Rattle.sql_model.proofs.Ranges.{gives_range}
 use Rattle.sql_writes.proofs.Doing.{did_as, did_fail, numbered}
 use Rattle.sql_writes.proofs.Permitting.{may_give}
 use Rattle.sql_writes.proofs.journeys.give_want.Goals as goal

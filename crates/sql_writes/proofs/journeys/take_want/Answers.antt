@@ -2,7 +2,7 @@
 use Rattle.std.proofs.Common.{sym, ap, subst, ◌∙◌, rules, arith}
 use Rattle.desk_sql.specs.Stock.{HaveFree, takes_nights}
 use Rattle.desk_sql.specs.Writable.{MayTakeNights}
-use Rattle.sql_transitions.proofs.Ranges.{takes_range}
+use Rattle.sql_model.proofs.Ranges.{takes_range}
 use Rattle.sql_writes.proofs.Doing.{did_as, did_fail, numbered}
 use Rattle.sql_writes.proofs.Permitting.{may_take}
 use Rattle.sql_writes.proofs.journeys.take_want.Goals as goal

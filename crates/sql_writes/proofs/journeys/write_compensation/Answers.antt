@@ -1,6 +1,6 @@
 -- First the want's nights, then the option, the save-point and the move.
 use Rattle.std.proofs.Common.{refl, arith, rules}
-use Rattle.sql_transitions.specs.Moving.{gives_want}
+use Rattle.sql_model.specs.Moving.{gives_want}
 use Rattle.sql_writes.proofs.Doing.{did_and, did_fail, did_then, did_then_fail, keyed, numbered, open_of}
 use Rattle.sql_writes.proofs.Permitting.{have_room, may_mark}
 use Rattle.sql_writes.proofs.journeys.write_compensation.Goals as goal

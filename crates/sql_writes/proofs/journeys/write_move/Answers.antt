@@ -3,7 +3,7 @@ use Rattle.std.proofs.Common.{sym, ap, subst, arith, rules}
 use Rattle.desk_sql.specs.Changes.{moves_journey}
 use Rattle.desk_sql.specs.Writable.{MayMove}
 use Rattle.desk_sql.specs.declared.journeys.Cursor.{Cursor as CursorWritten}
-use Rattle.sql_transitions.specs.Moving.{with_item}
+use Rattle.sql_model.specs.Moving.{with_item}
 use Rattle.sql_writes.proofs.Doing.{did_fail, did_then, keyed, open_of}
 use Rattle.sql_writes.proofs.Permitting.{may_move, moved_on}
 use Rattle.sql_writes.proofs.journeys.write_move.Goals as goal

@@ -1,6 +1,6 @@
 -- First the want's nights, then the option and the move.
 use Rattle.std.proofs.Common.{refl, arith, rules}
-use Rattle.sql_transitions.specs.Moving.{takes_want}
+use Rattle.sql_model.specs.Moving.{takes_want}
 use Rattle.sql_writes.proofs.Doing.{did_and, did_fail, did_then, did_then_fail, numbered, open_of}
 use Rattle.sql_writes.proofs.Permitting.{may_mark}
 use Rattle.sql_writes.proofs.journeys.write_transaction.Goals as goal

@@ -1,5 +1,5 @@
 use Rattle.std.proofs.Common.{ap, sym}
-use Rattle.ledger_transitions.proofs.Taken.{marks_of-begin}
+use Rattle.ledger.proofs.Taken.{marks_of-begin}
 use Rattle.memory_book.proofs.JourneyLemmas.{phase-begun}
 use Rattle.memory_book.proofs.journeys.Journey.new.Goals as goal
 

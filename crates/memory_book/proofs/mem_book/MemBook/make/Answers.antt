@@ -3,7 +3,7 @@ use Rattle.std.specs.Option.{option_copied}
 use Rattle.std.specs.Vec.{with_item}
 use Rattle.std.proofs.lemmas.Option.{slice_get_read}
 use Rattle.ledger.specs.Answer.{kept_after}
-use Rattle.ledger_transitions.specs.Answers.{moves}
+use Rattle.ledger.specs.AnswerChanges.{moves}
 use Rattle.memory_book.specs.MemoryAnswers.{kept_in}
 use Rattle.memory_book.specs.Memory.{IsCarriedOut}
 use Rattle.memory_book.specs.declared.journeys.Journey.{Journey}

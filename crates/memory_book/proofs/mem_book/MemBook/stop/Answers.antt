@@ -3,7 +3,7 @@ use Rattle.std.specs.Option.{option_copied}
 use Rattle.commands.specs.Request as request
 use Rattle.commands.specs.declared.items.Cause.TheVariants as cause
 use Rattle.commands.specs.declared.replies.Refusal.TheVariants.{NoSavePoint}
-use Rattle.savepoints.specs.declared.turns.Turn.TheVariants as turn
+use Rattle.plan.specs.declared.turns.Turn.TheVariants as turn
 use Rattle.ledger.specs.Answer.{asker}
 use Rattle.ledger.specs.Replies.{stop_choices}
 use Rattle.saga_core.proofs.RulingLemmas.{stop_ruled}

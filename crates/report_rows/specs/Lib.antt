@@ -1,6 +1,0 @@
-pub mod RowsLeft
-pub mod HoldersLeft
-pub mod Stopping
-pub mod States
-pub mod HoldingsLeft
-pub mod ItemsLeft

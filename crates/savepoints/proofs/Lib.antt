@@ -1,4 +1,0 @@
-pub mod FlagsLemmas
-pub mod OptionLemmas
-pub mod WalkLemmas
-pub mod LandingLemmas

@@ -1,6 +1,0 @@
--- No flag stands, so the set is empty.
-use Rattle.savepoints.proofs.FlagsLemmas.{is_taken_in-replicate}
-use Rattle.savepoints.proofs.marks.Marks.none.Goals as goal
-
-pub returns : goal.returns
-returns c = record { empty = is_taken_in-replicate }

@@ -1,0 +1,161 @@
+-- The preconditions of the statements on the rows that they change: no number falls below 0 or passes the store's
+-- integers, and a new number is above all others. For the functions that write an item.
+use Rattle.std.proofs.Common.{◌≡◌, ℕ, suc, ◌+◌, ◌-◌, ◌<◌, ◌≤◌, ◌^◌, ◌==◌, List, [], ◌∷◌, ◌++◌, length, find, true, false, Option, Some, None, IsTrue, refl, sym, ap, subst, ◌∙◌, arith, filter_map, option_map, nat_le, ◌&&◌, unwrap_or, IsPermutation, rules}
+use Rattle.std.specs.List.{AllByRecursion, list_all}
+use Rattle.std.proofs.lemmas.Bool.{and_parts, leb-true}
+use Rattle.commands.specs.Limits.{most_rows}
+use Rattle.sqlite_trees.proofs.ListLemmas.{all-permutation}
+use Rattle.sqlite_rules.specs.Lists.{Has}
+use Rattle.sqlite_rules.proofs.ListLemmas.{all_has, all_from, has_found, test_has}
+use Rattle.allotment.specs.Want.{Wanted}
+use Rattle.allotment.specs.Limits.{is_between, is_good_cell, most_count, most_places}
+use Rattle.allotment.specs.Cells.{is_cell, cells_of, wants_cell}
+use Rattle.allotment.specs.declared.cells.Cell.{Cell}
+use Rattle.allotment.specs.declared.cells.Row.{Row}
+use Rattle.commands.specs.Names.{is_batch_name}
+use Rattle.commands.specs.declared.items.Item.{Item}
+use Rattle.ledger.specs.Ledger.{Event, Loaded, Began, Did, held, allotment, has_free, fits, is_allowed, is_batch, is_good_row, are_distinct, is_not_below_held, batches_named, IsLegal}
+use Rattle.ledger.proofs.Cells.{is_cell-same}
+use Rattle.ledger.proofs.Growing.{induct}
+use Rattle.ledger.proofs.Lists.{list_any-and_all}
+use Rattle.ledger.specs.JourneyChanges.{newer}
+use Rattle.ledger.proofs.Allotments.{loaded_distinct, allotment-began, allotment-did, allotment-loaded}
+use Rattle.saga_core.specs.Views.{places_of}
+use Rattle.desk_sql.specs.Changes.{AreItemsBelow}
+use Rattle.desk_sql.specs.Rows.{Tables, StockRow, EntryRow}
+use Rattle.desk_sql.specs.Stock.{is_within, HaveFree, HaveRoom}
+use Rattle.desk_sql.specs.declared.stock.NightRange.{NightRange}
+use Rattle.sql_model.specs.ExpectedRows.{counted_from, entry_row_of, entry_row_if, entries_called}
+use Rattle.sql_model.specs.Standing.{is_stock_of, places_told, StockStands}
+use Rattle.sql_model.specs.Reading.{IsRangeOf}
+use Rattle.sql_model.proofs.StockRows.{stock_at-row}
+use Rattle.sql_model.proofs.Ranges.{range_row}
+use Rattle.sql_model.proofs.Wants.{wanted_row}
+
+-- Items.
+
+-- the row of an item has the number of its event
+entry_num : (num journey : ℕ) (item : Item) → (entry_row_of num journey item).num ≡ num
+entry_num num journey item = search (rules, arith)
+
+-- numbers below the end of the suffix are below the end of the list
+later : (n m : ℕ) (rows : List EntryRow) → AllByRecursion (λ (e : EntryRow). e.num < suc n + m) rows
+    → AllByRecursion (λ (e : EntryRow). e.num < n + suc m) rows
+later n m rows below =
+    subst (λ k. AllByRecursion (λ (e : EntryRow). e.num < k) rows)
+    (let same : suc n + m ≡ n + suc m = omega arith in same) below
+
+-- the rows of items from an event on have the numbers of those events
+entries_from-below : (n : ℕ) (l : List Event)
+    → AllByRecursion (λ (e : EntryRow). e.num < n + length l)
+    (filter_map (λ (e : ℕ × Event). entry_row_if e.0 e.1) (counted_from n l))
+entries_from-below n [] = tt
+entries_from-below n (Loaded name rows ∷ l) = later n (length l) _ (entries_from-below (suc n) l)
+entries_from-below n (Began agent plan ∷ l) = later n (length l) _ (entries_from-below (suc n) l)
+entries_from-below n (Did j item ∷ l) =
+    (let e = entry_num n j item in omega arith, later n (length l) _ (entries_from-below (suc n) l))
+
+-- the next event's number is above the number of each item
+pub items_below : (l : List Event) (t : Tables) → IsPermutation (entries_called l) t.entries
+    → AreItemsBelow (length l + 1) t
+items_below l t same =
+    subst (λ n. AllByRecursion (λ (e : EntryRow). e.num < n) t.entries)
+    (let e : 1 + length l ≡ length l + 1 = omega arith in e)
+    (all-permutation (λ (e : EntryRow). e.num < 1 + length l) (entries_called l) t.entries same (entries_from-below 1 l))
+
+-- Allotments.
+
+-- each allotment keeps the limit of places
+FewPlaces : List Event → Type 0
+FewPlaces l = (x : Cell) (n : ℕ) → allotment l x ≡ Some n → n ≤ most_places
+
+-- a load keeps the limit of places, since its rows do
+few_loaded : (l : List Event) (name : List ℕ) (rows : List Row)
+    → IsTrue (is_allowed l (Loaded name rows)) → FewPlaces l → FewPlaces (l ++ Loaded name rows ∷ [])
+unfolding FewPlaces
+few_loaded l name rows may few x n at =
+    go (find (λ (r : Row). is_cell x r.cell) rows) refl
+    (sym (allotment-loaded l name rows x (loaded_distinct l name rows may)) ∙ at)
+  where
+    good : list_all is_good_row rows ≡ true
+    good =
+        let new =
+        (and_parts (is_batch name rows && list_all (is_not_below_held l) rows)
+        (length (batches_named l name) == 0) may).0 in
+        let batch = (and_parts (is_batch name rows) (list_all (is_not_below_held l) rows) new).0 in
+        let limits =
+        (and_parts (is_batch_name name && is_between 1 most_rows (length rows) && list_all is_good_row rows)
+        (are_distinct rows) batch).0 in
+        (and_parts (is_batch_name name && is_between 1 most_rows (length rows)) (list_all is_good_row rows) limits).1
+
+    go : (o : Option Row) → find (λ (r : Row). is_cell x r.cell) rows ≡ o
+        → newer (option_map (λ (r : Row). r.places) o) (allotment l x) ≡ Some n → n ≤ most_places
+    go None e f = few x n f
+    go (Some r) e f =
+        let there = has_found (λ (q : Row). is_cell x q.cell) rows r e in
+        let places =
+        (and_parts (is_good_cell r.cell) (nat_le r.places most_places) (test_has is_good_row rows r good there.0)).1 in
+        let low = leb-true r.places most_places places in
+        let same : r.places ≡ n = cc in
+        subst (λ k. k ≤ most_places) same low
+
+-- each other event keeps the limit, since it allots nothing
+few_more : (l : List Event) (e : Event) → IsLegal l → IsTrue (is_allowed l e) → FewPlaces l
+    → FewPlaces (l ++ e ∷ [])
+unfolding FewPlaces
+few_more l e legal may few = search (rules, arith, few_loaded, allotment-began, allotment-did)
+
+-- the allotment of each cell keeps the limit of places
+pub allotment_few : (l : List Event) → IsLegal l → (x : Cell) (n : ℕ) → allotment l x ≡ Some n
+    → n ≤ most_places
+unfolding FewPlaces
+allotment_few l legal = induct FewPlaces (λ x n e. cc) few_more l legal
+
+-- Nights.
+
+-- what a row of stock says of its cell
+record Says (l : List Event) (x : Cell) (r : StockRow) : Type 0 where
+  allotted : allotment l x ≡ Some r.allot
+  free : r.free ≡ r.allot - held l x
+
+-- the places in a cell's row are those that are allotted and free
+row_says : (l : List Event) (x : Cell) (r : StockRow) → places_of l x ≡ Some (places_told r) → Says l x r
+row_says l x r e = search (rules, arith)
+
+module _ (l : List Event) (t : Tables) (legal : IsLegal l) (stand : StockStands l t.stock) where
+  -- each row says what is allotted and free of its cell
+  each_says : (r : StockRow) → Has t.stock r → (x : Cell) × (is_stock_of x r ≡ true) × Says l x r
+  each_says r h = search (rules, arith, all_has, row_says, stock_at-row)
+
+  -- if a want fits, each of its nights has its count of free places
+  pub nights_have_free : (r : NightRange) (w : Wanted) → IsRangeOf r w → 1 ≤ w.nights
+      → fits l (Some w) ≡ true → HaveFree r w.count t
+  nights_have_free r w is some fit = all_from _ t.stock each
+    where
+      room : (x : Cell) (n : ℕ) → wants_cell w x ≡ true → allotment l x ≡ Some n → held l x + w.count ≤ n
+      room x n wanted at =
+          let found = list_any-and_all (is_cell x) (has_free l w.count) (cells_of w) wanted fit in
+          let free = ap (has_free l w.count) (is_cell-same x found.0 found.1) ∙ found.2 in
+          leb-true (held l x + w.count) n
+          (sym (ap (λ o. unwrap_or (option_map (λ places. nat_le (held l x + w.count) places) o) false) at) ∙ free)
+
+      each : (s : StockRow) → Has t.stock s → is_within r s ≡ true → (w.count ≤ s.free) × (s.free < 2 ^ 63)
+      each s h within =
+          let says = each_says s h in
+          let wanted =
+          sym (wanted_row w says.0 s some says.1) ∙ sym (range_row r w is s) ∙ within in
+          let enough = room says.0 s.allot wanted says.2.allotted in
+          let few = allotment_few l legal says.0 s.allot says.2.allotted in
+          let free = says.2.free in
+          (omega arith, omega arith)
+
+  -- each night of a want has room for its count of further places
+  pub nights_have_room : (r : NightRange) (w : Wanted) → w.count ≤ most_count → HaveRoom r w.count t
+  nights_have_room r w small = all_from _ t.stock each
+    where
+      each : (s : StockRow) → Has t.stock s → is_within r s ≡ true → s.free + w.count < 2 ^ 63
+      each s h within =
+          let says = each_says s h in
+          let few = allotment_few l legal says.0 s.allot says.2.allotted in
+          let free = says.2.free in
+          omega arith

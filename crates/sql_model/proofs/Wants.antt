@@ -1,0 +1,162 @@
+-- The rows of stock after the nights of a want got fewer free places, or more. For Taking and GivingBack.
+use Rattle.std.proofs.Common.{◌≡◌, ℕ, zero, suc, ◌+◌, ◌-◌, ◌<◌, ◌≤◌, ◌==◌, List, find, Bool, true, false, if◌then◌else◌, Option, Some, None, inl, inr, refl, sym, ap, ◌∙◌, arith, eqb-true, option_map, rules}
+use Rattle.std.proofs.lemmas.Bool.{eqb-false}
+use Rattle.sqlite_rules.specs.Lists.{Has}
+use Rattle.sqlite_rules.proofs.ListLemmas.{some_has, some_from, has_found}
+use Rattle.sqlite_rules.proofs.ProbeLemmas.{has_mapped, mapped_has}
+use Rattle.allotment.specs.Want.{Wanted}
+use Rattle.allotment.specs.Cells.{is_cell, cell_at, cells_of, numbers_from, wants_cell}
+use Rattle.allotment.specs.declared.cells.Cell.{Cell}
+use Rattle.ledger.specs.Ledger.{Event, held, allotment, places_in}
+use Rattle.ledger.proofs.Cells.{is_cell-same}
+use Rattle.saga_core.specs.Views.{Places}
+use Rattle.desk_sql.specs.Lists.{changed}
+use Rattle.desk_sql.specs.Rows.{StockRow}
+use Rattle.desk_sql.specs.Stock.{with_fewer, with_more}
+use Rattle.sql_model.specs.Standing.{is_stock_of, places_told, stock_at, StockStands}
+use Rattle.sql_model.specs.Reading.{is_wanted_row}
+use Rattle.sql_model.proofs.StockRows.{wanted_cell, cell_wanted}
+use Rattle.sql_model.proofs.Changing.{find-changed, once-changed, known-changed}
+use Rattle.sql_model.proofs.Alike.{same-turned, same-same, row_of_cell}
+
+-- two tests that imply each other are equal
+pub same_test : (a b : Bool) → (a ≡ true → b ≡ true) → (b ≡ true → a ≡ true) → a ≡ b
+same_test a b forth back = search (rules, arith)
+
+-- consecutive numbers are between the first and the last
+pub numbers_within : (first count n : ℕ) → Has (numbers_from first count) n → (first ≤ n) × (n < first + count)
+numbers_within first zero n h = absurd h
+numbers_within first (suc k) n (inl e) = (omega arith, omega arith)
+numbers_within first (suc k) n (inr h) = search (rules, arith, numbers_within (suc first) k n h)
+
+-- each number between the first and the last is one of the consecutive numbers
+pub within_numbers : (first count n : ℕ) → first ≤ n → n < first + count → Has (numbers_from first count) n
+within_numbers first zero n low high = absurd (omega arith)
+within_numbers first (suc k) n low high =
+    go (n == first) refl (λ above. within_numbers (suc first) k n above (omega arith))
+  where
+    go : (v : Bool) → (n == first) ≡ v → (suc first ≤ n → Has (numbers_from (suc first) k) n)
+        → Has (numbers_from first (suc k)) n
+    go v e rest = search (rules, arith, eqb-true, eqb-false)
+
+-- two cells with one row are equal
+one_row : (x y : Cell) (r : StockRow) → is_stock_of x r ≡ true → is_stock_of y r ≡ true
+    → is_cell x y ≡ true
+one_row x y r p q =
+    same-same (row_of_cell x) r (row_of_cell y) p (same-turned (row_of_cell y) r q)
+
+-- the row of a cell is wanted exactly if the cell is
+pub wanted_row : (w : Wanted) (x : Cell) (r : StockRow) → 1 ≤ w.nights → is_stock_of x r ≡ true
+    → is_wanted_row w r ≡ wants_cell w x
+wanted_row w x r some of = same_test (is_wanted_row w r) (wants_cell w x) forth back
+  where
+    forth : is_wanted_row w r ≡ true → wants_cell w x ≡ true
+    forth on =
+        let there = wanted_cell w r some on in
+        some_from (is_cell x) (cells_of w) (cell_at w r.night)
+        (mapped_has (cell_at w) (numbers_from w.first w.nights) r.night
+        (within_numbers w.first w.nights r.night there.1 there.2))
+        (one_row x (cell_at w r.night) r of there.0)
+
+    back : wants_cell w x ≡ true → is_wanted_row w r ≡ true
+    back on =
+        let found = some_has (is_cell x) (cells_of w) on in
+        let night = has_mapped (cell_at w) (numbers_from w.first w.nights) found.0 found.1 in
+        let bounds = numbers_within w.first w.nights night.0 night.1 in
+        (cell_wanted w night.0 r
+        (ap (λ y. is_stock_of y r) (sym (is_cell-same x found.0 found.2 ∙ night.2)) ∙ of) bounds.0 bounds.1).0
+
+-- A change of the free places of a want's rows.
+module _ (w : Wanted) (some : 1 ≤ w.nights) (freed : ℕ → ℕ) where
+  -- the row of a wanted cell, with its free places changed
+  abbrev with_freed : StockRow → StockRow
+  with_freed r = record r { free = freed r.free }
+
+  abbrev row_now : StockRow → StockRow
+  row_now r = if is_wanted_row w r then with_freed r else r
+
+  -- the places of a cell, changed if the cell is wanted
+  abbrev places_now : Bool → Places → Places
+  places_now wanted p = if wanted then record p { free = freed p.free } else p
+
+  -- the places of a cell change if the cell is wanted
+  stock_at-now : (rows : List StockRow) (x : Cell)
+      → stock_at (changed (is_wanted_row w) with_freed rows) x
+      ≡ option_map (places_now (wants_cell w x)) (stock_at rows x)
+  stock_at-now rows x =
+      ap (option_map places_told)
+      (find-changed (is_wanted_row w) with_freed (λ r s. refl) (λ r s. refl) x rows)
+      ∙ go (find (is_stock_of x) rows) refl
+    where
+      told : (v : Bool) (r : StockRow)
+          → places_told (if v then with_freed r else r) ≡ places_now v (places_told r)
+      told true r = refl
+      told false r = refl
+
+      go : (o : Option StockRow) → find (is_stock_of x) rows ≡ o
+          → option_map places_told (option_map row_now o)
+          ≡ option_map (places_now (wants_cell w x)) (option_map places_told o)
+      go None e = refl
+      go (Some r) e =
+          ap Some
+          (ap (λ v. places_told (if v then with_freed r else r)) (wanted_row w x r some
+          (has_found (is_stock_of x) rows r e).1)
+          ∙ told (wants_cell w x) r)
+
+  -- if the held places change likewise, the changed rows are those of the longer ledger
+  pub stock-now : (l m : List Event) (rows : List StockRow) → StockStands l rows
+      → ((x : Cell) → allotment m x ≡ allotment l x)
+      → ((x : Cell) (n : ℕ) → allotment l x ≡ Some n
+      → (if wants_cell w x then freed (n - held l x) else n - held l x) ≡ n - held m x)
+      → StockStands m (changed (is_wanted_row w) with_freed rows)
+  stock-now l m rows stand allots frees = record {
+    each =
+        λ x. stock_at-now rows x ∙ ap (option_map (places_now (wants_cell w x))) (stand.each x)
+        ∙ places x (allotment l x) refl
+        ∙ ap (option_map (λ (n : ℕ). record { allot = n; free = n - held m x })) (sym (allots x));
+    once =
+        once-changed (is_wanted_row w) with_freed (λ r s. refl) (λ r s. refl) rows stand.once;
+    known =
+        known-changed (is_wanted_row w) with_freed (λ r s. refl) (λ r s. refl) rows stand.known;
+  }
+    where
+      split : (v : Bool) (n k : ℕ)
+          → places_now v (record { allot = n; free = k }) ≡ record { allot = n; free = if v then freed k else k }
+      split true n k = refl
+      split false n k = refl
+
+      places : (x : Cell) (o : Option ℕ) → allotment l x ≡ o
+          → option_map (places_now (wants_cell w x))
+          (option_map (λ (n : ℕ). record { allot = n; free = n - held l x }) o)
+          ≡ option_map (λ (n : ℕ). record { allot = n; free = n - held m x }) o
+      places x None e = refl
+      places x (Some n) e =
+          ap Some
+          (split (wants_cell w x) n (n - held l x) ∙ ap (λ k. record { allot = n; free = k }) (frees x n e))
+
+-- after a want is taken, its nights have that many fewer free places
+pub stock-taken : (l m : List Event) (w : Wanted) (rows : List StockRow) → 1 ≤ w.nights
+    → StockStands l rows → ((x : Cell) → allotment m x ≡ allotment l x)
+    → ((x : Cell) → held m x ≡ held l x + places_in x (Some w))
+    → StockStands m (changed (is_wanted_row w) (with_fewer w.count) rows)
+stock-taken l m w rows some stand allots holds =
+    stock-now w some (λ n. n - w.count) l m rows stand allots
+    (λ x n at. go x n (wants_cell w x) (holds x))
+  where
+    go : (x : Cell) (n : ℕ) (v : Bool) → held m x ≡ held l x + (if v then w.count else 0)
+        → (if v then n - held l x - w.count else n - held l x) ≡ n - held m x
+    go x n v e = search (rules, arith)
+
+-- after a want is returned, its nights have that many more, if no more places were held than allotted
+pub stock-given : (l m : List Event) (w : Wanted) (rows : List StockRow) → 1 ≤ w.nights
+    → StockStands l rows → ((x : Cell) → allotment m x ≡ allotment l x)
+    → ((x : Cell) → held l x ≡ held m x + places_in x (Some w))
+    → ((x : Cell) (n : ℕ) → allotment l x ≡ Some n → held l x ≤ n)
+    → StockStands m (changed (is_wanted_row w) (with_more w.count) rows)
+stock-given l m w rows some stand allots holds within =
+    stock-now w some (λ n. n + w.count) l m rows stand allots
+    (λ x n at. go x n (wants_cell w x) (holds x) (within x n at))
+  where
+    go : (x : Cell) (n : ℕ) (v : Bool) → held l x ≡ held m x + (if v then w.count else 0)
+        → held l x ≤ n → (if v then n - held l x + w.count else n - held l x) ≡ n - held m x
+    go x n v e low = search (rules, arith)

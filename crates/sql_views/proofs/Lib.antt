@@ -1,5 +1,0 @@
-pub mod BriefLists
-pub mod OwnedLists
-pub mod StockLists
-pub mod StockOrder
-pub mod Taken
