@@ -1,8 +1,9 @@
 #!/usr/bin/env python3
 """Makes the source of the crate agents_page from web/desk.html: the page, and the policy for its content.
 
-scripts/page.py          writes crates/agents_page/src/page.rt
-scripts/page.py --check  ends with 1 where that file is another
+scripts/page.py           writes crates/agents_page/src/page.rt
+scripts/page.py --check   ends with 1 where that file is another
+scripts/page.py --served  prints the page as a browser gets it, without the lines of comments in its script
 
 The policy allows the page's own style and script, by their hashes, and requests to the desk that served it. A page that
 would load anything else, or has a style or a script that the policy would not allow, is not made. Nor is one whose table of
@@ -19,7 +20,8 @@ TOP = pathlib.Path(__file__).resolve().parent.parent
 PAGE = TOP / 'web' / 'desk.html'
 SOURCE = TOP / 'crates' / 'agents_page' / 'src' / 'page.rt'
 # the page is loaded whole before its first word is shown; its texts, in two languages, are 26 kB of it
-MOST_BYTES = 130_000
+MOST_BYTES = 125_000
+COMMENT = re.compile(r'^ *//.*\n', re.MULTILINE)
 # the table of texts, a row of it (a name, a text in English, the same in German), and a text that should be in it
 TABLE = re.compile(r'^const WORDS = \{\n(.*?)^\};\n', re.MULTILINE | re.DOTALL)
 ROW = re.compile(r"  (?:'([\w.]+)'|(\w+)): \['([^'\\]+)', '([^'\\]+)'\],")
@@ -83,8 +85,7 @@ def words_of(script):
     for name, texts in words.items():
         if len({tuple(sorted(set(re.findall(r'\{\d\}', text)))) for text in texts}) > 1 or max(text.count('|') for text in texts) > 1:
             faults.append(f'the texts of {name} have other values, or too many forms')
-    rest = re.sub(r'^ *//.*', '', script.replace(table[0], ''), flags=re.MULTILINE)
-    faults += [f'a text beside the table: {text}' for text in BESIDE.findall(rest)]
+    faults += [f'a text beside the table: {text}' for text in BESIDE.findall(script.replace(table[0], ''))]
     return words, faults
 
 
@@ -116,6 +117,11 @@ def raw(text):
     return f'r{marks}"{text}"{marks}'
 
 
+def served(page):
+    """The page as a browser gets it."""
+    return COMMENT.sub('', page)
+
+
 def source_of(page):
     if len(page.encode()) > MOST_BYTES:
         sys.exit(f'page: {PAGE.name} has more than {MOST_BYTES} bytes')
@@ -140,12 +146,15 @@ pub const PAGE: &str = {raw(page)};
 
 
 def main():
-    source = source_of(PAGE.read_text(encoding='utf-8'))
-    if sys.argv[1:] == ['--check']:
+    page = served(PAGE.read_text(encoding='utf-8'))
+    source = source_of(page)
+    if sys.argv[1:] == ['--served']:
+        sys.stdout.write(page)
+    elif sys.argv[1:] == ['--check']:
         if not SOURCE.exists() or SOURCE.read_text(encoding='utf-8') != source:
             sys.exit(f'page: {SOURCE.relative_to(TOP)} is not that of web/desk.html: run scripts/page.py')
     elif sys.argv[1:]:
-        sys.exit('usage: scripts/page.py [--check]')
+        sys.exit('usage: scripts/page.py [--check | --served]')
     else:
         SOURCE.write_text(source, encoding='utf-8')
 

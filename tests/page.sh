@@ -1,10 +1,11 @@
 #!/usr/bin/env bash
-# The page for browsers: what is served is web/desk.html, with a policy for its own style and script alone; requests under
+# The page for browsers: what is served is web/desk.html without its comments, with a policy for its own style and script alone; requests under
 # hosts that are this machine with the port, and under others; and nothing of this without --page. Own journeys, and how much
 # the desk has, over both doors.
 . "$(dirname "${BASH_SOURCE[0]}")/helping.bash"
 . "$tests/serving.bash"
-shown=$top/web/desk.html
+shown=$work/shown
+python3 "$top/scripts/page.py" --served >"$shown"
 
 # allowed TAG: the hash of what stands in the one element of this tag, as a policy has it
 allowed() {
@@ -27,7 +28,7 @@ policy="$policy; frame-ancestors 'none'; base-uri 'none'; form-action 'none'"
 serves 17 --page
 desk_at=http://127.0.0.1:$port
 page "the page" 200 "$(cat "$shown")" -D head "$desk_at/"
-cmp -s got "$shown" || same "the bytes of the page" "those of web/desk.html" "others"
+cmp -s got "$shown" || same "the bytes of the page" "those of scripts/page.py --served" "others"
 same "its type" "text/html; charset=utf-8" "$(field Content-Type)"
 same "its length" "$(wc -c <"$shown")" "$(field Content-Length)"
 same "its policy" "$policy" "$(field Content-Security-Policy)"

@@ -20,7 +20,7 @@ from page_german import focus_in_german, in_german, other_languages, rules_in_ge
 from page_lost import hang_and_kill, many_wait, nothing_twice
 from page_office import (
     SIGNED_OUT, away_by_status, behind_a_password, moved_elsewhere, not_found, one_question, other_signed_in, part_is_barred,
-    signed_in, signed_out, signed_out_in_windows, turned_away, two_windows,
+    signed_in, signed_out, signed_out_in_windows, turned_away, two_browsers, two_windows,
 )
 from page_restart import after_restart, restart_of_another_file, restart_told_once, restart_unseen
 from page_rules import first_visit, focus_order, large, rules
@@ -37,8 +37,8 @@ SCENES = {scene.__name__: scene for scene in (
     refusals_in_words, said_before, said_by_page, said_by_desk, taken_meanwhile, by_booking_number, asked_twice, all_steps,
     draft_is_changed, agents_are_apart, another_file, by_what_is_held, filters, begin_in_view, notes_cover_nothing, notes_end,
     nights_in_words, nothing_is_fetched, large_stock, as_table, printed, focus_order, first_visit, in_german, rules_in_german,
-    focus_in_german, other_languages, one_question, two_windows, away_by_status, part_is_barred, turned_away, not_found,
-    moved_elsewhere, signed_out_in_windows, behind_a_password, signed_in, other_signed_in,
+    focus_in_german, other_languages, one_question, two_windows, two_browsers, away_by_status, part_is_barred, turned_away,
+    not_found, moved_elsewhere, signed_out_in_windows, behind_a_password, signed_in, other_signed_in,
 )}
 
 
@@ -164,8 +164,9 @@ SPOILED = (
     ("a stock that hides own journeys", "if (met !== 'barred') break;", "break;", part_is_barred, "'My journeys (1)'"),
     ("a gateway that is taken for a refusal", "status > 499 || ", "", away_by(503), "'The desk cannot be reached' in #away"),
     ("what moved is done", ".history.join() !== seen", ".history.join() === null", moved_elsewhere, "not done"),
-    ("windows that do not take turns", "return navigator.locks && seen !== undefined ?", "return false ?", two_windows,
-     "the history"),
+    ("a move under a key of its own", "seen === undefined ? key :", "key ? key :", two_browsers, "the history after both"),
+    ("a move of a window under a key of its own", "seen === undefined ? key :", "key ? key :", two_windows, "the history"),
+    ("a move that came too late as a refusal", "why.page?.name === 'KeyReused'", "why.page?.name === 'Key'", two_browsers, "not done, since"),
     ("requests without a password", "credentials: 'same-origin'", "credentials: 'omit'", behind_a_password,
      "this did not come: #agent"),
     ("relative addresses", "await fetch(HOME + path, {", "await fetch(path.slice(1), {", behind_a_password,

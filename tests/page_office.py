@@ -1,14 +1,15 @@
-"""The page behind a server that asks for a password: signed out, not allowed, away, below a folder; and two windows at one journey.
+"""The page behind a server that asks for a password: signed out, not allowed, away, below a folder; and two windows, and two
+browsers, at one journey.
 More than 200 lines: each scene stands by itself."""
 import base64
 import time
 
 from selenium.webdriver.common.keys import Keys
 
-from page_driving import wait_until
+from page_driving import Browser, wait_until
 from page_network import html_page
 from page_rules import comes_to_all, look_at
-from page_scenes import FLIGHT, SHORT_LINE, TRANSFER, comes, plan, same
+from page_scenes import FLIGHT, SEA, SHORT_LINE, TRANSFER, comes, plan, same
 
 QUESTION = ("WWW-Authenticate", 'Basic realm="desk"')
 # what stands between a login service and the page; a redirect to elsewhere, and one to the same origin. The last word: whether it lets
@@ -210,7 +211,7 @@ def moved_elsewhere(scene):
 
 
 def two_windows(scene):
-    """Two windows show the same step and both press it: it is done once, and the other window is told."""
+    """Two windows show the same step and both press it: it is done once, and each window is told."""
     browser, network, driver = scene.browser, scene.network, scene.browser.driver
     scene.begins(plan(FLIGHT, TRANSFER))
     windows = other_window(scene)
@@ -236,8 +237,41 @@ def two_windows(scene):
         browser.shows("T1.1", "ol.items")
         told += [text for text in browser.names(".note p") if "Journey 1" in text or "journey 1" in text]
     same("the history", ["T1.1"], scene.desk.history(1))
-    same("each window is told", ["Journey 1: step 1 is done (flight AL A1, 1 Jun 2030, 1 place).",
-                                 "Step 1 of journey 1: not done, since journey 1 has moved since it was shown."], sorted(told))
+    same("each window is told", ["Journey 1: step 1 is done (flight AL A1, 1 Jun 2030, 1 place)."] * 2, told)
+
+
+def two_browsers(scene):
+    """Another browser of the same agent moves the journey while a press here is on its way to the desk: the same step is done once, and
+    what was meant for the journey before a turn is not done."""
+    browser, network, other = scene.browser, scene.network, Browser(f"{scene.folder}/other")
+    scene.begins(plan(FLIGHT, TRANSFER, SEA))
+    try:
+        other.works_as(scene.desk.url(), "ann")
+
+        def meanwhile(button, item):
+            """The other browser presses this before the next POST of this one comes to the desk."""
+            def presses():
+                other.press(button, ".acts")
+                if "Turn" in button:
+                    other.click_on("#sure-yes")
+                other.shows(item, "ol.items")
+            other.open(scene.desk.url("#/journeys/1"))
+            other.named(button, ".acts")
+            network.before = presses
+        scene.shows_journey(1)
+        browser.named("Do step 1", ".acts")
+        meanwhile("Do step 1", "T1.1")
+        browser.press("Do step 1", ".acts")
+        comes("nothing is kept", 0, scene.kept)
+        same("the history after both", ["T1.1"], scene.desk.history(1))
+        scene.note("Journey 1: step 1 is done (flight AL A1, 1 Jun 2030, 1 place).")
+        browser.named("Do step 2", ".acts")
+        meanwhile("Turn back to the start", "B0")
+        browser.press("Do step 2", ".acts")
+        scene.note("Step 2 of journey 1: not done, since journey 1 has moved since it was shown.")
+        same("the history after the turn", 2, len(scene.desk.history(1)))
+    finally:
+        other.end()
 
 
 def asks_for_password(request):

@@ -2,7 +2,7 @@
 
 /// What the page may load and do: its own style and script, and requests to the desk that served it.
 pub const POLICY: &str =
-    r#"default-src 'none'; script-src 'sha256-XuQKrG8A6BJGw3eoKEfcZJMW9MloqiLjUWsxlxKU+KI='; style-src 'sha256-v/aN891YSYsU5LbsCJGC/2lHDiq8mbGuZChwuWO8NmE='; connect-src 'self'; frame-ancestors 'none'; base-uri 'none'; form-action 'none'"#;
+    r#"default-src 'none'; script-src 'sha256-dFOLdUoaKFMQzsWEygvILaKlevjImv6d7CQMpO1EQ84='; style-src 'sha256-v/aN891YSYsU5LbsCJGC/2lHDiq8mbGuZChwuWO8NmE='; connect-src 'self'; frame-ancestors 'none'; base-uri 'none'; form-action 'none'"#;
 
 /// The page, in HTML.
 pub const PAGE: &str = r##"<!doctype html>
@@ -364,11 +364,8 @@ dialog .row { justify-content: flex-end; margin-top: 12px; }
 <script>
 'use strict';
 (() => {
-// ---- words
 
-// each text of the page, in English and in German: {0}, {1} .. are values. Of two forms the first is for one of what {0} counts
 const WORDS = {
-  // views
   skip: ['Skip to the content', 'Zum Inhalt'],
   views: ['Views', 'Ansichten'],
   'view.stock': ['Stock', 'Bestand'],
@@ -377,7 +374,6 @@ const WORDS = {
   'view.who': ['Who works here?', 'Wer arbeitet hier?'],
   anyJourney: ['One journey', 'Eine Reise'],
   journey: ['Journey {0}', 'Reise {0}'],
-  // kinds, nights, places
   'kind.flight': ['flight', 'Flug'],
   'kind.room': ['room', 'Zimmer'],
   'kind.transfer': ['transfer', 'Transfer'],
@@ -387,7 +383,6 @@ const WORDS = {
   places: ['{0} place|{0} places', '{0} Platz|{0} Plätze'],
   products: ['{0} product|{0} products', '{0} Produkt|{0} Produkte'],
   steps: ['{0} step|{0} steps', '{0} Schritt|{0} Schritte'],
-  // refusals, by the desk's names
   'refused.BadHead': ['The desk does not take requests from this address. Open it as 127.0.0.1 or localhost.', 'Das Buchungssystem nimmt unter dieser Adresse keine Anfragen an. Öffnen Sie es als 127.0.0.1 oder localhost.'],
   'refused.NoAgent': ['The desk does not accept this name of an agent.', 'Das Buchungssystem nimmt dieses Kürzel nicht an.'],
   'refused.NoKey': ['The desk does not accept the key of this request.', 'Das Buchungssystem nimmt den Schlüssel dieser Anfrage nicht an.'],
@@ -418,7 +413,6 @@ const WORDS = {
   lineEnd: ['A plan line ends with ! and one digit, the tries.', 'Eine Planzeile endet mit ! und einer Ziffer, den Versuchen.'],
   lineBad: ['A plan line is not read: {0}.', 'Die Planzeile ist nicht lesbar: {0}.'],
   lineStep: ['Step {0} of the plan line is not read: {1}.', 'Schritt {0} der Planzeile ist nicht lesbar: {1}.'],
-  // who works here
   whoSay: ['The desk shows you your own journeys and those of nobody else. The name is kept in this browser; another window may work for another agent.', 'Sie sehen Ihre eigenen Reisen und keine anderen. Das Kürzel bleibt in diesem Browser gespeichert; in einem anderen Fenster kann jemand anderes arbeiten.'],
   agent: ['Agent', 'Kürzel'],
   agentIs: ['Agent {0}', 'Kürzel {0}'],
@@ -428,7 +422,6 @@ const WORDS = {
   beginWork: ['Begin work', 'Anfangen'],
   before: ['Worked here before:', 'Hier haben gearbeitet:'],
   signedIn: ['You are signed in as agent {0} now.', 'Sie sind jetzt als {0} angemeldet.'],
-  // whether the desk is reached
   looking: ['Looking for the desk', 'Verbindung wird gesucht'],
   sending: ['Sending', 'Wird gesendet'],
   sendingNow: ['Sending …', 'Wird gesendet …'],
@@ -456,7 +449,6 @@ const WORDS = {
   drop: ['Drop', 'Verwerfen'],
   dropAside: ['Drop what is set aside', 'Das Zurückgelegte verwerfen'],
   notKept: ['This browser cannot keep the request, so it was not sent. Allow this page to store data, or free some space.', 'Dieser Browser kann die Anfrage nicht speichern, deshalb wurde sie nicht gesendet. Erlauben Sie dieser Seite, Daten zu speichern, oder schaffen Sie Platz.'],
-  // what is said
   happened: ['What happened', 'Was geschehen ist'],
   refusedMark: ['Refused. ', 'Abgelehnt. '],
   close: ['Close', 'Schließen'],
@@ -487,7 +479,6 @@ const WORDS = {
   'turned.a': ['as you asked', 'wie gewünscht'],
   toSave: ['to save-point {0}', 'zu Sicherungspunkt {0}'],
   toStart: ['to the start', 'zum Start'],
-  // the stock
   notAllotted: ['nothing is allotted on {0}', 'kein Kontingent am {0}'],
   noneFree: ['none free on {0}', 'nichts frei am {0}'],
   onlyFree: ['only {0} free on {1}', 'nur {0} frei am {1}'],
@@ -518,7 +509,6 @@ const WORDS = {
   freeInMonth: ['{0} place free|{0} places free', '{0} Platz frei|{0} Plätze frei'],
   nightSaid: ['{0}, {1} of {2} free, {3} % taken', '{0}, {1} von {2} frei, {3} % belegt'],
   of: ['of {0}', 'von {0}'],
-  // the bar
   chosen: ['Chosen: ', 'Gewählt: '],
   nightsField: ['Nights', 'Nächte'],
   placesField: ['Places', 'Plätze'],
@@ -531,7 +521,6 @@ const WORDS = {
   stepAdded: ['Step {0} of the new journey: {1}.', 'Schritt {0} der neuen Reise: {1}.'],
   optionAdded: ['Option {0} of step {1}: {2}.', 'Variante {0} von Schritt {1}: {2}.'],
   optionsMost: ['A step has at most 8 options.', 'Ein Schritt hat höchstens 8 Varianten.'],
-  // the journey that is put together
   planEmpty: ['Choose a night in the stock, then press “Add as step 1”.', 'Wählen Sie eine Nacht im Bestand und dann „Als Schritt 1 hinzufügen“.'],
   planHint: ['Each step takes places in one go. A step may have more options, of which the first is tried first, and a save-point after it, to which the journey can come back.', 'Jeder Schritt belegt seine Plätze auf einmal. Er kann mehrere Varianten haben, von denen die erste zuerst versucht wird, und danach einen Sicherungspunkt, zu dem die Reise zurückkommen kann.'],
   clear: ['Clear', 'Leeren'],
@@ -563,7 +552,6 @@ const WORDS = {
   firstOf: ['First night of option {0} of step {1}', 'Erste Nacht von Variante {0} von Schritt {1}'],
   nightsOf: ['Nights of option {0} of step {1}', 'Nächte von Variante {0} von Schritt {1}'],
   placesOf: ['Places of option {0} of step {1}', 'Plätze von Variante {0} von Schritt {1}'],
-  // own journeys
   'state.run': ['under way', 'in Arbeit'],
   'state.back': ['going back', 'geht zurück'],
   'state.ended': ['ended', 'abgeschlossen'],
@@ -587,7 +575,6 @@ const WORDS = {
   journeyHead: ['Journey', 'Reise'],
   stateHead: ['State, and what it holds', 'Stand, und was belegt ist'],
   more: ['Show {0} more of {1}', '{0} weitere von {1} zeigen'],
-  // one journey
   itemDone: ['step {0} done{1}{2}{3}', 'Schritt {0} ausgeführt{1}{2}{3}'],
   itemWith: [' with option {0}', ' mit Variante {0}'],
   itemUndone: [', undone later', ', später zurückgegeben'],
@@ -668,9 +655,7 @@ const WORDS = {
   here: ['here', 'hier'],
   pathTitle: ['The path of journey {0}: {1}', 'Der Weg der Reise {0}: {1}'],
 };
-// the first language of the browser that the table has; dates and numbers are as it writes them
 const TONGUE = navigator.languages.find(one => /^(en|de)(-|$)/i.test(one)) || 'en-GB', COLUMN = +/^de/i.test(TONGUE);
-// t(name, ..): the text of this name, with these values
 function t(name, ...values) {
   const [one, many = one] = WORDS[name][COLUMN].split('|');
   return (values[0] === 1 ? one : many).replace(/\{(\d)\}/g, (_, n) => one !== many && n === '0' ? values[0].toLocaleString(TONGUE) : values[n]);
@@ -679,23 +664,19 @@ document.documentElement.lang = ['en', 'de'][COLUMN];
 for (const one of document.querySelectorAll('[data-text]')) one.textContent = t(one.dataset.text);
 for (const one of document.querySelectorAll('[data-label]')) one.ariaLabel = t(one.dataset.label);
 
-// ---- nights, wants
 
 const KINDS = ['flight', 'room', 'transfer', 'cover'];
 const MOST = { flight: 1, room: 30, transfer: 1, cover: 60 };
 const LETTER = { flight: 'F', room: 'R', transfer: 'T', cover: 'C' };
 const FIRST = '2000-01-01', LAST = '2099-12-31';
 const SLOW = 15000, PATIENCE = 120000, NEWS = 4000, AGAIN = 2000, PAGE = 100, ROWS = 50;
-// the address of the desk names the origin, since a browser takes no relative one where a name and a password stand in its own
 const FOLDER = location.pathname.replace(/[^/]*$/, ''), HOME = location.origin + FOLDER.slice(0, -1);
-// what the browser keeps for this desk; another desk of the origin has another folder
 const MARK = FOLDER === '/' ? 'desk.' : `desk${FOLDER}.`;
 
 const $ = id => document.getElementById(id);
 const clock = () => performance.now();
 const night = time => new Date(time).toISOString().slice(0, 10);
 const plus = (from, days) => night(Date.parse(from) + days * 864e5);
-// dated(..): how the language writes a night, or a month; of what each part has
 const dated = (weekday, day, month, year) => {
   const form = new Intl.DateTimeFormat(TONGUE, { timeZone: 'UTC', weekday, day, month, year });
   return when => form.format(new Date(when));
@@ -706,7 +687,6 @@ const dayText = dated('short', FULL, 'long', FULL), shortDay = dated('short', FU
 const weekday = dated('long'), weekdays = dated('short'), inWeek = when => weekdays(when).slice(0, 2);
 const productOf = w => `${w.kind} ${w.supplier} ${w.product}`;
 const kindText = kind => t('kind.' + kind);
-// spanOf(want, dayOf): its first night, how many, and when a room is left
 const spanOf = (w, dayOf = short) => dayOf(w.first) + (w.nights > 1 || w.kind === 'room' ? `, ${t('nights', w.nights)}` : '')
   + (w.kind === 'room' ? `, ${t('leaving', leaving(plus(w.first, w.nights)))}` : '');
 const wantText = w => `${kindText(w.kind)} ${w.supplier} ${w.product}, ${spanOf(w)}, ${t('places', w.count)}`;
@@ -720,7 +700,6 @@ const refusalText = ({ name, step, cause }, booking) => name === 'KeyReused' && 
   ? t('refusedPlan', step ? t('inStep', step, causeText(cause)) : causeText(cause))
   : WORDS['refused.' + name] ? t('refused.' + name) : t('refusedOther', name);
 
-// readLine(text): the plan of a plan line; throws words where it is none
 function readLine(text) {
   const found = /^(.*)!([0-9])$/.exec(text.trim());
   if (!found) throw t('lineEnd');
@@ -748,7 +727,6 @@ function readLine(text) {
 }
 const isNight = text => /^20\d\d-\d\d-\d\d$/.test(text) && !isNaN(Date.parse(text)) && night(Date.parse(text)) === text;
 
-// ---- what is drawn
 
 function build(node, props, kids) {
   for (const [name, value] of Object.entries(props || {})) {
@@ -764,7 +742,6 @@ function build(node, props, kids) {
 const h = (tag, props, ...kids) => build(document.createElement(tag), props, kids);
 const s = (tag, props, ...kids) => build(document.createElementNS('http://www.w3.org/2000/svg', tag), props, kids);
 const button = (text, f, onclick, props) => h('button', { type: 'button', 'data-f': f, onclick, ...props }, text);
-// wholeField(word, f, low, high, value, set): a field for a number in these limits, after its word
 const wholeField = (word, f, low, high, value, set, props) => h('label', {}, word, h('input', {
   type: 'number', min: low, max: high, value, 'data-f': f, ...props,
   onchange: ({ target }) => {
@@ -774,8 +751,6 @@ const wholeField = (word, f, low, high, value, set, props) => h('label', {}, wor
 }));
 const product = w => [h('span', { class: 'kind ' + w.kind }, kindText(w.kind)), ` ${w.supplier} ${w.product}`];
 
-// nothing is drawn anew between the press of a button and its release, which has to find it, nor while a field tells its change and the
-// focus is on its way. A press that is never released holds nothing back for long
 let pressed = -Infinity, isChanging = false;
 const isHeld = () => isChanging || clock() - pressed < 2000;
 const listen = (names, act) => names.split(' ').forEach(name => document.addEventListener(name, act, true));
@@ -784,7 +759,6 @@ listen('mousedown', event => {
 });
 listen('keydown', event => {
   if (event.key === ' ' && event.target.closest('button, [type=checkbox]')) pressed = clock();
-  // a date is typed part by part
   if (event.target.type === 'date' && event.key !== 'Tab') event.target.isTyped = true;
 });
 listen('mouseup keyup dragend contextmenu', () => {
@@ -799,16 +773,12 @@ listen('change', ({ target }) => {
 listen('input', ({ target }) => { if (target.type === 'search') target.drawn = target.value; });
 listen('focusout', ({ target }) => { if (target.isTyped) { target.isTyped = false; setTimeout(draw); } });
 
-// isDrawn(box, key): whether the box shows this; now it does
 const isDrawn = (box, key) => box.dataset.key === key || void (box.dataset.key = key);
-// paint(box, kids): the box has these; what had the focus has it again, by its data-f
 function paint(box, ...kids) {
   const at = document.activeElement, had = at !== box && box.contains(at), f = had && at.dataset.f;
-  // what is being typed is left alone; the box is drawn again later
   const isTyped = had && (at.isTyped || (at.matches('input:not([type=checkbox])') && at.value !== at.drawn));
   if (isHeld() || isTyped) { delete box.dataset.key; return; }
   const from = had && at.selectionStart, to = had && at.selectionEnd;
-  // what was scrolled to its end stays there
   const path = box.querySelector('.path'), left = path && (path.scrollLeft + path.clientWidth > path.scrollWidth - 3 ? 1e5 : path.scrollLeft);
   box.replaceChildren(...kids.flat(9).filter(Boolean));
   if (path) box.querySelector('.path')?.scrollTo(left, 0);
@@ -821,7 +791,6 @@ function paint(box, ...kids) {
   }
 }
 
-// ---- what the browser keeps
 
 const storage = name => { try { return window[name]; } catch { return null; } };
 const local = storage('localStorage'), session = storage('sessionStorage');
@@ -836,47 +805,36 @@ function keep(store, name, value) {
   try { store.setItem(MARK + name, JSON.stringify(value)); return true; } catch { return false; }
 }
 const hex = bytes => [...crypto.getRandomValues(new Uint8Array(bytes))].map(byte => byte.toString(16).padStart(2, '0')).join('');
-// a UUID of version 4 without its hyphens
 function newKey() {
   const key = hex(16);
   return key.slice(0, 12) + '4' + key.slice(13, 16) + '89ab'[parseInt(key[16], 16) % 4] + key.slice(17);
 }
 
 let agent = kept(session, 'agent', kept(local, 'agent', ''));
-// the agent whom a server in front of the desk names, if one does, and whether this is known
 let given = '', isKnown = false;
 let view = 'stock', number = 0, turn = 0;
 let stockText = null, stockAt = 0, partAt = 0, isOpened = false, stock = new Map(), months = [];
 let own = new Map(), histories = new Map(), plans = new Map(), whys = new Map(), complete = false;
-// the agency's numbers of journeys, each with the plan that was begun under it; whether the desk says why a step would not fit
 let bookings = {}, knowsWhy = true;
-// own journeys that were open at the last look, as they were; those that a restart finished or undid
 let openBefore = [], byRestart = new Set();
 let draft = null, chosen = null, into = 0, badStep = 0, places = 1;
-// journeys of which a page came, until it is known how they are now
 let settling = new Map();
-// reached: 'here', 'slow', 'away', 'out' (signed out), 'barred' (not allowed); null until this is known
 let reached = null, wasAway = kept(session, 'away', false), status = 0, timer = 0, looking = false, lookAgain = false, line = new AbortController();
 let filter = { kind: '', supplier: '', product: '', month: '', from: '', places: 1, ...kept(session, 'filter', {}) };
 let sought = { state: '', text: '', ...kept(session, 'sought', {}), rows: ROWS };
 
 const isOpen = journey => journey.state === 'run' || journey.state === 'back';
 
-// ---- reading
 
 class Refused extends Error {
   constructor(page) { super(page.name); this.page = page; }
 }
-// Failed: no page of the desk came; `why` is a word of `reached`
 class Failed extends Error {
   constructor(why, status) { super(why); this.why = why; this.status = status; }
 }
-// whyOf(status): what an answer means that is no page of the desk. A redirect that is not followed has the status 0
 const whyOf = status => status < 400 || [401, 407, 511].includes(status) ? 'out'
   : status > 499 || [408, 425, 429].includes(status) ? 'away' : 'barred';
 
-// ask(path, is, options): the page of the desk, which `is` knows by its form. Nothing is asked for while signed out, and a
-// request is let wait, since the browser may be asking for a password
 async function ask(path, is, options) {
   if (reached === 'out') throw new Failed('out');
   const slow = setTimeout(() => { isReached('slow'); draw(); }, SLOW);
@@ -895,11 +853,9 @@ async function ask(path, is, options) {
   if (failed.why === 'out') { keep(local, 'out', true); isReached('out'); draw(); }
   throw failed;
 }
-// each request says for whom it is meant, and the desk refuses it where another agent is named on its way
 const meantFor = whose => ({ 'Desk-Agent': whose, 'Desk-For': whose });
 const get = (path, is, whose = agent) => ask(path, is, { headers: meantFor(whose) });
 
-// identify(): asks, without naming an agent, which one the desk is told
 async function identify() {
   let name = '';
   try { ({ agent: name } = await ask('/agent', page => page.agent)); } catch (why) { if (!(why instanceof Refused)) throw why; }
@@ -916,35 +872,29 @@ async function identify() {
   }
   if (given !== was) { route(true); flush(); }
 }
-// isAnother(refusal, name): whether it was refused since another agent than this one is named now
 async function isAnother(why, name) {
   if (!(why instanceof Refused && why.page.name === 'NoAgent')) return false;
   await identify();
   return given && given !== name;
 }
-// a report of the stock is whole: it has as many lines as it says
 const isStock = text => {
   const found = /^kind [^\n]*\n([^]*)cells (\d+)\n$/.exec(text);
   return found && found[1].split('\n').length - 1 === +found[2];
 };
 const isPlan = page => Array.isArray(page.steps), isJourney = page => Array.isArray(page.history);
 
-// look(): asks how much the desk has, then for what is new, and draws it; goes on every few seconds while the page can be seen. read:
-// how much it had when each part was read
 const read = new Map();
 async function look() {
   if (looking) { lookAgain = true; return; }
   clearTimeout(timer);
   if (document.hidden || !agent) return;
   looking = true;
-  // not at its end, since a page that is left gets no answer either
   keep(session, 'away', wasAway);
   const mine = turn, whose = agent, id = number, part = partOf();
   let met = 'here', bad = '', now = '';
   for (const [name, see] of Object.entries({
     health: async () => {
       if (given && waiting().some(one => one.agent !== given)) await identify();
-      // where a server in front hides it, all is asked for each time
       try { now = JSON.stringify(await ask('/health', page => page.events >= 0)); } catch (why) { if (why.why !== 'barred') throw why; }
     },
     stock: isStockDue() && lookAtStock, [part]: part && !isStockDue() && clock() > partAt && (() => lookAtPart(part, mine)),
@@ -958,7 +908,6 @@ async function look() {
       if (why instanceof Refused) { bad = refusalText(why.page); break; }
       met = why.why || 'away';
       status = why.status;
-      // what is not allowed leaves the other parts
       if (met !== 'barred') break;
     }
   }
@@ -974,7 +923,6 @@ async function look() {
   timer = setTimeout(look, reached === 'away' ? AGAIN : NEWS);
 }
 
-// where the stock is shown, a tab reads 131 kB of it a second at most; where its view is opened, five times as much
 const needsStock = () => view === 'stock' || view === 'plan' || !knowsWhy;
 const isStockDue = () => stockText === null || (needsStock() && clock() - stockAt > stockText.length / (isOpened ? 655 : 131));
 async function lookAtStock(mine) {
@@ -987,7 +935,6 @@ async function lookAtStock(mine) {
   months = [];
   takeCells(text);
 }
-// between two readings of all, the month that is shown of one supplier: a desk finds that at once
 const partOf = () => needsStock() && filter.kind && filter.supplier
   && `/stock/${filter.month}-01/${daysIn(filter.month).at(-1)}/${NAMES.map(name => filter[name]).join('/')}`.replace(/\/$/, '');
 async function lookAtPart(path, mine) {
@@ -1017,7 +964,6 @@ async function lookAtOwn(mine) {
     if (!await readMine(0, all, mine)) return;
     own = all;
     complete = true;
-    // as a window of this browser saw them last
     openBefore.push(...kept(local, OPEN + agent, []));
     if (openBefore.some(one => !own.has(one.journey))) openBefore = [];
     return tellRestart(mine);
@@ -1034,7 +980,6 @@ async function lookAtOwn(mine) {
   if (gone.some(id => isOpen(own.get(id)))) return lookAnew(mine);
   if (await readMine(most, own, mine)) await tellRestart(mine);
 }
-// readAll(ids, mine): reads these journeys with their histories
 async function readAll(ids, mine) {
   for (const id of ids) {
     const one = await unlessAbsent(get('/journeys/' + id, isJourney));
@@ -1047,19 +992,16 @@ function forget() {
   openBefore = []; byRestart = new Set();
   read.clear();
 }
-// lookAnew(): the desk has another file now, or an older one: nothing that was known is
 function lookAnew(mine) {
   forget();
   keep(local, OPEN + agent, []);
   return lookAtOwn(mine);
 }
-// unlessAbsent(page): null where there is no such journey
 const unlessAbsent = page => page.catch(why => {
   if (why instanceof Refused && why.page.name === 'NoJourney') return null;
   throw why;
 });
 
-// readMine(after, into): all own journeys above this number; whether they are still asked for
 async function readMine(after, into, mine) {
   for (;;) {
     const { mine: page } = await get('/mine' + (after ? '/' + after : ''), page => Array.isArray(page.mine));
@@ -1072,14 +1014,11 @@ async function readMine(after, into, mine) {
 
 function take(id, { history, ...where }) {
   const known = histories.get(id)?.history;
-  // it was moved elsewhere
   if (known && known.join() !== history.join() && !settling.has(id)) end(id);
   own.set(id, where);
   histories.set(id, { history, where });
 }
 
-// tellRestart(mine): tells, once in a browser, what a restart did to own journeys that were open. Those under way it turned, as their items
-// say. Those that went back it took on: that is known by others that it turned, or if the desk was away and none is open now
 const OPEN = 'open.', isRestart = item => /^B\d+s/.test(item), itemsOf = id => histories.get(id)?.history || [];
 const isOver = ({ journey: id }) => own.has(id) && !isOpen(own.get(id));
 async function tellRestart(mine) {
@@ -1088,7 +1027,6 @@ async function tellRestart(mine) {
   await readAll(ids.filter(id => histories.get(id)?.where !== own.get(id)), mine);
   if (mine !== turn) return;
   const isTurned = one => itemsOf(one.journey).some(isRestart);
-  // another file has other histories
   if (ids[0] && over.every(one => itemsOf(one.journey).join().startsWith(one.history || '')) && (isAway || over.some(isTurned))) {
     const all = over.filter(one => isAway || isTurned(one) || one.state === 'back');
     all.forEach(one => byRestart.add(one.journey));
@@ -1098,7 +1036,6 @@ async function tellRestart(mine) {
   openBefore = openBefore.filter(one => !over.includes(one));
   saveOpen();
 }
-// saveOpen(): keeps which own journeys are open, with what is known of them
 function saveOpen() {
   const known = new Map(openBefore.map(one => [one.journey, one.history]));
   const historyOf = id => histories.get(id)?.history.join() ?? known.get(id);
@@ -1120,7 +1057,6 @@ function sayRestart(all) {
   const lines = [...did].sort(([a], [b]) => a - b).map(([, text]) => '\n' + text);
   Object.assign(say('warn', t('restarted', time, lines.join('')), 'restart'), { did, time });
 }
-// wasRestarted(request): whether a restart finished or undid its journey, which was open when it was made; that is told
 async function wasRestarted({ about, agent: whose, seen }) {
   if (seen === undefined || whose !== agent) return false;
   openBefore.push({ journey: about, state: 'back', history: seen, isNew: true });
@@ -1128,7 +1064,6 @@ async function wasRestarted({ about, agent: whose, seen }) {
   return byRestart.has(about);
 }
 
-// planOf(id, mine): its plan, which is read once; null where there is none
 async function planOf(id, mine) {
   const plan = plans.get(id) || await unlessAbsent(get(`/journeys/${id}/plan`, isPlan));
   if (mine === turn) plans.set(id, plan);
@@ -1145,7 +1080,6 @@ async function lookAtOne(id, mine) {
   if (settling.get(id) === was) settling.delete(id);
   if (one && isOpen(one) && knowsWhy) await lookAtWhy(id);
 }
-// lookAtWhy(id): what its next step would make; by the stock, where an older desk does not say it
 async function lookAtWhy(id) {
   if (knowsWhy) try { whys.set(id, await get(`/journeys/${id}/why`, page => page.step)); } catch (why) {
     if (!(why instanceof Refused)) throw why;
@@ -1154,12 +1088,10 @@ async function lookAtWhy(id) {
   if (!knowsWhy) await lookAtStock(turn);
 }
 
-// ---- sending: each request is kept with its key until its page came, and retried as it was
 
 const TAB = MARK + 'tab.', POST = MARK + 'post.';
 let tab = kept(session, 'tab', '') || hex(8), sending = false, resend = 0, sent = 0, isLost = false;
 
-// a window has a name of its own, which it holds while it is open; one that was copied from another takes a new one
 async function nameWindow() {
   for (;;) {
     keep(session, 'tab', tab);
@@ -1184,7 +1116,6 @@ function waiting() {
   return found.filter(Boolean).sort((a, b) => a.at - b.at || a.turn - b.turn);
 }
 
-// those of this window and of closed ones, but for what was set aside, and those of an agent who is not signed in
 const isDue = one => !one.aside && (!given || one.agent === given);
 async function ownWaiting() {
   const held = navigator.locks ? new Set((await navigator.locks.query()).held.map(lock => lock.name)) : new Set();
@@ -1193,8 +1124,6 @@ async function ownWaiting() {
   );
 }
 
-// send(.., seen, all, booking): with `seen`, what is shown of the journey; with `all`, the steps after this one are meant too; with
-// `booking`, the number of the agency is the key that the desk gets
 async function send(path, body, what, about, seen, all, booking) {
   end(about);
   await named;
@@ -1218,7 +1147,6 @@ async function flush() {
   if (!is) resend = setTimeout(flush, AGAIN);
 }
 
-// sendKept(request): whether its page came; two windows do not send one request at a time
 async function sendKept(request) {
   const go = async lock => {
     if (!lock) return false;
@@ -1239,7 +1167,6 @@ async function sendKept(request) {
         return false;
       }
     }
-    // what a restart did is told by itself, and is no refusal
     const isTold = (!page || page.refused) && await wasRestarted(request);
     const lack = /^B\d+r/.test(page?.item) ? await lackOf(request) : '';
     local.removeItem(POST + request.key);
@@ -1251,28 +1178,23 @@ async function sendKept(request) {
   return navigator.locks ? navigator.locks.request(POST + request.key, { ifAvailable: true }, go) : go(true);
 }
 
-// pageOf(request): what the desk answers to it; nothing where its journey has moved since it was shown. A request that was sent
-// before is not held back: only the desk knows whether it was done. The windows of this browser take turns at a journey
+const keyOf = ({ booking, seen, about, key }) => booking || (seen === undefined ? key : `seen-${about}-${seen.length}`);
 async function pageOf(request) {
-  const { path, key, booking, agent, body, about, seen, isTried } = request;
+  const { path, key, agent, body, about, seen, isTried } = request;
   const tried = is => { request.isTried = is; keep(local, 'post.' + key, request); };
-  const go = async () => {
-    if (seen !== undefined && !isTried && (await get('/journeys/' + about, isJourney, agent)).history.join() !== seen) return null;
-    tried(true);
-    try {
-      return await ask(path, page => page.journey, {
-        method: 'POST', body, headers: { ...meantFor(agent), 'Desk-Key': booking || key, 'Content-Type': 'application/json' },
-      });
-    } catch (why) {
-      // what never came to the desk was not done
-      if (why.why === 'out' || why.why === 'barred') tried(isTried);
-      throw why;
-    }
-  };
-  return navigator.locks && seen !== undefined ? navigator.locks.request(`${MARK}journey.${about}`, go) : go();
+  if (seen !== undefined && !isTried && (await get('/journeys/' + about, isJourney, agent)).history.join() !== seen) return null;
+  tried(true);
+  try {
+    return await ask(path, page => page.journey, {
+      method: 'POST', body, headers: { ...meantFor(agent), 'Desk-Key': keyOf(request), 'Content-Type': 'application/json' },
+    });
+  } catch (why) {
+    if (seen !== undefined && why.page?.name === 'KeyReused') return null;
+    if (why.why === 'out' || why.why === 'barred') tried(isTried);
+    throw why;
+  }
 }
 
-// lackOf(request): what a step that was refused wanted, and the first night that lacks it: as the desk said before, or as the stock is now
 async function lackOf({ about, agent: whose, seen }) {
   let text = '';
   try {
@@ -1288,7 +1210,6 @@ async function lackOf({ about, agent: whose, seen }) {
   } catch { return text && ` (${text})`; }
 }
 
-// hear(request, page, isTold, lack): what the desk answered; with `isTold`, what became of it is told
 function hear(request, page, isTold, lack) {
   const isOwn = request.agent === agent, whose = isOwn ? '' : t('whose', request.agent);
   if (isOwn && request.seen !== undefined) settling.set(request.about, request.key);
@@ -1301,7 +1222,6 @@ function hear(request, page, isTold, lack) {
   } else if (request.about === 'new') {
     say('good', t('begun', page.journey, whose), page.journey);
     if (isOwn) {
-      // a number that was used before leads to the journey that has it
       if (!own.has(page.journey)) {
         own.set(page.journey, { journey: page.journey, pos: 0, state: 'run' });
         openBefore.push({ ...own.get(page.journey), isNew: true });
@@ -1319,7 +1239,6 @@ function hear(request, page, isTold, lack) {
   look();
 }
 
-// goOn(request, page, text): does the next of all steps that are left, if this one was done and that one fits
 async function goOn({ about, seen, agent: whose, tab: of }, { item, pos }, text) {
   const plan = whose === agent && of === tab && item[0] === 'T' && plans.get(about), history = seen ? [seen, item] : [item];
   try { await lookAtWhy(about); } catch { /* by what is known */ }
@@ -1340,10 +1259,8 @@ function itemSaid({ item, state, target }, plan, lack) {
   return { word: b === 'a' ? 'good' : 'warn', text: t('turnsSince', t('turned.' + b) + lack, to, end(target === undefined ? 'there' : 'back')) };
 }
 
-// ---- what is said
 
 const told = [];
-// say(.., of): what it speaks of, in the place of what was said of that before
 function say(word, text, of) {
   end(of);
   while (told.length > 2) drop(told[+(told[0].of === 'restart')]);
@@ -1354,7 +1271,6 @@ function say(word, text, of) {
   if (word === 'good') setTimeout(() => drop(note), 9000);
   return note;
 }
-// end(of): what was said of this is over
 const end = of => told.filter(note => note.of === of).forEach(drop);
 function drop(note) {
   const at = told.indexOf(note);
@@ -1366,14 +1282,12 @@ function drop(note) {
 }
 
 function isReached(now) {
-  // who is signed out is so until the page is loaded again
   if (reached === now || reached === 'out') return;
   const was = reached;
   reached = now;
   if (now === 'here' && was) { say('good', t('again'), 'reach'); look(); }
   if (now !== 'here') end('reach');
 }
-// isSignedIn(): this page was loaded, here or in another window, so the browser is signed in
 function isSignedIn() {
   reached = null;
   look();
@@ -1404,7 +1318,6 @@ function drawState() {
   if (!isDrawn(away, key)) paint(away, lines.map(one => h('p', {}, one)));
   away.hidden = !lines.length;
 }
-// resume(aside, isDropped): what was set aside is sent again, or dropped
 function resume(aside, isDropped) {
   for (const one of aside) {
     if (isDropped) local.removeItem(POST + one.key); else keep(local, 'post.' + one.key, { ...one, aside: 0 });
@@ -1413,7 +1326,6 @@ function resume(aside, isDropped) {
   flush();
 }
 
-// sure(title, text, yes): asks once more; whether the answer was yes
 function sure(title, text, yes) {
   $('sure-title').textContent = title;
   $('sure-text').textContent = text;
@@ -1423,14 +1335,12 @@ function sure(title, text, yes) {
     let is = false;
     $('sure-yes').onclick = () => { is = true; box.close(); };
     $('sure-no').onclick = () => box.close();
-    // the box may be open again by the time that this is told
     box.onclose = () => { if (!box.open) then(is); };
     box.showModal();
     $('sure-no').focus();
   });
 }
 
-// ---- who works here
 
 function setAgent(name) {
   agent = name;
@@ -1466,11 +1376,9 @@ $('who-form').addEventListener('submit', event => {
   $('agent').focus();
 });
 
-// ---- the stock
 
 const places2 = n => n < 10000 ? String(n) : `${Math.floor(n / 1000)}k`;
 
-// fits(want, cellOf): whether it has its places now, and why
 function fits(want, cellOf = when => stock.get(productOf(want))?.nights.get(when)) {
   let least = Infinity, at = '';
   for (let n = 0; n < want.nights; n++) {
@@ -1482,8 +1390,6 @@ function fits(want, cellOf = when => stock.get(productOf(want))?.nights.get(when
   return { is: true, why: want.nights > 1 ? t('freeAt', least, short(at)) : t('free', least) };
 }
 const fitText = (want, { is, why } = fits(want)) => h('span', { class: is ? 'good' : 'bad' }, t(is ? 'fitsNow' : 'notNow', why));
-// nextOf(plan, way): what the next step takes, whether that fits and why, and to where it would else turn the journey: as the desk says, and
-// by the stock where it does not
 function nextOf(plan, way, of = number) {
   const want = optionAt(plan, way.pos + 1, way.used), said = whys.get(of);
   if (said?.state !== 'run' || said.pos !== way.pos || said.want !== optionText(want)) {
@@ -1494,9 +1400,7 @@ function nextOf(plan, way, of = number) {
 }
 
 const NAMES = ['kind', 'supplier', 'product'];
-// isShown(one): whether the filters, or the first ones of them, let a product through
 const isShown = (one, names = NAMES) => names.every(name => !filter[name] || filter[name] === one[name]);
-// isFree(one): whether it has the places that are sought: rooms and cover on each night before the last day, others on some day
 function isFree({ kind, nights }) {
   const { from, to, places: least } = filter, days = [];
   for (let day = from; from && day <= to; day = plus(day, 1)) days.push(nights.has(day) && nights.get(day).free >= least);
@@ -1506,7 +1410,6 @@ function isFree({ kind, nights }) {
 function setFilter(change) {
   Object.assign(filter, change);
   const { from, to } = filter;
-  // the last day is from one to sixty days later
   filter.to = from && [plus(from, 1), to, plus(from, 60)].sort()[1];
   if (change.from) filter.month = from.slice(0, 7);
   if (change.places) places = change.places;
@@ -1539,7 +1442,6 @@ function drawFilters() {
       dayField('from'), dayField('to'))));
 }
 
-// settleFilter(): the filter names what there is
 function settleFilter() {
   const all = [...stock.values()];
   NAMES.forEach((name, n) => { if (!all.some(one => isShown(one, NAMES.slice(0, n + 1)))) filter[name] = ''; });
@@ -1587,7 +1489,6 @@ function drawStock() {
 }
 
 const daysIn = month => [...Array(new Date(Date.UTC(month.slice(0, 4), month.slice(5), 0)).getUTCDate()).keys()].map(n => plus(month + '-01', n));
-// denseTable(all, key): products by nights of the month
 const denseTable = (all, key) => h('div', { class: 'card grid', 'data-key': key },
   h('table', { role: 'grid', 'aria-label': t('freePlaces'), 'aria-multiselectable': 'true' },
     h('thead', {}, h('tr', {}, h('th', {}), daysIn(filter.month).map(when => h('th', { scope: 'col', class: filter.from <= when && when <= filter.to && filter.from && 'sought' }, inWeek(when), h('br'), +when.slice(8))))),
@@ -1596,7 +1497,6 @@ const denseTable = (all, key) => h('div', { class: 'card grid', 'data-key': key 
       return h('td', { 'aria-selected': cell && 'false' }, cell && nightButton(one, when, cell, !row && when === nights[0][0]));
     }))))));
 
-// calendar(one, nights, key): a product's nights of the month, Monday first
 function calendar(one, nights, key) {
   const month = filter.month, title = 'cal ' + productOf(one), id = title.replace(/ /g, '-');
   const known = new Map(nights), days = daysIn(month), gap = (new Date(days[0]).getUTCDay() + 6) % 7;
@@ -1641,7 +1541,6 @@ $('cals').addEventListener('keydown', event => {
   const at = event.target.closest('.night');
   if (!at) return;
   const table = at.closest('table'), when = at.dataset.night, all = [...table.querySelectorAll(`[data-of="${at.dataset.of}"]`)];
-  // in the table, up and down lead to other products
   const same = [...table.querySelectorAll(`[data-night="${when}"]`)], rows = same.length > 1 && (by => same[same.indexOf(at) + by]);
   const near = by => by < 0
     ? all.filter(one => one.dataset.night <= plus(when, by)).pop() : all.find(one => one.dataset.night >= plus(when, by));
@@ -1672,12 +1571,10 @@ $('cals').addEventListener('keydown', event => {
   }
 });
 
-// choose(night): begins a choice, or makes the one that there is longer
 function choose(at, isLonger, byKey) {
   const [kind, supplier, product] = at.dataset.of.split(' '), when = at.dataset.night;
   const same = chosen && productOf(chosen) === at.dataset.of;
   const nights = same ? Math.round((Date.parse(when) - Date.parse(chosen.first)) / 864e5) + 1 : 0;
-  // a key in what is chosen leaves it as it is
   const isIn = byKey && nights >= 1 && nights <= chosen.nights && chosen.nights > 1;
   const isOn = same && nights >= 1 && nights <= MOST[kind] && (isLonger || (nights > 1 && chosen.nights === 1));
   if (isOn) chosen.nights = nights;
@@ -1703,7 +1600,6 @@ function paintChosen() {
   }
 }
 
-// the bar: what is chosen, and where it goes
 function drawBar() {
   const bar = $('bar'), is = chosen && (view === 'stock' || view === 'plan');
   bar.hidden = !is;
@@ -1733,7 +1629,6 @@ function drawBar() {
       button(t('drop'), 'bar.drop', unchoose, { class: 'flat', 'aria-label': t('dropChoice') })));
   enterBar(bar);
 }
-// enterBar(bar): where a key has chosen, the focus goes on to the bar, once that is drawn
 let entersBar = false;
 function enterBar(bar) {
   if (!entersBar || !bar.dataset.key) return;
@@ -1742,7 +1637,6 @@ function enterBar(bar) {
 }
 $('bar').addEventListener('keydown', event => { if (event.key === 'Escape') { event.preventDefault(); unchoose(); } });
 
-// add(list, one, text): what is chosen goes to the steps, or to the options of one; that is said
 function add(list, one, text) {
   list.push(one);
   unchoose();
@@ -1756,7 +1650,6 @@ function addOption(into) {
   else add(options, chosen, t('optionAdded', options.length + 1, into, wantText(chosen)));
 }
 
-// ---- the journey that is put together
 
 function setDraft(next) {
   end('new');
@@ -1799,7 +1692,6 @@ function drawPlan() {
       button(t('clear'), 'clear', clear, { 'aria-label': t('clearAll') })));
 }
 
-// saveItem(step, at): what stands between a step and the next one
 function saveItem(step, at) {
   if (at === draft.steps.length - 1) return h('li', { class: 'last', role: 'presentation' });
   const onchange = event => { step.save = event.target.checked; setDraft(draft); };
@@ -1811,10 +1703,8 @@ function triesText(hasSave) {
   return !tries ? t('triesNone') : hasSave ? t('triesSay', tries) : t('triesNoSave');
 }
 
-// the journey that is begun, without the number of the agency, which is its key
 const bodyOf = ({ steps, tries }) => JSON.stringify({ steps, tries });
 const isBooking = text => /^[A-Za-z0-9-]{1,32}$/.test(text);
-// book(journey, booking, plan): the number of the agency is kept with what was begun under it, since another file has other journeys
 function book(journey, booking, plan) {
   bookings = Object.fromEntries(Object.entries({ ...bookings, [journey]: [booking, planLine(plan)] }).slice(-2000));
   keep(local, 'bookings.' + agent, bookings);
@@ -1895,7 +1785,6 @@ function optionItem(step, at, want, n) {
 
 function drawPlanAgain() { delete $('plan').dataset.key; drawPlan(); }
 
-// ---- own journeys
 
 const STATES = ['run', 'back', 'ended', 'undone'];
 function stateText(one) {
@@ -1904,9 +1793,7 @@ function stateText(one) {
   return one.state === 'back' ? t('backTo', one.pos, one.target) : t('state.' + one.state);
 }
 const stateMark = one => h('span', { class: 'is ' + one.state }, stateText(one));
-// isRead(one): whether what is known of its history is new; at its start it holds nothing anyway
 const isRead = one => !one.pos || JSON.stringify(histories.get(one.journey)?.where) === JSON.stringify(one);
-// saidOf(one): what a journey holds, by which it is found, and what else is said of it, once that is known
 function saidOf(one) {
   const plan = plans.get(one.journey), history = one.pos ? histories.get(one.journey)?.history : [];
   if (!plan || !history) return null;
@@ -1930,7 +1817,6 @@ function drawList() {
   const rows = some.slice(0, sought.rows);
   const said = rows.map(one => [one, saidOf(one), bookingOf(one.journey)]);
   const key = JSON.stringify([complete, all.length, open, sought, some.length, view, number, said]);
-  // digits may stand in the number or the dates of one journey, and be the booking of another
   seekBooking(complete && (!some.length || /^\d+$/.test(text)) ? sought.text.trim() : '');
   if (isDrawn($('list'), key)) return;
   if (!all.length) {
@@ -1961,7 +1847,6 @@ function drawList() {
 }
 
 const bookingText = ({ journey }) => bookingOf(journey) && h('span', { class: 'small' }, ` ${t('bookingIs', bookingOf(journey))}`);
-// seekBooking(text): asks the desk, once this was typed, for the journey that was begun under it
 let askedFor = '', asking = 0;
 function seekBooking(text) {
   clearTimeout(asking);
@@ -1990,7 +1875,6 @@ function listRow(one) {
     h('td', {}, stateMark(one), said && bookingText(one), said && h('div', { class: 'plan small' }, t('holds', said.held), h('span', { class: 'soft' }, said.rest))));
 }
 
-// fillPlans(rows): asks for the plans and histories of those that are listed, one after another
 let filling = false;
 async function fillPlans(rows) {
   if (filling) return;
@@ -2011,14 +1895,11 @@ async function fillPlans(rows) {
   } catch { /* the news say that the desk is not reached */ }
   filling = false;
   if (!asked) return;
-  // others may be listed by now than those that were asked for
   delete $('list').dataset.key;
   drawList();
 }
 
-// ---- one journey
 
-// walk(history, plan): each item with where it led from and to; what stands; the save-points; how often it was refused
 function walk(history, plan) {
   const steps = [], stands = [], marks = new Set();
   let pos = 0, used = 0;
@@ -2090,7 +1971,6 @@ function drawOne() {
     history.length
       ? h('ol', { class: 'items' }, way.steps.map(step => h('li', {}, h('span', { class: 'code' }, step.item), ' ', itemText(step))))
       : h('p', { class: 'soft' }, t('nothingYet')));
-  // what is newest is seen
   if ($('one').dataset.key && $('one').dataset.drawn !== drawn) {
     $('one').dataset.drawn = drawn;
     $('one').querySelector('.path').scrollLeft = 1e5;
@@ -2108,12 +1988,10 @@ async function useAgain(plan) {
   location.hash = '#/plan';
 }
 
-// actions: what may be done now, and nothing else
 function actions(one, plan, way, sending, seen) {
   if (!isOpen(one)) return h('p', { class: 'acts soft', tabindex: -1, 'data-rest': true }, t('over.' + one.state));
   const id = number, wait = sending.length > 0 || settling.has(id), drawnAt = clock();
   const off = { 'aria-disabled': wait && 'true' }, next = way.pos + 1, isBack = one.state === 'back';
-  // the second click of two quick ones was not meant for what stands here since the first
   const isQuick = event => event && event.detail > 1 && clock() - drawnAt < 400;
   const act = (path, what, all) => event => wait || isQuick(event) || send(`/journeys/${id}/${path}`, '', what, id, seen, all);
   const left = plan.steps.length - way.pos, doAll = async () => {
@@ -2137,7 +2015,6 @@ function actions(one, plan, way, sending, seen) {
       wait && h('span', { class: 'soft', role: 'status' }, t('sendingNow'))),
     isBack ? backText(one.target) : nextText(plan, way));
 }
-// nextText(plan, way): what the next step takes, what of it cannot be undone, and what it does if it does not fit
 function nextText(plan, way) {
   const next = way.pos + 1, { want, isKnown, is, why, to } = nextOf(plan, way);
   const turned = !to ? t('undoes', way.saves.length ? t('noTries') : '') : to === way.pos ? t('whereItIs', t('toSave', to)) : t('toSave', to);
@@ -2146,7 +2023,6 @@ function nextText(plan, way) {
     next === plan.steps.length && h('p', { class: 'warn' }, t('lastStep')));
 }
 const backText = target => h('p', { class: 'warn' }, t('goesBack', target ? t('toSave', target) : t('toItsStart')));
-// turnText(p, many): what comes of a turn to p, below which so many steps stand
 const turnText = (p, many) => many ? t(p ? 'turnOn' : 'turnUndo', t('givenThen', many)) : t(p ? 'turnHere' : 'turnEmpty');
 
 function planned(step, at, one, plan, way) {
@@ -2163,7 +2039,6 @@ const SIGNS = ['stands', 'gone', 'down', 'turning', 'safe', 'ahead'];
 const signs = () => h('ul', { class: 'signs drawn', 'aria-hidden': 'true' }, SIGNS.map(
   name => h('li', {}, s('svg', { width: 30, height: 10 }, s('path', { class: name, d: 'M3 5H27' })), t('sign.' + name))));
 
-// pathPicture: the journey over its steps, up and down between save-points
 function pathPicture(one, plan, way) {
   const n = plan.steps.length, room = $('one').clientWidth, left = room < 500 ? 116 : 160, high = n > 12 ? 30 : 46, top = 26;
   const steps = way.steps, at = steps.length;
@@ -2201,7 +2076,6 @@ function pathPicture(one, plan, way) {
     if (step.letter === 'S') kids.push(s('path', { class: 'flag', d: `M${mid - 2} ${y0}v-17l11 4.5l-11 4.5` }));
     text(mid, y(0) + 34, step.item, { 'text-anchor': 'middle', class: 'code' });
     const words = step.letter === 'T' ? step.want?.product || '' : t('path.' + (step.letter === 'B' ? step.b : step.letter));
-    // longer words are set as narrow as the column is
     const isLong = words.length * (step.letter === 'T' ? 8.4 : 6.4) > wide - 4;
     text(mid, y(0) + 51, words, { 'text-anchor': 'middle', class: 'dim', ...narrow(isLong, wide - 4) });
   });
@@ -2218,9 +2092,7 @@ function pathPicture(one, plan, way) {
     s('title', { id: 'path-title' }, t('pathTitle', number, stateText(one))), s('desc', { id: 'path-desc' }, told || t('nothingEver')), kids);
 }
 
-// ---- the whole
 
-// what has the focus once a view was opened
 const STARTS = { stock: 'h-stock', plan: 'h-plan', list: 'h-list', journey: 'h-one', who: 'agent' };
 function route(isMoved) {
   const path = location.hash.slice(2), found = /^journeys\/([1-9]\d{0,11})$/.exec(path), before = view + number;
@@ -2256,9 +2128,7 @@ function draw() {
 
 $('who').addEventListener('click', () => { location.hash = '#/who'; });
 document.querySelector('.skip').addEventListener('click', event => { event.preventDefault(); $('main').focus(); });
-// a key that is held down acts once
 $('one').addEventListener('keydown', event => { if (event.repeat && event.target.closest('.acts')) event.preventDefault(); });
-// where the address of the page had a password, Firefox tells the first change as popstate alone
 for (const name of ['hashchange', 'popstate']) addEventListener(name, route);
 document.addEventListener('visibilitychange', () => { if (!document.hidden) { look(); flush(); } });
 let resized = 0;
@@ -2281,7 +2151,6 @@ addEventListener('storage', event => {
 startAgent();
 route();
 if (local) local.removeItem(MARK + 'out');
-// begin(): asks who works here, once it is known that no server says so
 async function begin() {
   try { await identify(); } catch (why) {
     isReached(why.why || 'away');
