@@ -102,7 +102,7 @@ def by_booking_number(scene):
     same("its key", ("/journeys", "ann", "Trip-A-07"), network.posts[-1][:3])
     same("its plan has no number", ["steps", "tries"], sorted(json.loads(network.posts[-1][3])))
     scene.does("Do step 1", "T1.1")
-    same("the key of a step", 32, len(network.posts[-1][2]))
+    same("the key of a step", "seen-1-0", network.posts[-1][2])
     browser.shows("booking Trip-A-07", "#list")
     # it is that of one journey alone
     browser.open(desk.url("#/plan"))

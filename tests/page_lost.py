@@ -1,4 +1,5 @@
 """Requests whose page is lost, while the desk, the page or the window ends: each takes effect once, under its first key."""
+import re
 import signal
 import time
 
@@ -49,11 +50,12 @@ def between(scene, what, events):
 
 
 def was_sent_once(scene, what, before, path):
-    """All that was sent since is one request, under one key of 32 digits."""
+    """All that was sent since is one request, under one key: of 32 digits for a begin, of what was shown for a move."""
     posts = scene.network.posts[before:]
     same(f"{what}: the path and the agent", {(path, "ann")}, {post[:2] for post in posts})
     same(f"{what}: one key and one body", 1, len({post[2:] for post in posts}))
-    same(f"{what}: the form of the key", True, len(posts[0][2]) == 32 and set(posts[0][2]) <= set("0123456789abcdef"))
+    form = "[0-9a-f]{32}" if path == "/journeys" else r"seen-\d+-\d+"
+    same(f"{what}: the form of the key", True, bool(re.fullmatch(form, posts[0][2])))
 
 
 def nothing_twice(scene, rows=BETWEEN):

@@ -284,7 +284,7 @@ def refusals_in_words(scene):
     for number, name in enumerate(NAMES):
         scene.network.instead = (409, {"name": name, "refused": number + 1})
         browser.press("Do step 1", ".acts")
-        text = wait_until(lambda: next((text for text in browser.names(".note.isbad p") if text not in said), ""), f"words for {name}")
+        text = wait_until(lambda: next((text for text in browser.names(".note.isbad p, .note.iswarn p") if text not in said), ""), f"words for {name}")
         same(f"{name} is put in words", False, name in text or "The desk refused it" in text)
         said.add(text)
         scene.may("Do step 1", "Do all 2 steps that are left", START)

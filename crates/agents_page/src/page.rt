@@ -2,7 +2,7 @@
 
 /// What the page may load and do: its own style and script, and requests to the desk that served it.
 pub const POLICY: &str =
-    r#"default-src 'none'; script-src 'sha256-dFOLdUoaKFMQzsWEygvILaKlevjImv6d7CQMpO1EQ84='; style-src 'sha256-v/aN891YSYsU5LbsCJGC/2lHDiq8mbGuZChwuWO8NmE='; connect-src 'self'; frame-ancestors 'none'; base-uri 'none'; form-action 'none'"#;
+    r#"default-src 'none'; script-src 'sha256-5zUv5Nv6lr/I4gBxy20nkTsJ0TedC9x23M5qThMMRkI='; style-src 'sha256-v/aN891YSYsU5LbsCJGC/2lHDiq8mbGuZChwuWO8NmE='; connect-src 'self'; frame-ancestors 'none'; base-uri 'none'; form-action 'none'"#;
 
 /// The page, in HTML.
 pub const PAGE: &str = r##"<!doctype html>
@@ -1127,7 +1127,8 @@ async function ownWaiting() {
 async function send(path, body, what, about, seen, all, booking) {
   end(about);
   await named;
-  const request = { key: newKey(), tab, at: Date.now(), turn: sent++, agent, path, body, what, about, seen, all, booking };
+  const move = seen === undefined ? '' : `seen-${about}-${seen.length}`;
+  const request = { key: newKey(), tab, at: Date.now(), turn: sent++, agent, path, body, what, about, seen, move, all, booking };
   if (!keep(local, 'post.' + request.key, request)) {
     say('bad', t('notKept'), about);
     return;
@@ -1178,15 +1179,14 @@ async function sendKept(request) {
   return navigator.locks ? navigator.locks.request(POST + request.key, { ifAvailable: true }, go) : go(true);
 }
 
-const keyOf = ({ booking, seen, about, key }) => booking || (seen === undefined ? key : `seen-${about}-${seen.length}`);
 async function pageOf(request) {
-  const { path, key, agent, body, about, seen, isTried } = request;
+  const { path, key, booking, agent, body, about, seen, move, isTried } = request;
   const tried = is => { request.isTried = is; keep(local, 'post.' + key, request); };
   if (seen !== undefined && !isTried && (await get('/journeys/' + about, isJourney, agent)).history.join() !== seen) return null;
   tried(true);
   try {
     return await ask(path, page => page.journey, {
-      method: 'POST', body, headers: { ...meantFor(agent), 'Desk-Key': keyOf(request), 'Content-Type': 'application/json' },
+      method: 'POST', body, headers: { ...meantFor(agent), 'Desk-Key': move || booking || key, 'Content-Type': 'application/json' },
     });
   } catch (why) {
     if (seen !== undefined && why.page?.name === 'KeyReused') return null;
