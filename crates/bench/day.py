@@ -197,4 +197,5 @@ def main(program, seconds):
     desk.end()
 
 
-main(sys.argv[1], float(sys.argv[2]))
+if __name__ == "__main__":
+    main(sys.argv[1], float(sys.argv[2]))

@@ -169,18 +169,11 @@ makes_grown() {
   refused_none
 }
 
-# Commits behind 10^5 events, or as many as EVENTS names, beside those behind 10^3: journeys of one step begin and end.
+# What an agent waits for behind 10^5 events, or as many as EVENTS names, beside the same behind 10^3; and an opening.
 measure_growth() (
+  find_python || exit 0
   works_in_memory
-  events=${EVENTS:-100000}
-  makes_grown grown.db 1000 || exit 1
-  ends 1000 501 | times few 2000 >few
-  ends $((events / 2 - 1500)) 1501 | asks $((events - 3000))
-  ends 1000 $((events / 2 + 1)) | times many 2000 >many
-  refused_none || exit 1
-  closes
-  echo "commits at-1000-events at-$events-events ratio at-most"
-  paste -d ' ' few many | awk '{ printf "begin+T %.1f %.1f %.2f 1.2\n", $3, $6, $6 / $3 }'
+  "$python" "$top/crates/bench/growth.py" "$desk" "${EVENTS:-100000}"
 )
 
 # synced FILE COUNT: how often a run that commits so many events syncs
