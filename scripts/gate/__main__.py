@@ -56,12 +56,10 @@ class Gate:
         tasks = all_tasks(self, choice, self.results)
         # the scripts of a first look need not wait for proofs
         proving = self.lanes - 1 if choice.over_trial and self.lanes > 2 else self.lanes
-        before = processor_seconds()
+        minutes = reckoned(tasks, self.lanes, proving)
+        say(f"this takes about {minutes:.0f} minutes, with {self.lanes} checks side by side")
         if not is_laid_out(self.tables, self.lanes):
             return False
-        pace = self.tables.pace(processor_seconds() - before)
-        minutes = pace * reckoned(tasks, self.lanes, proving)
-        say(f"this takes about {minutes:.0f} minutes, with {self.lanes} checks side by side: {pace:.2f} times what docs/minutes.tsv makes of it")
         make_copy(self.tables, choice.crates, self.copy)
         self.heard.mkdir(exist_ok=True)
         with undisturbed():
@@ -118,12 +116,6 @@ class Gate:
             end_group(self.proving.process)
         shutil.rmtree(self.copy, ignore_errors=True)
         shutil.rmtree(self.heard, ignore_errors=True)
-
-
-def processor_seconds():
-    """Returns how many seconds of a processor all that this process has run, and waited for, have taken."""
-    used = os.times()
-    return used.children_user + used.children_system
 
 
 def is_laid_out(tables, lanes):

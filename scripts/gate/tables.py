@@ -7,8 +7,6 @@ from pathlib import Path
 PROOF, MUTANT, SCRIPT = 2.0, 0.1, 0.1
 # The check of the unedited crate after its mutants, in minutes.
 LAST_CHECK = 0.3
-# The row of docs/minutes.tsv for the look at the layout of all crates, by which the machine is compared with that of the table.
-LAYOUT = "(layout)"
 # How much longer a script takes over a trial program, where that was not seen.
 SLOWER = 1.7
 
@@ -69,12 +67,6 @@ class Tables:
         """Returns the minutes of one mutant of a crate, where many are tried in one check."""
         count = len(self.mutants[name])
         return (self.number(name, 2, 0.0) / count or MUTANT) if count else 0.0
-
-    def pace(self, seconds):
-        """Returns how many times the minutes of the table a machine takes on which looking at the layout of all crates takes so many seconds
-        of a processor."""
-        seen = self.number(LAYOUT, 0, 0.0)
-        return seconds / 60 / seen if seen else 1.0
 
     def script(self, name):
         return self.number(name, 0, SCRIPT)
