@@ -231,7 +231,11 @@ fn at_its_own_door_the_house_asks_the_book_for_reports(rt: HostRuntime) {
             &Metrics::new(),
             &mut desk,
         );
-        assert!(rt; answer.is_err() == is_asked);
+        if is_asked {
+            assert!(rt; answer.is_err());
+        } else {
+            let _ = answer.expect(&rt, "memory");
+        }
     }
 }
 
