@@ -80,7 +80,7 @@ def words_of(script):
         row = ROW.fullmatch(line)
         if row and (row[1] or row[2]) not in words:
             words[row[1] or row[2]] = row[3], row[4]
-        elif not line.startswith('  // '):
+        else:
             faults.append(f'no row of two texts, or a second one: {line.strip()}')
     for name, texts in words.items():
         if len({tuple(sorted(set(re.findall(r'\{\d\}', text)))) for text in texts}) > 1 or max(text.count('|') for text in texts) > 1:
@@ -124,7 +124,7 @@ def served(page):
 
 def source_of(page):
     if len(page.encode()) > MOST_BYTES:
-        sys.exit(f'page: {PAGE.name} has more than {MOST_BYTES} bytes')
+        sys.exit(f'page: without its comments {PAGE.name} has more than {MOST_BYTES} bytes')
     if '\r' in page:
         sys.exit(f'page: {PAGE.name} has a carriage return')
     parts = Parts()

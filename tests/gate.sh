@@ -33,7 +33,10 @@ while [ -e "$FAKE/hold" ]; do sleep 0.1; done
 for name in $(cat "$FAKE/crates"); do
   mkdir -p crates/$name/out
   case $name in
-    desk) printf 'built' >crates/desk/out/desk ;;
+    desk)
+      printf 'built' >crates/desk/out/desk
+      [ ! -e "$FAKE/second" ] || bash -c 'while [ -e "$FAKE/second" ]; do sleep 0.1; done' rattle --crate-name desk --backend rattle
+      ;;
     *_tests) printf 'built' >crates/$name/out/${name}_tests; echo "rt: $name: its tests are proved" ;;
   esac
   echo "rt: $name proved"
@@ -244,8 +247,13 @@ waits='touch "$FAKE/$(basename "$0")"; for _ in {1..100}; do [ ! -e "$FAKE/${OTH
 printf 'declare -A OTHER=([left.sh]=right.sh [right.sh]=left.sh)\n%s\n' "$waits" | tee tests/left.sh >tests/right.sh
 RT_JOBS=3 gate 0 -- "4 passed, 0 failed, 1 skipped"
 rm tests/left.sh tests/right.sh
+echo 'rm "$FAKE/hold"' >tests/parts.sh # one that drives no program does not wait for it
+beside hold gate 0 -- "3 passed, 0 failed, 1 skipped"
+rm tests/parts.sh
 echo 'rm "$FAKE/linger"' >tests/ends.sh
 beside linger gate 0 -- "3 passed, 0 failed, 1 skipped"
+echo 'rm "$FAKE/second"' >tests/ends.sh # the program stands while the second compiler runs
+beside second gate 0 -- "3 passed, 0 failed, 1 skipped"
 rm tests/ends.sh
 
 # ends_gate WHAT FILE [WORD ..]: a gate that is ended once this file has something leaves nothing

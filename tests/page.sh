@@ -1,7 +1,7 @@
 #!/usr/bin/env bash
-# The page for browsers: what is served is web/desk.html without its comments, with a policy for its own style and script alone; requests under
-# hosts that are this machine with the port, and under others; and nothing of this without --page. Own journeys, and how much
-# the desk has, over both doors.
+# The page for browsers: what is served is web/desk.html without its comments, with a policy for its own style and script alone;
+# requests under hosts that are this machine with the port, and under others; and nothing of this without --page. Own journeys,
+# and how much the desk has, over both doors.
 . "$(dirname "${BASH_SOURCE[0]}")/helping.bash"
 . "$tests/serving.bash"
 shown=$work/shown

@@ -1,5 +1,6 @@
 """Counts what the house style forbids in the pages and in the texts of help: phrases that only this repository uses, sentences of
-more than 35 words, pages of more than 300 lines, and decisions that are no record. The phrases count in comments of sources, too. A count above its limit fails. No limit is raised.
+more than 35 words, pages of more than 300 lines, and decisions that are no record. The phrases count in the comments of sources, too. A
+count above its limit fails. No limit is raised.
 
 words.py            compares the counts with the limits, and ends with 1 where one is above
 words.py --list     prints each place that counts, page by page

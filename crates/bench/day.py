@@ -87,6 +87,17 @@ def trip(client, agent, key, chance, pause, waits):
     ask("GET", f"/journeys/{journey}")
 
 
+def serving(program, file):
+    """A desk that serves this file, and its port."""
+    with socket.socket() as taken:
+        taken.bind(("127.0.0.1", 0))
+        port = taken.getsockname()[1]
+    process = subprocess.Popen([program, "serve", file, "--port", str(port)], stdout=subprocess.PIPE)
+    if not process.stdout.readline():
+        raise SystemExit("no desk")
+    return process, port
+
+
 class Desk:
     """The desk over a new file with places enough."""
 
@@ -100,12 +111,7 @@ class Desk:
             with open("places.csv", "w") as file:
                 file.write("kind,supplier,product,night,places\n" + "".join(rows[at:at + 1000]))
             subprocess.run([program, "load", "day.db", "places.csv", "--batch", f"places-{at}"], check=True, stdout=subprocess.PIPE)
-        with socket.socket() as taken:
-            taken.bind(("127.0.0.1", 0))
-            self.port = taken.getsockname()[1]
-        self.process = subprocess.Popen([program, "serve", "day.db", "--port", str(self.port)], stdout=subprocess.PIPE)
-        if not self.process.stdout.readline():
-            raise SystemExit("no desk")
+        self.process, self.port = serving(program, "day.db")
 
     def spent(self):
         """The processor's seconds that the desk took so far."""

@@ -5,12 +5,11 @@ growth.py DESK EVENTS: the file grows to EVENTS events, ten of each journey, all
 agent. Prints for each request how long half of the pages took at most, and 99 of 100, beside the same at 1,000 events.
 """
 import os
-import socket
 import subprocess
 import sys
 import time
 
-from day import Client, request
+from day import Client, request, serving
 
 STEPS, OF_AN_AGENT, TIMES = 9, 50, 1000
 NIGHTS = [f"2030-06-{day:02}" for day in range(1, 31)]
@@ -34,15 +33,10 @@ class Grown:
         with open("places.csv", "w", encoding="ascii") as file:
             file.writelines(["kind,supplier,product,night,places\n", *rows])
         subprocess.run([program, "load", "grown.db", "places.csv", "--batch", "places"], check=True, stdout=subprocess.PIPE)
-        with socket.socket() as taken:
-            taken.bind(("127.0.0.1", 0))
-            port = taken.getsockname()[1]
-        self.process = subprocess.Popen([program, "serve", "grown.db", "--port", str(port)], stdout=subprocess.PIPE)
-        if not self.process.stdout.readline():
-            raise SystemExit("no desk")
+        self.process, port = serving(program, "grown.db")
         self.client = Client(port)
         # one journey stays under way from the first event on
-        self.events, self.journeys, self.asked = 3, 1, 0
+        self.events, self.journeys, self.asked, self.late = 3, 1, 0, ()
         self.posts("early", "/journeys", MOVED)
         self.posts("early", "/journeys/1/step")
 
@@ -55,6 +49,7 @@ class Grown:
         while self.events + STEPS < events:
             self.journeys += 1
             agent = f"a{self.journeys // OF_AN_AGENT}"
+            self.late = agent, f"/journeys/{self.journeys}"
             self.posts(agent, "/journeys", LONG)
             for _ in range(STEPS):
                 self.posts(agent, f"/journeys/{self.journeys}/step")
@@ -76,10 +71,17 @@ class Grown:
         get = lambda agent, path: self.waits(lambda at: self.client.ask(request("GET", path, agent)))
         move = lambda path: self.waits(lambda at: self.posts(moved, f"/journeys/{last + 1 + at}/{path}"))
         found = {
-            "an early journey": get("a0", "/journeys/2"), "a late journey": get(f"a{last // OF_AN_AGENT}", f"/journeys/{last}"),
-            "an early journey under way": get("early", "/journeys/1"), "own journeys, 49": get("a0", "/mine"), "no own journeys": get("nobody", "/mine"),
-            "a part of the stock": get("a0", f"/stock/{NIGHTS[0]}/{NIGHTS[-1]}/flight/AL"), "health": get("a0", "/health"),
-            "begin": self.waits(lambda at: self.posts(moved, "/journeys", MOVED)), "T": move("step"), "turn": move("abort/0"), "C": move("step"),
+            "an early journey": get("a0", "/journeys/2"),
+            "a late journey": get(*self.late),
+            "an early journey under way": get("early", "/journeys/1"),
+            f"own journeys, {OF_AN_AGENT - 2}": get("a0", "/mine"),
+            "no own journeys": get("nobody", "/mine"),
+            "a part of the stock": get("a0", f"/stock/{NIGHTS[0]}/{NIGHTS[-1]}/flight/AL"),
+            "health": get("a0", "/health"),
+            "begin": self.waits(lambda at: self.posts(moved, "/journeys", MOVED)),
+            "T": move("step"),
+            "turn": move("abort/0"),
+            "C": move("step"),
         }
         self.journeys, self.events = last + TIMES, self.events + 4 * TIMES
         return found
@@ -105,7 +107,8 @@ def main(program, events):
     desk.closes()
     print(f"us at-1000-events-half of-100-99 at-{events}-events-half of-100-99 ratio-half ratio-99 at-most")
     for name, (half, most) in few.items():
-        print(f"{name}: {half:.0f} {most:.0f} {many[name][0]:.0f} {many[name][1]:.0f} {many[name][0] / half:.2f} {many[name][1] / most:.2f} 1.3")
+        late, latest = many[name]
+        print(f"{name}: {half:.0f} {most:.0f} {late:.0f} {latest:.0f} {late / half:.2f} {latest / most:.2f} 1.3")
     seconds, memory = opening(program)
     print(f"opening at {desk.events} events, {desk.journeys} journeys: {seconds:.2f} s, {memory:.0f} MB")
 

@@ -84,6 +84,9 @@ class Proving:
                 name = words[words.index("--crate-name") + 1], "tests" if "--test" in words else "proof"
                 first, _ = self.seen.get(name, (time.monotonic(), 0))
                 self.seen[name] = first, time.monotonic()
+                if "--backend rattle" in " ".join(words):
+                    # a program that is proved, and stands as LLVM compiled it: then only does the other compiler begin
+                    self.done.add(name)
         return count
 
     def minutes(self):

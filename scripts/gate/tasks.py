@@ -9,6 +9,8 @@ from lanes import Task
 from tables import LAST_CHECK
 from tried import Tried
 
+# The scripts that do not drive the program, and so need not wait for it.
+WITHOUT_PROGRAM = {f"{it}.sh" for it in ("build", "gate", "layout", "memory_of_crates", "mutants", "parts", "pictures", "spoiled")}
 # The scripts that run programs of the crates' tests, and the crate, or none where they take all that this gate has built.
 OVER_TESTS = {"memory_of_crates.sh": None, "spoiled.sh": "fault_tests"}
 # The script that has a trial program compiled, which takes as much memory as a proof.
@@ -67,7 +69,7 @@ def mutant_tasks(gate, choice, results):
 
 
 def script_tasks(gate, choice, results):
-    """Returns the runs of the scripts, each once the program is built."""
+    """Returns the runs of the scripts, each once what it drives is built."""
     tables, tasks = gate.tables, []
     tested = [name for name in choice.crates if tables.tests(name)]
     share = sum(map(tables.tests, tested)) / (sum(map(tables.tests, tables.uses)) or 1)
@@ -75,7 +77,8 @@ def script_tasks(gate, choice, results):
     if choice.over_trial:
         program, ready, minutes = trial_file(tables), ("trial", "program"), tables.script_over_trial
     for name, (part, parts) in choice.scripts.items():
-        task = Task((name, "script"), minutes(name) / parts, [ready], fills=True, proves=name == COMPILES)
+        waits = [] if name in WITHOUT_PROGRAM else [ready]
+        task = Task((name, "script"), minutes(name) / parts, waits, fills=True, proves=name == COMPILES)
         if name in OVER_TESTS:
             task.minutes *= share if OVER_TESTS[name] is None else OVER_TESTS[name] in tested
             task.waits += [(it, "tests") for it in tested if OVER_TESTS[name] in (None, it)]

@@ -2,7 +2,7 @@
 
 /// What the page may load and do: its own style and script, and requests to the desk that served it.
 pub const POLICY: &str =
-    r#"default-src 'none'; script-src 'sha256-5zUv5Nv6lr/I4gBxy20nkTsJ0TedC9x23M5qThMMRkI='; style-src 'sha256-v/aN891YSYsU5LbsCJGC/2lHDiq8mbGuZChwuWO8NmE='; connect-src 'self'; frame-ancestors 'none'; base-uri 'none'; form-action 'none'"#;
+    r#"default-src 'none'; script-src 'sha256-F05n41IqUhsaPsyPINn6TbSlv/R0RFaWpWWVrxFWSOk='; style-src 'sha256-v/aN891YSYsU5LbsCJGC/2lHDiq8mbGuZChwuWO8NmE='; connect-src 'self'; frame-ancestors 'none'; base-uri 'none'; form-action 'none'"#;
 
 /// The page, in HTML.
 pub const PAGE: &str = r##"<!doctype html>
@@ -923,8 +923,9 @@ async function look() {
   timer = setTimeout(look, reached === 'away' ? AGAIN : NEWS);
 }
 
+const PACE = 131;
 const needsStock = () => view === 'stock' || view === 'plan' || !knowsWhy;
-const isStockDue = () => stockText === null || (needsStock() && clock() - stockAt > stockText.length / (isOpened ? 655 : 131));
+const isStockDue = () => stockText === null || (needsStock() && clock() - stockAt > stockText.length / (isOpened ? 5 * PACE : PACE));
 async function lookAtStock(mine) {
   const text = await get('/stock', isStock);
   if (mine !== turn) return;
@@ -939,7 +940,7 @@ const partOf = () => needsStock() && filter.kind && filter.supplier
   && `/stock/${filter.month}-01/${daysIn(filter.month).at(-1)}/${NAMES.map(name => filter[name]).join('/')}`.replace(/\/$/, '');
 async function lookAtPart(path, mine) {
   const text = await get(path, isStock);
-  partAt = clock() + text.length / 131;
+  partAt = clock() + text.length / PACE;
   if (mine === turn) takeCells(text);
 }
 function takeCells(text) {

@@ -8,7 +8,7 @@ use Rattle.command_line.specs.declared.jobs.Job.{Job}
 use Rattle.command_line.specs.declared.jobs.Job.TheVariants.{Run, Serve, Recover, Load, Stock, Calendar, Summary, Holders, Holdings, Unfinished, Journeys, History, Why, Migrate, Index, Version}
 use Rattle.command_line.specs.declared.jobs.LogForm.{LogForm}
 use Rattle.desk_jobs.specs.Notes.{MayNoteAll}
-use Rattle.http_conversations.specs.Exchanges.{Exchange}
+use Rattle.http_modes.specs.Worlds.{Exchange}
 use Rattle.program_ends.specs.Ends.{EndsBadly, EndsJob, IfDone}
 use Rattle.program_ends.specs.declared.ended.Ended.{Ended}
 use Rattle.program_ends.specs.declared.ends.End.{End}

@@ -2,7 +2,8 @@
 //! after it.
 //!
 //! A job takes a connection that is in no transaction and has no limit of steps, and returns it so, to be closed, with
-//! its end. `ready_over` opens and recovers the desk for a job that goes on with it.
+//! its end. `ready_over` opens and recovers the desk for a job that goes on with it. `end_of_opening` is the end of a job whose
+//! desk could not be opened.
 //!
 //! Words: a connection *represents* a state where an opening finds that state in it; a store without tables represents
 //! a new desk.

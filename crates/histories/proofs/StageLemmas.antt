@@ -18,8 +18,8 @@ use Rattle.protocols.specs.declared.faults.ServeFault.{ServeFault}
 use Rattle.desk_lines.specs.Lines.{lines}
 use Rattle.desk_lines.specs.Serving as of_lines
 use Rattle.desk_lines.specs.Worlds as by_line
-use Rattle.http_conversations.specs.Exchanges.{Exchange}
-use Rattle.http_live.specs.Worlds as by_exchange
+use Rattle.http_modes.specs.Worlds.{Exchange}
+use Rattle.http_modes.specs.Worlds as by_exchange
 use Rattle.histories.specs.Openings.{Input, Lines, Connections, AsksFor, IsAnsweredBy}
 use Rattle.histories.specs.Chains.{StandsAs}
 use Rattle.histories.specs.Stages.{HasRecovered, LeavesRecovering, Answering, LeavesAnswering}

@@ -12,8 +12,7 @@ use Rattle.desk_lines.specs.Serving as of_lines
 use Rattle.desk_lines.specs.Worlds as by_line
 use Rattle.desk_http.specs.Pages.{state_after}
 use Rattle.http_modes.specs.Modes.{Said, Says}
-use Rattle.http_conversations.specs.Exchanges.{Exchange}
-use Rattle.http_live.specs.Worlds.{AreDone, HasPage, Heard, asks_of}
+use Rattle.http_modes.specs.Worlds.{Exchange, AreDone, HasPage, Heard, asks_of}
 use Rattle.histories.specs.Openings.{Input, Lines, Connections, IsTold}
 
 -- these bytes were written, and are answers to asks that were carried out

@@ -11,7 +11,8 @@ use Rattle.saga_core.specs.Runs.{Asks}
 use Rattle.protocols.specs.declared.faults.ServeFault.{ServeFault}
 use Rattle.protocols.specs.declared.faults.ServeFault.TheVariants.{Memory, Read, Store, Write}
 use Rattle.http_conversations.specs.Answering.{AnswersFirst, LeadsAs, LeavesAt}
-use Rattle.http_conversations.specs.Exchanges.{Exchange, since}
+use Rattle.http_modes.specs.Worlds.{Exchange}
+use Rattle.http_conversations.specs.Exchanges.{since}
 use Rattle.http_conversations.specs.History.{History, TakesFirst, after_answer, after_loss, exchange, stops_by}
 use Rattle.http_conversations.specs.Leading.{GoesOn, GoesOnByOne, fault_by, has_broken}
 use Rattle.http_conversations.specs.Reasons.{HasReasons}

@@ -1,22 +1,14 @@
--- Messages that were answered, with their pages.
+-- What is yielded for messages that were answered, and which of them close or stop.
 use Rattle.std.specs.Prelude.{◌≡◌, ⊤, ℕ, Bool, true, false, List, [], ◌∷◌, ◌++◌, ◌⊎◌, All, length, drop, if◌then◌else◌, Option, None, IsSome, unwrap_or}
 use Rattle.std.specs.List.{flat_map}
 use Rattle.desk_http.specs.Pages.{closes, stops}
 use Rattle.desk_http.specs.declared.doors.Door.{Door}
 use Rattle.http_modes.specs.PageTexts.{go_on}
 use Rattle.http_modes.specs.Modes.{Said, Says}
+use Rattle.http_modes.specs.Worlds.{Exchange}
 use Rattle.http_modes.specs.declared.modes.Mode.{Mode}
 use Rattle.http_conversations.specs.declared.conversation.Stage.{Stage}
 use Rattle.http_conversations.specs.declared.conversation.Stage.TheVariants.{Open, Closing, Failed}
-
--- the door at which a message came in, the mode in which it was read, its bytes, whether 100 Continue was given for it, and
--- the bytes of its page, unless the page was lost
-pub record Exchange : Type 0 where
-  pub door : Door
-  pub mode : Mode
-  pub bytes : List ℕ
-  pub went_on : Bool
-  pub page : Option (List ℕ)
 
 -- the messages, one after another
 abbrev pub bytes_of : List Exchange → List ℕ

@@ -7,7 +7,8 @@ use Rattle.http_modes.specs.PageTexts.{go_on}
 use Rattle.http_modes.specs.Reading.{IsDueBy}
 use Rattle.http_modes.specs.Modes.{Said, Says, SaysNothing}
 use Rattle.http_modes.specs.declared.modes.Mode.{Mode}
-use Rattle.http_conversations.specs.Exchanges.{Exchange, AreAnswered, EndWithStop, IsAt, IsBy, bytes_of, go_on_if, pages_of}
+use Rattle.http_modes.specs.Worlds.{Exchange}
+use Rattle.http_conversations.specs.Exchanges.{AreAnswered, EndWithStop, IsAt, IsBy, bytes_of, go_on_if, pages_of}
 use Rattle.http_conversations.specs.declared.conversation.Stage.{Stage}
 use Rattle.http_conversations.specs.declared.conversation.Stage.TheVariants.{Open, Closing, Failed}
 use Rattle.http_conversations.specs.declared.conversation.TheConstants.{MOST_PENDING, MOST_WAITING}

@@ -10,7 +10,8 @@ use Rattle.desk_http.specs.Pages.{state_after}
 use Rattle.desk_http.specs.declared.doors.Door.{Door}
 use Rattle.http_modes.specs.Pages.{IsPageBy}
 use Rattle.http_modes.specs.Modes.{Said, Says}
-use Rattle.http_conversations.specs.Exchanges.{Exchange, StopAtLast, since}
+use Rattle.http_modes.specs.Worlds.{Exchange}
+use Rattle.http_conversations.specs.Exchanges.{StopAtLast, since}
 use Rattle.http_conversations.specs.Reasons.{HasReasons}
 
 -- the message, which came in at a door, gets its page, and is carried out; where the page was lost, it is carried out or not

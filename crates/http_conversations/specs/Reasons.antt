@@ -8,7 +8,7 @@ use Rattle.desk_http.specs.Pages.{command_in, state_after}
 use Rattle.desk_http.specs.Reasons.{reason_in}
 use Rattle.desk_http.specs.Worlds.{asks_by}
 use Rattle.http_modes.specs.Modes.{Said, Says}
-use Rattle.http_conversations.specs.Exchanges.{Exchange}
+use Rattle.http_modes.specs.Worlds.{Exchange}
 
 -- an exchange, and what its message says
 pub record Meant : Type 0 where

@@ -2,7 +2,7 @@
 use Rattle.std.specs.Prelude.{◌≡◌, ℕ, List, [], ◌∷◌, false, codes, Some, refl}
 use Rattle.desk_http.specs.declared.doors.Door.TheVariants.{Port}
 use Rattle.http_modes.specs.declared.modes.Mode.TheVariants.{Strict}
-use Rattle.http_conversations.specs.Exchanges.{Exchange}
+use Rattle.http_modes.specs.Worlds.{Exchange}
 use Rattle.http_live.specs.Merging.{Slotted, of_slot}
 
 -- a message, and its page

@@ -6,7 +6,7 @@ use Rattle.std.specs.declared.io.traits.Write as Write
 use Rattle.desk_http.specs.declared.doors.Door.{Door}
 use Rattle.http_modes.specs.declared.modes.Mode.{Mode}
 use Rattle.http_conversations.specs.Conversations.{history}
-use Rattle.http_conversations.specs.Exchanges.{Exchange}
+use Rattle.http_modes.specs.Worlds.{Exchange}
 use Rattle.http_live.specs.declared.connection.Connection.{Connection}
 use Rattle.http_live.specs.declared.slots.Slot.{Slot}
 

@@ -1,4 +1,5 @@
-//! Invocations of the program, each by a process of its own: what a reader of the file may find after any number of them, with crashes at any time.
+//! Invocations of the program, each by a process of its own: what a reader of the file may find after any number of them, with
+//! crashes at any time.
 //!
 //! An invocation opens the file, does a task over the connection, and closes it: `do_over_file`. `S: Start` stands for what the
 //! file and its log held before. Its contract says which executions go on by the task to what they may hold then (`Ran`), and

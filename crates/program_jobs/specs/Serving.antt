@@ -13,7 +13,8 @@ use Rattle.protocols.specs.Scenes.{ended}
 use Rattle.ledger.specs.Answer.{State}
 use Rattle.saga_core.specs.Books.{LeavesJust}
 use Rattle.http_conversations.specs.Conversations.{history}
-use Rattle.http_conversations.specs.Exchanges.{Exchange, StopAtLast}
+use Rattle.http_modes.specs.Worlds.{Exchange}
+use Rattle.http_conversations.specs.Exchanges.{StopAtLast}
 use Rattle.http_conversations.specs.History.{IsServed}
 use Rattle.http_live.specs.Arrivals.{AreAtTheirDoors, ArePairs, AreReadInTheirModes}
 use Rattle.http_live.specs.Merging.{IsMerged, Slotted, exchange_of}

@@ -8,7 +8,7 @@ use Rattle.sqlite.specs.State.{HasCleanDisk}
 use Rattle.desk_sql.specs.declared.versions.Version.{Version}
 use Rattle.ledger.specs.Answer.{State}
 use Rattle.recovery.specs.Recovers.{Recovers}
-use Rattle.http_conversations.specs.Exchanges.{Exchange}
+use Rattle.http_modes.specs.Worlds.{Exchange}
 use Rattle.migrate.specs.Indexing.{HasIndex}
 use Rattle.migrate.specs.Outcomes.{Migrates}
 use Rattle.histories.specs.Following.{StandsStill}
