@@ -26,11 +26,13 @@ if [ "$1" = try ]; then
   mkdir "$TMPDIR/made" && printf tried >"$TMPDIR/made/program" && exec cat "$7"
 fi
 [ "$1" = ci ] && [ -d .git ] || exit 2
-echo "${RT_JOBS:-none}" >"$FAKE/jobs"
-find . -type f | sort >"$FAKE/files"
-sed 's/:.*//' crates.txt >"$FAKE/crates"
+run=$FAKE/${PWD##*/}.
+[ "$run" != "$FAKE/gate." ] || run=$FAKE/
+echo "${RT_JOBS:-none}" >"${run}jobs"
+find . -type f | sort >"${run}files"
+sed 's/:.*//' crates.txt >"${run}crates"
 while [ -e "$FAKE/hold" ]; do sleep 0.1; done
-for name in $(cat "$FAKE/crates"); do
+for name in $(cat "${run}crates"); do
   mkdir -p crates/$name/out
   case $name in
     desk)
@@ -301,9 +303,14 @@ echo 'exit 1' >tests/bad.sh
 gate 1 -- "check: tests/bad.sh FAILED" "2 passed, 1 failed, 1 skipped"
 rm tests/bad.sh
 
-# a first look: the core with its tests, and the short scripts over a trial program
+# the core is proved by a run of its own, whose checks share the processors
 echo 'saga_core: low' >>crates.txt
 mkdir -p crates/saga_core/src
+gate 0
+same "the crates of the core" "low saga_core none" "$(cat "$FAKE"/gate.first.{crates,jobs} | paste -sd ' ')"
+same "the crates of all, one job each" "low mid high other desk saga_core 2" "$(proved | sed 's/ [a-z]*_tests//g; s/ bench//') $(cat "$FAKE/jobs")"
+
+# a first look: the core with its tests, and the short scripts over a trial program
 echo '[ "$(cat "$DESK")" = tried ]' >tests/good.sh
 left="7 crates, 40 mutants, 1 scripts"
 gate 0 --quick -- "proved, with their tests: low saga_core; tried: 0 mutants" \

@@ -45,10 +45,10 @@ class Gate:
 
     def __init__(self, tables, lanes):
         self.tables, self.lanes = tables, lanes
-        self.copy, self.heard = TOP / "out/gate", TOP / "out/gate.said"
+        self.copy, self.first_copy, self.heard = TOP / "out/gate", TOP / "out/gate.first", TOP / "out/gate.said"
         self.began = time.time()
         self.results = Results(say)
-        self.proving = self.fillers = None
+        self.proving = self.first = self.fillers = None
         self.kept = set()
 
     def run(self, choice):
@@ -62,11 +62,16 @@ class Gate:
             return False
         make_copy(self.tables, choice.crates, self.copy)
         self.heard.mkdir(exist_ok=True)
+        first = choice.first_crates(self.tables)
+        if first:
+            make_copy(self.tables, first, self.first_copy)
+            with undisturbed():
+                self.first = Proving(self.first_copy, proving, shared=True)
         with undisturbed():
             self.proving = Proving(self.copy, proving)
         self.fillers = Fillers([it for it in tasks if it.fills], self.heard, self.lanes)
         self.wait()
-        tell_minutes(self.proving.minutes(), say)
+        tell_minutes({**self.proving.minutes(), **(self.first.minutes() if self.first else {})}, say)
         say(f"this took {(time.time() - self.began) / 60:.0f} minutes, and was reckoned {minutes:.0f}")
         is_proved, passed = self.proving.status() == 0, self.results.tell(self.fillers.waiting)
         if choice.over_trial:
@@ -78,6 +83,9 @@ class Gate:
         busy_at = 0.0
         while True:
             has_ended, busy = self.proving.has_ended(), self.proving.look()
+            if self.first and not self.first.has_ended():
+                self.first.look()
+                busy = self.lanes
             done = self.done(has_ended)
             if busy + len(self.fillers.running) >= self.lanes:
                 busy_at = time.monotonic()
@@ -112,10 +120,11 @@ class Gate:
         """Ends what runs, and removes what this run has made."""
         if self.fillers:
             self.fillers.end()
-        if self.proving and not self.proving.has_ended():
-            end_group(self.proving.process)
-        shutil.rmtree(self.copy, ignore_errors=True)
-        shutil.rmtree(self.heard, ignore_errors=True)
+        for run in (self.first, self.proving):
+            if run and not run.has_ended():
+                end_group(run.process)
+        for made in (self.first_copy, self.copy, self.heard):
+            shutil.rmtree(made, ignore_errors=True)
 
 
 def is_laid_out(tables, lanes):

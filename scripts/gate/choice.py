@@ -35,6 +35,11 @@ class Choice:
     # whether the scripts run over a trial program, which is compiled without its proofs
     over_trial: bool = False
 
+    def first_crates(self, tables):
+        """Returns the core, for which nearly all other crates wait, so that a run of `rt ci` of its own proves it while that of all crates
+        still reads their sources. In a first look there is nothing above."""
+        return [] if self.over_trial or CORE[0] not in self.crates else tables.below(CORE[0])
+
 
 def everything(tables):
     """Returns the choice of the whole run."""

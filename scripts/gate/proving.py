@@ -48,12 +48,17 @@ def laid_out_otherwise(tables, copy, name):
 
 
 class Proving:
-    """A run of `rt ci`."""
+    """A run of `rt ci` with so many checks side by side; or with so many processors, which its checks share."""
 
-    def __init__(self, copy, lanes):
-        environment = {**os.environ, **({"RT_JOBS": str(lanes)} if lanes > 1 else {})}
+    def __init__(self, copy, lanes, shared=False):
+        environment, words = {**os.environ}, ["rt", "ci"]
+        if shared:
+            environment.pop("RT_JOBS", None)
+            words = ["taskset", "-c", ",".join(map(str, sorted(os.sched_getaffinity(0))[:lanes])), *words]
+        elif lanes > 1:
+            environment["RT_JOBS"] = str(lanes)
         how = {"cwd": copy, "stdout": subprocess.PIPE, "stderr": subprocess.STDOUT, "stdin": subprocess.DEVNULL, "process_group": 0}
-        self.process = subprocess.Popen(["rt", "ci"], env=environment, text=True, errors="replace", **how)
+        self.process = subprocess.Popen(words, env=environment, text=True, errors="replace", **how)
         self.done, self.seen = set(), {}
         self.reader = threading.Thread(target=self._read, daemon=True)
         self.reader.start()

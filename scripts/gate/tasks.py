@@ -36,9 +36,9 @@ def all_tasks(gate, choice, results):
 
 def proving_tasks(tables, choice):
     """Returns what `rt ci` does."""
-    tasks = [Task(("rt", "reading"), tables.number(READING, 0, 1.0))]
+    tasks, first = [Task(("rt", "reading"), tables.number(READING, 0, 1.0))], choice.first_crates(tables)
     for name in choice.crates:
-        waits = [("rt", "reading")] + [(used, "proof") for used in tables.uses[name]]
+        waits = [("rt", "reading")] * (name not in first) + [(used, "proof") for used in tables.uses[name]]
         tasks.append(Task((name, "proof"), tables.proof(name), waits))
         if tables.tests(name):
             tasks.append(Task((name, "tests"), tables.tests(name), waits))
