@@ -5,5 +5,5 @@ mod faults;
 mod helping;
 mod moves;
 mod opening;
-mod reports;
+mod reporting;
 mod sources;
