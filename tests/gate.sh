@@ -59,7 +59,8 @@ for name in sqlite3 cc curl; do ln -s perl "$FAKE/$name"; done
 chmod +x "$FAKE"/*
 echo "kit 1" >"$FAKE/version"
 PATH=$FAKE:$PATH
-export RT_JOBS=2
+echo "MemAvailable: 12000000 kB" >"$FAKE/memory"
+export RT_JOBS=2 MEMINFO=$FAKE/memory
 
 # crates: low, then mid on low and high on mid, and apart other; each with eight mutants, of which two tell most
 printf '# names\nlow:\nmid: low sqlite\nhigh: mid\nother: streams_of_the_kit\ndesk: high other\n' >crates.txt
@@ -133,7 +134,7 @@ commit 1
 # nothing has changed: all crates but those of tests, and by turns some of these and some mutants
 gate 0 -- "landing 8, compared with $landed: sources changed in no crate" "a round of mutants takes 30 landings" \
   "left out until their turn:" "long: 2/3" "good: whole" "2 passed, 0 failed, 1 skipped"
-same "the processors" 2 "$(cat "$FAKE/jobs")"
+same "the checks side by side, which rt would not run in so little memory" 2 "$(cat "$FAKE/jobs")"
 same "the crates of the program are proved" "low mid high other desk" "$(proved | sed 's/ [a-z]*_tests//g; s/ bench//')"
 same "no mutant stands in the copy" "" "$(grep '\.edit$' "$FAKE/files")"
 find . -type f ! -path './*/out/*' ! -path './out/*' ! -path './.git/*' ! -name '*.edit' ! -name '*.pyc' | sort >"$work/files"
@@ -290,6 +291,12 @@ print("not ended")
 PY
 same "a signal while a process begins" "143 begun" "$? $(cat begins)"
 rm begins
+
+# where memory allows as many checks, rt shares the processors among them by itself
+echo "MemAvailable: 17000000 kB" >"$FAKE/memory"
+gate 0
+same "the checks side by side, which rt would run" none "$(cat "$FAKE/jobs")"
+echo "MemAvailable: 12000000 kB" >"$FAKE/memory"
 
 # what fails
 gate 2 --since nowhere

@@ -109,8 +109,10 @@ def main(program, events):
     for name, (half, most) in few.items():
         late, latest = many[name]
         print(f"{name}: {half:.0f} {most:.0f} {late:.0f} {latest:.0f} {late / half:.2f} {latest / most:.2f} 1.3")
+    size = sum(entry.stat().st_size for entry in os.scandir() if entry.name.startswith("grown.db"))
     seconds, memory = opening(program)
-    print(f"opening at {desk.events} events, {desk.journeys} journeys: {seconds:.2f} s, {memory:.0f} MB")
+    held = f"{desk.events} events, {desk.journeys} journeys, a file of {size / 1e6:.0f} MB"
+    print(f"opening at {held}: {seconds:.2f} s, {memory:.0f} MB of memory")
 
 
 if __name__ == "__main__":

@@ -68,7 +68,7 @@ class Gate:
             with undisturbed():
                 self.first = Proving(self.first_copy, proving, shared=True)
         with undisturbed():
-            self.proving = Proving(self.copy, proving)
+            self.proving = Proving(self.copy, proving, nice=5 if first else 0)
         self.fillers = Fillers([it for it in tasks if it.fills], self.heard, self.lanes)
         self.wait()
         tell_minutes({**self.proving.minutes(), **(self.first.minutes() if self.first else {})}, say)

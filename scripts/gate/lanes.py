@@ -12,6 +12,8 @@ from alone import undisturbed
 
 # The memory in kB that must be free before a task that proves begins: the mutants of some crates take as much.
 MEMORY = 9_000_000
+# What rt reckons for a check of a large crate, in kB, of 85 hundredths of the free memory.
+RECKONED = 7_000_000
 
 
 @dataclass(eq=False)
@@ -64,9 +66,14 @@ def free_memory():
         return next(int(line.split()[1]) for line in file if line.startswith("MemAvailable:"))
 
 
+def rt_fills(lanes):
+    """Returns whether rt, left to itself, would run so many checks side by side."""
+    return lanes * RECKONED <= 0.85 * free_memory()
+
+
 def lanes_now():
     """Returns how many checks run side by side: one a processor, as many as the free memory holds. A check here takes at most 5 GB; rt
-    reckons with twice that, and would leave processors idle."""
+    reckons with more, and would leave processors idle."""
     processors = int(subprocess.run(["nproc"], capture_output=True, text=True, check=True).stdout)
     return max(1, min(processors, free_memory() // 5_000_000))
 

@@ -10,6 +10,8 @@ import time
 from concurrent.futures import ThreadPoolExecutor
 from pathlib import Path
 
+from lanes import rt_fills
+
 PROVED = re.compile(r"rt: (\w+)(: its tests are)? (?:proved|is kept: .*)$")
 
 
@@ -48,11 +50,12 @@ def laid_out_otherwise(tables, copy, name):
 
 
 class Proving:
-    """A run of `rt ci` with so many checks side by side; or with so many processors, which its checks share."""
+    """A run of `rt ci` with so many checks side by side; or, where `shared` or where memory allows, with so many processors that its checks
+    share: where few can begin, each has several."""
 
-    def __init__(self, copy, lanes, shared=False):
-        environment, words = {**os.environ}, ["rt", "ci"]
-        if shared:
+    def __init__(self, copy, lanes, shared=False, nice=0):
+        environment, words = {**os.environ}, ["nice", "-n", str(nice), "rt", "ci"]
+        if shared or rt_fills(lanes):
             environment.pop("RT_JOBS", None)
             words = ["taskset", "-c", ",".join(map(str, sorted(os.sched_getaffinity(0))[:lanes])), *words]
         elif lanes > 1:
