@@ -336,6 +336,10 @@ from tables import Tables
 from turns import landing_of, mutant_turns, mutants_in, part_of_script, share_of, test_turns
 tables = Tables(sys.argv[1])
 every = sorted(path for found in tables.mutants.values() for path in found)
+for name, found in tables.mutants.items():
+    names = [path.rsplit("/", 1)[1] for path in found]
+    if len({*names}) < len(names):
+        print(f"{name}: two mutants of one name:", *{it for it in names if names.count(it) > 1})
 for lanes in range(1, 9):
     shares, parts = mutant_turns(tables, lanes), {part_of_script(3, number) for number in (7, 8, 9)}
     if parts != {1, 2, 3}:
