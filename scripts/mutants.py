@@ -50,10 +50,12 @@ def is_of_others(path, part):
 
 
 def failing(said):
-    """Returns of each function, impl and type that fails by itself what its line says, without what it says of others."""
+    """Returns of each function, impl and type that fails by itself what its line says, without what it says of others. The refused proof
+    files that the line of an impl names are those of its functions, which have lines of their own."""
     found = {}
-    for path, why in re.findall(r"^(?:fn|impl|struct|enum|trait|law) (\S+): (?!(?:proved|no holes)$)(.*)$", said, re.M):
-        own = [it for it in re.sub(r"^(not proved; |no proof: )", "", why).split("; ") if not is_of_others(path, it)]
+    for kind, path, why in re.findall(r"^(fn|impl|struct|enum|trait|law) (\S+): (?!(?:proved|no holes)$)(.*)$", said, re.M):
+        parts = re.sub(r"^(not proved; |no proof: )", "", why).split("; ")
+        own = [it for it in parts if not is_of_others(path, it) and not (kind == "impl" and STANDS_ON.match(it))]
         if own:
             found[path] = "; ".join(own)
     return found

@@ -171,4 +171,15 @@ tries 2 small no_such.edit
 sed -i 's/if a < b/if a > b/' $crate/src/sums.rt
 tries 2 small returns_the_number.edit
 same "a crate that is not proved" yes "$(grep -q 'small is not proved as it stands' "$work/notes" && echo yes)"
+
+# the line of an impl names the proof files of its functions, which have lines of their own
+same "what fails by itself" "small::It::go" "$(
+  python3 -B - <<'PY'
+import sys
+sys.path.insert(0, "scripts")
+from mutants import failing
+why = "not proved; it stands on `Rattle.small.proofs.It.go.Answers.returns`, which antt refuses"
+print(*failing(f"impl small::It: {why}\nfn small::It::go: {why}\nfn small::goes: {why}"))
+PY
+)"
 finish

@@ -63,12 +63,13 @@ fn unfinished() -> Report {
     }
 }
 
-/// A report of each kind, of a desk with the two journeys, and its text; of a journey that does not exist there is none.
+/// A report of each kind, of a desk with the two journeys, and its text; of a journey that does not exist there is none. The cell is
+/// the room of the first journey.
 #[rattlefmt::skip]
-fn texts() -> Option<[(Report, Option<&'static str>); 9]> {
-    let (filter, cell) = (CellFilter::all(), Cell::parse("R/INN/DBL/2030-06-02")?);
+fn texts(cell: Cell) -> [(Report, Option<&'static str>); 9] {
+    let filter = CellFilter::all();
     let (text, json, csv) = (Format::Text, Format::Json, Format::Csv);
-    Some([
+    [
         (Report::Stock { filter, format: text }, Some(STOCK)),
         (Report::Months { months: MonthReport::Summary(csv), filter }, Some(SUMMARY)),
         (unfinished(), Some(UNFINISHED)),
@@ -78,7 +79,7 @@ fn texts() -> Option<[(Report, Option<&'static str>); 9]> {
         (Report::Why { id: 2, format: json }, Some(WHY)),
         (Report::History { id: 3, format: text }, None),
         (Report::Why { id: 3, format: json }, None),
-    ])
+    ]
 }
 
 /// Checks that a book returns this report.
@@ -110,8 +111,9 @@ impl<R: Abort> Session<R> for Reported {
     ) -> Result<Connection<S>, Fail> {
         let mut book = book_over(alloc, conn)?;
         is_answered(rt, alloc, &mut book, &DONE)?;
+        let texts = texts(Cell::parse("R/INN/DBL/2030-06-02").ok_or("no cell")?);
         for _ in 0..2u8 {
-            for (report, expected) in &texts().ok_or("no cell")? {
+            for (report, expected) in &texts {
                 is_returned(rt, &mut book, report, *expected)?;
             }
         }
