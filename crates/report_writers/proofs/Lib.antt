@@ -1,3 +1,4 @@
+pub mod ReadyLemmas
 pub mod WriteLemmas
 pub mod StockLemmas
 pub mod WhyLemmas
