@@ -2,7 +2,6 @@
 ghost use Rattle.std.specs.Prelude.{◌≡◌, ◌+◌, ◌<◌, ◌≤◌, ◌^◌, ◌++◌, [], ◌∷◌, List, Some, length, IfOk, OnOk};
 ghost use Rattle.saga_core.specs.RowSources.{count_of, Hands};
 ghost use Rattle.month_reports.specs.Months.{AskedRest, MonthsRest};
-ghost use Rattle.reports.specs.Faults.{reported};
 ghost use Rattle.reports.specs.Writing.{Takes};
 
 use crate::days::goes_on;
@@ -32,7 +31,7 @@ pub(crate) fn next_asked<R: RowSource<(Cell, Held)>>(
     ensures counted { IfOk result (λ found. count_of found + R.given rows.old ≤ R.given rows.new) }
     ensures few { R.given rows.new < 2 ^ 64 }
 
-    ensures takes { Takes R.RowSource rows.old rows.new (reported result) }
+    ensures takes { Takes R.RowSource rows.old rows.new }
 {
     while let Some(row) = rows.next_row()? {
         if filter.lets(&row.0) {
@@ -57,7 +56,7 @@ pub(crate) fn read_month<R: RowSource<(Cell, Held)>>(
         (λ read. count_of read.after + R.given rows.old ≤ R.given rows.new) }
     ensures given { OnOk result (R.given rows.new < 2 ^ 64) }
 
-    ensures takes { Takes R.RowSource rows.old rows.new result }
+    ensures takes { Takes R.RowSource rows.old rows.new }
 {
     let mut cells = Vec::new(alloc);
     add(&mut cells, first)?;

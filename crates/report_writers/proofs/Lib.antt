@@ -1,4 +1,3 @@
-pub mod ReadyLemmas
 pub mod WriteLemmas
 pub mod StockLemmas
 pub mod WhyLemmas

@@ -1,4 +1,3 @@
-pub mod Ready
 pub mod Whys
 pub mod Writing
 pub mod RowsLeft
