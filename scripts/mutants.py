@@ -42,20 +42,29 @@ def note(said):
     print(f"mutants: {said}", file=sys.stderr, flush=True)
 
 
+def proofs_of(path):
+    """Returns how the names of the proof files of a function begin."""
+    crate, _, rest = path.replace("::", ".").partition(".")
+    return f"Rattle.{crate}.proofs.{rest}."
+
+
 def is_of_others(path, part):
     """Returns whether this part of a function's line speaks of others: of one that it calls, or of refused proof files of theirs."""
-    crate, _, rest = path.replace("::", ".").partition(".")
-    stands = STANDS_ON.match(part)
-    return f"`Rattle.{crate}.proofs.{rest}." not in part if stands else bool(OF_OTHERS.match(part))
+    return f"`{proofs_of(path)}" not in part if STANDS_ON.match(part) else bool(OF_OTHERS.match(part))
+
+
+def is_of_functions(part, folders):
+    """Returns whether this part of an impl's line speaks of refused proof files of functions alone, which have lines of their own."""
+    return bool(STANDS_ON.match(part)) and all(it.startswith(folders) for it in re.findall(r"`(.*?)`", part))
 
 
 def failing(said):
-    """Returns of each function, impl and type that fails by itself what its line says, without what it says of others. The refused proof
-    files that the line of an impl names are those of its functions, which have lines of their own."""
-    found = {}
-    for kind, path, why in re.findall(r"^(fn|impl|struct|enum|trait|law) (\S+): (?!(?:proved|no holes)$)(.*)$", said, re.M):
+    """Returns of each function, impl and type that fails by itself what its line says, without what it says of others."""
+    found, lines = {}, re.findall(r"^(fn|impl|struct|enum|trait|law) (\S+): (?!(?:proved|no holes)$)(.*)$", said, re.M)
+    folders = tuple(proofs_of(path) for kind, path, _ in lines if kind == "fn")
+    for kind, path, why in lines:
         parts = re.sub(r"^(not proved; |no proof: )", "", why).split("; ")
-        own = [it for it in parts if not is_of_others(path, it) and not (kind == "impl" and STANDS_ON.match(it))]
+        own = [it for it in parts if not is_of_others(path, it) and not (kind == "impl" and is_of_functions(it, folders))]
         if own:
             found[path] = "; ".join(own)
     return found

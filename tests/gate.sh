@@ -12,7 +12,7 @@ cp -r "$tests"/../scripts/{gate,needs.bash,program.bash,trial.bash} "$top/script
 cd "$top" || exit 2
 export FAKE=$work/fake
 
-# a toolchain, and none of what ./check would install. FAKE/wait: crates whose proof waits until a file of that name is gone
+# a toolchain, and none of what ./check would install
 cat >"$FAKE/rt" <<'RT'
 #!/usr/bin/env bash
 if [ "$1" = version ]; then cat "$FAKE/version"; exit; fi

@@ -172,14 +172,16 @@ sed -i 's/if a < b/if a > b/' $crate/src/sums.rt
 tries 2 small returns_the_number.edit
 same "a crate that is not proved" yes "$(grep -q 'small is not proved as it stands' "$work/notes" && echo yes)"
 
-# the line of an impl names the proof files of its functions, which have lines of their own
-same "what fails by itself" "small::It::go" "$(
+# the line of an impl names the proof files of its functions, which have lines of their own, and perhaps one of its own
+same "what fails by itself" "small::It::go; small::It small::It::go" "$(
   python3 -B - <<'PY'
 import sys
 sys.path.insert(0, "scripts")
 from mutants import failing
 why = "not proved; it stands on `Rattle.small.proofs.It.go.Answers.returns`, which antt refuses"
-print(*failing(f"impl small::It: {why}\nfn small::It::go: {why}\nfn small::goes: {why}"))
+also = why.replace(", which", ", `Rattle.small.proofs.It.TheImpl.Meets.law`, which")
+found = [failing(f"impl small::It: {line}\nfn small::It::go: {why}\nfn small::goes: {why}") for line in (why, also)]
+print("; ".join(" ".join(it) for it in found))
 PY
 )"
 finish

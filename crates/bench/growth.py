@@ -12,6 +12,8 @@ import time
 from day import Client, request, serving
 
 STEPS, OF_AN_AGENT, TIMES = 9, 50, 1000
+# how much longer a page may take than at 1,000 events, and one of a begin or a T
+MOST, MOST_OF_STEPS = 1.3, 1.2
 NIGHTS = [f"2030-06-{day:02}" for day in range(1, 31)]
 FLIGHT = '{{"options":[{{"kind":"flight","supplier":"AL","product":"{0}","first":"{1}","nights":1,"count":1}}],"save":false}}'
 
@@ -108,7 +110,8 @@ def main(program, events):
     print(f"us at-1000-events-half of-100-99 at-{events}-events-half of-100-99 ratio-half ratio-99 at-most")
     for name, (half, most) in few.items():
         late, latest = many[name]
-        print(f"{name}: {half:.0f} {most:.0f} {late:.0f} {latest:.0f} {late / half:.2f} {latest / most:.2f} 1.3")
+        limit = MOST_OF_STEPS if name in ("begin", "T") else MOST
+        print(f"{name}: {half:.0f} {most:.0f} {late:.0f} {latest:.0f} {late / half:.2f} {latest / most:.2f} {limit}")
     size = sum(entry.stat().st_size for entry in os.scandir() if entry.name.startswith("grown.db"))
     seconds, memory = opening(program)
     held = f"{desk.events} events, {desk.journeys} journeys, a file of {size / 1e6:.0f} MB"
