@@ -14,7 +14,7 @@ use Rattle.saga_core.specs.Runs.{Asks}
 use Rattle.desk_http.specs.Demands.{Demand, demand_of}
 use Rattle.desk_http.specs.Hosts.{refusal_at}
 use Rattle.desk_http.specs.Pages.{Command, command_in, command_unless, state_by}
-use Rattle.desk_http.specs.Reasons.{GoesOn, GoesOnAt, GoesOnBy, GoesOnUnless, ViewsOn, reason_in}
+use Rattle.desk_http.specs.Reasons.{GoesOn, GoesOnAt, GoesOnBy, GoesOnUnless, ViewsOn}
 use Rattle.desk_http.specs.Worlds.{asks_by}
 use Rattle.desk_http.specs.declared.doors.Door.{Door}
 use Rattle.desk_http.proofs.AnswerLemmas.{IsRefusedAt}
@@ -77,7 +77,7 @@ module _ (could can : State → Asks → Type 0) (reason : State → State → T
       → IsRefusedAt door r why → RequestLeaves (Ok page) → IfErr result (λ fault. fault ≡ Memory) → GoesOnAt could can reason door m result
   request_goes_on sent.NoHead page result is refused leaves memory = absurd is
   request_goes_on (sent.Asks h body) page result is refused leaves memory =
-      made_goes_on could can (reason_in door (sent.Asks h body) reason) (command_in door (sent.Asks h body)) page result
+      made_goes_on could can reason (command_in door (sent.Asks h body)) page result
       (leaves (parts_of h) body is (refused (parts_of h) body is)) memory
 
   -- the fault is handed on
@@ -85,5 +85,5 @@ module _ (could can : State → Asks → Type 0) (reason : State → State → T
       → RequestLeaves {R = R} (Err came) → GoesOnAt {T = T} could can reason door m (Err came)
   request_fails R T sent.NoHead came is refused leaves = absurd is
   request_fails R T (sent.Asks h body) came is refused leaves =
-      fault_goes_on could can (reason_in door (sent.Asks h body) reason) R T (command_in door (sent.Asks h body)) came
+      fault_goes_on could can reason R T (command_in door (sent.Asks h body)) came
       (leaves (parts_of h) body is (refused (parts_of h) body is))

@@ -1,17 +1,15 @@
 -- Why a book fails with Store at a message, and when it may act after one. `could`, `can` and `reason` are those of
 -- Rattle.saga_core.specs.Reasons: a book may act for asks, before a call and after it; a step between two states failed.
-use Rattle.std.specs.Prelude.{◌⊎◌, ◌++◌, ⊤, Bool, Option, Some, None, Result, Ok, Err}
+use Rattle.std.specs.Prelude.{◌⊎◌, ◌++◌, Bool, Option, Result, Ok, Err}
 use Rattle.commands.specs.declared.replies.Refusal.{Refusal}
 use Rattle.ledger.specs.Answer.{State}
 use Rattle.saga_core.specs.Calls.{Serves}
 use Rattle.saga_core.specs.Runs.{Asks}
-use Rattle.http_messages.specs.Heads.{parts_of}
-use Rattle.http_messages.specs.Messages.{Message, NoHead, Asks as Request}
+use Rattle.http_messages.specs.Messages.{Message}
 use Rattle.http_pages.specs.declared.routes.Denied.{Denied}
 use Rattle.protocols.specs.declared.faults.ServeFault.{ServeFault}
 use Rattle.protocols.specs.declared.faults.ServeFault.TheVariants.{Memory, Store}
-use Rattle.desk_http.specs.Demands.{Demand, SeeCells, SeeReport, demand_of}
-use Rattle.desk_http.specs.Hosts.{refusal_at}
+use Rattle.desk_http.specs.Demands.{Demand}
 use Rattle.desk_http.specs.Pages.{Command, command_by, command_in, command_unless, state_by}
 use Rattle.desk_http.specs.Worlds.{asks_by}
 use Rattle.desk_http.specs.declared.doors.Door.{Door}
@@ -62,32 +60,15 @@ module _ {T : Type 0} (could can : State → Asks → Type 0) (reason : State �
   GoesOn command (Err Memory) = MayStillAct could can ⊎ ActsBy command (Err Memory)
   GoesOn command result = ActsBy command result
 
--- the reason of a demand; of a report nothing is said, nor of a part of the stock, which is read as one
-abbrev pub reason_by : Result Demand Denied → (State → State → Type 0) → State → State → Type 0
-reason_by (Ok (SeeReport report)) reason s t = ⊤
-reason_by (Ok (SeeCells f)) reason s t = ⊤
-reason_by _ reason s t = reason s t
-
--- the same, of a request whose head is refused, or is not
-abbrev pub reason_unless : Option Refusal → Result Demand Denied → (State → State → Type 0) → State → State → Type 0
-reason_unless (Some why) demand reason = reason
-reason_unless None demand reason = reason_by demand reason
-
--- the same, of a message that came in at a door
-abbrev pub reason_in : Door → Message → (State → State → Type 0) → State → State → Type 0
-reason_in door NoHead reason = reason
-reason_in door (Request h body) reason =
-    reason_unless (refusal_at door (parts_of h)) (demand_of door (parts_of h) body) reason
-
 module _ {T : Type 0} (could can : State → Asks → Type 0) (reason : State → State → Type 0) where
   -- what a demand leaves of the book
   abbrev pub GoesOnBy : Result Demand Denied → Result T ServeFault → Type 0
-  GoesOnBy demand result = GoesOn could can (reason_by demand reason) (command_by demand) result
+  GoesOnBy demand result = GoesOn could can reason (command_by demand) result
 
   -- what a request leaves of it, whose head is refused, or is not
   abbrev pub GoesOnUnless : Option Refusal → Result Demand Denied → Result T ServeFault → Type 0
-  GoesOnUnless why demand result = GoesOn could can (reason_unless why demand reason) (command_unless why demand) result
+  GoesOnUnless why demand result = GoesOn could can reason (command_unless why demand) result
 
   -- what a message leaves of it that came in at a door
   abbrev pub GoesOnAt : Door → Message → Result T ServeFault → Type 0
-  GoesOnAt door m result = GoesOn could can (reason_in door m reason) (command_in door m) result
+  GoesOnAt door m result = GoesOn could can reason (command_in door m) result

@@ -73,8 +73,7 @@ impl Answer {
 /// Answers a message that came in at a door: carries out what it asks for, and lays out its page. What was counted is shown
 /// where it asks for that.
 ///
-/// Out of memory, it was carried out or not, and has no page. Store implies an I/O error, as the book tells it; of a
-/// report, and of a part of the stock, nothing is said.
+/// Out of memory, it was carried out or not, and has no page. Store implies an I/O error, as the book tells it.
 pub fn answer_to<B: Reporting>(
     alloc: Global,
     paths: &Paths,

@@ -14,7 +14,7 @@ ghost use Rattle.report_kinds.specs.Texts.{OfReport};
 ghost use Rattle.saga_core.specs.Views.{counts_of};
 ghost use Rattle.serde_json.specs.Read.{read};
 ghost use Rattle.serde_json.specs.Written.{compact_text};
-ghost use Rattle.std.specs.Prelude.{◌≡◌, ⊤, IfOk};
+ghost use Rattle.std.specs.Prelude.{◌≡◌, IfOk};
 ghost use Rattle.std.specs.String.{string_bytes};
 
 use crate::demands::Unmet;
@@ -171,7 +171,7 @@ pub(crate) fn see_cells<B: Reporting>(
         Shows (B.stands book.new) (B.leaves book.new) s
         (λ page. ShowsCells filter.now s.ledger (page_said page)) result }
 
-    ensures views { Views B.is_sound B.leaves B.has_failed B.may_act (λ _ _ _ _. ⊤)
+    ensures views { Views B.is_sound B.leaves B.has_failed B.may_act B.has_reason
         book.old book.new result }
 {
     let report = Report::Stock {
@@ -191,7 +191,7 @@ pub(crate) fn see_report<B: Reporting>(
         Shows (B.stands book.new) (B.leaves book.new) s (λ page.
         OfReport report.now s.ledger (λ text. page_said page ≡ told_page text)) result }
 
-    ensures views { Views B.is_sound B.leaves B.has_failed B.may_act (λ _ _ _ _. ⊤)
+    ensures views { Views B.is_sound B.leaves B.has_failed B.may_act B.has_reason
         book.old book.new result }
 {
     let found = book.report(report)?;

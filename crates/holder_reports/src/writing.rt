@@ -1,5 +1,5 @@
 //! The reports of holders, written row by row.
-ghost use Rattle.std.specs.Prelude.{◌≡◌, codes, IfOk, OnOk, string_bytes};
+ghost use Rattle.std.specs.Prelude.{◌≡◌, codes, IfErr, IfOk, OnOk, string_bytes};
 ghost use Rattle.std.specs.List.{flat_map};
 ghost use Rattle.std.specs.Io.KnownBytes.{Appends};
 ghost use Rattle.holder_reports.specs.HoldingLayouts.{holdings_shown};
@@ -123,6 +123,7 @@ fn send<W: Write>(out: &mut W, bytes: &[u8]) -> Result<(), ReportFault>
     ensures sent { OnOk result (Appends (W.contents out.old) (W.contents out.new) bytes.now) }
 
     ensures front { WroteFront (W.contents out.old) (W.contents out.new) bytes.now }
+    ensures write { IfErr result (λ fault. fault ≡ ReportFault.Write) }
 {
     send_all(out, bytes)?;
     Ok(())

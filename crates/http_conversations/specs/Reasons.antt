@@ -5,7 +5,6 @@ use Rattle.std.specs.List.{flat_map}
 use Rattle.ledger.specs.Answer.{State}
 use Rattle.saga_core.specs.Runs.{Asks}
 use Rattle.desk_http.specs.Pages.{command_in, state_after}
-use Rattle.desk_http.specs.Reasons.{reason_in}
 use Rattle.desk_http.specs.Worlds.{asks_by}
 use Rattle.http_modes.specs.Modes.{Said, Says}
 use Rattle.http_modes.specs.Worlds.{Exchange}
@@ -40,8 +39,7 @@ abbrev pub Reaches : State → List Meant → State → Type 0
 Reaches s [] t = t ≡ s
 Reaches s (m ∷ later) t = Reaches (state_with s m) later t ⊎ ((m.exchange.page ≡ None) × Reaches s later t)
 
--- there was a reason why the step of the last exchange failed, from a state to which the messages before it lead; of a report,
--- or of a part of the stock, none is said
+-- there was a reason why the step of the last exchange failed, from a state to which the messages before it lead
 pub record FailsAtLast (reason : State → State → Type 0) (s : State) (exchanges : List Exchange) (meant : List Meant) : Type 0 where
   pub before : List Meant
   pub last : Meant
@@ -50,7 +48,7 @@ pub record FailsAtLast (reason : State → State → Type 0) (s : State) (exchan
   pub is_last : exchanges ≡ earlier ++ last.exchange ∷ []
   pub at : State
   pub reaches : Reaches s before at
-  pub reason_is : reason_in last.exchange.door last.message.meant reason at (state_with at last)
+  pub reason_is : reason at (state_with at last)
 
 -- unless the store failed, the book may act for later asks on a state to which the messages lead; if it did, there was a reason
 abbrev pub MayGoOn : (State → Asks → Type 0) → (State → State → Type 0) → Bool → State → List Exchange → List Meant → Asks → Type 0

@@ -4,6 +4,7 @@ use Rattle.std.specs.List.{flat_map}
 use Rattle.filters.specs.declared.cells.CellFilter.{CellFilter}
 use Rattle.reports.specs.Formats.{last_line}
 use Rattle.reports.specs.Writing.{WritesCounted}
+use Rattle.reports.specs.declared.faults.ReportFault.{ReportFault}
 use Rattle.reports.specs.declared.formats.Format.TheVariants.{Text}
 use Rattle.saga_core.specs.declared.row_sources.RowSource.{Ghosts}
 use Rattle.month_reports.specs.Calendars.{calendar_head, calendar_row}
@@ -40,7 +41,7 @@ module _ {R : Type 0} (source : Ghosts R Places) (old new : R) where
   -- this text of the months of all cells that are asked for was written, and they were counted, each with a cell of its own; at a
   -- fault a prefix of the text was written
   abbrev pub WritesMonths : CellFilter → (List (List Places) → List ℕ)
-      → Option (List ℕ) → Option (List ℕ) → {E : Type 0} → Result ℕ E → Type 0
+      → Option (List ℕ) → Option (List ℕ) → Result ℕ ReportFault → Type 0
   WritesMonths f text held holds result =
       WritesCounted source old new (λ all. text (asked_months f all)) (λ all. length (asked_months f all))
       (λ count. count + source.given old ≤ source.given new) (AskedRest f (source.rests new) []) held holds result

@@ -1,5 +1,5 @@
 //! The reports by month.
-ghost use Rattle.std.specs.Prelude.{◌≡◌, ◌≤◌, length, IfOk, OnOk};
+ghost use Rattle.std.specs.Prelude.{◌≡◌, ◌≤◌, length, IfErr, IfOk, OnOk};
 ghost use Rattle.std.specs.List.{flat_map};
 ghost use Rattle.std.specs.Io.KnownBytes.{Appends};
 ghost use Rattle.month_reports.specs.MonthReports.{month_shown, months_end, months_head, months_in, WritesMonths};
@@ -115,6 +115,7 @@ fn send<W: Write>(out: &mut W, bytes: &[u8]) -> Result<(), ReportFault>
     ensures sent { OnOk result (Appends (W.contents out.old) (W.contents out.new) bytes.now) }
 
     ensures front { WroteFront (W.contents out.old) (W.contents out.new) bytes.now }
+    ensures write { IfErr result (λ fault. fault ≡ ReportFault.Write) }
 {
     send_all(out, bytes)?;
     Ok(())

@@ -2,6 +2,7 @@
 ghost use Rattle.std.specs.Prelude.{◌≡◌, ◌+◌, ◌<◌, ◌≤◌, ◌^◌, ◌++◌, [], ◌∷◌, List, Some, length, IfOk, OnOk};
 ghost use Rattle.saga_core.specs.RowSources.{count_of, Hands};
 ghost use Rattle.month_reports.specs.Months.{AskedRest, MonthsRest};
+ghost use Rattle.reports.specs.Faults.{reported};
 ghost use Rattle.reports.specs.Writing.{Takes};
 
 use crate::days::goes_on;
@@ -31,7 +32,7 @@ pub(crate) fn next_asked<R: RowSource<(Cell, Held)>>(
     ensures counted { IfOk result (λ found. count_of found + R.given rows.old ≤ R.given rows.new) }
     ensures few { R.given rows.new < 2 ^ 64 }
 
-    ensures takes { Takes R.RowSource rows.old rows.new }
+    ensures takes { Takes R.RowSource rows.old rows.new (reported result) }
 {
     while let Some(row) = rows.next_row()? {
         if filter.lets(&row.0) {
@@ -56,7 +57,7 @@ pub(crate) fn read_month<R: RowSource<(Cell, Held)>>(
         (λ read. count_of read.after + R.given rows.old ≤ R.given rows.new) }
     ensures given { OnOk result (R.given rows.new < 2 ^ 64) }
 
-    ensures takes { Takes R.RowSource rows.old rows.new }
+    ensures takes { Takes R.RowSource rows.old rows.new result }
 {
     let mut cells = Vec::new(alloc);
     add(&mut cells, first)?;

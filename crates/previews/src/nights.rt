@@ -126,7 +126,7 @@ pub fn read_nights<R: RowSource<(Cell, Held)>>(
 
     ensures no_write { IfErr result (λ fault. fault ≢ ReportFault.Write) }
 
-    ensures takes { Takes R.RowSource rows.old rows.new }
+    ensures takes { Takes R.RowSource rows.old rows.new result }
 {
     let mut cells = Vec::new(alloc);
     while let Some(row) = rows.next_row()? {

@@ -6,6 +6,7 @@ ghost use Rattle.ledger.specs.JourneyChanges.{newer};
 ghost use Rattle.previews.specs.declared.steps.NextStep.{NextStep};
 ghost use Rattle.plan.specs.PlanModel.{step_count};
 ghost use Rattle.previews.specs.Previews.{begun_as, FitsNext, HasOption, IsStepDown, IsStepUp, latest_option as latest_option_of, next_of, nights_ahead, option_done, preview_of, step_of, IsJourneyOf, IsTaken};
+ghost use Rattle.reports.specs.Faults.{reported};
 ghost use Rattle.reports.specs.Writing.{Takes};
 
 use crate::nights::{FreeNight, fits_nights};
@@ -60,7 +61,7 @@ pub fn latest_option<R: RowSource<Item>>(rows: &mut R, step: usize) -> Result<Op
     ensures rest { R.is_sound rows.new → (all : List Item) → R.rests rows.old all →
         OnOk result (R.rests rows.new []) }
 
-    ensures takes { Takes R.RowSource rows.old rows.new }
+    ensures takes { Takes R.RowSource rows.old rows.new (reported result) }
 {
     let mut latest = None;
     while let Some(item) = rows.next_row()? {

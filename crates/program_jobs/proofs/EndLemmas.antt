@@ -1,5 +1,5 @@
 -- How a report ends, and what was written where it could not be begun. For the job of a report.
-use Rattle.std.proofs.Common.{◌≡◌, inl, inr, sym, subst, ℕ, List, Option}
+use Rattle.std.proofs.Common.{◌≡◌, ◌∙◌, arith, inl, inr, sym, subst, ℕ, List, Option}
 use Rattle.sqlite.specs.Store.{Ghosts}
 use Rattle.sqlite.specs.Held.{Held, state}
 use Rattle.sqlite.specs.State.{HasCleanDisk}
@@ -9,15 +9,17 @@ use Rattle.ledger.specs.Answer.{State}
 use Rattle.reports.specs.declared.faults.ReportFault.{ReportFault}
 use Rattle.reports.specs.declared.faults.ReportFault.TheVariants as report
 use Rattle.tables.specs.Keeping.{StoodFor}
-use Rattle.tables.specs.Opening.{Tells}
+use Rattle.tables.specs.Opening.{FailsOpening, FailsToFound, FailsToOpen, Tells}
 use Rattle.tables.specs.declared.faults.OpenFault.{OpenFault}
 use Rattle.tables.specs.declared.faults.OpenFault.TheVariants as opening
-use Rattle.program_ends.specs.Ends.{IfRefused, fault_of_report}
+use Rattle.program_ends.specs.Ends.{IfRefused, end_of_both, fault_of_report}
 use Rattle.program_ends.specs.declared.ends.End.{End}
 use Rattle.program_ends.specs.declared.ends.End.TheVariants as finish
 use Rattle.program_ends.specs.declared.faults.ProgramFault.{ProgramFault}
+use Rattle.program_ends.specs.declared.faults.ProgramFault.TheVariants as program
 use Rattle.desk_jobs.specs.OpeningEnds.{end_of_open}
-use Rattle.program_jobs.specs.Jobs.{EndsReport, RefusesAbsent, RefusesToShow}
+use Rattle.desk_jobs.proofs.ReasonLemmas.{opening_fails}
+use Rattle.program_jobs.specs.Jobs.{EndsReport, FailsReport, RefusesAbsent, RefusesToShow}
 use Rattle.program_jobs.specs.Reporting.{IsFaultOfReport, Reports}
 use Rattle.report_kinds.specs.declared.report.Report.{Report}
 use Rattle.program_jobs.proofs.ReportLemmas.{failed_report}
@@ -60,6 +62,42 @@ module _ {S : Type 0} (g : Ghosts S) (old new : Held S) where
       → EndsReport (RefusesToShow g old new asked) e
   ends_unopened asked fault e is tells =
       subst (EndsReport (RefusesToShow g old new asked)) (sym is) (refused_opening asked fault tells)
+
+-- Why a report failed.
+
+-- the fault of an opening is its own
+opening_own : (fault : OpenFault) → end_of_open fault ≡ finish.Fault program.Store → ⊥
+opening_own fault is = grind arith
+
+-- of two ends with such a fault it is the first, where the second is that of a write
+both_store : (e : End) (fault : ProgramFault) → end_of_both e (finish.Fault program.Write) ≡ finish.Fault fault → (fault ≡ program.Write → ⊥)
+    → e ≡ finish.Fault fault
+both_store e fault is other = grind arith
+
+module _ {S : Type 0} (g : Ghosts S) (old new : Held S) where
+  -- it did not, with another end
+  pub fails_not : (e : End) → (e ≡ finish.Fault program.Store → ⊥) → (e ≡ finish.Fault program.OpeningStore → ⊥) → FailsReport g old new e
+  fails_not e own opened = record {
+    reason = λ clean v s was spelled up is. absurd (own is);
+    opening = λ is. absurd (opened is);
+    founding = λ is. absurd (opened is);
+  }
+
+  -- the opening failed
+  pub fails_unopened : (fault : OpenFault) (e : End) → e ≡ end_of_open fault → FailsOpening g old new fault → FailsReport g old new e
+  fails_unopened fault e same fails = record {
+    reason = λ clean v s was spelled up is. absurd (opening_own fault (sym same ∙ is));
+    opening = λ is. opening_fails (FailsToOpen g old new) fault (sym same ∙ is) fails.store;
+    founding = λ is. opening_fails (FailsToFound g old new) fault (sym same ∙ is) fails.founds;
+  }
+
+  -- a write failed after it
+  pub fails_late : (e : End) → FailsReport g old new e → FailsReport g old new (end_of_both e (finish.Fault program.Write))
+  fails_late e fails = record {
+    reason = λ clean v s was spelled up is. fails.reason clean v s was spelled up (both_store e program.Store is (λ w. cc));
+    opening = λ is. fails.opening (both_store e program.OpeningStore is (λ w. cc));
+    founding = λ is. fails.founding (both_store e program.OpeningStore is (λ w. cc));
+  }
 
 -- the opening failed, of a connection that stood for a state
 pub unopened_report : {S : Type 0} (g : Ghosts S) (old new : Held S) (held : Option (List ℕ)) (asked : Report) (fault : OpenFault)

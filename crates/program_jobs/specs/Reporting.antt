@@ -6,11 +6,13 @@ use Rattle.sqlite.specs.Held.{Held, state}
 use Rattle.sqlite.specs.State.{HasCleanDisk}
 use Rattle.commands.specs.declared.replies.Refusal.{Refusal}
 use Rattle.commands.specs.declared.replies.Refusal.TheVariants as refusal
+use Rattle.desk_sql.specs.Causes.{HasFaulted, IsUp}
 use Rattle.ledger.specs.Answer.{State}
 use Rattle.reports.specs.declared.faults.ReportFault.{ReportFault}
 use Rattle.report_kinds.specs.Texts.{OfReport}
 use Rattle.report_kinds.specs.declared.report.Report.{Report}
 use Rattle.streams.specs.Written.{WroteFront}
+use Rattle.sql_model.specs.Spelling.{IsSpelled}
 use Rattle.sql_model.specs.Standing.{IsDesk}
 use Rattle.tables.specs.Lending.{IsOnlyRead, OpenedKeeps}
 use Rattle.tables.specs.Opening.{Tells}
@@ -33,9 +35,12 @@ abbrev pub IsNoJourney : Refusal → Type 0
 IsNoJourney why = why ≡ refusal.NoJourney
 
 module _ {S : Type 0} (g : Ghosts S) where
-  -- this is shown of the desk that was opened, and what was opened was only read
-  pub record ShowsOpened (old new : Opened S) (IsShown : State → Type 0) : Type 0 where
+  -- This is shown of the desk that was opened; if its agents have the form of one, this failed only where the disk of a store that
+  -- was up failed or refused; and what was opened was only read.
+  pub record ShowsOpened (old new : Opened S) (Fails : Type 0) (IsShown : State → Type 0) : Type 0 where
     pub told : HasCleanDisk (state g new.conn) → (s : State) → IsDeskIn g old s → IsShown s
+    pub reason : HasCleanDisk (state g new.conn) → (s : State) → IsDeskIn g old s → IsSpelled s.ledger → IsUp (state g old.conn)
+        → Fails → HasFaulted (state g old.conn) (state g new.conn)
     pub kept : IsOnlyRead g old new
 
 module _ {S : Type 0} (g : Ghosts S) (old new : Held S) where

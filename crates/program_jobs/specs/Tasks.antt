@@ -21,7 +21,7 @@ use Rattle.desk_jobs.specs.Following.{Follows}
 use Rattle.desk_jobs.specs.Jobs.{EndsRun, NotReady, NotesRun, RunsOver}
 use Rattle.desk_jobs.specs.Migrating.{FailsIndex, FailsMigration}
 use Rattle.report_kinds.specs.declared.report.Report.{Report}
-use Rattle.program_jobs.specs.Jobs.{EndsReport, KeepsDesk, RefusesToShow}
+use Rattle.program_jobs.specs.Jobs.{EndsReport, FailsReport, KeepsDesk, RefusesToShow}
 use Rattle.program_jobs.specs.Loads.{Loads}
 use Rattle.program_jobs.specs.Outcomes.{HasEnded, IsReported, end_of}
 use Rattle.program_jobs.specs.Reporting.{Reports}
@@ -81,6 +81,7 @@ module _ {S : Type 0} (g : Ghosts S) (old new : Held S) where
       pub told : HasCleanDisk (state g new) → (v : Version) (s : State) → RepresentsIn g old v s
           → Reports t.held t.holds report (end_of o) s
       pub ends : EndsReport (RefusesToShow g old new report) (end_of o)
+      pub fails : FailsReport g old new (end_of o)
       pub keeps : KeepsDesk g old new
       pub shown : IsReported o
       pub only : IsOnlyWritten t

@@ -1,5 +1,5 @@
 //! The job of a report, of a desk that is not recovered.
-ghost use Rattle.std.specs.Prelude.{◌≡◌, ℕ, false, List, Option, Ok};
+ghost use Rattle.std.specs.Prelude.{◌≡◌, ◌≢◌, ℕ, false, List, Option, Ok, Err, IfErr};
 ghost use Rattle.std.specs.Io.KnownBytes.{Keeps};
 ghost use Rattle.sqlite.specs.Held.{state};
 ghost use Rattle.sqlite.specs.State.{HasCleanDisk};
@@ -10,12 +10,12 @@ ghost use Rattle.desk_jobs.specs.Connections.{RepresentsIn};
 ghost use Rattle.report_kinds.specs.Texts.{IsOfJourney};
 ghost use Rattle.report_kinds.specs.declared.report.Report.{Report};
 ghost use Rattle.report_writers.specs.Writing.{WritesIfThere};
-ghost use Rattle.program_jobs.specs.Jobs.{EndsReport, KeepsDesk, RefusesAbsent, RefusesToShow};
+ghost use Rattle.program_jobs.specs.Jobs.{EndsReport, FailsReport, KeepsDesk, RefusesAbsent, RefusesToShow};
 ghost use Rattle.program_jobs.specs.Reporting.{end_of_report, Reports, ReportsIfThere, ShowsOpened};
 
 use commands::Refusal;
 use desk_jobs::end_of_opening;
-use program_ends::End;
+use program_ends::{End, ProgramFault};
 use report_kinds::Report;
 use report_writers::write_report;
 use reports::ReportFault;
@@ -39,6 +39,7 @@ pub fn report_over<S: Alter + Drop, O: Write>(
         Reports (O.contents out.old) (O.contents out.new) report.now result.1 s }
     ensures ends { EndsReport (RefusesToShow S.Store conn result.0 report.now) result.1 }
 
+    ensures fails { FailsReport S.Store conn result.0 result.1 }
     ensures keeps { KeepsDesk S.Store conn result.0 }
 {
     let mut opened = match open_from(conn) {
@@ -57,9 +58,11 @@ pub fn tell_report<S: Alter, O: Write>(
     opened: &mut Opened<S>,
     out: &mut O,
 ) -> End
-    ensures shows { ShowsOpened S.Store opened.old opened.new (λ s.
+    ensures shows { ShowsOpened S.Store opened.old opened.new
+        (result ≡ End.Fault ProgramFault.Store) (λ s.
         Reports (O.contents out.old) (O.contents out.new) report.now result s) }
     ensures ends { EndsReport (RefusesAbsent report.now) result }
+    ensures opened { result ≢ End.Fault ProgramFault.OpeningStore }
 {
     let version = opened.version();
     let done = write_report(alloc, report, version, opened.connection(), out);
@@ -73,6 +76,8 @@ fn finish<O: Write>(done: Result<bool, ReportFault>, out: &mut O) -> End
         ReportsIfThere held (O.contents out.new) text result }
     ensures ends { (report : Report) → (done ≡ Ok false → IsOfJourney report) →
         EndsReport (RefusesAbsent report) result }
+    ensures fails { result ≡ End.Fault ProgramFault.Store → done ≡ Err ReportFault.Store }
+    ensures opened { result ≢ End.Fault ProgramFault.OpeningStore }
 {
     match done {
         Ok(true) => end_of_report(flush(out)),
@@ -95,6 +100,7 @@ fn end_of_report(done: Result<(), ReportFault>) -> End
 /// Flushes the writer.
 fn flush<O: Write>(out: &mut O) -> Result<(), ReportFault>
     ensures same { Keeps (O.contents out.old) (O.contents out.new) }
+    ensures write { IfErr result (λ fault. fault ≡ ReportFault.Write) }
 {
     match out.flush() {
         Ok(()) => Ok(()),

@@ -5,7 +5,7 @@ ghost use Rattle.desk_sql.specs.Calls.{Idle};
 ghost use Rattle.desk_sql.specs.declared.versions.Version.{Version};
 ghost use Rattle.ledger.specs.Answer.{State};
 ghost use Rattle.desk_jobs.specs.Connections.{RepresentsIn};
-ghost use Rattle.program_jobs.specs.Jobs.{EndsReport, KeepsDesk, RefusesToShow};
+ghost use Rattle.program_jobs.specs.Jobs.{EndsReport, FailsReport, KeepsDesk, RefusesToShow};
 ghost use Rattle.program_jobs.specs.Reporting.{Reports};
 
 use crate::blocks::{BLOCK, Blocks};
@@ -31,6 +31,7 @@ pub(crate) fn show_over<S: Alter + Drop, O: Write>(
         Reports (O.contents out.old) (O.contents out.new) report.now result.1 s }
     ensures ends { EndsReport (RefusesToShow S.Store conn result.0 report.now) result.1 }
 
+    ensures fails { FailsReport S.Store conn result.0 result.1 }
     ensures keeps { KeepsDesk S.Store conn result.0 }
 {
     let Ok(mut room) = Vec::with_capacity(alloc, 2 * BLOCK) else {

@@ -7,15 +7,14 @@ use saga_core::Book;
 pub trait Reporting: Book {
     ghost use Rattle.saga_core.specs.Books.{Shows};
     ghost use Rattle.saga_core.specs.Calls.{Reads};
-    ghost use Rattle.std.specs.Prelude.{◌≡◌, ⊤, option_map};
+    ghost use Rattle.std.specs.Prelude.{◌≡◌, option_map};
     ghost use Rattle.report_kinds.specs.Texts.{OfReport};
 
-    /// Returns the text of a report; `None` for the report of a journey that does not exist. It is a read as any other of
-    /// the book, but that nothing is said of why it fails with `Store`.
+    /// Returns the text of a report; `None` for the report of a journey that does not exist.
     fn report(&mut self, report: &Report) -> Result<Option<Vec<u8>>, Fault>
         ensures text { Self.is_sound self.new →
             Shows (Self.stands self.old) (λ s found. OfReport report.now s.ledger
             (λ text. option_map (λ bytes. bytes.items) found ≡ text)) result }
         ensures reads { Reads Self.is_sound Self.stands Self.leaves Self.has_failed Self.may_act
-            (λ _ _ _ _. ⊤) self.old self.new result };
+            Self.has_reason self.old self.new result };
 }

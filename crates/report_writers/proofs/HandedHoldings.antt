@@ -1,5 +1,5 @@
 -- The rows of the holders of cells, night by night, in their only order. For `start_holdings`.
-use Rattle.std.proofs.Common.{◌≡◌, ◌≢◌, ℕ, suc, ◌+◌, ◌<◌, ◌≤◌, ◌-◌, ◌^◌, ◌==◌, ◌&&◌, List, [], ◌∷◌, ◌++◌, map, filter, Bool, true, Some, is_lt, refl, sym, ap, ap₂, subst, ◌∙◌, arith, flat_map, nat_le}
+use Rattle.std.proofs.Common.{◌≡◌, ◌≢◌, ℕ, suc, ◌+◌, ◌<◌, ◌≤◌, ◌-◌, ◌^◌, ◌==◌, ◌&&◌, List, [], ◌∷◌, ◌++◌, map, filter, Bool, true, Some, IsTrue, is_lt, refl, sym, ap, ap₂, subst, ◌∙◌, arith, flat_map, nat_le}
 use Rattle.std.specs.List.{AllByRecursion, list_all}
 use Rattle.std.specs.List.Sorted.{IsPermutation}
 use Rattle.std.proofs.lemmas.Bool.{and_from, and_parts, leb-true}
@@ -17,11 +17,13 @@ use Rattle.filters.specs.CellFilters.{is_cell_asked}
 use Rattle.filters.specs.declared.cells.CellFilter.{CellFilter}
 use Rattle.ledger.specs.Ledger.{Event, IsLegal, Journey, history, journey_at, journeys}
 use Rattle.saga_core.specs.Views.{IsStock}
-use Rattle.desk_sql.specs.Rows.{JourneyRow, StepRow, StockRow, Tables}
+use Rattle.commands.specs.Names.{is_agent}
+use Rattle.commands.specs.declared.items.Phase.{Phase}
+use Rattle.desk_sql.specs.Rows.{CursorRow, JourneyRow, StepRow, StockRow, Tables}
 use Rattle.desk_sql.specs.Stock.{cell_cmp as stock_cmp}
 use Rattle.desk_sql.specs.RemainingRows.{IsOnlyOrder}
 use Rattle.desk_sql.proofs.Members.{permutation_from, permutation_to}
-use Rattle.sql_model.specs.ExpectedRows.{counted_from, is_standing, journeys_called, option_row, option_rows, step_rows, steps_called}
+use Rattle.sql_model.specs.ExpectedRows.{counted_from, is_standing, journeys_called, option_row, option_rows, phase_number, step_rows, steps_called}
 use Rattle.sql_model.specs.Reading.{stock_row_of}
 use Rattle.sql_model.specs.Standing.{StockStands}
 use Rattle.sql_model.proofs.Numbering.{counted_stands}
@@ -32,7 +34,9 @@ use Rattle.sql_lists.specs.HoldingLists.{IsByNight, Joined, holding_of as row_sh
 use Rattle.holder_reports.specs.Holders.{holders_of}
 use Rattle.holder_reports.specs.Holdings.{cells_asked, holdings_in, holdings_of}
 use Rattle.holder_reports.specs.declared.holdings.Holding.{Holding}
-use Rattle.report_writers.specs.HoldingsLeft.{holding_short, holding_told}
+use Rattle.sql_model.proofs.JourneyRows.{journey_told}
+use Rattle.sql_reads.proofs.GoodStock.{good_row}
+use Rattle.report_writers.specs.HoldingsLeft.{IsGoodHolding, holding_short, holding_told}
 use Rattle.report_writers.proofs.HandedHolders.{IsBefore, called_rise, not_before}
 use Rattle.report_writers.proofs.HandedStock.{in_order_strict, listed_row, row_listed, same_self}
 use Rattle.report_writers.proofs.HeldRows.{held_told}
@@ -159,6 +163,31 @@ module _ (l : List Event) (legal : IsLegal l) where
         (permutation_to (steps_called l) t.step option.0 called held.0)
         (mapped_has (join cell.0 option.0) (filter (is_joined f cell.0 option.0) t.journey) own.0
         (has_kept (is_joined f cell.0 option.0) t.journey own.0 here (and_from _ _ asked.1 (and_from _ _ held.1 kept.1))))))
+
+    -- Good rows.
+
+    -- a phase has one of four numbers
+    phase_low : (p : Phase) → phase_number p ≤ 3
+    phase_low p = grind arith
+
+    -- each row that will be returned keeps its limits, where the agents have the form of one
+    pub expected_good : ((j : JourneyRow) → Has t.journey j → IsTrue (is_agent j.agent))
+        → AllByRecursion IsGoodHolding (map row_shown expected)
+    expected_good agents = all_from IsGoodHolding (map row_shown expected) (λ r h.
+        let x = has_mapped row_shown expected r h in subst IsGoodHolding (sym x.2) (each x.0 (expected_passes x.0 x.1)))
+      where
+        each : (x : Joined) → Has passing x → IsGoodHolding (row_shown x)
+        each x h =
+            let cell = has_one_of (λ c. flat_map (λ s. map (join c s) (filter (is_joined f c s) t.journey)) t.step) t.stock x h in
+            let option = has_one_of (λ s. map (join cell.0 s) (filter (is_joined f cell.0 s) t.journey)) t.step x cell.2 in
+            let own = has_mapped (join cell.0 option.0) (filter (is_joined f cell.0 option.0) t.journey) x option.2 in
+            let here = (has_filtered (is_joined f cell.0 option.0) t.journey own.0 own.1).0 in
+            let told = journey_told l own.0 (own_here option.0 own.0 here) in
+            subst (λ y. IsGoodHolding (row_shown y)) (sym own.2) (record {
+              cell = good_row l legal t.stock stand cell.0 cell.1;
+              agent = agents own.0 here;
+              state = subst (λ n. n ≤ 3) (sym (ap (λ (p : CursorRow). p.phase) told.2.cursor)) (phase_low _);
+            })
 
     -- The one order.
 

@@ -1,9 +1,27 @@
 -- Rows of the store that are returned as the desk's own, and rows that are returned while none has failed. For `found_rows`
 -- and the rows that it finds.
-use Rattle.std.proofs.Common.{◌≡◌, List, map, false, Option, Some, None, arith}
+use Rattle.std.proofs.Common.{◌≡◌, [], ◌∷◌, List, map, false, Option, Some, None, arith}
+use Rattle.std.specs.List.{AllByRecursion}
 use Rattle.desk_sql.specs.RemainingRows.{Hands as HandsRows}
 use Rattle.saga_core.specs.RowSources.{Hands, HandsFirst}
 use Rattle.sql_reads.proofs.HandedTold.{Told, told_first, told_none}
+
+-- the later ones of rows that are good are good too
+pub good_after : {T : Type 0} {Rested Rests : List T → Type 0} {Good : T → Type 0} (found : Option T) → Hands Rested Rests found
+    → (rows : List T) → Rested rows → AllByRecursion Good rows → (later : List T) × Rests later × AllByRecursion Good later
+good_after found hands [] rest good = ([], (hands [] rest).1, tt)
+good_after found hands (row ∷ later) rest good = (later, (hands (row ∷ later) rest).1, good.1)
+
+pub good_rows_after : {Y : Type 0} {Before After : List Y → Type 0} {Good : Y → Type 0} (found : Option Y) → HandsRows Before After found
+    → (rows : List Y) → Before rows → AllByRecursion Good rows → (later : List Y) × After later × AllByRecursion Good later
+good_rows_after found hands [] rest good = ([], (hands [] rest).1, tt)
+good_rows_after found hands (row ∷ later) rest good = (later, (hands (row ∷ later) rest).1, good.1)
+
+-- some remain after some
+pub some_after : {T : Type 0} {Rested Rests : List T → Type 0} (found : Option T) → Hands Rested Rests found
+    → (rows : List T) → Rested rows → (later : List T) × Rests later
+some_after found hands [] rest = ([], (hands [] rest).1)
+some_after found hands (row ∷ later) rest = (later, (hands (row ∷ later) rest).1)
 
 module _ {T : Type 0} (Rests : List T → Type 0) (found : Option T) where
   -- the first of the rows that remained was returned, and no row has failed

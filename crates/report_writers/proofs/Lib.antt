@@ -1,5 +1,7 @@
+pub mod ReadyLemmas
 pub mod WriteLemmas
 pub mod StockLemmas
+pub mod StockOrder
 pub mod WhyLemmas
 pub mod ShowLemmas
 pub mod HandedStock

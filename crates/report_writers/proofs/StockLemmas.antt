@@ -1,6 +1,6 @@
 -- The cells that are asked for, kind after kind, are those that are asked for; and their report in its parts. For `write_stock`
 -- and `write_kinds`.
-use Rattle.std.proofs.Common.{◌≡◌, ℕ, suc, ◌+◌, ◌<◌, ◌≤◌, ◌==◌, ◌&&◌, List, [], ◌∷◌, ◌++◌, filter, cond, length, Bool, true, false, Option, Ordering, is_lt, nat_cmp, refl, sym, ap, ap₂, ◌∙◌, arith, append_assoc, eqb-true, codes, nat_le, IsErr, Result, Ok, rules, Less, Equal, Greater, subst, Err}
+use Rattle.std.proofs.Common.{◌≡◌, ℕ, suc, ◌+◌, ◌<◌, ◌≤◌, ◌==◌, ◌&&◌, List, [], ◌∷◌, ◌++◌, filter, cond, length, Bool, true, false, Option, Ordering, is_lt, nat_cmp, refl, sym, ap, ap₂, ◌∙◌, arith, append_assoc, eqb-true, codes, nat_le, IsErr, IsErrOf, Result, Ok, rules, Less, Equal, Greater, subst, Err}
 use Rattle.std.specs.List.{AllByRecursion, flat_map}
 use Rattle.std.specs.Ordering.{ordering_then}
 use Rattle.std.specs.Io.KnownBytes.{Appends}
@@ -21,13 +21,14 @@ use Rattle.reports.proofs.FrontLemmas.{front_after, front_before, front_whole}
 use Rattle.saga_core.specs.Views.{are_in_order, cell_cmp}
 use Rattle.streams.specs.Written.{WroteFront}
 use Rattle.streams.proofs.ByteLemmas.{appends_more}
+use Rattle.reports.specs.Writing.{Wrote}
 use Rattle.reports.specs.declared.faults.ReportFault.{ReportFault}
-use Rattle.report_writers.specs.declared.progress.Progress.{Progress}
+use Rattle.reports.specs.declared.faults.ReportFault.TheVariants.{Store}
 use Rattle.sqlite.specs.Store.{Ghosts}
 use Rattle.sqlite.specs.Held.{Held}
 use Rattle.report_kinds.specs.Texts.{asked_cells}
 use Rattle.report_writers.specs.Writing.{cells_of_kind, ShowsCells, WritesCells}
-use Rattle.report_writers.proofs.ShowLemmas.{shows_as, shows_then}
+use Rattle.report_writers.proofs.ShowLemmas.{in_as, in_then}
 
 -- Kinds.
 
@@ -196,14 +197,23 @@ module _ (format : Format) (cells : List (Cell × Places)) where
 
 -- Lines that are written one list of cells after another.
 
-module _ (held half holds : Option (List ℕ)) (format : Format) (xs ys : List (Cell × Places)) (before between : Progress) where
-  writes_both : (result : Result Progress ReportFault) → WritesCells held half format xs before (Ok between)
+-- cells that were written are counted after those before
+pub counted_after : {held holds : Option (List ℕ)} {format : Format} {cells : List (Cell × Places)} {count all : ℕ} (before : ℕ)
+    → Wrote held holds (flat_map (stock_row format) cells) (length cells) (Ok count) → all ≡ before + count
+    → WritesCells held holds format cells before (Ok all)
+counted_after {cells = cells} {count} {all} before wrote sum = record {
+  whole = wrote.written;
+  front = wrote.front;
+  counted = (let many : count ≡ length cells = wrote.number in let e : all ≡ length cells + before = omega (arith, sum, many) in e);
+}
+
+module _ (held half holds : Option (List ℕ)) (format : Format) (xs ys : List (Cell × Places)) (before between : ℕ) where
+  writes_both : (result : Result ℕ ReportFault) → WritesCells held half format xs before (Ok between)
       → WritesCells half holds format ys between result → WritesCells held holds format (xs ++ ys) before result
   writes_both (Err fault) one two = record {
     whole = tt;
     front = subst (WroteFront held holds) (sym (flat_append (stock_row format) xs ys))
         (front_after held half holds (flat_map (stock_row format) xs) (flat_map (stock_row format) ys) one.whole two.front);
-    going = tt;
     counted = tt;
   }
   writes_both (Ok after) one two =
@@ -213,46 +223,46 @@ module _ (held half holds : Option (List ℕ)) (format : Format) (xs ys : List (
       record {
         whole = all;
         front = front_whole held holds _ all;
-        going = two.going;
-        counted = (let first : between.given ≡ length xs + before.given = one.counted in
-            let second : after.given ≡ length ys + between.given = two.counted in
-            let e : after.given ≡ length (xs ++ ys) + before.given = omega (arith, first, second, length_append xs ys) in e);
+        counted = (let first : between ≡ length xs + before = one.counted in
+            let second : after ≡ length ys + between = two.counted in
+            let e : after ≡ length (xs ++ ys) + before = omega (arith, first, second, length_append xs ys) in e);
       }
 
-writes_less : (held holds : Option (List ℕ)) (format : Format) (cells : List (Cell × Places)) (before : Progress) (result : Result Progress ReportFault)
+-- a fault came: a prefix of the lines was written
+pub writes_less : (held holds : Option (List ℕ)) (format : Format) (cells : List (Cell × Places)) (before : ℕ) (result : Result ℕ ReportFault)
     → IsErr result → WroteFront held holds (flat_map (stock_row format) cells) → WritesCells held holds format cells before result
 writes_less held holds format cells before result failed front = search (rules, arith)
 
 module _ {S : Type 0} (g : Ghosts S) (format : Format) where
   -- one more list of cells was shown
   pub shows_both : {old mid new : Held S} {held half holds : Option (List ℕ)} {one two : List (Cell × Places) → List (Cell × Places)}
-      {before between : Progress} {result : Result Progress ReportFault}
+      {before between : ℕ} {result : Result ℕ ReportFault}
       → ShowsCells g old mid held half format one before (Ok between) → ShowsCells g mid new half holds format two between result
       → ShowsCells g old new held holds format (λ all. one all ++ two all) before result
-  shows_both {held = held} {half} {holds} {one} {two} {before} {between} {result} first second =
-      shows_then g first second (λ s wrote more going all stock. (
-      let lines = wrote going all stock in
-      writes_both held half holds format (one all) (two all) before between result lines (more lines.going all stock)))
+  shows_both {held = held} {half} {holds} {one} {two} {before} {between} {result} first second v =
+      in_then g (first v) (second v) (λ s desk fits told. tt) (λ fails. fails) (λ s desk fits wrote more all stock.
+      writes_both held half holds format (one all) (two all) before between result (wrote all stock) (more all stock))
 
   -- a fault came before the next one
   pub shows_less : {old new : Held S} {held holds : Option (List ℕ)} {one : List (Cell × Places) → List (Cell × Places)}
-      {before : Progress} {result : Result Progress ReportFault} (two : List (Cell × Places) → List (Cell × Places))
-      (after : Result Progress ReportFault) → IsErr after → ShowsCells g old new held holds format one before result
+      {before : ℕ} {result : Result ℕ ReportFault} (two : List (Cell × Places) → List (Cell × Places))
+      (after : Result ℕ ReportFault) → IsErr after → (IsErrOf after Store → IsErrOf result Store)
+      → ShowsCells g old new held holds format one before result
       → ShowsCells g old new held holds format (λ all. one all ++ two all) before after
-  shows_less {held = held} {holds} {one} {before} {result} two after failed first =
-      shows_as g first (λ s desk wrote going all stock.
+  shows_less {held = held} {holds} {one} {before} {result} two after failed same first v =
+      in_as g (first v) (λ s fits. tt) same (λ s desk fits wrote all stock.
       writes_less held holds format (one all ++ two all) before after failed
       (subst (WroteFront held holds) (sym (flat_append (stock_row format) (one all) (two all)))
-      (front_before held holds (flat_map (stock_row format) (one all)) (flat_map (stock_row format) (two all)) (wrote going all stock).front)))
+      (front_before held holds (flat_map (stock_row format) (one all)) (flat_map (stock_row format) (two all)) (wrote all stock).front)))
 
   -- those of the four kinds are those that are asked for
-  pub shows_asked : {old new : Held S} {held holds : Option (List ℕ)} {before : Progress} {result : Result Progress ReportFault}
+  pub shows_asked : {old new : Held S} {held holds : Option (List ℕ)} {before : ℕ} {result : Result ℕ ReportFault}
       (f : CellFilter) → ShowsCells g old new held holds format
       (λ all. cells_of_kind Flight f all ++ (cells_of_kind Room f all ++ (cells_of_kind Transfer f all ++ cells_of_kind Cover f all))) before result
       → ShowsCells g old new held holds format (asked_cells f) before result
-  shows_asked {held = held} {holds} {before} {result} f shows =
-      shows_as g shows (λ s desk wrote going all stock.
-      subst (λ cells. WritesCells held holds format cells before result) (sym (by_kinds f all stock.in_order)) (wrote going all stock))
+  shows_asked {held = held} {holds} {before} {result} f shows v =
+      in_as g (shows v) (λ s fits. tt) (λ fails. fails) (λ s desk fits wrote all stock.
+      subst (λ cells. WritesCells held holds format cells before result) (sym (by_kinds f all stock.in_order)) (wrote all stock))
 
 -- The cells of one kind.
 

@@ -1,3 +1,4 @@
+pub mod Ready
 pub mod Whys
 pub mod Writing
 pub mod RowsLeft

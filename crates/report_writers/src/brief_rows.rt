@@ -8,7 +8,8 @@ ghost use Rattle.desk_sql.specs.Calls.{Quiet};
 ghost use Rattle.desk_sql.specs.declared.versions.Version.{Version};
 ghost use Rattle.sql_reads.specs.Lending.{LeavesIfErr};
 ghost use Rattle.sql_reads.specs.RemainingRows.{BeginsKept};
-ghost use Rattle.sql_lists.specs.ListedRows.{BriefsRest};
+ghost use Rattle.sql_lists.specs.ListedRows.{AreGoodBriefsRest, BriefsRest};
+ghost use Rattle.report_writers.specs.Ready.{BeginsGood};
 
 use crate::found_rows::FoundRow;
 use commands::Fault;
@@ -26,6 +27,8 @@ pub fn start_unfinished<S: Alter>(conn: &mut Connection<S>) -> Result<Rows<'_, S
     ensures rows { IfOk result (λ it. (v : Version)
         → BeginsKept S.Store conn.old it.conn.now v (λ s briefs. briefs ≡ unfinished_of s.ledger)
         (BriefsRest S.Store it.conn.now)) }
+    ensures good { IfOk result (λ it. BeginsGood S.Store conn.old it.conn.now
+        (AreGoodBriefsRest S.Store it.conn.now)) }
     ensures quiet { IfOk result (λ it. Quiet S.Store conn.old it.conn.now) }
 {
     hand_unfinished(conn, 0)
@@ -41,14 +44,14 @@ pub fn start_journeys<'a, S: Alter>(
     ensures rows { IfOk result (λ it. (v : Version)
         → BeginsKept S.Store conn.old it.conn.now v (λ s briefs.
         briefs ≡ asked_of filter.now s.ledger) (BriefsRest S.Store it.conn.now)) }
+    ensures good { IfOk result (λ it. BeginsGood S.Store conn.old it.conn.now
+        (AreGoodBriefsRest S.Store it.conn.now)) }
     ensures quiet { IfOk result (λ it. Quiet S.Store conn.old it.conn.now) }
 {
     hand_journeys(conn, filter)
 }
 
 impl<S: Alter> FoundRow<S> for Brief {
-    ghost use Rattle.sql_lists.specs.ListedRows.{AreGoodBriefsRest};
-
     ghost rests = { BriefsRest S.Store };
 
     ghost are_good = { AreGoodBriefsRest S.Store };

@@ -7,8 +7,9 @@ ghost use Rattle.desk_sql.specs.Calls.{Quiet};
 ghost use Rattle.desk_sql.specs.declared.versions.Version.{Version};
 ghost use Rattle.sql_reads.specs.Lending.{LeavesIfErr};
 ghost use Rattle.sql_reads.specs.RemainingRows.{BeginsKept};
-ghost use Rattle.sql_lists.specs.ListedRows.{StockRests};
+ghost use Rattle.sql_lists.specs.ListedRows.{AreGoodCellsRest, StockRests};
 ghost use Rattle.report_writers.specs.RowsLeft.{AreCellsOf};
+ghost use Rattle.report_writers.specs.Ready.{BeginsGood};
 
 use crate::found_rows::FoundRow;
 use allotment::{Cell, Held, Kind};
@@ -27,6 +28,8 @@ pub fn start_stock<S: Alter>(conn: &mut Connection<S>) -> Result<Rows<'_, S>, Er
     ensures rows { IfOk result (λ it. (v : Version)
         → BeginsKept S.Store conn.old it.conn.now v (λ s rows. IsStock s.ledger rows)
         (StockRests S.Store it.conn.now)) }
+    ensures good { IfOk result (λ it. BeginsGood S.Store conn.old it.conn.now
+        (AreGoodCellsRest S.Store it.conn.now)) }
     ensures quiet { IfOk result (λ it. Quiet S.Store conn.old it.conn.now) }
 {
     hand_stock(conn)
@@ -44,14 +47,14 @@ pub fn start_cells<'a, S: Alter>(
     ensures rows { IfOk result (λ it. (v : Version)
         → BeginsKept S.Store conn.old it.conn.now v (λ s rows.
         AreCellsOf kind filter.now s.ledger rows) (StockRests S.Store it.conn.now)) }
+    ensures good { IfOk result (λ it. BeginsGood S.Store conn.old it.conn.now
+        (AreGoodCellsRest S.Store it.conn.now)) }
     ensures quiet { IfOk result (λ it. Quiet S.Store conn.old it.conn.now) }
 {
     hand_cells(conn, kind, filter)
 }
 
 impl<S: Alter> FoundRow<S> for (Cell, Held) {
-    ghost use Rattle.sql_lists.specs.ListedRows.{AreGoodCellsRest};
-
     ghost rests = { StockRests S.Store };
 
     ghost are_good = { AreGoodCellsRest S.Store };

@@ -1,12 +1,14 @@
 //! The rows that a connection finds, read one at a time as the desk's own.
 
-ghost use Rattle.std.specs.Prelude.{◌≡◌, ◌<◌, ◌+◌, ◌-◌, ◌^◌, false, IfOk, IsErrOf};
-ghost use Rattle.sqlite.specs.Held.{state};
+ghost use Rattle.std.specs.Prelude.{◌≡◌, ◌<◌, ◌+◌, ◌^◌, false, IfOk, IsErrOf, OnOk};
+ghost use Rattle.sqlite.specs.Held.{Held, state};
 ghost use Rattle.sqlite.specs.State.{HasCleanDisk};
 ghost use Rattle.desk_sql.specs.Calls.{Quiet};
 ghost use Rattle.desk_sql.specs.Causes.{HasFaulted, IsUp};
-ghost use Rattle.saga_core.specs.RowSources.{count_of, Hands};
+ghost use Rattle.saga_core.specs.RowSources.{count_of, Hands, StaysReady};
 ghost use Rattle.sql_reads.specs.RemainingRows.{RowsStay};
+ghost use Rattle.report_writers.specs.Ready.{IsReady};
+ghost use Rattle.report_writers.specs.declared.found_rows.FoundRows.{FoundRows};
 ghost use Rattle.report_writers.specs.Stopping.{StopsAtFault};
 
 use crate::progress::Progress;
@@ -17,7 +19,6 @@ use sqlite::{Alter, Rows};
 /// What a row of a list of the desk is read as.
 pub trait FoundRow<S: Alter>: Sized + Drop {
     ghost use Rattle.std.specs.Prelude.{List};
-    ghost use Rattle.sqlite.specs.Held.{Held};
 
     /// The rows of the connection that are still to be returned are these, in order.
     ghost rests: { Held S → List Self → Type 0 };
@@ -34,6 +35,8 @@ pub trait FoundRow<S: Alter>: Sized + Drop {
             → are_good rows.old.conn.now
             → IsUp (state S.Store rows.old.conn.now) → IsErrOf result Fault.Store
             → HasFaulted (state S.Store rows.old.conn.now) (state S.Store rows.new.conn.now) }
+        ensures good { HasCleanDisk (state S.Store rows.new.conn.now)
+            → are_good rows.old.conn.now → OnOk result (are_good rows.new.conn.now) }
         ensures quiet { Quiet S.Store rows.old.conn.now rows.new.conn.now };
 }
 
@@ -55,6 +58,12 @@ impl<S: Alter, R: FoundRow<S>> RowSource<R> for FoundRows<'_, '_, S> {
 
     ghost becomes = { λ a b. RowsStay S.Store a.rows b.rows };
 
+    ghost is_ready = { λ first s. IsReady S.Store first.rows.now.conn.now s.rows.now.conn.now
+        ((s.progress.failed ≡ false) × R.are_good s.rows.now.conn.now) };
+
+    ghost has_reason = { λ first s.
+        HasFaulted (state S.Store first.rows.now.conn.now) (state S.Store s.rows.now.conn.now) };
+
     ghost stays = { λ s. rows_stay_alone s.rows };
 
     ghost joins = { λ a b c. rows_stay_twice a.rows b.rows c.rows };
@@ -73,13 +82,12 @@ impl<S: Alter, R: FoundRow<S>> RowSource<R> for FoundRows<'_, '_, S> {
         ensures sound { HasCleanDisk (state S.Store self.new.rows.now.conn.now)
             → HasCleanDisk (state S.Store self.old.rows.now.conn.now) }
 
-        ensures store { HasCleanDisk (state S.Store self.new.rows.now.conn.now)
-            → self.old.progress.failed ≡ false
-            → R.are_good self.old.rows.now.conn.now
-            → self.old.progress.given < 2 ^ 64 - 1
-            → IsUp (state S.Store self.old.rows.now.conn.now) → IsErrOf result Fault.Store
-            → HasFaulted (state S.Store self.old.rows.now.conn.now)
-            (state S.Store self.new.rows.now.conn.now) }
+        ensures reason { (first : FoundRows S S.Store) → HasCleanDisk (state S.Store self.new.rows.now.conn.now)
+            → IsReady S.Store first.rows.now.conn.now self.old.rows.now.conn.now
+            ((self.old.progress.failed ≡ false) × R.are_good self.old.rows.now.conn.now)
+            → StaysReady (IsReady S.Store first.rows.now.conn.now self.new.rows.now.conn.now
+            ((self.new.progress.failed ≡ false) × R.are_good self.new.rows.now.conn.now))
+            (HasFaulted (state S.Store first.rows.now.conn.now) (state S.Store self.new.rows.now.conn.now)) result }
         ensures stops { StopsAtFault self.old.progress self.new.progress result }
     {
         let given = self.progress.given;
@@ -89,8 +97,9 @@ impl<S: Alter, R: FoundRow<S>> RowSource<R> for FoundRows<'_, '_, S> {
         self.progress.failed = true;
         match R::next_found(self.rows) {
             Ok(Some(row)) => {
+                // more rows than can be counted
                 if given == u64::MAX {
-                    return Err(Fault::Store);
+                    return Err(Fault::Memory);
                 }
                 self.progress.given = given + 1;
                 self.progress.failed = false;

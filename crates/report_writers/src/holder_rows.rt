@@ -7,7 +7,8 @@ ghost use Rattle.desk_sql.specs.declared.versions.Version.{Version};
 ghost use Rattle.holder_reports.specs.Holders.{holders_of};
 ghost use Rattle.sql_reads.specs.Lending.{LeavesIfErr};
 ghost use Rattle.sql_reads.specs.RemainingRows.{BeginsKept};
-ghost use Rattle.report_writers.specs.HoldersLeft.{HoldersLeft, found_of};
+ghost use Rattle.report_writers.specs.HoldersLeft.{AreHoldersRest, HoldersLeft, found_of};
+ghost use Rattle.report_writers.specs.Ready.{BeginsGood};
 
 use crate::found_rows::FoundRow;
 use allotment::Cell;
@@ -27,6 +28,8 @@ pub fn start_holders<'a, S: Alter>(
     ensures rows { IfOk result (λ it. (v : Version)
         → BeginsKept S.Store conn.old it.conn.now v (λ s holders.
         holders ≡ holders_of s.ledger cell.now) (HoldersLeft S.Store it.conn.now)) }
+    ensures good { IfOk result (λ it. BeginsGood S.Store conn.old it.conn.now
+        (AreHoldersRest S.Store it.conn.now)) }
     ensures quiet { IfOk result (λ it. Quiet S.Store conn.old it.conn.now) }
 {
     hand_holders(conn, cell)
@@ -45,8 +48,6 @@ fn holder_of(found: &HolderFound) -> Holder
 }
 
 impl<S: Alter> FoundRow<S> for Holder {
-    ghost use Rattle.report_writers.specs.HoldersLeft.{AreHoldersRest};
-
     ghost rests = { HoldersLeft S.Store };
 
     ghost are_good = { AreHoldersRest S.Store };

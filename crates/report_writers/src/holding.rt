@@ -1,6 +1,6 @@
 //! The reports of the holders of a cell, and of those of the cells that a filter lets through, of a desk that is not
 //! recovered.
-ghost use Rattle.std.specs.Prelude.{List};
+ghost use Rattle.std.specs.Prelude.{List, IsErrOf};
 ghost use Rattle.holder_reports.specs.Holders.{holders_of};
 ghost use Rattle.holder_reports.specs.HoldingLayouts.{holdings_shown};
 ghost use Rattle.holder_reports.specs.Holdings.{cells_asked, holdings_in};
@@ -29,7 +29,8 @@ pub(crate) fn write_holders<S: Alter, O: Write>(
     conn: &mut Connection<S>,
     out: &mut O,
 ) -> Result<u64, ReportFault>
-    ensures shows { ShowsDesk S.Store conn.old conn.new (λ s.
+    ensures shows { ShowsDesk S.Store conn.old conn.new
+        (IsErrOf result ReportFault.Store) (λ s.
         WritesText (O.contents out.old) (O.contents out.new)
         (holders_in format (holders_of s.ledger cell.now)) result) }
 {
@@ -53,7 +54,8 @@ pub(crate) fn write_holdings<S: Alter, O: Write>(
     conn: &mut Connection<S>,
     out: &mut O,
 ) -> Result<u64, ReportFault>
-    ensures shows { ShowsDesk S.Store conn.old conn.new (λ s.
+    ensures shows { ShowsDesk S.Store conn.old conn.new
+        (IsErrOf result ReportFault.Store) (λ s.
         (rows : List (Cell × Held)) → IsStock s.ledger rows →
         WritesText (O.contents out.old) (O.contents out.new)
         (holdings_shown format (holdings_in s.ledger (cells_asked filter.now rows))) result) }

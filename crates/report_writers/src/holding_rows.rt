@@ -7,8 +7,9 @@ ghost use Rattle.desk_sql.specs.declared.versions.Version.{Version};
 ghost use Rattle.sql_lists.specs.HoldingLists.{holding_found};
 ghost use Rattle.sql_reads.specs.Lending.{LeavesIfErr};
 ghost use Rattle.sql_reads.specs.RemainingRows.{BeginsKept};
-ghost use Rattle.report_writers.specs.HoldingsLeft.{AreHoldingsOf, HoldingsLeft, IsGoodHolding, holding_short, holding_told};
+ghost use Rattle.report_writers.specs.HoldingsLeft.{AreGoodHoldingsRest, AreHoldingsOf, HoldingsLeft, IsGoodHolding, holding_short, holding_told};
 ghost use Rattle.report_writers.specs.States.{state_numbered};
+ghost use Rattle.report_writers.specs.Ready.{BeginsGood};
 
 use crate::found_rows::FoundRow;
 use commands::{Agent, Fault};
@@ -30,6 +31,8 @@ pub fn start_holdings<'a, S: Alter>(
     ensures rows { IfOk result (λ it. (v : Version)
         → BeginsKept S.Store conn.old it.conn.now v (λ s holdings.
         AreHoldingsOf filter.now s.ledger holdings) (HoldingsLeft S.Store it.conn.now)) }
+    ensures good { IfOk result (λ it. BeginsGood S.Store conn.old it.conn.now
+        (AreGoodHoldingsRest S.Store it.conn.now)) }
     ensures quiet { IfOk result (λ it. Quiet S.Store conn.old it.conn.now) }
 {
     hand_holdings(conn, filter)
@@ -67,8 +70,6 @@ fn holding_of(found: &HoldingFound) -> Option<Holding>
 }
 
 impl<S: Alter> FoundRow<S> for Holding {
-    ghost use Rattle.report_writers.specs.HoldingsLeft.{AreGoodHoldingsRest};
-
     ghost rests = { HoldingsLeft S.Store };
 
     ghost are_good = { AreGoodHoldingsRest S.Store };

@@ -1,16 +1,17 @@
 //! The items of a journey, oldest first, read one at a time, each by a query of its own.
 
-ghost use Rattle.std.specs.Prelude.{◌≡◌, ◌<◌, ◌+◌, ◌-◌, ◌^◌, false, IfOk};
+ghost use Rattle.std.specs.Prelude.{◌≡◌, ◌<◌, ◌+◌, ◌^◌, IfOk};
 ghost use Rattle.std.specs.Borrow.{sem};
 ghost use Rattle.sqlite.specs.Held.{state};
 ghost use Rattle.sqlite.specs.State.{HasCleanDisk};
 ghost use Rattle.desk_sql.specs.Calls.{Quiet};
+ghost use Rattle.desk_sql.specs.Causes.{HasFaulted};
 ghost use Rattle.ledger.specs.Ledger.{history};
-ghost use Rattle.saga_core.specs.RowSources.{count_of, Hands};
-ghost use Rattle.sql_reads.specs.Causes.{FailsForReasonIn};
-ghost use Rattle.sql_reads.specs.ItemSearch.{IsLow};
+ghost use Rattle.saga_core.specs.RowSources.{count_of, Hands, StaysReady};
 ghost use Rattle.sql_reads.specs.RemainingRows.{BeginsKept, ItemsRest, StaysUnder};
-ghost use Rattle.report_writers.specs.ItemsLeft.{GoesOnFrom, IsAtStart, LeavesIfErr};
+ghost use Rattle.report_writers.specs.ItemsLeft.{AreSought, GoesOnFrom, IsAtStart, LeavesIfErr};
+ghost use Rattle.report_writers.specs.Ready.{IsReady};
+ghost use Rattle.report_writers.specs.declared.item_rows.ItemRows.{ItemRows};
 
 use commands::{Fault, Item};
 use desk_sql::Version;
@@ -58,6 +59,12 @@ impl<S: Alter> RowSource<Item> for ItemRows<'_, S> {
 
     ghost becomes = { λ a b. StaysUnder S.Store a.conn b.conn };
 
+    ghost is_ready = { λ first s. IsReady S.Store first.conn.now s.conn.now
+        (AreSought S.Store s.conn.now s.cursor) };
+
+    ghost has_reason = { λ first s.
+        HasFaulted (state S.Store first.conn.now) (state S.Store s.conn.now) };
+
     ghost stays = { λ s. stays_alone s.conn };
 
     ghost joins = { λ a b c. stays_twice a.conn b.conn c.conn };
@@ -74,11 +81,13 @@ impl<S: Alter> RowSource<Item> for ItemRows<'_, S> {
         ensures sound { HasCleanDisk (state S.Store self.new.conn.now)
             → HasCleanDisk (state S.Store self.old.conn.now) }
 
+        ensures reason { (first : ItemRows S) → HasCleanDisk (state S.Store self.new.conn.now)
+            → IsReady S.Store first.conn.now self.old.conn.now
+            (AreSought S.Store self.old.conn.now self.old.cursor)
+            → StaysReady (IsReady S.Store first.conn.now self.new.conn.now
+            (AreSought S.Store self.new.conn.now self.new.cursor))
+            (HasFaulted (state S.Store first.conn.now) (state S.Store self.new.conn.now)) result }
         ensures goes { GoesOnFrom self.old.cursor self.new.cursor result }
-        ensures store { IsLow self.old.cursor.sought → self.old.cursor.failed ≡ false
-            → self.old.cursor.given < 2 ^ 64 - 1
-            → FailsForReasonIn S.Store self.old.conn.now self.new.conn.now
-            self.old.cursor.version result }
     {
         self.cursor.next_item(self.conn)
     }

@@ -1,6 +1,6 @@
 //! Reports by month of a desk that is not recovered. The cells are those of the whole stock, of which a filter lets some
 //! through.
-ghost use Rattle.std.specs.Prelude.{List};
+ghost use Rattle.std.specs.Prelude.{List, IsErrOf};
 ghost use Rattle.month_reports.specs.MonthReports.{asked_months, months_in};
 ghost use Rattle.saga_core.specs.Views.{IsStock};
 ghost use Rattle.report_writers.specs.Writing.{ShowsDesk, WritesText};
@@ -25,7 +25,8 @@ pub(crate) fn write_months<S: Alter, O: Write>(
     conn: &mut Connection<S>,
     out: &mut O,
 ) -> Result<u64, ReportFault>
-    ensures shows { ShowsDesk S.Store conn.old conn.new (λ s.
+    ensures shows { ShowsDesk S.Store conn.old conn.new
+        (IsErrOf result ReportFault.Store) (λ s.
         (rows : List (Cell × Held)) → IsStock s.ledger rows →
         WritesText (O.contents out.old) (O.contents out.new)
         (months_in report (asked_months filter.now rows)) result) }

@@ -1,5 +1,5 @@
 //! The reports of all cells and of all unfinished journeys, each by a statement without a filter.
-ghost use Rattle.std.specs.Prelude.{List};
+ghost use Rattle.std.specs.Prelude.{List, IsErrOf};
 ghost use Rattle.reports.specs.Formats.{stock_in, unfinished_in};
 ghost use Rattle.saga_core.specs.Views.{IsStock, unfinished_of};
 ghost use Rattle.report_writers.specs.Writing.{ShowsDesk, WritesText};
@@ -22,7 +22,8 @@ pub(crate) fn write_whole_stock<S: Alter, O: Write>(
     conn: &mut Connection<S>,
     out: &mut O,
 ) -> Result<u64, ReportFault>
-    ensures shows { ShowsDesk S.Store conn.old conn.new (λ s.
+    ensures shows { ShowsDesk S.Store conn.old conn.new
+        (IsErrOf result ReportFault.Store) (λ s.
         (rows : List (Cell × Held)) → IsStock s.ledger rows →
         WritesText (O.contents out.old) (O.contents out.new) (stock_in format rows) result) }
 {
@@ -44,7 +45,8 @@ pub(crate) fn write_unfinished<S: Alter, O: Write>(
     conn: &mut Connection<S>,
     out: &mut O,
 ) -> Result<u64, ReportFault>
-    ensures shows { ShowsDesk S.Store conn.old conn.new (λ s.
+    ensures shows { ShowsDesk S.Store conn.old conn.new
+        (IsErrOf result ReportFault.Store) (λ s.
         WritesText (O.contents out.old) (O.contents out.new)
         (unfinished_in format (unfinished_of s.ledger)) result) }
 {

@@ -1,8 +1,7 @@
 //! How far a source of rows has come.
 //!
 //! A source is written where it is used, as `FoundRows { rows, progress: Progress::new() }`: the check follows a loan
-//! into a struct only there. What it counts stays private. A later source may go on with the progress of an earlier
-//! one, and then counts the rows of both.
+//! into a struct only there. What it counts stays private.
 
 ghost use Rattle.std.specs.Prelude.{◌≡◌, false};
 

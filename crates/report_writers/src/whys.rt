@@ -1,7 +1,7 @@
 //! The report of why a journey goes on or does not.
-ghost use Rattle.std.specs.Prelude.{◌≡◌, Some, List, IfOk};
+ghost use Rattle.std.specs.Prelude.{◌≡◌, List, IfOk, IsErrOf};
 ghost use Rattle.ledger.specs.Ledger.{history};
-ghost use Rattle.saga_core.specs.Views.{record_of, IsStock};
+ghost use Rattle.saga_core.specs.Views.{IsStock};
 ghost use Rattle.allotment.specs.declared.cells.Cell.{Cell};
 ghost use Rattle.allotment.specs.declared.places.Held.{Held};
 ghost use Rattle.previews.specs.Layouts.{why_of};
@@ -10,7 +10,8 @@ ghost use Rattle.previews.specs.Previews.{begun_as, latest_option as latest_opti
 ghost use Rattle.report_kinds.specs.Texts.{OfReport};
 ghost use Rattle.report_kinds.specs.declared.report.Report.TheVariants as kind;
 ghost use Rattle.report_writers.specs.Writing.{ShowsDesk, ShowsIn, WritesIfThere, WritesText};
-ghost use Rattle.report_writers.specs.Whys.{IsSeenOf, LetsCellsOf};
+ghost use Rattle.report_writers.specs.Whys.{HasRecord, IsSeenOf, LetsCellsOf};
+ghost use Rattle.sql_reads.specs.Reads.{AnyDesk};
 
 use crate::cell_rows::start_cells;
 use crate::found_rows::FoundRows;
@@ -48,7 +49,8 @@ pub(crate) fn write_why<S: Alter, O: Write>(
     conn: &mut Connection<S>,
     out: &mut O,
 ) -> Result<bool, ReportFault>
-    ensures shows { ShowsIn S.Store version conn.old conn.new (λ s.
+    ensures shows { ShowsIn S.Store version conn.old conn.new
+        (IsErrOf result ReportFault.Store) AnyDesk (λ s.
         OfReport (kind.Why id format) s.ledger
         (λ text. WritesIfThere (O.contents out.old) (O.contents out.new) text result)) }
 {
@@ -71,8 +73,8 @@ fn write_preview<S: Alter, O: Write>(
     conn: &mut Connection<S>,
     out: &mut O,
 ) -> Result<(), ReportFault>
-    ensures shows { ShowsIn S.Store version conn.old conn.new (λ s.
-        record_of s.ledger id ≡ Some journey.now →
+    ensures shows { ShowsIn S.Store version conn.old conn.new
+        (IsErrOf result ReportFault.Store) (HasRecord id journey.now) (λ s.
         (rows : List (Cell × Held)) → IsStock s.ledger rows →
         WritesText (O.contents out.old) (O.contents out.new)
         (why_of format s.ledger id (begun_as journey.now)) result) }
@@ -89,8 +91,8 @@ fn read_preview<S: Alter>(
     version: Version,
     conn: &mut Connection<S>,
 ) -> Result<Seen, ReportFault>
-    ensures shows { ShowsIn S.Store version conn.old conn.new (λ s.
-        record_of s.ledger id ≡ Some journey.now →
+    ensures shows { ShowsIn S.Store version conn.old conn.new
+        (IsErrOf result ReportFault.Store) (HasRecord id journey.now) (λ s.
         (rows : List (Cell × Held)) → IsStock s.ledger rows
         → IfOk result (IsSeenOf s.ledger id journey.now)) }
 {
@@ -108,7 +110,8 @@ fn read_taken<S: Alter>(
     version: Version,
     conn: &mut Connection<S>,
 ) -> Result<Option<usize>, Fault>
-    ensures shows { ShowsIn S.Store version conn.old conn.new (λ s.
+    ensures shows { ShowsIn S.Store version conn.old conn.new
+        (IsErrOf result Fault.Store) AnyDesk (λ s.
         IfOk result (IsTaken s.ledger id journey.now)) }
 {
     match journey.cursor.phase {
@@ -124,7 +127,8 @@ fn read_latest<S: Alter>(
     version: Version,
     conn: &mut Connection<S>,
 ) -> Result<Option<usize>, Fault>
-    ensures shows { ShowsIn S.Store version conn.old conn.new (λ s.
+    ensures shows { ShowsIn S.Store version conn.old conn.new
+        (IsErrOf result Fault.Store) AnyDesk (λ s.
         IfOk result (λ option. option ≡ latest_option_of step (history s.ledger id))) }
 {
     let mut rows = match start_items(conn, version, id) {
@@ -140,7 +144,8 @@ fn nights_ahead<S: Alter>(
     next: &Option<NextStep>,
     conn: &mut Connection<S>,
 ) -> Result<Vec<FreeNight>, ReportFault>
-    ensures shows { ShowsDesk S.Store conn.old conn.new (λ s.
+    ensures shows { ShowsDesk S.Store conn.old conn.new
+        (IsErrOf result ReportFault.Store) (λ s.
         (rows : List (Cell × Held)) → IsStock s.ledger rows →
         IfOk result (λ nights. nights.items ≡ nights_ahead s.ledger next.now)) }
 {
@@ -170,7 +175,8 @@ fn nights_of<S: Alter>(
     want: &Want,
     conn: &mut Connection<S>,
 ) -> Result<Vec<FreeNight>, ReportFault>
-    ensures shows { ShowsDesk S.Store conn.old conn.new (λ s.
+    ensures shows { ShowsDesk S.Store conn.old conn.new
+        (IsErrOf result ReportFault.Store) (λ s.
         (rows : List (Cell × Held)) → IsStock s.ledger rows →
         IfOk result (λ nights. nights.items ≡ nights_of s.ledger want.now)) }
 {

@@ -1,5 +1,5 @@
 //! The report that is asked for, whichever it is.
-ghost use Rattle.std.specs.Prelude.{◌≡◌, ◌≢◌, ℕ, false, true, List, Option, IsTrue, Ok, Some};
+ghost use Rattle.std.specs.Prelude.{◌≡◌, ◌≢◌, ℕ, false, true, List, Option, IsErrOf, IsTrue, Ok, Some};
 ghost use Rattle.ledger.specs.Ledger.{Event, history};
 ghost use Rattle.filters.specs.CellFilters.{is_cell_asked};
 ghost use Rattle.filters.specs.JourneyFilters.{asked_of};
@@ -9,6 +9,7 @@ ghost use Rattle.reports.specs.Formats.{history_in, stock_in};
 ghost use Rattle.reports.specs.declared.formats.JourneyReport.TheVariants.{Unfinished};
 ghost use Rattle.saga_core.specs.Views.{IsStock, unfinished_of};
 ghost use Rattle.report_writers.specs.Writing.{ShowsDesk, ShowsIn, WritesIfThere, WritesJourneys, WritesText};
+ghost use Rattle.sql_reads.specs.Reads.{AnyDesk};
 
 use crate::asked_reports::{write_asked, write_kinds};
 use crate::holding::{write_holders, write_holdings};
@@ -36,7 +37,8 @@ pub fn write_report<S: Alter, O: Write>(
     conn: &mut Connection<S>,
     out: &mut O,
 ) -> Result<bool, ReportFault>
-    ensures shows { ShowsIn S.Store version conn.old conn.new (λ s. OfReport report.now s.ledger
+    ensures shows { ShowsIn S.Store version conn.old conn.new
+        (IsErrOf result ReportFault.Store) AnyDesk (λ s. OfReport report.now s.ledger
         (λ text. WritesIfThere (O.contents out.old) (O.contents out.new) text result)) }
     ensures absent { result ≡ Ok false → IsOfJourney report.now }
 {
@@ -68,6 +70,7 @@ pub(crate) fn written<T: Copy>(done: Result<T, ReportFault>) -> Result<bool, Rep
     ensures told { (held holds : Option (List ℕ)) → (text : List ℕ) →
         WritesText held holds text done → WritesIfThere held holds (Some text) result }
     ensures there { result ≢ Ok false }
+    ensures fails { IsErrOf result ReportFault.Store → IsErrOf done ReportFault.Store }
 {
     match done {
         Ok(_) => Ok(true),
@@ -100,7 +103,8 @@ fn write_stock<S: Alter, O: Write>(
     conn: &mut Connection<S>,
     out: &mut O,
 ) -> Result<u64, ReportFault>
-    ensures shows { ShowsDesk S.Store conn.old conn.new (λ s.
+    ensures shows { ShowsDesk S.Store conn.old conn.new
+        (IsErrOf result ReportFault.Store) (λ s.
         (rows : List (Cell × Held)) → IsStock s.ledger rows →
         WritesText (O.contents out.old) (O.contents out.new)
         (stock_in format (asked_cells filter.now rows)) result) }
@@ -138,7 +142,8 @@ fn write_journeys<S: Alter, O: Write>(
     conn: &mut Connection<S>,
     out: &mut O,
 ) -> Result<u64, ReportFault>
-    ensures shows { ShowsDesk S.Store conn.old conn.new (λ s.
+    ensures shows { ShowsDesk S.Store conn.old conn.new
+        (IsErrOf result ReportFault.Store) (λ s.
         WritesJourneys (O.contents out.old) (O.contents out.new) name format filter.now result s) }
 {
     if is_plain(name, filter) {
@@ -156,7 +161,8 @@ fn write_history<S: Alter, O: Write>(
     conn: &mut Connection<S>,
     out: &mut O,
 ) -> Result<bool, ReportFault>
-    ensures shows { ShowsIn S.Store version conn.old conn.new (λ s.
+    ensures shows { ShowsIn S.Store version conn.old conn.new
+        (IsErrOf result ReportFault.Store) AnyDesk (λ s.
         OfReport (kind.History id format) s.ledger
         (λ text. WritesIfThere (O.contents out.old) (O.contents out.new) text result)) }
 {
@@ -177,7 +183,8 @@ fn write_items<S: Alter, O: Write>(
     conn: &mut Connection<S>,
     out: &mut O,
 ) -> Result<u64, ReportFault>
-    ensures shows { ShowsIn S.Store version conn.old conn.new (λ s.
+    ensures shows { ShowsIn S.Store version conn.old conn.new
+        (IsErrOf result ReportFault.Store) AnyDesk (λ s.
         WritesText (O.contents out.old) (O.contents out.new)
         (history_in format id journey.now (history s.ledger id)) result) }
 {

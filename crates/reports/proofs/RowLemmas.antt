@@ -8,8 +8,9 @@ use Rattle.saga_core.specs.declared.row_sources.RowSource.{Ghosts}
 use Rattle.streams.specs.Written.{WroteFront}
 use Rattle.streams.proofs.ByteLemmas.{appends_more}
 use Rattle.reports.specs.Writing.{Takes, WritesCounted, Wrote}
+use Rattle.reports.specs.declared.faults.ReportFault.{ReportFault}
 use Rattle.reports.proofs.FrontLemmas.{appends_none, front_after, front_before, front_whole}
-use Rattle.reports.proofs.TakeLemmas.{Taken, taken_more, taken_none, takes_twice, writes_failed}
+use Rattle.reports.proofs.TakeLemmas.{Goes, Taken, taken_more, taken_none, takes_twice, writes_failed}
 
 -- the first `count` rows were written, and the others remain
 pub record SoFar {T : Type 0} (shown : T → List ℕ) (rests : List T → Type 0)
@@ -27,7 +28,7 @@ starts {held = held} rest = record { gone = []; taken = taken_none _ rest; sent 
 module _ {T : Type 0} {shown : T → List ℕ} {rested : List T → Type 0} {held holds : Option (List ℕ)} {all : List T} {count : ℕ}
     (so_far : SoFar shown rested held holds all count) where
   -- no row remains: all were written
-  all_gone : so_far.taken.later ≡ [] → {E : Type 0} → Wrote held holds (flat_map shown all) (length all) {E = E} (Ok count)
+  all_gone : so_far.taken.later ≡ [] → Wrote held holds (flat_map shown all) (length all) (Ok count)
   all_gone none =
       let same : all ≡ so_far.gone = so_far.taken.cut ∙ ap (λ rows. so_far.gone ++ rows) none ∙ append-nil so_far.gone in
       let written = subst (λ rows. Appends held holds (flat_map shown rows)) (sym same) so_far.sent in
@@ -70,42 +71,52 @@ module _ {T : Type 0} {shown : T → List ℕ} {rested : List T → Type 0} {hel
 pub record SoManyWritten {R T U : Type 0} (source : Ghosts R T) (first old : R) (made : List T → List U) (left : List U → Type 0)
     (shown : U → List ℕ) (held holds : Option (List ℕ)) (count : ℕ) : Type 0 where
   pub so_far : source.is_sound old → (all : List T) → source.rests first all → SoFar shown left held holds (made all) count
-  pub takes : Takes source first old
+  pub takes : Goes source first old
 
 module _ {R T U : Type 0} {source : Ghosts R T} {first old new : R} {made : List T → List U} {left : List U → Type 0}
     {shown : U → List ℕ} {held holds : Option (List ℕ)} {count : ℕ} (so_many : SoManyWritten source first old made left shown held holds count)
-    (joins : (a b c : R) → source.becomes a b → source.becomes b c → source.becomes a c) (took : Takes source old new) where
-  takes : Takes source first new
-  takes = takes_twice source joins so_many.takes took
+    (joins : (a b c : R) → source.becomes a b → source.becomes b c → source.becomes a c) where
+  module _ (keeps_sound : source.is_sound new → source.is_sound old) where
+    so_far : source.is_sound new → (all : List T) → source.rests first all → SoFar shown left held holds (made all) count
+    so_far sound all rest = so_many.so_far (keeps_sound sound) all rest
 
-  so_far : source.is_sound new → (all : List T) → source.rests first all → SoFar shown left held holds (made all) count
-  so_far sound all rest = so_many.so_far (took.sound sound) all rest
+    module _ (after : List U → Type 0) {found : Option U} (next : source.is_sound new → Hands left after found) {row : U} (some : found ≡ Some row) where
+      hands : source.is_sound new → Hands left after (Some row)
+      hands sound = subst (Hands left after) some (next sound)
 
-  module _ {Counted : ℕ → Type 0} {NoneLeft : Type 0} {E : Type 0} where
+  module _ {result : Result ℕ ReportFault} (took : Takes source old new result) where
+    takes : Takes source first new result
+    takes = takes_twice source joins so_many.takes took
+
     -- a fault came before the next one was written
-    pub written_less : (result : Result ℕ E) → IsErr result
+    pub written_less : {Counted : ℕ → Type 0} {NoneLeft : Type 0} → IsErr result
         → WritesCounted source first new (λ all. flat_map shown (made all)) (λ all. length (made all)) Counted NoneLeft held holds result
-    written_less result is = writes_failed result is takes (λ sound all rest. front_of (so_far sound all rest))
-
-    -- there is no further one
-    pub written_all : (source.is_sound new → (rows : List U) → left rows → (rows ≡ []) × NoneLeft) → Counted count
-        → WritesCounted source first new (λ all. flat_map shown (made all)) (λ all. length (made all)) Counted NoneLeft held holds {E = E} (Ok count)
-    written_all last counted = record {
-      wrote = λ sound all rest. (let it = so_far sound all rest in all_gone it (last sound it.taken.later it.taken.rest).0);
-      rest = λ sound all rest. (let it = so_far sound all rest in (last sound it.taken.later it.taken.rest).1);
-      given = counted;
-      takes = takes;
-    }
-
-  module _ (after : List U → Type 0) {found : Option U} (next : source.is_sound new → Hands left after found) {row : U} (some : found ≡ Some row) where
-    hands : source.is_sound new → Hands left after (Some row)
-    hands sound = subst (Hands left after) some (next sound)
-
-    -- one more was written
-    pub written_more : {now : Option (List ℕ)} → Appends holds now (shown row) → SoManyWritten source first new made after shown held now (count + 1)
-    written_more sent = record { so_far = λ sound all rest. goes_on (so_far sound all rest) after (hands sound) sent; takes = takes }
+    written_less is = writes_failed result is takes (λ sound all rest. front_of (so_far took.sound sound all rest))
 
     -- a prefix of one more was written
-    pub written_part : {Counted : ℕ → Type 0} {NoneLeft : Type 0} {now : Option (List ℕ)} → WroteFront holds now (shown row) → {E : Type 0} (result : Result ℕ E) → IsErr result
+    pub written_part : {Counted : ℕ → Type 0} {NoneLeft : Type 0} (after : List U → Type 0) {found : Option U} → (source.is_sound new → Hands left after found) → {row : U} → found ≡ Some row
+        → {now : Option (List ℕ)} → WroteFront holds now (shown row) → IsErr result
         → WritesCounted source first new (λ all. flat_map shown (made all)) (λ all. length (made all)) Counted NoneLeft held now result
-    written_part {now = now} front result is = writes_failed result is takes (λ sound all rest. front_with (so_far sound all rest) after (hands sound) now front)
+    written_part after next some {now} front is = writes_failed result is takes
+        (λ sound all rest. front_with (so_far took.sound sound all rest) after (hands took.sound after next some sound) now front)
+
+  module _ (took : Goes source old new) where
+    -- there is no further one
+    pub written_all : {Counted : ℕ → Type 0} {NoneLeft : Type 0} → (source.is_sound new → (rows : List U) → left rows → (rows ≡ []) × NoneLeft) → Counted count
+        → WritesCounted source first new (λ all. flat_map shown (made all)) (λ all. length (made all)) Counted NoneLeft held holds (Ok count)
+    written_all last counted =
+        let whole = takes_twice source joins so_many.takes took in
+        record {
+          wrote = λ sound all rest. (let it = so_far took.sound sound all rest in all_gone it (last sound it.taken.later it.taken.rest).0);
+          rest = λ sound all rest. (let it = so_far took.sound sound all rest in (last sound it.taken.later it.taken.rest).1);
+          given = counted;
+          takes = record { kept = whole.kept; sound = whole.sound; reason = whole.reason };
+        }
+
+    -- one more was written
+    pub written_more : (after : List U → Type 0) {found : Option U} → (source.is_sound new → Hands left after found) → {row : U} → found ≡ Some row
+        → {now : Option (List ℕ)} → Appends holds now (shown row) → SoManyWritten source first new made after shown held now (count + 1)
+    written_more after next some sent = record {
+      so_far = λ sound all rest. goes_on (so_far took.sound sound all rest) after (hands took.sound after next some sound) sent;
+      takes = takes_twice source joins so_many.takes took;
+    }

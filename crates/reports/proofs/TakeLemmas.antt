@@ -3,7 +3,13 @@ use Rattle.std.proofs.Common.{◌≡◌, ◌∙◌, ◌+◌, ◌∷◌, ◌++◌
 use Rattle.saga_core.specs.RowSources.{count_of, Hands, HandsFirst}
 use Rattle.streams.specs.Written.{WroteFront}
 use Rattle.saga_core.specs.declared.row_sources.RowSource.{Ghosts}
-use Rattle.reports.specs.Writing.{Takes, WritesCounted, Wrote}
+use Rattle.saga_core.specs.RowSources.{FailsFor, StaysReady}
+use Rattle.commands.specs.declared.replies.Fault.{Fault}
+use Rattle.commands.specs.declared.replies.Fault.TheVariants as fault
+use Rattle.reports.specs.Faults.{report_fault, reported}
+use Rattle.reports.specs.Writing.{LeavesReady, Takes, WritesCounted, Wrote}
+use Rattle.reports.specs.declared.faults.ReportFault.{ReportFault}
+use Rattle.reports.specs.declared.faults.ReportFault.TheVariants.{Memory, Store, Write}
 
 -- these rows were taken, and the later ones remain
 pub record Taken {T : Type 0} (rests : List T → Type 0) (all gone : List T) : Type 0 where
@@ -36,19 +42,68 @@ module _ {T : Type 0} {rested : List T → Type 0} {all gone : List T} (taken : 
       let none = none_left rests taken.later (hands taken.later taken.rest) in
       (taken.cut ∙ ap (λ rows. gone ++ rows) none.0 ∙ append-nil gone, none.1)
 
+-- rows were taken, and no fault came
+abbrev pub Goes : {R T : Type 0} → Ghosts R T → R → R → Type 0
+Goes source a b = Takes source a b {V = ℕ} (Ok 0)
+
+-- a reason of the source is one of the report
+reason_reported : {V : Type 0} (ready reason : Type 0) (result : Result V Fault) → StaysReady ready reason result → LeavesReady ready reason (reported result)
+reason_reported ready reason (Ok value) is = is
+reason_reported ready reason (Err fault.Memory) is = tt
+reason_reported ready reason (Err fault.Store) is = is
+
+-- another fault needs none
+reason_apart : {V : Type 0} (ready reason : Type 0) (result : Result V ReportFault) → IsErr result → (result ≡ Err Store → ⊥) → LeavesReady ready reason result
+reason_apart ready reason (Ok value) is apart = absurd (cc)
+reason_apart ready reason (Err Memory) is apart = tt
+reason_apart ready reason (Err Store) is apart = absurd (apart refl)
+reason_apart ready reason (Err Write) is apart = tt
+
 module _ {R T : Type 0} (source : Ghosts R T) where
   -- where no row was taken, the source is the same
-  pub takes_none : ((s : R) → source.becomes s s) → (s : R) → Takes source s s
-  takes_none stays s = record { kept = stays s; sound = λ sound. sound }
+  pub takes_none : ((s : R) → source.becomes s s) → (s : R) → Goes source s s
+  takes_none stays s = record { kept = stays s; sound = λ sound. sound; reason = λ first sound ready. ready }
+
+  module _ {a b : R} where
+    -- a call of the source came to this
+    pub takes_row : {V : Type 0} (result : Result V Fault) → source.becomes a b → (source.is_sound b → source.is_sound a)
+        → ((first : R) → source.is_sound b → source.is_ready first a → StaysReady (source.is_ready first b) (source.has_reason first b) result)
+        → Takes source a b (reported result)
+    takes_row result kept sound reason = record { kept = kept; sound = sound; reason = λ first is ready. reason_reported (source.is_ready first b) (source.has_reason first b) result (reason first is ready) }
+
+    -- without a fault, whatever the value
+    pub goes : {V : Type 0} {value : V} → Takes source a b (Ok value) → Goes source a b
+    goes took = record { kept = took.kept; sound = took.sound; reason = took.reason }
+
+    pub ends : {V : Type 0} {value : V} → Goes source a b → Takes source a b (Ok value)
+    ends took = record { kept = took.kept; sound = took.sound; reason = took.reason }
+
+    -- a fault came, whatever the value would have been
+    pub takes_err : {V W : Type 0} {fault : ReportFault} → Takes source a b {V = V} (Err fault) → (result : Result W ReportFault) (told : ReportFault)
+        → result ≡ Err told → told ≡ fault → Takes source a b result
+    takes_err {fault = fault} took result told failed same =
+        subst (Takes source a b) (sym (failed ∙ ap Err same)) (record { kept = took.kept; sound = took.sound; reason = took.reason })
+
+    -- a fault of the source came
+    pub takes_fault : {V : Type 0} (result : Result V ReportFault) (told : ReportFault) (fault : Fault) → result ≡ Err told → told ≡ report_fault fault
+        → source.becomes a b → (source.is_sound b → source.is_sound a)
+        → ((first : R) → source.is_sound b → source.is_ready first a → FailsFor (source.has_reason first b) fault) → Takes source a b result
+    takes_fault result told fault failed same kept sound reason =
+        subst (Takes source a b) (sym (failed ∙ ap Err same)) (takes_row (Err fault) kept sound reason)
+
+    -- rows were taken, and then came a fault that is not the store's
+    pub takes_apart : {V : Type 0} → Goes source a b → (result : Result V ReportFault) → IsErr result → (result ≡ Err Store → ⊥)
+        → Takes source a b result
+    takes_apart one result is apart = record { kept = one.kept; sound = one.sound; reason = λ first sound ready. reason_apart (source.is_ready first b) (source.has_reason first b) result is apart }
 
   module _ (joins : (a b c : R) → source.becomes a b → source.becomes b c → source.becomes a c) where
     -- rows were taken, and then further ones
-    pub takes_twice : {a b c : R} → Takes source a b → Takes source b c → Takes source a c
-    takes_twice {a} {b} {c} one two = record { kept = joins a b c one.kept two.kept; sound = λ sound. one.sound (two.sound sound) }
-
-    -- rows were taken, and then a row or none
-    pub takes_next : {a b c : R} → Takes source a b → source.becomes b c → (source.is_sound c → source.is_sound b) → Takes source a c
-    takes_next one kept sound = takes_twice one (record { kept = kept; sound = sound })
+    pub takes_twice : {a b c : R} {V : Type 0} {result : Result V ReportFault} → Goes source a b → Takes source b c result → Takes source a c result
+    takes_twice {a} {b} {c} one two = record {
+      kept = joins a b c one.kept two.kept;
+      sound = λ sound. one.sound (two.sound sound);
+      reason = λ first sound ready. two.reason first sound (one.reason first (two.sound sound) ready);
+    }
 
 -- one row was returned, or none
 pub given_one : {T : Type 0} {found : Option T} {row : T} (old new : ℕ) → new ≡ count_of found + old → found ≡ Some row → new ≡ 1 + old
@@ -58,9 +113,9 @@ pub given_none : {T : Type 0} {found : Option T} (old new : ℕ) → new ≡ cou
 given_none old new counted none = subst (λ x. new ≡ count_of x + old) none counted
 
 module _ {R T : Type 0} {source : Ghosts R T} {old new : R} {text : List T → List ℕ} {number : List T → ℕ} {Counted : ℕ → Type 0}
-    {NoneLeft : Type 0} {held holds : Option (List ℕ)} {E : Type 0} where
+    {NoneLeft : Type 0} {held holds : Option (List ℕ)} where
   -- a fault: a prefix of the text was written
-  pub writes_failed : (result : Result ℕ E) → IsErr result → Takes source old new
+  pub writes_failed : (result : Result ℕ ReportFault) → IsErr result → Takes source old new result
       → (source.is_sound new → (all : List T) → source.rests old all → WroteFront held holds (text all))
       → WritesCounted source old new text number Counted NoneLeft held holds result
   writes_failed (Ok count) is takes front = absurd (cc)
@@ -72,7 +127,7 @@ module _ {R T : Type 0} {source : Ghosts R T} {old new : R} {text : List T → L
   }
 
   -- what was written of the rows is also this text
-  pub writes_same : {other : List T → List ℕ} {result : Result ℕ E}
+  pub writes_same : {other : List T → List ℕ} {result : Result ℕ ReportFault}
       → WritesCounted source old new text number Counted NoneLeft held holds result → ((all : List T) → text all ≡ other all)
       → WritesCounted source old new other number Counted NoneLeft held holds result
   writes_same {result = result} it same = record {

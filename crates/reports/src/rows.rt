@@ -1,5 +1,5 @@
 //! The rows of a report, written one after another.
-ghost use Rattle.std.specs.Prelude.{ℕ, List, OnOk};
+ghost use Rattle.std.specs.Prelude.{◌≢◌, ℕ, List, IfErr, OnOk};
 ghost use Rattle.std.specs.List.{flat_map};
 ghost use Rattle.std.specs.Io.KnownBytes.{Appends};
 ghost use Rattle.reports.specs.Formats.{stock_row, unfinished_row};
@@ -30,7 +30,8 @@ pub(crate) trait Layout<T> {
             (Appends (W.contents out.old) (W.contents out.new) (shown self.now row.now)) }
 
         ensures front { WroteFront (W.contents out.old) (W.contents out.new)
-            (shown self.now row.now) };
+            (shown self.now row.now) }
+        ensures no_store { IfErr result (λ fault. fault ≢ ReportFault.Store) };
 }
 
 impl Layout<(Cell, Held)> for Format {

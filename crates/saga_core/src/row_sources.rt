@@ -3,7 +3,7 @@
 //! A source returns the rows of one list, in their order, each once. A source is *sound* while its store has returned
 //! what was written; soundness may end at any call, and never returns.
 ghost use Rattle.std.specs.Prelude.{◌≡◌, ◌≤◌, ◌^◌, ◌<◌, ◌+◌, ⊤, ℕ, List, drop, length, IfOk, IsOk};
-ghost use Rattle.saga_core.specs.RowSources.{count_of, Hands};
+ghost use Rattle.saga_core.specs.RowSources.{count_of, Hands, StaysReady};
 
 use commands::Fault;
 
@@ -21,6 +21,12 @@ pub trait RowSource<T> {
     /// What the source reads may have become this one by returning rows.
     ghost becomes: { Self → Self → Type 0 };
 
+    /// Since the one, there was a reason for `Store`, or each row that the other is still to return can be read.
+    ghost is_ready: { Self → Self → Type 0 } = { λ _ _. ⊥ };
+
+    /// Between the one and the other there was a reason for `Store`.
+    ghost has_reason: { Self → Self → Type 0 } = { λ _ _. ⊥ };
+
     /// Returns the next row; `None` after the last one.
     fn next_row(&mut self) -> Result<Option<T>, Fault>
         ensures next { is_sound self.new → IfOk result (Hands (rests self.old) (rests self.new)) }
@@ -28,7 +34,9 @@ pub trait RowSource<T> {
         ensures few { given self.new < 2 ^ 64 }
 
         ensures kept { becomes self.old self.new }
-        ensures sound { is_sound self.new → is_sound self.old };
+        ensures sound { is_sound self.new → is_sound self.old }
+        ensures reason { (first : Self) → is_sound self.new → is_ready first self.old →
+            StaysReady (is_ready first self.new) (has_reason first self.new) result };
 
     /// `becomes` is reflexive: a source that returns no row is as it was.
     ghost stays: { (s : Self) → becomes s s };
@@ -64,6 +72,10 @@ impl<T: Copy> RowSource<T> for Listed<'_, T> {
 
     ghost becomes = { λ _ _. ⊤ };
 
+    ghost is_ready = { λ _ _. ⊤ };
+
+    ghost has_reason = { λ _ _. ⊥ };
+
     ghost stays = { λ _. tt };
 
     ghost joins = { λ _ _ _ _ _. tt };
@@ -75,6 +87,7 @@ impl<T: Copy> RowSource<T> for Listed<'_, T> {
         ensures counted { IfOk result (λ found. self.new.next ≡ count_of found + self.old.next) }
         ensures few { self.new.next < 2 ^ 64 }
 
+        ensures reason { StaysReady ⊤ ⊥ result }
         ensures always { IsOk result }
     {
         match self.rows.get(self.next) {

@@ -5,18 +5,12 @@ use Rattle.allotment.specs.declared.cells.Cell.{Cell}
 use Rattle.allotment.specs.declared.places.Held.{Held as HeldPlaces}
 use Rattle.allotment.specs.Limits.{is_good_cell}
 use Rattle.commands.specs.Names.{is_agent}
-use Rattle.ledger.specs.Answer.{State}
 use Rattle.saga_core.specs.declared.records.Brief.{Brief}
 use Rattle.sqlite.specs.Store.{Ghosts}
-use Rattle.sqlite.specs.Held.{Held, state}
-use Rattle.sqlite.specs.State.{HasCleanDisk}
+use Rattle.sqlite.specs.Held.{Held}
 use Rattle.desk_sql.specs.Rows.{JourneyRow}
-use Rattle.desk_sql.specs.declared.versions.Version.{Version}
-use Rattle.sql_model.specs.Keeping.{KeepsIn}
 use Rattle.sql_model.specs.Reading.{stock_row_of}
 use Rattle.sql_model.specs.Briefs.{TellBriefs}
-use Rattle.sql_model.specs.Spelling.{IsSpelled}
-use Rattle.sql_model.specs.Standing.{IsDesk}
 use Rattle.sql_lists.specs.CellLists.{CellsRest}
 use Rattle.sql_lists.specs.JourneyLists.{JourneysRest}
 
@@ -39,11 +33,3 @@ module _ {S : Type 0} (g : Ghosts S) where
   AreGoodBriefsRest h =
       (briefs : List Brief) × BriefsRest h briefs
       × AllByRecursion (λ (b : Brief). IsTrue (is_agent b.agent)) briefs
-
-  module _ (old new : Held S) where
-    -- while the store returns what was written, good rows remain of each desk that the connection kept in tables of this
-    -- version, and whose agents have the form of one
-    abbrev pub BeginsGood : Version → Type 0
-    BeginsGood v =
-        HasCleanDisk (state g new) → (s : State) → IsDesk s → IsSpelled s.ledger → KeepsIn v (state g old) s
-        → AreGoodBriefsRest new

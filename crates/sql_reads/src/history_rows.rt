@@ -4,7 +4,7 @@
 //! journey. So the store reads no further than the next item. After the item that finishes the journey there is no
 //! further query.
 
-ghost use Rattle.std.specs.Prelude.{◌≡◌, ◌+◌, ◌-◌, ◌<◌, ◌^◌, true, false, Err, IfOk, OnErr};
+ghost use Rattle.std.specs.Prelude.{◌≡◌, ◌+◌, ◌<◌, ◌^◌, true, false, Err, IfOk, OnErr, OnOk};
 ghost use Rattle.sqlite.specs.Held.{state};
 ghost use Rattle.sqlite.specs.State.{HasCleanDisk};
 ghost use Rattle.desk_sql.specs.Calls.{Quiet};
@@ -80,8 +80,8 @@ impl ItemCursor {
         ensures low { IsLow self.old.sought → IsLow self.new.sought }
         ensures version { self.new.version ≡ self.old.version }
         ensures store { IsLow self.old.sought → self.old.failed ≡ false
-            → self.old.given < 2 ^ 64 - 1
             → FailsForReasonIn S.Store conn.old conn.new self.old.version result }
+        ensures going { OnOk result (self.new.failed ≡ false) }
         ensures failed { OnErr result (self.new.failed ≡ true) }
         ensures stays_failed { self.old.failed ≡ true → result ≡ Err Fault.Store }
         ensures quiet { Quiet S.Store conn.old conn.new }
@@ -96,7 +96,11 @@ impl ItemCursor {
         self.failed = true;
         match find_next(conn, self.version, &self.sought) {
             Ok(Some(found)) => {
-                if given == u64::MAX || found.num > LARGEST {
+                // more items than can be counted
+                if given == u64::MAX {
+                    return Err(Fault::Memory);
+                }
+                if found.num > LARGEST {
                     return Err(Fault::Store);
                 }
                 match item_told(&found) {

@@ -15,6 +15,4 @@ pub mod SinceLemmas
 pub mod Founding
 pub mod BriefLists
 pub mod OwnedLists
-pub mod StockLists
-pub mod StockOrder
 pub mod Taken

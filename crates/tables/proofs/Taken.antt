@@ -1,6 +1,5 @@
--- What was taken of a list, and what remains; and the read of a list by rows that are started, and then taken. For `brief_lists` and
--- `stock_lists`.
-use Rattle.std.proofs.Common.{◌≡◌, ◌↔◌, List, ◌++◌, Result, Err, sym, subst, IfOk, IsErrOf, OnErr}
+-- The read of a list by rows that are started, and then taken. For `brief_lists` and `stock_lists`.
+use Rattle.std.proofs.Common.{◌≡◌, ◌↔◌, Result, Err, sym, subst, IfOk, IsErrOf, OnErr}
 use Rattle.sqlite.specs.Store.{Ghosts}
 use Rattle.sqlite.specs.Held.{Held, state}
 use Rattle.sqlite.specs.State.{HasCleanDisk}
@@ -22,10 +21,6 @@ use Rattle.sql_model.proofs.Quieting.{quiet_clean, quiet_up}
 use Rattle.sql_model.proofs.Staying.{fails_twice, of_error}
 use Rattle.sql_reads.specs.Reads.{AnyDesk, ReadIn}
 use Rattle.sql_reads.proofs.Starting.{not_started}
-
--- these were taken of all, and such ones remain
-abbrev pub Remain : {X : Type 0} → (List X → Type 0) → List X → List X → Type 0
-Remain {X} Rests taken all = (last : List X) × Rests last × (all ≡ taken ++ last)
 
 -- rows that were started were taken, and the connection is the one that they give back
 pub list_read : {S V : Type 0} {g : Ghosts S} {old mid new end : Held S} {v : Version} {result : Result V Fault} {IsShown : State → V → Type 0}

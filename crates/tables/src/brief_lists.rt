@@ -1,55 +1,18 @@
 //! Lists of journeys, each read by one statement: the unfinished ones above a number, and those of one agent.
-ghost use Rattle.std.specs.Prelude.{◌≡◌, ◌<◌, ◌^◌, List, IfOk, IsErrOf, take};
-ghost use Rattle.sqlite.specs.Held.{state};
-ghost use Rattle.sqlite.specs.State.{HasCleanDisk};
-ghost use Rattle.desk_sql.specs.Causes.{HasFaulted, IsUp};
+ghost use Rattle.std.specs.Prelude.{◌≡◌, ◌<◌, ◌^◌, take};
 ghost use Rattle.saga_core.specs.Views.{owned_above};
-ghost use Rattle.saga_core.specs.declared.records.Brief.{Brief};
 ghost use Rattle.sql_reads.specs.Reading.{AreUnfinishedAbove};
 ghost use Rattle.sql_reads.specs.Reads.{Read};
-ghost use Rattle.sql_reads.specs.RemainingRows.{StaysUnder};
-ghost use Rattle.sql_lists.specs.ListedRows.{AreGoodBriefsRest, BriefsRest};
 
+use crate::taking::take_rows;
 use commands::{Agent, Fault};
+use report_writers::{FoundRows, Progress};
 use saga_core::Brief;
-use sql_lists::{hand_owned, hand_unfinished, next_journey};
+use sql_lists::{hand_owned, hand_unfinished};
 use sql_model::fault_of;
-use sql_reads::{LARGEST, brief_of};
-use sqlite::{Alter, Connection, Rows};
+use sql_reads::LARGEST;
+use sqlite::{Alter, Connection};
 use std::alloc::Global;
-
-/// Takes the briefs of the rows that remain, at most so many. Once it has so many, no further row is read.
-fn take_briefs<S: Alter>(
-    alloc: Global,
-    rows: &mut Rows<'_, S>,
-    most: usize,
-) -> Result<Vec<Brief>, Fault>
-    ensures briefs { HasCleanDisk (state S.Store rows.new.conn.now) → (all : List Brief) →
-        BriefsRest S.Store rows.old.conn.now all
-        → IfOk result (λ briefs. briefs.items ≡ take most all) }
-    ensures store { HasCleanDisk (state S.Store rows.new.conn.now)
-        → AreGoodBriefsRest S.Store rows.old.conn.now
-        → IsUp (state S.Store rows.old.conn.now) → IsErrOf result Fault.Store
-        → HasFaulted (state S.Store rows.old.conn.now) (state S.Store rows.new.conn.now) }
-    ensures kept { StaysUnder S.Store rows.old.conn rows.new.conn }
-{
-    let mut briefs = Vec::new(alloc);
-    for _round in 0..most {
-        match next_journey(rows) {
-            Ok(Some(found)) => {
-                let Some(brief) = brief_of(&found) else {
-                    return Err(Fault::Store);
-                };
-                if briefs.push(brief).is_err() {
-                    return Err(Fault::Memory);
-                }
-            }
-            Ok(None) => return Ok(briefs),
-            Err(error) => return Err(fault_of(&error)),
-        }
-    }
-    Ok(briefs)
-}
 
 /// Returns the unfinished journeys above `after`, in order of number.
 pub(crate) fn read_unfinished<S: Alter>(
@@ -66,7 +29,11 @@ pub(crate) fn read_unfinished<S: Alter>(
         Ok(rows) => rows,
         Err(error) => return Err(fault_of(&error)),
     };
-    take_briefs(alloc, &mut rows, usize::MAX)
+    let mut briefs = FoundRows {
+        rows: &mut rows,
+        progress: Progress::new(),
+    };
+    take_rows(alloc, &mut briefs, usize::MAX)
 }
 
 /// Returns the journeys of this agent above `after`, finished ones too, in order of number, at most so many. Unless an index leads
@@ -85,7 +52,11 @@ pub(crate) fn read_owned<S: Alter>(
         Ok(rows) => rows,
         Err(error) => return Err(fault_of(&error)),
     };
-    let briefs = take_briefs(alloc, &mut rows, most)?;
+    let mut found = FoundRows {
+        rows: &mut rows,
+        progress: Progress::new(),
+    };
+    let briefs = take_rows(alloc, &mut found, most)?;
     if after > LARGEST && !briefs.is_empty() {
         return Err(Fault::Store);
     }

@@ -15,6 +15,7 @@ mod faults;
 mod laws;
 mod opening;
 mod stock_lists;
+mod taking;
 
 pub use books::TableBook;
 pub use faults::OpenFault;

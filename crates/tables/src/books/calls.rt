@@ -30,7 +30,7 @@ fn know_agent(ask: Option<&Ask>)
 }
 
 /// A look at the tables of a book. What it shows is so of each state that the book represents.
-trait Look<S: Alter>: Drop {
+pub(super) trait Look<S: Alter>: Drop {
     ghost use Rattle.ledger.specs.Answer.{State};
     ghost use Rattle.tables.specs.BookTerms.{ShowsKept};
     ghost use Rattle.tables.specs.Reading.{Looks};
@@ -216,7 +216,7 @@ impl<S: Alter> TableBook<S> {
     ghost use Rattle.tables.specs.Reading.{Executes, Reads};
 
     /// Looks at the tables, unless the store has failed. Where it fails now, the book remembers that.
-    fn read<L: Look<S>>(&mut self, look: L) -> Result<L::Shown, Fault>
+    pub(super) fn read<L: Look<S>>(&mut self, look: L) -> Result<L::Shown, Fault>
         ensures shown { ShowsKept S.Store self.old self.new (L.shows look) result }
         ensures reads { Reads S.Store self.old self.new result }
     {

@@ -1,9 +1,10 @@
 //! The reports of the book over tables. After the store has failed, no call reaches it.
-ghost use Rattle.std.specs.Prelude.{◌≡◌, option_map, IfOk};
+ghost use Rattle.std.specs.Prelude.{◌≡◌, option_map};
 ghost use Rattle.report_kinds.specs.Texts.{OfReport};
-ghost use Rattle.report_writers.specs.Writing.{ShowsIn};
+ghost use Rattle.sql_reads.specs.Reads.{Read};
 
 use crate::books::TableBook;
+use crate::books::calls::Look;
 use commands::Fault;
 use desk_sql::Version;
 use report_kinds::{Report, Reporting};
@@ -18,8 +19,8 @@ fn text_of<S: Alter>(
     report: &Report,
     conn: &mut Connection<S>,
 ) -> Result<Option<Vec<u8>>, Fault>
-    ensures text { ShowsIn S.Store Version.Two conn.old conn.new (λ s. IfOk result (λ found.
-        OfReport report.now s.ledger (λ text. option_map (λ bytes. bytes.items) found ≡ text))) }
+    ensures { Read S.Store conn.old conn.new result (λ s found. OfReport report.now s.ledger
+        (λ text. option_map (λ bytes. bytes.items) found ≡ text)) }
 {
     let mut text = Vec::new(alloc);
     match write_report(alloc, report, Version::Two, conn, &mut text) {
@@ -30,18 +31,32 @@ fn text_of<S: Alter>(
     }
 }
 
+/// The text of a report.
+#[derive(Drop)]
+struct TextOf<'a> {
+    report: &'a Report,
+}
+
+impl<'a, S: Alter> Look<S> for TextOf<'a> {
+    type Shown = Option<Vec<u8>>;
+
+    ghost shows = { λ look s found. OfReport look.report.now s.ledger
+        (λ text. option_map (λ bytes. bytes.items) found ≡ text) };
+
+    fn look(self, book: &mut TableBook<S>) -> Result<Option<Vec<u8>>, Fault> {
+        text_of(book.alloc, self.report, &mut book.conn)
+    }
+}
+
 impl<S: Alter> Reporting for TableBook<S> {
-    fn report(&mut self, report: &Report) -> Result<Option<Vec<u8>>, Fault> {
-        if self.failed {
-            return Err(Fault::Store);
-        }
-        match text_of(self.alloc, report, &mut self.conn) {
-            Ok(text) => Ok(text),
-            Err(Fault::Memory) => Err(Fault::Memory),
-            Err(Fault::Store) => {
-                self.failed = true;
-                Err(Fault::Store)
-            }
-        }
+    ghost use Rattle.tables.specs.BookTerms.{ShowsKept};
+    ghost use Rattle.tables.specs.Reading.{Reads};
+
+    fn report(&mut self, report: &Report) -> Result<Option<Vec<u8>>, Fault>
+        ensures text { ShowsKept S.Store self.old self.new (λ s found. OfReport report.now s.ledger
+            (λ text. option_map (λ bytes. bytes.items) found ≡ text)) result }
+        ensures reads { Reads S.Store self.old self.new result }
+    {
+        self.read(TextOf { report })
     }
 }

@@ -1,5 +1,4 @@
 -- A view changes nothing.
-use Rattle.std.specs.Prelude.{⊤}
 use Rattle.desk_http.proofs.ReasonLemmas.{view_goes_on}
 use Rattle.desk_http.proofs.answering.meet.Goals as goal
 
@@ -58,9 +57,9 @@ returns-in-SeeMine-clause-may_act g c = λ sound first.
 pub returns-in-SeeCells-clause-may_act : goal.returns-in-SeeCells-clause-may_act
 returns-in-SeeCells-clause-may_act g c = λ sound first.
     rw c.in-SeeCells.is
-    (view_goes_on _ _ (λ _ _. ⊤) c.see_cells.result (c.see_cells.ensures.views.may_act sound first))
+    (view_goes_on _ _ (g.B.Book.has_reason first c.see_cells.new.book) c.see_cells.result (c.see_cells.ensures.views.may_act sound first))
 
 pub returns-in-SeeReport-clause-may_act : goal.returns-in-SeeReport-clause-may_act
 returns-in-SeeReport-clause-may_act g c = λ sound first.
     rw c.in-SeeReport.is
-    (view_goes_on _ _ (λ _ _. ⊤) c.see_report.result (c.see_report.ensures.views.may_act sound first))
+    (view_goes_on _ _ (g.B.Book.has_reason first c.see_report.new.book) c.see_report.result (c.see_report.ensures.views.may_act sound first))

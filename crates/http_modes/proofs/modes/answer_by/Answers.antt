@@ -1,6 +1,5 @@
 -- The page of the profile was laid out, or a fault came.
 use Rattle.desk_http.specs.Pages.{closes, command_in, stops}
-use Rattle.desk_http.specs.Reasons.{reason_in}
 use Rattle.desk_http.proofs.ReasonLemmas.{made_goes_on}
 use Rattle.http_modes.proofs.PageLemmas.{faults_by, laid_by, meant_by}
 use Rattle.http_modes.proofs.modes.answer_by.Goals as goal
@@ -33,7 +32,7 @@ pub returns-in-Ok-clause-may_act : goal.returns-in-Ok-clause-may_act
 returns-in-Ok-clause-may_act g c = λ sound first x is.
     let book = g.B.Book in
     let new = c.answer_to.new.book in
-    made_goes_on (book.may_act first c.args.book.now) (book.may_act first new) (reason_in c.args.door x.meant (book.has_reason first new))
+    made_goes_on (book.may_act first c.args.book.now) (book.may_act first new) (book.has_reason first new)
     (command_in c.args.door x.meant) c.in-Ok.answer c.lay_out.result (c.in-Ok.ensures.may_act sound first x.meant is.message) c.lay_out.ensures.memory
 
 pub returns-in-Err-clause-may_act : goal.returns-in-Err-clause-may_act

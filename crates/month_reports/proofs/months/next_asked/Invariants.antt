@@ -1,5 +1,5 @@
 use Rattle.std.proofs.Common.{◌-◌, ◌^◌, ◌≤◌}
-use Rattle.reports.specs.Writing.{Takes}
+use Rattle.reports.proofs.TakeLemmas.{Goes}
 use Rattle.month_reports.proofs.MonthLemmas.{Passing}
 use Rattle.month_reports.proofs.months.next_asked.Given as goal
 
@@ -10,7 +10,7 @@ invariant-loop-row g l =
     record {
       passing : source.is_sound l.rows → Passing l.filter (source.rests l.fn.rows) (source.rests l.rows);
       given : source.given l.fn.rows ≤ source.given l.rows;
-      takes : Takes source l.fn.rows l.rows;
+      takes : Goes source l.fn.rows l.rows;
     }
 
 -- fewer cells are returned than can be counted

@@ -1,7 +1,7 @@
 use Rattle.std.proofs.Common.{◌-◌, ◌^◌, ◌≤◌, length}
 use Rattle.allotment.specs.Nights.{date_of}
 use Rattle.month_reports.specs.Months.{AskedRest}
-use Rattle.reports.specs.Writing.{Takes}
+use Rattle.reports.proofs.TakeLemmas.{Goes}
 use Rattle.month_reports.proofs.MonthLemmas.{Begins, Reading}
 use Rattle.month_reports.proofs.months.read_month.Given as goal
 
@@ -16,7 +16,7 @@ invariant-loop-cells g l =
       few : length l.cells.items ≤ 31;
       days : length l.cells.items ≤ (date_of l.last.0.night).1.1;
       given : source.given l.fn.rows ≤ source.given l.rows;
-      takes : Takes source l.fn.rows l.rows;
+      takes : Goes source l.fn.rows l.rows;
     }
 
 -- fewer cells are returned than can be counted

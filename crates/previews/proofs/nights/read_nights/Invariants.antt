@@ -1,8 +1,7 @@
 use Rattle.std.proofs.Common.{◌-◌, ◌^◌, ◌≤◌, List}
 use Rattle.allotment.specs.declared.cells.Cell.{Cell}
 use Rattle.allotment.specs.declared.places.Held.{Held}
-use Rattle.reports.specs.Writing.{Takes}
-use Rattle.reports.proofs.TakeLemmas.{Taken}
+use Rattle.reports.proofs.TakeLemmas.{Goes, Taken}
 use Rattle.previews.proofs.nights.read_nights.Given as goal
 
 -- the cells that were read
@@ -13,7 +12,7 @@ invariant-loop-cells g l =
       read : source.is_sound l.rows → (all : List (Cell × Held)) → source.rests l.fn.rows all
           → Taken (source.rests l.rows) all l.cells.items;
       given : source.given l.fn.rows ≤ source.given l.rows;
-      takes : Takes source l.fn.rows l.rows;
+      takes : Goes source l.fn.rows l.rows;
     }
 
 -- fewer cells are returned than can be counted

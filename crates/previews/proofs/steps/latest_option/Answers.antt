@@ -1,6 +1,6 @@
 -- The items are read to the last one.
 use Rattle.std.proofs.Common.{arith}
-use Rattle.reports.proofs.TakeLemmas.{given_one, takes_next, takes_none}
+use Rattle.reports.proofs.TakeLemmas.{given_one, takes_none, takes_row, takes_twice}
 use Rattle.previews.proofs.LatestLemmas.{reads_all, reads_more, reads_none}
 use Rattle.previews.proofs.steps.latest_option.Goals as goal
 
@@ -17,7 +17,8 @@ loop-item-preserved g c =
     record {
       read = λ sound all remain. grind (arith, reads_more, c.next_row.ensures.sound, c.in_ok-item.ensures.next);
       given = omega (arith, given_one _ _ c.in_ok-item.ensures.counted c.in-Some.is, at.invariant.given);
-      takes = takes_next source g.met.R.RowSource.joins at.invariant.takes c.next_row.ensures.kept c.next_row.ensures.sound;
+      takes = takes_twice source g.met.R.RowSource.joins at.invariant.takes
+          (record { kept = c.next_row.ensures.kept; sound = c.next_row.ensures.sound; reason = c.in_ok-item.ensures.reason });
     }
 
 -- there is no other

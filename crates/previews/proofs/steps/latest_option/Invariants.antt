@@ -1,6 +1,6 @@
 use Rattle.std.proofs.Common.{◌-◌, ◌^◌, ◌≤◌, List}
 use Rattle.commands.specs.declared.items.Item.{Item}
-use Rattle.reports.specs.Writing.{Takes}
+use Rattle.reports.proofs.TakeLemmas.{Goes}
 use Rattle.previews.proofs.LatestLemmas.{Read}
 use Rattle.previews.proofs.steps.latest_option.Given as goal
 
@@ -12,7 +12,7 @@ invariant-loop-item g l =
       read : source.is_sound l.rows → (all : List Item) → source.rests l.fn.rows all
           → Read l.step (source.rests l.rows) all l.latest;
       given : source.given l.fn.rows ≤ source.given l.rows;
-      takes : Takes source l.fn.rows l.rows;
+      takes : Goes source l.fn.rows l.rows;
     }
 
 -- fewer items are returned than can be counted

@@ -2,7 +2,7 @@
 use Rattle.std.proofs.Common.{refl, subst, sym, ℕ, List}
 use Rattle.program_ends.specs.declared.ends.End.{End}
 use Rattle.program_ends.specs.Causes.{cause_of_end, cause_of_load}
-use Rattle.program_jobs.specs.Jobs.{EndsReport, RefusesToShow}
+use Rattle.program_jobs.specs.Jobs.{EndsReport, FailsReport, RefusesToShow}
 use Rattle.program_jobs.specs.Loads.{Loads}
 use Rattle.program_jobs.specs.Reporting.{Reports}
 use Rattle.program_jobs.specs.Streams.{streams}
@@ -46,6 +46,7 @@ returns-in-Report-clause-does g c =
     (record {
       told = λ clean v s was. subst (λ e. Reports held holds c.in-Report.report e s) is (shown.told clean v s was);
       ends = subst (EndsReport (RefusesToShow g.S.Store c.args.conn c.show_over-conn.result.0 c.in-Report.report)) is shown.ends;
+      fails = subst (FailsReport g.S.Store c.args.conn c.show_over-conn.result.0) is shown.fails;
       keeps = shown.keeps;
       shown = c.of_report.ensures.shown;
       only = record { unread = refl; unnoted = refl };

@@ -1,8 +1,11 @@
 -- An opening that failed wrote nothing; one that did not found the state that was represented.
 use Rattle.std.proofs.Common.{sym, subst}
-use Rattle.sql_model.proofs.Quieting.{quiet_clean}
+use Rattle.sqlite.specs.Held.{state}
+use Rattle.desk_sql.specs.Causes.{HasFaulted}
+use Rattle.sql_model.proofs.Quieting.{quiet_clean, quiet_up}
+use Rattle.sql_model.proofs.Staying.{fails_twice}
 use Rattle.program_jobs.specs.Reporting.{IsDeskIn, Reports}
-use Rattle.program_jobs.proofs.EndLemmas.{ends_begun, ends_unopened, unopened_report}
+use Rattle.program_jobs.proofs.EndLemmas.{ends_begun, ends_unopened, fails_unopened, unopened_report}
 use Rattle.program_jobs.proofs.ShowLemmas.{still_in}
 use Rattle.program_jobs.proofs.reporting.report_over.Goals as goal
 
@@ -25,6 +28,29 @@ returns-clause-ends g c = ends_begun g.S.Store c.args.conn c.into_store.result c
 pub returns-in-Err-clause-ends : goal.returns-in-Err-clause-ends
 returns-in-Err-clause-ends g c =
     ends_unopened g.S.Store c.args.conn c.in-Err.conn c.args.report.now c.in-Err.fault _ c.end_of_opening.ensures.end c.in-Err.ensures.fails.told
+
+-- a report that was begun failed for a reason, and is not an opening
+pub returns-clause-fails : goal.returns-clause-fails
+returns-clause-fails g c =
+    let opens = c.in-Ok.ensures.opens in
+    let read = c.tell_report-end.ensures.shows in
+    let given = c.into_store.ensures in
+    let quiet = read.kept.quiet in
+    record {
+      reason = λ clean v s was spelled up is. (
+          let here : IsDeskIn g.S.Store c.in-Ok.opened s =
+          record { desk = was.desk; keeps = λ at. opens.finds at v s was.stood } in
+          let before = given.sound clean in
+          subst (λ h. HasFaulted (state g.S.Store c.args.conn) (state g.S.Store h)) (sym given.same)
+          (fails_twice g.S.Store c.args.conn c.in-Ok.opened.conn c.tell_report-end.new.opened.conn opens.up (quiet_up _ _ _ quiet)
+          (quiet_clean _ _ _ quiet) before up (λ still. read.reason before s here spelled still is)));
+      opening = λ is. absurd (c.tell_report-end.ensures.opened is);
+      founding = λ is. absurd (c.tell_report-end.ensures.opened is);
+    }
+
+pub returns-in-Err-clause-fails : goal.returns-in-Err-clause-fails
+returns-in-Err-clause-fails g c =
+    fails_unopened g.S.Store c.args.conn c.in-Err.conn c.in-Err.fault _ c.end_of_opening.ensures.end c.in-Err.ensures.fails
 
 -- what was opened was only read, and its connection is returned
 pub returns-clause-keeps : goal.returns-clause-keeps

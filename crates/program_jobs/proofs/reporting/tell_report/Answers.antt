@@ -1,16 +1,17 @@
 -- What was written is reported by the end.
-use Rattle.std.proofs.Common.{rules, sym, subst}
+use Rattle.std.proofs.Common.{rules, subst, IsErrOf}
 use Rattle.report_kinds.specs.Texts.{OfReport}
-use Rattle.report_writers.specs.Writing.{ShowsIn, WritesIfThere}
+use Rattle.reports.specs.declared.faults.ReportFault.TheVariants.{Store}
+use Rattle.report_writers.specs.Writing.{AnyDesk, ShowsIn, WritesIfThere}
 use Rattle.program_jobs.proofs.ShowLemmas.{shows_lent}
 use Rattle.program_jobs.proofs.reporting.tell_report.Goals as goal
 
 pub returns-clause-shows : goal.returns-clause-shows
 returns-clause-shows g c =
     shows_lent g.S.Store c.connection.ensures.same
-    (subst (λ v. ShowsIn g.S.Store v c.connection.result.now c.write_report-done.new.conn (λ s. OfReport c.args.report.now s.ledger
+    (subst (λ v. ShowsIn g.S.Store v c.connection.result.now c.write_report-done.new.conn (IsErrOf c.write_report-done.result Store) AnyDesk (λ s. OfReport c.args.report.now s.ledger
     (λ text. WritesIfThere (g.O.Write.contents c.args.out.now) (g.O.Write.contents c.write_report-done.new.out) text c.write_report-done.result))) c.version-version.ensures.same c.write_report-done.ensures.shows) (search rules) (search rules)
-    (λ s shown stock is. c.finish.ensures.told _ _ (shown stock is))
+    c.finish.ensures.fails (λ s shown stock is. c.finish.ensures.told _ _ (shown stock is))
 
 pub returns-clause-ends : goal.returns-clause-ends
 returns-clause-ends g c = c.finish.ensures.ends c.args.report.now c.write_report-done.ensures.absent

@@ -1,34 +1,21 @@
 -- The rows that are written are those of the state that is kept.
-use Rattle.std.proofs.Common.{◌+◌, ap, ◌∙◌, rules, arith}
+use Rattle.std.proofs.Common.{rules}
 use Rattle.reports.proofs.FrontLemmas.{front_none}
-use Rattle.report_writers.proofs.ShowLemmas.{shows_rows}
+use Rattle.report_writers.proofs.ReadyLemmas.{ready_alone, takes_fails}
+use Rattle.report_writers.proofs.ShowLemmas.{shows_none, shows_rows}
 use Rattle.report_writers.proofs.asked_reports.write_found.Goals as goal
 
--- they were written, and counted after those before
-pub returns-in-Ok-stock_lines : goal.returns-in-Ok-stock_lines
-returns-in-Ok-stock_lines g c =
-    let writes = c.in-Ok-stock_lines.ensures.writes in
-    record {
-      shows = shows_rows g.S.Store c.in-Ok.ensures.quiet c.in-Ok.ensures.rows writes.takes.kept.under.quiet (search rules)
-          (λ sound s begun going rows are. (
-          let rests = begun rows are in
-          let wrote = writes.wrote sound rows (going, rests) in
-          record {
-            whole = wrote.written;
-            front = wrote.front;
-            going = (writes.rest sound rows (going, rests)).0;
-            counted = writes.given ∙ ap (λ n. n + c.args.before.given) wrote.number;
-          }));
-    }
-
--- a prefix of them was
 pub returns : goal.returns
 returns g c = record {
-  shows = shows_rows g.S.Store c.in-Ok.ensures.quiet c.in-Ok.ensures.rows c.stock_lines.ensures.writes.takes.kept.under.quiet (search rules)
-      (λ sound s begun going rows are.
-      record { whole = tt; front = (c.stock_lines.ensures.writes.wrote sound rows (going, begun rows are)).front; going = tt; counted = tt });
+  shows = shows_rows g.S.Store c.in-Ok.ensures.quiet c.in-Ok.ensures.rows c.in-Ok.ensures.good
+      c.stock_lines.ensures.writes.takes.kept.under.quiet (search rules)
+      (λ sound s begun rows are. c.stock_lines.ensures.writes.wrote sound rows (c.new.ensures.going, begun rows are))
+      (λ sound good up. takes_fails c.stock_lines.ensures.writes.takes sound (ready_alone g.S.Store _ (c.new.ensures.going, good) up));
 }
 
--- nothing was written
+-- they could not be started
 pub returns-in-Err : goal.returns-in-Err
-returns-in-Err g c = search (rules, arith, front_none)
+returns-in-Err g c = record {
+  shows = shows_none c.in-Err.is c.start_cells.follows.holds-at-none c.fault_of.ensures.memory c.into.ensures
+      (λ s rows are. record { written = tt; number = tt; front = front_none _ _ });
+}

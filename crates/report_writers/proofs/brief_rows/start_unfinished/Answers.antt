@@ -1,5 +1,6 @@
 -- The rows that will be returned are those of the unfinished journeys, and nothing changes, whether they start or not.
 use Rattle.std.proofs.Common.{filter, refl}
+use Rattle.saga_core.specs.Views.{is_unfinished_above}
 use Rattle.desk_sql.specs.FoundRows.{is_unfinished_after}
 use Rattle.desk_sql.proofs.Quieting.{quiet_start}
 use Rattle.desk_sql.proofs.Selecting.{ok_then}
@@ -7,6 +8,7 @@ use Rattle.sql_model.proofs.BriefRows.{listed_so}
 use Rattle.sql_reads.proofs.HandedTold.{there_at}
 use Rattle.sql_reads.proofs.HandedBriefs.{unfinished_told}
 use Rattle.sql_reads.proofs.Starting.{not_started}
+use Rattle.report_writers.proofs.HandedBriefs.{good_begin, unfinished_agree}
 use Rattle.report_writers.proofs.brief_rows.start_unfinished.Goals as goal
 
 pub returns : goal.returns
@@ -26,6 +28,9 @@ returns g c =
               told.begun clean v t.tables t.may _ (listed_so (is_unfinished_after 0) t.tables.journey rise),
               unfinished_told s.ledger t.tables briefs t.stands.journey rise is,
             )) made.started;
+        good = ok_then _ _ result (λ it told clean v s desk spelled keeps.
+            good_begin store (is_unfinished_after 0) (is_unfinished_above 0) (unfinished_agree 0) old it.conn.now told clean s keeps spelled)
+            made.started;
         quiet = ok_then _ _ result (λ it told. quiet_start store old it.conn.now _ _ told) made.started;
       },
     )

@@ -2,6 +2,7 @@
 use Rattle.std.proofs.Common.{map, refl}
 use Rattle.desk_sql.proofs.Quieting.{quiet_start}
 use Rattle.desk_sql.proofs.Selecting.{ok_then}
+use Rattle.holder_reports.specs.Holders.{holders_of}
 use Rattle.sql_reads.proofs.HandedTold.{there_at}
 use Rattle.report_writers.specs.HoldersLeft.{found_of}
 use Rattle.report_writers.proofs.HandedHolders.{lists_holders}
@@ -22,6 +23,13 @@ returns g c =
             let t = there_at store old it.conn.now s keeps told.same told.survives clean in
             told.begun clean v t.tables t.may (map found_of holders)
             (lists_holders c.args.cell.now s.ledger t.tables t.stands.step desk.legal holders is)) made.started;
+        good = ok_then _ _ result (λ it told clean v s desk spelled keeps.
+            let t = there_at store old it.conn.now s keeps told.same told.survives clean in
+            let holders = holders_of s.ledger c.args.cell.now in (
+              holders,
+              told.begun clean v t.tables t.may (map found_of holders)
+                  (lists_holders c.args.cell.now s.ledger t.tables t.stands.step desk.legal holders refl),
+            )) made.started;
         quiet = ok_then _ _ result (λ it told. quiet_start store old it.conn.now _ _ told) made.started;
       },
     )

@@ -1,11 +1,18 @@
 -- The rows that are written are those of the state that is kept.
 use Rattle.std.proofs.Common.{refl, rules}
-use Rattle.report_writers.proofs.WriteLemmas.{wrote_rows}
-use Rattle.report_writers.proofs.ShowLemmas.{shows_rows}
+use Rattle.report_writers.proofs.WriteLemmas.{wrote_none, wrote_rows}
+use Rattle.report_writers.proofs.ReadyLemmas.{ready_alone, takes_fails}
+use Rattle.report_writers.proofs.ShowLemmas.{shows_none, shows_rows}
 use Rattle.report_writers.proofs.holding.write_holders.Goals as goal
 
 pub returns : goal.returns
 returns g c = record {
-  shows = shows_rows g.S.Store c.in-Ok.ensures.quiet c.in-Ok.ensures.rows c.holders_text.ensures.writes.takes.kept.under.quiet (search rules)
-      (λ sound s begun. wrote_rows _ _ (c.holders_text.ensures.writes.wrote sound _ (c.new.ensures.going, begun _ refl)));
+  shows = shows_rows g.S.Store c.in-Ok.ensures.quiet c.in-Ok.ensures.rows c.in-Ok.ensures.good
+      c.holders_text.ensures.writes.takes.kept.under.quiet (search rules)
+      (λ sound s begun. wrote_rows _ _ (c.holders_text.ensures.writes.wrote sound _ (c.new.ensures.going, begun _ refl)))
+      (λ sound good up. takes_fails c.holders_text.ensures.writes.takes sound (ready_alone g.S.Store _ (c.new.ensures.going, good) up));
 }
+
+-- they could not be started
+pub returns-in-Err : goal.returns-in-Err
+returns-in-Err g c = record { shows = shows_none c.in-Err.is c.start_holders.follows.holds-at-none c.fault_of.ensures.memory c.into.ensures (λ s. wrote_none _ _ _) }

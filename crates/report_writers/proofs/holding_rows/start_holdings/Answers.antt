@@ -8,8 +8,10 @@ use Rattle.sql_model.specs.ExpectedRows.{journeys_called}
 use Rattle.sql_model.proofs.JourneyRows.{called_rises}
 use Rattle.sql_model.proofs.Orders.{one_order}
 use Rattle.sql_reads.proofs.HandedTold.{there_at}
+use Rattle.report_writers.proofs.StockOrder.{stock_there}
+use Rattle.sql_reads.proofs.ReadReasons.{row_agent}
 use Rattle.sql_reads.proofs.Starting.{not_started}
-use Rattle.report_writers.proofs.HandedHoldings.{expected, holdings_in_order, holdings_told, small}
+use Rattle.report_writers.proofs.HandedHoldings.{expected, expected_good, holdings_in_order, holdings_told, small}
 use Rattle.report_writers.proofs.holding_rows.start_holdings.Goals as goal
 
 pub returns : goal.returns
@@ -37,6 +39,24 @@ returns g c =
                 small l desk.legal t.tables t.stands.stock t.stands.step journeys rise is.0 is.1 f,
               ),
               holdings_told l desk.legal t.tables t.stands.stock t.stands.step journeys rise is.0 is.1 f holdings is.2,
+            )) made.started;
+        good = ok_then _ _ result (λ it told clean v s desk spelled keeps.
+            let t = there_at store old it.conn.now s keeps told.same told.survives clean in
+            let l = s.ledger in
+            let rise = t.rows.journey.rise in
+            let journeys = one_order (λ (j : JourneyRow). j.id) (journeys_called l) t.tables.journey t.stands.journey (called_rises l) rise in
+            let f = c.args.filter.now in
+            let cells = stock_there l desk.legal t.tables.stock t.stands.stock in
+            let rows = expected l desk.legal t.tables t.stands.stock t.stands.step journeys rise cells.0 cells.1 f in (
+              map holding_of rows,
+              told.begun clean v t.tables t.may (map holding_of rows) (
+                rows,
+                holdings_in_order l desk.legal t.tables t.stands.stock t.stands.step journeys rise cells.0 cells.1 f,
+                refl,
+                small l desk.legal t.tables t.stands.stock t.stands.step journeys rise cells.0 cells.1 f,
+              ),
+              expected_good l desk.legal t.tables t.stands.stock t.stands.step journeys rise cells.0 cells.1 f
+                  (row_agent t.tables s t.stands spelled),
             )) made.started;
         quiet = ok_then _ _ result (λ it told. quiet_start store old it.conn.now _ _ told) made.started;
       },

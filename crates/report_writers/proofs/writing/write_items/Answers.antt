@@ -1,11 +1,23 @@
 -- The items that are returned are the history in each state that was kept.
 use Rattle.std.proofs.Common.{refl, rules}
-use Rattle.report_writers.proofs.WriteLemmas.{wrote_rows}
-use Rattle.report_writers.proofs.ShowLemmas.{shows_items}
+use Rattle.sql_model.proofs.Quieting.{quiet_keeps}
+use Rattle.report_writers.proofs.ReadyLemmas.{at_start, ready_alone, takes_fails}
+use Rattle.report_writers.proofs.WriteLemmas.{wrote_none, wrote_rows}
+use Rattle.report_writers.proofs.ShowLemmas.{in_no_items, shows_items, store_reported}
 use Rattle.report_writers.proofs.writing.write_items.Goals as goal
 
 pub returns : goal.returns
 returns g c = record {
-  shows = shows_items g.S.Store c.in-Ok.ensures.quiet c.in-Ok.ensures.rows c.history_text.ensures.writes.takes.kept.quiet (search rules)
-      (λ sound s begun. wrote_rows _ _ (c.history_text.ensures.writes.wrote sound _ (begun _ refl)));
+  shows = shows_items g.S.Store c.in-Ok.ensures.quiet c.in-Ok.ensures.rows
+      (λ clean s desk spelled keeps. at_start g.S.Store c.in-Ok.ensures.start s desk spelled
+      (quiet_keeps g.S.Store c.args.conn.now _ c.in-Ok.ensures.quiet c.args.version s keeps))
+      c.history_text.ensures.writes.takes.kept.quiet (search rules)
+      (λ sound s begun. wrote_rows _ _ (c.history_text.ensures.writes.wrote sound _ (begun _ refl)))
+      (λ sound good up. takes_fails c.history_text.ensures.writes.takes sound (ready_alone g.S.Store _ good up));
+}
+
+-- they could not be started
+pub returns-in-Err : goal.returns-in-Err
+returns-in-Err g c = record {
+  shows = in_no_items c.in-Err.is c.start_items.follows.holds-at-none (store_reported c.into.result _ c.into.ensures) (λ s. wrote_none _ _ _);
 }

@@ -49,4 +49,4 @@ returns-in_err-item-clause-store g c clean all rests again s desk spelled keeps 
     let kept = subst (λ v. KeepsIn v (state g.S.Store at.conn) s) (sym so.version)
     (quiet_keeps g.S.Store first at.conn so.quiet c.args.cursor.now.version s keeps) in
     fails_twice g.S.Store first at.conn new (quiet_up g.S.Store first at.conn so.quiet) (quiet_up g.S.Store at.conn new made.quiet) before clean up
-    (λ still. made.store so.low left.1.0 (omega (arith, so.given, c.loop-round-test.true)) clean s desk spelled kept still failed)
+    (λ still. made.store so.low left.1.0 clean s desk spelled kept still failed)

@@ -4,6 +4,8 @@ use Rattle.desk_sql.specs.FoundRows.{is_owned_after}
 use Rattle.saga_core.specs.Views.{is_owned_above, owned_above}
 use Rattle.sql_reads.proofs.ReadLemmas.{read_err, read_never, read_ok}
 use Rattle.sql_reads.proofs.ReadReasons.{few_journeys}
+use Rattle.report_writers.proofs.ReadyLemmas.{ready_alone, takes_fails}
+use Rattle.report_writers.proofs.ShowLemmas.{reported_store}
 use Rattle.tables.proofs.BriefLists.{briefs_read, owned_agree}
 use Rattle.tables.proofs.OwnedLists.{no_items, none_above, none_past}
 use Rattle.tables.proofs.Taken.{not_begun_read}
@@ -22,7 +24,8 @@ returns-in_err-briefs g c =
     let taken = c.in_err-briefs.ensures in
     read_err (search rules)
     (briefs_read c.args.most (is_owned_after agent after) (is_owned_above agent after) (owned_agree agent after) (search rules)
-    c.in-Ok.ensures.started taken.kept.quiet taken.briefs taken.store) (λ s desk fits. fits)
+    c.in-Ok.ensures.started taken.takes.kept.under.quiet (λ clean all rests. taken.taken clean all (c.new.ensures.going, rests))
+    (λ clean good up store. takes_fails taken.takes clean (ready_alone g.S.Store _ (c.new.ensures.going, good) up) (reported_store _ store))) (λ s desk fits. fits)
 
 -- no journey has so large a number
 pub returns-then-not-is_empty : goal.returns-then-not-is_empty
@@ -34,7 +37,8 @@ returns-then-not-is_empty g c =
     let top : after ≡ 9223372036854775807 = search rules in
     read_never
     (briefs_read c.args.most (is_owned_after agent after) (is_owned_above agent after) (owned_agree agent after) (search rules)
-    c.in-Ok.ensures.started taken.kept.quiet taken.briefs taken.store)
+    c.in-Ok.ensures.started taken.takes.kept.under.quiet (λ clean all rests. taken.taken clean all (c.new.ensures.going, rests))
+    (λ clean good up store. takes_fails taken.takes clean (ready_alone g.S.Store _ (c.new.ensures.going, good) up) (reported_store _ store)))
     (λ s desk spelled _ is.
     let few = few_journeys s.ledger in
     let none : briefs.items ≡ [] = is ∙ none_past s.ledger agent after c.args.most (omega (arith, few, spelled.few, top)) in
@@ -50,7 +54,8 @@ returns g c =
     let briefs = c.in_ok-briefs.briefs in
     read_ok
     (briefs_read c.args.most (is_owned_after agent after) (is_owned_above agent after) (owned_agree agent after) (search rules)
-    c.in-Ok.ensures.started taken.kept.quiet taken.briefs taken.store)
+    c.in-Ok.ensures.started taken.takes.kept.under.quiet (λ clean all rests. taken.taken clean all (c.new.ensures.going, rests))
+    (λ clean good up store. takes_fails taken.takes clean (ready_alone g.S.Store _ (c.new.ensures.going, good) up) (reported_store _ store)))
     (λ s desk is. elim c.else-after-gt-LARGEST.branch [
       | else-after-gt-LARGEST-via-then-after-gt-LARGEST+else-not-is_empty w ↦ (
           let none : briefs.items ≡ [] = no_items briefs (eqb-true _ _ (sym w.is_empty.ensures ∙ w.if-not-is_empty.false)) in

@@ -9,7 +9,7 @@ use Rattle.sql_model.specs.Briefs.{short_of, short_told}
 use Rattle.sql_model.proofs.Staying.{of_error}
 use Rattle.sql_reads.proofs.HandedBriefs.{brief_same}
 use Rattle.sql_reads.proofs.HandedGood.{brief_good, briefs_text}
-use Rattle.report_writers.proofs.HandedRows.{first_in_form, none_in_form}
+use Rattle.report_writers.proofs.HandedRows.{first_in_form, good_after, none_in_form}
 use Rattle.report_writers.proofs.brief_rows.BriefFoundRow.next_found.Goals as goal
 
 pub returns-in-Some-clause-next : goal.returns-in-Some-clause-next
@@ -46,3 +46,10 @@ returns-clause-store g c clean good up store =
     let reason = c.in-Err.ensures.reason clean good.1.0 good.1.1 (briefs_text good.1.0 good.0 good.1.2 good.2) up in
     let is : c.fault_of.result ≡ Store = cc in
     of_error (state g.S.Store old) (state g.S.Store new) c.in-Err.error c.fault_of.result c.fault_of.ensures.memory reason is
+
+-- the later rows are good too
+pub returns-in-Some-clause-good : goal.returns-in-Some-clause-good
+returns-in-Some-clause-good g c clean good = good_after _ (returns-in-Some-clause-next g c clean) good.0 good.1 good.2
+
+pub returns-in-Ok-None-clause-good : goal.returns-in-Ok-None-clause-good
+returns-in-Ok-None-clause-good g c clean good = good_after _ (returns-in-Ok-None-clause-next g c clean) good.0 good.1 good.2

@@ -8,7 +8,7 @@ use Rattle.sql_lists.specs.CellLists.{CellsRest}
 use Rattle.sql_model.specs.Reading.{stock_row_of}
 use Rattle.sql_model.proofs.Staying.{of_error}
 use Rattle.sql_reads.proofs.HandedGood.{cell_good, cells_text}
-use Rattle.report_writers.proofs.HandedRows.{first_of_row, none_of_row}
+use Rattle.report_writers.proofs.HandedRows.{first_of_row, good_after, none_of_row}
 use Rattle.report_writers.proofs.HandedStock.{cell_same}
 use Rattle.report_writers.proofs.cell_rows.Tuple2CellHeldFoundRow.next_found.Goals as goal
 
@@ -43,3 +43,10 @@ returns-clause-store g c clean good up store =
     let reason = c.in-Err.ensures.reason clean (map stock_row_of good.0) good.1 (cells_text good.0 good.2) up in
     let is : c.fault_of.result ≡ Store = cc in
     of_error (state g.S.Store old) (state g.S.Store new) c.in-Err.error c.fault_of.result c.fault_of.ensures.memory reason is
+
+-- the later rows are good too
+pub returns-in-Some-clause-good : goal.returns-in-Some-clause-good
+returns-in-Some-clause-good g c clean good = good_after _ (returns-in-Some-clause-next g c clean) good.0 good.1 good.2
+
+pub returns-in-Ok-None-clause-good : goal.returns-in-Ok-None-clause-good
+returns-in-Ok-None-clause-good g c clean good = good_after _ (returns-in-Ok-None-clause-next g c clean) good.0 good.1 good.2

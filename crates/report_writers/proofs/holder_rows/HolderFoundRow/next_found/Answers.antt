@@ -6,7 +6,7 @@ use Rattle.desk_sql.specs.RemainingRows.{Hands}
 use Rattle.sql_lists.specs.HolderLists.{HoldersRest}
 use Rattle.sql_model.proofs.Staying.{of_error}
 use Rattle.report_writers.specs.HoldersLeft.{found_of}
-use Rattle.report_writers.proofs.HandedRows.{first_of_row, none_of_row}
+use Rattle.report_writers.proofs.HandedRows.{first_of_row, none_of_row, some_after}
 use Rattle.report_writers.proofs.HandedHolders.{holder_same}
 use Rattle.report_writers.proofs.holder_rows.HolderFoundRow.next_found.Goals as goal
 
@@ -31,3 +31,10 @@ returns-in-Err-clause-store g c clean good up store =
     let reason = c.in-Err.ensures.reason clean (map found_of good.0) good.1 up in
     let is : c.fault_of.result ≡ Store = cc in
     of_error (state g.S.Store old) (state g.S.Store new) c.in-Err.error c.fault_of.result c.fault_of.ensures.memory reason is
+
+-- some holders remain then too
+pub returns-in-Ok-Some-clause-good : goal.returns-in-Ok-Some-clause-good
+returns-in-Ok-Some-clause-good g c clean good = some_after _ (returns-in-Ok-Some-clause-next g c clean) good.0 good.1
+
+pub returns-in-Ok-None-clause-good : goal.returns-in-Ok-None-clause-good
+returns-in-Ok-None-clause-good g c clean good = some_after _ (returns-in-Ok-None-clause-next g c clean) good.0 good.1

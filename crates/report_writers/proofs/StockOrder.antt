@@ -1,5 +1,5 @@
--- The rows of stock have one order, and in it they tell the stock. For `start_stock`.
-use Rattle.std.proofs.Common.{◌≡◌, ℕ, ◌+◌, List, [], ◌∷◌, cond, Bool, true, false, Ordering, Less, Equal, Greater, is_gt, is_lt, is_eq, IsSorted, refl, sym, ap, subst, ◌∙◌, arith, bytes_eq, ◌==◌}
+-- The rows of stock have one order, and in it they tell the stock. For the rows of cells and of holders.
+use Rattle.std.proofs.Common.{◌≡◌, ℕ, ◌+◌, List, [], ◌∷◌, map, filter, cond, Bool, true, false, IsTrue, Ordering, Less, Equal, Greater, is_gt, is_lt, is_eq, IsSorted, refl, sym, ap, ap₂, subst, ◌∙◌, arith, bytes_eq, ◌==◌}
 use Rattle.std.specs.Cmp.{IsTotalOrder}
 use Rattle.std.specs.Cmp.Lexicographic.{slice_cmp}
 use Rattle.std.specs.List.{AllByRecursion}
@@ -12,20 +12,24 @@ use Rattle.std.proofs.lemmas.List.Sorted.{IsPermutation-sym}
 use Rattle.std.proofs.lemmas.Map.Text.{is_eq-slice_cmp}
 use Rattle.sqlite_keyed.specs.Lists.{insert_sorted, sort_by}
 use Rattle.sqlite_keyed.proofs.SortLemmas.{IsPermutation-sort_by, sorted_is-sort_by}
-use Rattle.sqlite_rules.proofs.ListLemmas.{all_from}
+use Rattle.sqlite_rules.proofs.ListLemmas.{all_from, all_has, has_filtered}
 use Rattle.sqlite_trees.specs.Tree.{IsAscending}
 use Rattle.sqlite_trees.proofs.ListLemmas.{all_weaker, ascending_weaker, ascending-get_or}
+use Rattle.allotment.specs.Limits.{is_good_cell}
+use Rattle.allotment.specs.declared.cells.Cell.{Cell}
+use Rattle.allotment.specs.declared.places.Held.{Held}
 use Rattle.ledger.specs.Ledger.{Event, IsLegal}
+use Rattle.saga_core.specs.Views.{IsStock}
 use Rattle.desk_sql.specs.Lists.{IsListed}
 use Rattle.desk_sql.specs.RemainingRows.{IsOnlyOrder}
 use Rattle.desk_sql.specs.Rows.{StockRow}
 use Rattle.desk_sql.specs.Stock.{IsByCell, cell_cmp}
 use Rattle.desk_sql.proofs.Members.{permutation_from}
+use Rattle.sql_model.specs.Reading.{stock_row_of}
 use Rattle.sql_model.specs.Standing.{AreApart, is_same_stock, StockStands}
 use Rattle.sql_model.proofs.StockRows.{stock_found}
 use Rattle.sql_reads.specs.GoodRows.{IsGoodStock}
 use Rattle.sql_reads.proofs.GoodStock.{good_row}
-use Rattle.tables.specs.StockLeft.{AreStock}
 
 -- the rows in order
 abbrev pub in_order : List StockRow → List StockRow
@@ -128,12 +132,48 @@ stock_in_order rows once other listed =
     sorted : IsSorted cell_cmp other
     sorted k d low high = ascending-get_or IsByCell other k (k + 1) d listed.rising (omega arith) high
 
--- the rows of a desk's tables, in order, are the stock
-pub are_stock : (l : List Event) → IsLegal l → (rows : List StockRow) → StockStands l rows → AreStock l (in_order rows)
-are_stock l legal rows stand =
+-- The stock of a desk's tables.
+
+-- the cell and the places of a good row
+cell_told : (r : StockRow) → IsGoodStock r → (c : Cell × Held) × (stock_row_of c ≡ r) × IsTrue (is_good_cell c.0)
+cell_told r good = (
+  (
+    record { kind = good.kind; supplier = r.supplier; product = r.product; night = r.night },
+    record { allot = r.allot; free = r.free; within = good.places.free; bounded = good.places.few },
+  ),
+  ap (λ k. record r { kind = k }) good.kind_is,
+  and_from _ _ (and_from _ _ good.supplier good.product) good.night,
+)
+
+cells_told : (rows : List StockRow) → AllByRecursion IsGoodStock rows
+    → (cells : List (Cell × Held)) × (map stock_row_of cells ≡ rows) × AllByRecursion (λ (c : Cell × Held). IsTrue (is_good_cell c.0)) cells
+cells_told [] all = ([], refl, tt)
+cells_told (r ∷ rows) all =
+    let one = cell_told r all.0 in
+    let more = cells_told rows all.1 in
+    (one.0 ∷ more.0, ap₂ ◌∷◌ one.1 more.1, (one.2, more.2))
+
+-- the rows in order are good
+pub good_in_order : (l : List Event) → IsLegal l → (rows : List StockRow) → StockStands l rows → AllByRecursion IsGoodStock (in_order rows)
+good_in_order l legal rows stand =
+    all_from IsGoodStock (in_order rows) (λ r h. good_row l legal rows stand r (permutation_from rows (in_order rows) r (listed_in_order rows).same h))
+
+-- cells that the rows in order tell are the stock
+pub stock_of_order : (l : List Event) (rows : List StockRow) → StockStands l rows → (cells : List (Cell × Held))
+    → map stock_row_of cells ≡ in_order rows → IsStock l cells
+stock_of_order l rows stand cells told =
     let listed = listed_in_order rows in
-    record {
-      shows = λ cells told. stock_found l rows cells stand (subst (IsPermutation rows) (sym told) listed.same)
-          (subst (IsAscending IsByCell) (sym told) listed.rising);
-      good = all_from IsGoodStock (in_order rows) (λ r h. good_row l legal rows stand r (permutation_from rows (in_order rows) r listed.same h));
-    }
+    stock_found l rows cells stand (subst (IsPermutation rows) (sym told) listed.same) (subst (IsAscending IsByCell) (sym told) listed.rising)
+
+-- there is a stock, of cells that keep their limits
+pub stock_there : (l : List Event) → IsLegal l → (rows : List StockRow) → StockStands l rows
+    → (cells : List (Cell × Held)) × IsStock l cells × AllByRecursion (λ (c : Cell × Held). IsTrue (is_good_cell c.0)) cells
+stock_there l legal rows stand =
+    let told = cells_told (in_order rows) (good_in_order l legal rows stand) in (told.0, stock_of_order l rows stand told.0 told.1, told.2)
+
+-- so are those that a test keeps
+pub good_kept : (p : Cell × Held → Bool) (cells : List (Cell × Held)) → AllByRecursion (λ (c : Cell × Held). IsTrue (is_good_cell c.0)) cells
+    → AllByRecursion (λ (c : Cell × Held). IsTrue (is_good_cell c.0)) (filter p cells)
+good_kept p cells good =
+    all_from (λ (c : Cell × Held). IsTrue (is_good_cell c.0)) (filter p cells)
+    (λ c h. all_has (λ (d : Cell × Held). IsTrue (is_good_cell d.0)) cells c good (has_filtered p cells c h).0)
