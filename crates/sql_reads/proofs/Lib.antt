@@ -17,4 +17,5 @@ pub mod ReadSought
 pub mod ReadStock
 pub mod ChoiceLemmas
 pub mod OptionReasons
+pub mod TakenItems
 pub mod NextItems

@@ -15,7 +15,7 @@ mod faults;
 mod laws;
 mod opening;
 mod stock_lists;
-mod traces;
+mod taking;
 
 pub use books::TableBook;
 pub use faults::OpenFault;

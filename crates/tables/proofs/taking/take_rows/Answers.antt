@@ -2,7 +2,7 @@
 use Rattle.std.proofs.Common.{arith, rules}
 use Rattle.std.proofs.lemmas.List.{length_push}
 use Rattle.reports.proofs.TakeLemmas.{taken_more, taken_none, takes_none, takes_twice}
-use Rattle.reports.proofs.taking.take_rows.Goals as goal
+use Rattle.tables.proofs.taking.take_rows.Goals as goal
 
 -- none was taken
 pub loop-round-init : goal.loop-round-init

@@ -1,6 +1,6 @@
 use Rattle.std.proofs.Common.{◌≡◌, List, length}
 use Rattle.reports.proofs.TakeLemmas.{Goes, Taken}
-use Rattle.reports.proofs.taking.take_rows.Given as goal
+use Rattle.tables.proofs.taking.take_rows.Given as goal
 
 -- so many rows were taken, and the later ones remain
 abbrev pub invariant-loop-round : goal.invariant-loop-round

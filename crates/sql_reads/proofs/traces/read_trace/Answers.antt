@@ -1,7 +1,7 @@
 -- All items of the journey come after the event that began it.
 use Rattle.std.proofs.Common.{rules}
 use Rattle.sql_reads.proofs.ReadLemmas.{read_both, read_ok, then_err}
-use Rattle.tables.proofs.traces.read_trace.Goals as goal
+use Rattle.sql_reads.proofs.traces.read_trace.Goals as goal
 
 pub returns-in_err-items-in-Some : goal.returns-in_err-items-in-Some
 returns-in_err-items-in-Some g c =

@@ -8,7 +8,7 @@ use saga_core::RowSource;
 use std::alloc::Global;
 
 /// Takes the rows that remain of a source, at most so many. Once it has so many, no further row is read.
-pub fn take_rows<T: Drop, R: RowSource<T>>(
+pub(crate) fn take_rows<T: Drop, R: RowSource<T>>(
     alloc: Global,
     rows: &mut R,
     most: usize,
