@@ -1,6 +1,6 @@
 #!/usr/bin/env python3
-"""Makes docs/HEADLINE.md: the definitions that the one contract stands on, from specs/. Those of the crates that say what an
-invocation is stand there as they are, from the top down; of the other crates it is said how many there are.
+"""Makes docs/HEADLINE.md: the definitions that the one contract stands on, from specs/. The first ones stand there as they are, from
+the top down; all are named, by crate and file.
 
     scripts/headline.py [--check]
 
@@ -14,16 +14,16 @@ from pathlib import Path
 
 TOP = Path(__file__).resolve().parents[1]
 PAGE = TOP / "docs/HEADLINE.md"
-FIRST = ("Rattle.invocations.specs.Headline", "Headline")
-SHOWN = ("invocations", "histories")
+FIRST = ("Rattle.program_jobs.specs.Headline", "Headline")
+SHOWN = {"program_jobs": ("Headline", "Invocations", "Promises"), "desk_jobs": ("Chains", "Worlds")}
 USE = re.compile(r"(?:pub )?use (Rattle[\w.+-]+)(?:\.\{(.*)\})?(?: as (\S+))?$")
 HEAD = re.compile(r"( *)((?:(?:pub|abbrev|unfoldable|record|data) )*)([^\s:(]+)(?P<typed> :)?")
 HEADING = """# What the one contract stands on
 
 [PROMISES.md](PROMISES.md#the-one-contract) says the contract in words: it is the law `any_invocations`, whose clause is `Headline`.
-Whoever relies on it must agree with the definitions below, and with those of the other crates, which are counted at the end. Not
-shown are what the prover makes of a type of the program, and the definitions of its libraries. `scripts/headline.py` makes this page
-from `specs/`.
+Whoever relies on it must agree with the definitions that are named on this page, of which the first stand here as they are. Not
+named are what the prover makes of a type of the program, and the definitions of its libraries. `scripts/headline.py` makes this page
+from `specs/`, by following what each definition names.
 """
 WORD = re.compile(r"[^\s()\[\]{},;:λ|↦=]+")
 
@@ -84,21 +84,24 @@ def closure(modules):
 
 def page(modules):
     """Returns the text of the page."""
-    found = closure(modules)
-    crate_of = lambda module: module.split(".")[1]
     by_module, by_crate = {}, {}
-    for (module, name), text in found.items():
-        by_module.setdefault(module, []).append(text)
-        by_crate.setdefault(crate_of(module), []).append(len(text))
+    for (module, name), text in closure(modules).items():
+        by_module.setdefault(module, {})[name] = text
     lines = [HEADING]
     for module, texts in by_module.items():
-        if crate_of(module) in SHOWN:
+        _, crate, _, file = module.split(".", 3)
+        if file in SHOWN.get(crate, ()):
             lines += [f"`{module.replace('Rattle.', 'crates/').replace('.', '/')}.antt`", "", "```text"]
-            lines += [line for text in texts for line in ["", *text]][1:] + ["```", ""]
-    heavy = sorted(by_crate.items(), key=lambda it: -sum(it[1]))
-    rows = [f"{crate} {len(sizes)} ({sum(sizes)})" for crate, sizes in heavy]
-    lines += [f"In all there are {len(found)} definitions of {sum(map(len, found.values()))} lines, by crate, with their lines in brackets:", ""]
-    return "\n".join([*lines, "```text", *textwrap.wrap(", ".join(rows), 130), "```", ""])
+            lines += [line for text in texts.values() for line in ["", *text]][1:] + ["```", ""]
+        by_crate.setdefault(crate, {})[file] = texts
+    sizes = {crate: [len(text) for texts in files.values() for text in texts.values()] for crate, files in by_crate.items()}
+    count, length = sum(map(len, sizes.values())), sum(map(sum, sizes.values()))
+    lines += [f"In all there are {count:,} definitions of {length:,} lines. By crate, with their number and their lines, and by file of its `specs/`:", "", "```text"]
+    for crate in sorted(by_crate, key=lambda it: -sum(sizes[it])):
+        files = "; ".join(f"{file}: {', '.join(texts)}" for file, texts in by_crate[crate].items())
+        told = f"{crate}, {len(sizes[crate])} ({sum(sizes[crate])}): {files}"
+        lines += textwrap.wrap(told, 130, subsequent_indent="  ", break_long_words=False, break_on_hyphens=False)
+    return "\n".join([*lines, "```", ""])
 
 
 def main():

@@ -31,7 +31,8 @@ same "HEADLINE.md" "" "$(scripts/headline.py --check 2>&1)"
 copy=$work/copy
 mkdir -p "$copy/docs" "$copy/tests" "$copy/crates/help_texts/src"
 cp tests/words.py "$copy/tests"
-printf '1. **One.** *2026-01-01; stands.* A.\n2. **Two.** no date\n' >"$copy/docs/DECISIONS.md"
+printf '| %s | %s |\n' one '1, 4' two '4 to 5' >"$copy/docs/DECISIONS.md"
+printf '%s. **A title.** %s\n' 1 '*2026-01-01; stands.* A.' 2 'no date' 3 '*2026-01-01; stands.* C.' 4 '*2026-01-01; stands.* D.' >>"$copy/docs/DECISIONS.md"
 {
   printf "A wrong body of \`edit\`.\n\n| a | The house's door |\n\n%s.\n" "$(printf 'word %.0s' {1..36})"
   printf '\n%.0s' {1..301}
@@ -41,7 +42,11 @@ printf '/// A seat,\n/// and the wide\n/// way.\nlet seats = "handed out";\n' >"
 python3 "$copy/tests/words.py" --list >"$work/found"
 same "words.py on a comment" "1: 'the wide way'" "$(sed -n 's,^crates/one/src/lib.rt:\(.*\): .*,\1,p' "$work/found")"
 same "words.py on two phrases, a sentence and a page" "1: 3: 5: 306 lines" "$(sed -n 's,^docs/PAGE.md:\([0-9 ]*[:a-z]*\).*,\1,p' "$work/found" | xargs)"
-same "words.py on a decision" "docs/DECISIONS.md:2: not of the form: number, title, date, status" "$(tail -n 1 "$work/found")"
+same "words.py on decisions" "\
+4: not of the form: number, title, date, status
+5: under 0 topics
+6: under 2 topics
+1: a topic names 5, which is no decision" "$(sed -n 's,^docs/DECISIONS.md:,,p' "$work/found")"
 same "words.py on the pages" "" "$(python3 tests/words.py >"$work/words" || python3 tests/words.py --list)"
 sed 's/^/layout.sh: /' "$work/words" >&2
 

@@ -161,7 +161,7 @@ files >"$work/after"
 same "a run that is ended: the files are as they were" "$(cat "$work/before")" "$(cat "$work/after")"
 # its own processes take a moment to end on a busy machine
 is_gone() { ! pgrep -f -- "--crate-name small" >/dev/null; }
-comes 2 is_gone || same "a run that is ended: the prover" gone ""
+comes 30 is_gone || same "a run that is ended: the prover" gone ""
 
 # what cannot be tried
 tries 2

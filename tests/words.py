@@ -1,6 +1,6 @@
 """Counts what the house style forbids in the pages and in the texts of help: phrases that only this repository uses, sentences of
-more than 35 words, pages of more than 300 lines, and decisions that are no record. The phrases count in the comments of sources, too. A
-count above its limit fails. No limit is raised.
+more than 35 words, pages of more than 300 lines, and decisions that are no record, or that no topic names. The phrases count in the
+comments of sources, too. A count above its limit fails. No limit is raised.
 
 words.py            compares the counts with the limits, and ends with 1 where one is above
 words.py --list     prints each place that counts, page by page
@@ -37,9 +37,10 @@ SENSES = re.compile(r"seats?|edits?|.*reason", re.IGNORECASE)
 # in CHANGES alone: what stayed is not said
 UNCHANGED = re.compile(r"\bas (?:it|they) (?:was|were)\b", re.IGNORECASE)
 
-# a decision begins with its number, title, date and status, and has at most so many lines
+# a decision begins with its number, title, date and status, and has at most so many lines; a row of the table names those of a topic
 DECISIONS, RECORD_LINES = "docs/DECISIONS.md", 12
-RECORD = re.compile(r"(\d+)\. \*\*[^*]+\.\*\* \*\d{4}-\d\d-\d\d; (?:stands|(?:replaced|completed|extended)\b|tried and dropped)[^*]*\.\* ")
+RECORD = re.compile(r"\d+\. \*\*[^*]+\.\*\* \*\d{4}-\d\d-\d\d; (?:stands|(?:replaced|completed|extended)\b|tried and dropped)[^*]*\.\* ")
+TOPIC = re.compile(r"\| [^|]+ \| (\d[^|]*) \|")
 
 # the most that there may be of each
 LIMITS = {"phrases": 0, "sentences": 9, "pages": 0, "decisions": 0}
@@ -124,20 +125,32 @@ def parts_of_source(source):
         yield source.count("\n", 0, comment.start()) + 1, " ".join(lines)
 
 
+def decisions_by_topic(lines):
+    """The numbers in the rows of topics, where `2 to 5` are four."""
+    for numbers in filter(None, map(TOPIC.fullmatch, lines)):
+        for first, _, last in (it.partition(" to ") for it in numbers[1].split(", ")):
+            yield from range(int(first), int(last or first) + 1)
+
+
 def bad_decisions():
-    """Each decision that is no record, or whose number does not rise: its line, and why."""
+    """Each decision that is no record, whose number does not rise, or that stands under no topic or under two: its line, and why."""
     last, lines = 0, (TOP / DECISIONS).read_text(encoding="utf-8").splitlines()
+    topics = collections.Counter(decisions_by_topic(lines))
     starts = [n for n, line in enumerate(lines) if re.match(r"\d+\. ", line)]
     for start, end in zip(starts, starts[1:] + [len(lines)]):
         text = " ".join(line.strip() for line in lines[start:end])
-        found = RECORD.match(text)
-        if not found:
+        number = int(lines[start].partition(".")[0])
+        times = topics.pop(number, 0)
+        if not RECORD.match(text):
             yield start + 1, "not of the form: number, title, date, status"
         elif end - start > RECORD_LINES:
             yield start + 1, f"{end - start} lines"
-        elif int(found[1]) <= last:
+        elif number <= last:
             yield start + 1, "a number that does not rise"
-        last = int(found[1]) if found else last
+        elif times != 1:
+            yield start + 1, f"under {times} topics"
+        last = number
+    yield from ((1, f"a topic names {number}, which is no decision") for number in topics)
 
 
 def texts():

@@ -31,6 +31,8 @@ class Task:
     ended: object = None
     # whether it takes much memory, as a proof does
     proves: bool = False
+    # whether proofs go before it on a processor that they share, as before what measures no time
+    yields: bool = False
 
 
 def chains(tasks):
@@ -102,7 +104,7 @@ class Fillers:
         self.waiting.remove(task)
         heard = open(self.folder / "-".join(map(str, task.name)).replace("/", "_"), "w+", encoding="utf-8", errors="replace")
         how = {"stdin": subprocess.DEVNULL, "stdout": heard, "stderr": subprocess.STDOUT, "process_group": 0}
-        nice = ["nice", "-n", "10"] if task.proves else []
+        nice = ["nice", "-n", "10"] if task.yields else []
         with undisturbed():
             process = subprocess.Popen([*nice, *task.words], env={**os.environ, **task.environment}, **how)
             self.running[task] = process, heard, time.monotonic()

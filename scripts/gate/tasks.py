@@ -28,7 +28,7 @@ READING, RUNNING = "(reading)", "(running)"
 
 def all_tasks(gate, choice, results):
     """Returns the tasks of a choice."""
-    trial = Task(("trial", "program"), gate.tables.number("(trial)", 0, 2.0), fills=True, proves=True)
+    trial = Task(("trial", "program"), gate.tables.number("(trial)", 0, 2.0), fills=True, proves=True, yields=True)
     trial.words, trial.ended = ["bash", "-c", f"{TRIAL} trial_program", "", str(gate.tables.top)], results.trial_ended
     filling = [trial] * choice.over_trial + mutant_tasks(gate, choice, results) + script_tasks(gate, choice, results)
     return proving_tasks(gate.tables, choice) + filling
@@ -62,7 +62,7 @@ def mutant_tasks(gate, choice, results):
             continue
         minutes = tables.proof(name) + LAST_CHECK + len(mutants) * tables.mutant(name)
         script = [sys.executable, "-B", str(tables.top / "scripts/mutants.py"), "--libraries", str(gate.copy), name]
-        task = Task((name, "mutants"), minutes, [(name, "proof")], fills=True, proves=True)
+        task = Task((name, "mutants"), minutes, [(name, "proof")], fills=True, proves=True, yields=True)
         task.words, task.ended = script + [Path(it).name for it in mutants], partial(results.mutants_ended, name, mutants, tried)
         tasks.append(task)
     return tasks
@@ -77,8 +77,8 @@ def script_tasks(gate, choice, results):
     if choice.over_trial:
         program, ready, minutes = trial_file(tables), ("trial", "program"), tables.script_over_trial
     for name, (part, parts) in choice.scripts.items():
-        waits = [] if name in WITHOUT_PROGRAM else [ready]
-        task = Task((name, "script"), minutes(name) / parts, waits, fills=True, proves=name == COMPILES)
+        apart, compiles = name in WITHOUT_PROGRAM, name == COMPILES
+        task = Task((name, "script"), minutes(name) / parts, [ready] * (not apart), fills=True, proves=compiles, yields=apart or compiles)
         if name in OVER_TESTS:
             task.minutes *= share if OVER_TESTS[name] is None else OVER_TESTS[name] in tested
             task.waits += [(it, "tests") for it in tested if OVER_TESTS[name] in (None, it)]

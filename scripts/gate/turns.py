@@ -13,7 +13,7 @@ ROUND = 30
 # The minutes that one part of a crate's mutants takes at most, so that no gate ends with one.
 LONGEST = 12
 # The minutes of each processor that the crates of tests may take at a landing.
-TEST_MINUTES = 5
+TEST_MINUTES = 3
 
 
 def lay_out(minutes, count):

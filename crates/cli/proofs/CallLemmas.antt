@@ -24,7 +24,7 @@ use Rattle.program_jobs.specs.declared.tasks.Task.TheVariants as task
 use Rattle.report_kinds.specs.declared.report.Report.{Report}
 use Rattle.report_kinds.specs.declared.report.Report.TheVariants as report
 use Rattle.report_words.specs.Jobs.{report_of}
-use Rattle.invocations.specs.Doing.{Did, DidOver, IsUnopened}
+use Rattle.program_jobs.specs.Doing.{Did, DidOver, IsUnopened}
 use Rattle.cli.specs.Actions.{IsActionOf, IsLoadAction, IsLoadOf, IsOfLoad, IsReportAction, IsSourceOf}
 use Rattle.cli.specs.declared.actions.Action.{Action}
 use Rattle.cli.specs.declared.actions.Action.TheVariants as action

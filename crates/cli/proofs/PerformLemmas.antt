@@ -6,7 +6,7 @@ use Rattle.streams.proofs.ByteLemmas.{appends_more, appends_none}
 use Rattle.streams.specs.Written.{WroteFront}
 use Rattle.commands.specs.Texts.{refusal_line, reply_line}
 use Rattle.commands.specs.declared.replies.Refusal.TheVariants as refusal
-use Rattle.protocols.specs.Scenes.{ended}
+use Rattle.streams.specs.Scenes.{ended}
 use Rattle.command_line.specs.Version.{version_line}
 use Rattle.command_line.specs.declared.jobs.Job.{Job}
 use Rattle.command_line.specs.declared.jobs.Job.TheVariants.{Run, Serve, Recover, Load, Stock, Calendar, Summary, Holders, Holdings, Unfinished, Journeys, History, Why, Migrate, Index, Version}

@@ -9,7 +9,7 @@ use Rattle.program_ends.specs.declared.ended.Ended.{Ended}
 use Rattle.program_ends.specs.declared.ends.End.{End}
 use Rattle.desk_jobs.specs.Ends.{TellsAccepted}
 use Rattle.desk_jobs.specs.Notes.{MayNoteAll}
-use Rattle.histories.specs.Openings.{Input}
+use Rattle.desk_jobs.specs.Openings.{Input}
 use Rattle.http_modes.specs.Worlds.{Exchange}
 use Rattle.program_jobs.specs.Loads.{Loads, ReadsSource}
 use Rattle.program_jobs.specs.Outcomes.{Closes, HasEnded}

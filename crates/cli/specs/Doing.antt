@@ -18,8 +18,8 @@ use Rattle.program_ends.specs.declared.ends.End.{End}
 use Rattle.program_ends.specs.declared.ends.End.TheVariants as finish
 use Rattle.program_ends.specs.declared.faults.ProgramFault.TheVariants as fault
 use Rattle.program_jobs.specs.Streams.{IsOnlyWritten, IsUntouched, Streams, streams}
-use Rattle.invocations.specs.Doing.{Did}
-use Rattle.invocations.specs.Tasks.{RanOver}
+use Rattle.program_jobs.specs.Doing.{Did}
+use Rattle.program_jobs.specs.InvokedTasks.{RanOver}
 use Rattle.streams.specs.Written.{WroteFront}
 use Rattle.cli.specs.Actions.{IsActionOf, IsOfLoad}
 use Rattle.cli.specs.Ends.{HasBadId, ReadsFor, TellsOf}

@@ -3,7 +3,7 @@
 //! `perform` does a job of the command line, prints how it ended, and returns the exit status. `perform_explained` also
 //! says on standard error what an opening recovered and why a fault came.
 //!
-//! What a call asks for is an `Action`, which `do_action` does: a task over a file is one call of `invocations::do_over_file`.
+//! What a call asks for is an `Action`, which `do_action` does: a task over a file is one call of `program_jobs::do_over_file`.
 //! `perform` does it over a file of any contents, on this host.
 #![tactic(auto)]
 

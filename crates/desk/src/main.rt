@@ -1,13 +1,12 @@
 //! The program `desk`. `command_line` reads its words, `cli` does the job, and `program_ends` prints how it ended.
 //!
-//! Faults are explained where the first word asks for it, or where standard error is a terminal. There, too, `progress` shows
-//! how far a long input was read.
+//! Faults are explained where the first word asks for it, or where standard error is a terminal. There, too, a `Watched` reader
+//! shows how far a long input was read.
 #![tactic(auto)]
 
 use cli::{perform, perform_explained};
 use command_line::{Call, Job, call_of};
-use program_ends::{End, ProgramFault, end_of_arguments};
-use progress::Watched;
+use program_ends::{End, ProgramFault, Watched, end_of_arguments};
 use std::alloc::Global;
 use std::env;
 use std::io::IsTerminal;

@@ -21,8 +21,8 @@ use Rattle.desk_http.specs.Monitored.{AsksForMetrics, GetsCounted, ShowsCounted}
 use Rattle.desk_http.specs.declared.answering.Answer.{Answer}
 use Rattle.desk_http.specs.declared.doors.Door.{Door}
 use Rattle.desk_http.specs.declared.doors.Door.TheVariants.{Port, House, Page}
-use Rattle.protocols.specs.declared.faults.ServeFault.{ServeFault}
-use Rattle.protocols.specs.declared.faults.ServeFault.TheVariants.{Memory, Read, Store, Write}
+use Rattle.streams.specs.declared.serve_faults.ServeFault.{ServeFault}
+use Rattle.streams.specs.declared.serve_faults.ServeFault.TheVariants.{Memory, Read, Store, Write}
 
 -- a denied request changes nothing
 pub denied_says : (stands : State → Type 0) (door : Door) (s : State) (parts : Parts) (body : List ℕ) (page : Paged)

@@ -8,8 +8,8 @@ use Rattle.http_messages.specs.declared.requests.Message.TheVariants as taken
 use Rattle.http_messages.specs.declared.requests.Request.{Request}
 use Rattle.http_pages.specs.declared.routes.Denied.{Denied}
 use Rattle.ledger.specs.Answer.{State}
-use Rattle.protocols.specs.declared.faults.ServeFault.{ServeFault}
-use Rattle.protocols.specs.declared.faults.ServeFault.TheVariants.{Memory, Read, Store, Write}
+use Rattle.streams.specs.declared.serve_faults.ServeFault.{ServeFault}
+use Rattle.streams.specs.declared.serve_faults.ServeFault.TheVariants.{Memory, Read, Store, Write}
 use Rattle.saga_core.specs.Runs.{Asks}
 use Rattle.desk_http.specs.Demands.{Demand, demand_of}
 use Rattle.desk_http.specs.Hosts.{refusal_at}

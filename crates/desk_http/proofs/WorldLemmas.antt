@@ -35,11 +35,11 @@ use Rattle.desk_http.specs.declared.doors.Asker.TheVariants as who
 use Rattle.desk_http.specs.declared.doors.Door.{Door}
 use Rattle.desk_http.specs.declared.doors.Door.TheVariants.{Port, House, Page}
 use Rattle.desk_http.specs.Pages.{Command, command_in, state_after, state_after_all, state_by, stays_open}
-use Rattle.protocols.specs.Scenes.{Scene}
+use Rattle.streams.specs.Scenes.{Scene}
 use Rattle.desk_http.specs.Serving.{Answered, Leaves, ServesAll, ServesSome}
 use Rattle.desk_http.specs.Worlds.{asks_by, asks_in, EndsAmongMessages, EndsWithMessages, GoesOnAmongMessages, GoesOnWithMessages}
-use Rattle.protocols.specs.declared.faults.ServeFault.{ServeFault}
-use Rattle.protocols.specs.declared.faults.ServeFault.TheVariants.{Memory, Read, Store, Write}
+use Rattle.streams.specs.declared.serve_faults.ServeFault.{ServeFault}
+use Rattle.streams.specs.declared.serve_faults.ServeFault.TheVariants.{Memory, Read, Store, Write}
 use Rattle.report_words.specs.Targets.{asks_for_report, report_asked}
 use Rattle.desk_http.proofs.AgainLemmas.{carry_of}
 use Rattle.desk_http.proofs.DemandLemmas.{house_if, report_commands_nothing}

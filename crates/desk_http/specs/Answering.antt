@@ -10,8 +10,8 @@ use Rattle.desk_http.specs.Hosts.{refusal_at}
 use Rattle.desk_http.specs.Pages.{IsPage, Says, SaysUnless, closes, command_by, command_unless, state_after, state_by}
 use Rattle.desk_http.specs.declared.answering.Answer.{Answer}
 use Rattle.desk_http.specs.declared.doors.Door.{Door}
-use Rattle.protocols.specs.declared.faults.ServeFault.{ServeFault}
-use Rattle.protocols.specs.declared.faults.ServeFault.TheVariants.{Memory, Store}
+use Rattle.streams.specs.declared.serve_faults.ServeFault.{ServeFault}
+use Rattle.streams.specs.declared.serve_faults.ServeFault.TheVariants.{Memory, Store}
 
 module _ (stands : State → Type 0) (leaves : State → State → Type 0) (s : State) where
   -- the request was executed and its result satisfies `So`; or a fault came before it was executed or after that

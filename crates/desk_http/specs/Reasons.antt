@@ -7,8 +7,8 @@ use Rattle.saga_core.specs.Calls.{Serves}
 use Rattle.saga_core.specs.Runs.{Asks}
 use Rattle.http_messages.specs.Messages.{Message}
 use Rattle.http_pages.specs.declared.routes.Denied.{Denied}
-use Rattle.protocols.specs.declared.faults.ServeFault.{ServeFault}
-use Rattle.protocols.specs.declared.faults.ServeFault.TheVariants.{Memory, Store}
+use Rattle.streams.specs.declared.serve_faults.ServeFault.{ServeFault}
+use Rattle.streams.specs.declared.serve_faults.ServeFault.TheVariants.{Memory, Store}
 use Rattle.desk_http.specs.Demands.{Demand}
 use Rattle.desk_http.specs.Pages.{Command, command_by, command_in, command_unless, state_by}
 use Rattle.desk_http.specs.Worlds.{asks_by}

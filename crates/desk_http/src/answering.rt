@@ -30,9 +30,9 @@ use http_messages::{Message, Request};
 use http_pages::{
     Body, Page, Paths, denied_page, page_bytes, refused_page, reply_page, shown_page, stopping_body,
 };
-use protocols::ServeFault;
 use report_kinds::Reporting;
 use std::alloc::Global;
+use streams::ServeFault;
 
 /// The bytes of a page, and whether the connection ends after it.
 #[derive(Drop)]

@@ -11,9 +11,9 @@ ghost use Rattle.desk_http.specs.Reasons.{Views};
 use crate::doors::Asker;
 use commands::{Key, Refusal, Reply};
 use http_pages::{Body, Owners, Page, brief_body, refused_page, shown_page};
-use protocols::ServeFault;
 use saga_core::{Book, Brief};
 use std::alloc::{AllocError, Global};
+use streams::ServeFault;
 
 /// The page of the journey that who asks began under a key. The house's own are those of the agent `desk`.
 pub(crate) fn see_begun<B: Book>(

@@ -10,9 +10,9 @@ ghost use Rattle.desk_http.specs.Reasons.{Views};
 
 use crate::doors::Asker;
 use http_pages::{Body, Owners, Page, mine_body, shown_page};
-use protocols::ServeFault;
 use saga_core::{Book, Brief};
 use std::alloc::{AllocError, Global};
+use streams::ServeFault;
 
 /// How many journeys a page shows, at most.
 const MOST_SHOWN: usize = 100;

@@ -29,13 +29,13 @@ use http_pages::{
     unfinished_body,
 };
 use plan::{Plan, PlanFault, json_is_read_back};
-use protocols::ServeFault;
 use report_kinds::{Report, Reporting};
 use reports::{Format, stock_text};
 use saga_core::{Book, Brief, Listed, Record};
 use serde_json::Value;
 use std::alloc::{AllocError, Global};
 use std::str;
+use streams::ServeFault;
 
 /// The page of a journey that who asks sees. A journey of another agent gets the page of one that does not exist.
 pub(crate) fn see_journey<B: Book>(

@@ -6,8 +6,8 @@ use Rattle.std.specs.Prelude.{⊤}
 use Rattle.std.specs.Io.KnownBytes.{Appends}
 use Rattle.ledger.specs.Answer.{State}
 use Rattle.streams.specs.Written.{WroteFront}
-use Rattle.protocols.specs.Scenes.{Scene, ended}
-use Rattle.protocols.specs.declared.faults.ServeFault.{ServeFault}
+use Rattle.streams.specs.Scenes.{Scene, ended}
+use Rattle.streams.specs.declared.serve_faults.ServeFault.{ServeFault}
 use Rattle.desk_lines.specs.Lines.{answer_line, answer_lines, state_after_lines, written}
 use Rattle.desk_lines.specs.Serving.{AnswersAll, AnswersSome, ForNext, IsCut, WroteAll}
 use Rattle.reports.proofs.FrontLemmas.{front_before, front_whole}

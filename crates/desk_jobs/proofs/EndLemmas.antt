@@ -12,15 +12,15 @@ use Rattle.program_ends.specs.declared.ends.End.{End}
 use Rattle.program_ends.specs.declared.ends.End.TheVariants as finish
 use Rattle.program_ends.specs.declared.faults.ProgramFault.{ProgramFault}
 use Rattle.program_ends.specs.declared.faults.ProgramFault.TheVariants as fault
-use Rattle.protocols.specs.Faults.{served_fault}
-use Rattle.protocols.specs.declared.faults.ServeFault.{ServeFault}
+use Rattle.streams.specs.Faults.{served_fault}
+use Rattle.streams.specs.declared.serve_faults.ServeFault.{ServeFault}
 use Rattle.tables.specs.Making.{GivesBack, MakesNoBook}
 use Rattle.tables.specs.Opening.{FailsOpening, FailsToFound, FailsToOpen, Opens, Tells}
 use Rattle.tables.specs.declared.faults.OpenFault.{OpenFault}
 use Rattle.tables.specs.declared.faults.OpenFault.TheVariants as opening
 use Rattle.tables.specs.declared.opening.Opened.{Opened}
-use Rattle.histories.specs.Following.{EachMayReopen}
-use Rattle.histories.proofs.FollowLemmas.{not_opened}
+use Rattle.desk_jobs.specs.Executions.{EachMayReopen}
+use Rattle.desk_jobs.proofs.ExecutionLemmas.{not_opened}
 use Rattle.desk_jobs.specs.Connections.{RefusesOtherTables}
 use Rattle.desk_jobs.specs.OpeningEnds.{end_of_open}
 use Rattle.desk_jobs.specs.Ends.{IsFaultOfLoad, IsFaultOfRecovery, IsFaultOfRun, IsOfBook, IsOfWriting}

@@ -21,12 +21,12 @@ use Rattle.desk_jobs.specs.Connections.{MayBeLeft, Represents}
 use Rattle.program_ends.specs.Ends.{EndsBadly, IfDone}
 use Rattle.program_ends.specs.declared.ends.End.{End}
 use Rattle.program_ends.specs.declared.ends.End.TheVariants as finish
-use Rattle.histories.specs.Following.{EachMayReopen, HasComeUp, HasNotComeUp, LeavesAnswered, StandsAnswered}
-use Rattle.histories.specs.Openings.{File, Input, HasNoExchange, Lines, Nothing, load_reply}
-use Rattle.histories.specs.Stages.{Answering, LeavesAnswering, Stood}
-use Rattle.histories.proofs.FileLemmas.{file_cut, file_loaded, file_unasked, loaded, nothing_asked}
-use Rattle.histories.proofs.FollowLemmas.{leaves_answered, leaves_unanswered, stands_answered, stands_found, stands_leaves}
-use Rattle.histories.proofs.KnownLemmas.{if_some_each, if_some_more, of_lines}
+use Rattle.desk_jobs.specs.Executions.{EachMayReopen, HasComeUp, HasNotComeUp, LeavesAnswered, StandsAnswered}
+use Rattle.desk_jobs.specs.Openings.{File, Input, HasNoExchange, Lines, Nothing, load_reply}
+use Rattle.desk_jobs.specs.Stages.{Answering, LeavesAnswering, Stood}
+use Rattle.desk_jobs.proofs.FileLemmas.{file_cut, file_loaded, file_unasked, loaded, nothing_asked}
+use Rattle.desk_jobs.proofs.ExecutionLemmas.{leaves_answered, leaves_unanswered, stands_answered, stands_found, stands_leaves}
+use Rattle.desk_jobs.proofs.KnownLemmas.{if_some_each, if_some_more, of_lines}
 use Rattle.desk_jobs.specs.Following.{Follows, FollowsDesk}
 use Rattle.desk_jobs.specs.Jobs.{OpensBook}
 use Rattle.desk_jobs.specs.Loading.{EndsLoad}

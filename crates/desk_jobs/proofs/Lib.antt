@@ -6,3 +6,9 @@ pub mod ReasonLemmas
 pub mod EndLemmas
 pub mod FollowLemmas
 pub mod MigrateLemmas
+pub mod KnownLemmas
+pub mod TellingLemmas
+pub mod StageLemmas
+pub mod OpeningLemmas
+pub mod ExecutionLemmas
+pub mod FileLemmas

@@ -4,7 +4,7 @@ use Rattle.sqlite.specs.Store.{Ghosts}
 use Rattle.sqlite.specs.Held.{Held, state}
 use Rattle.sqlite.specs.State.{HasCleanDisk}
 use Rattle.desk_sql.specs.declared.versions.Version.TheVariants.{Two}
-use Rattle.histories.specs.Following.{StandsStill}
+use Rattle.desk_jobs.specs.Executions.{StandsStill}
 use Rattle.migrate.specs.Indexing.{StandsOn}
 use Rattle.migrate.specs.Migrating.{LeavesEither}
 use Rattle.migrate.specs.Outcomes.{Migrates}

@@ -20,9 +20,9 @@ use Rattle.program_ends.specs.Ends.{fault_of_run}
 use Rattle.program_ends.specs.declared.ends.End.TheVariants as finish
 use Rattle.program_ends.specs.declared.faults.ProgramFault.{ProgramFault}
 use Rattle.program_ends.specs.declared.faults.ProgramFault.TheVariants as fault
-use Rattle.protocols.specs.Faults.{served_fault}
-use Rattle.protocols.specs.declared.faults.ServeFault.{ServeFault}
-use Rattle.protocols.specs.declared.faults.ServeFault.TheVariants as serve
+use Rattle.streams.specs.Faults.{served_fault}
+use Rattle.streams.specs.declared.serve_faults.ServeFault.{ServeFault}
+use Rattle.streams.specs.declared.serve_faults.ServeFault.TheVariants as serve
 use Rattle.tables.specs.declared.faults.OpenFault.{OpenFault}
 use Rattle.tables.specs.declared.faults.OpenFault.TheVariants as opening
 use Rattle.desk_jobs.specs.Connections.{Represents}
@@ -43,7 +43,7 @@ use Rattle.tables.specs.declared.books.TableBook.{TableBook}
 use Rattle.tables.specs.declared.opening.Opened.{Opened}
 use Rattle.tables.proofs.OpenKept.{not_bare}
 use Rattle.desk_jobs.specs.Jobs.{OpensBook}
-use Rattle.histories.specs.Openings.{ask_of_batch}
+use Rattle.desk_jobs.specs.Openings.{ask_of_batch}
 use Rattle.desk_jobs.specs.Reasons.{FailsAmongFrom, FailsToLoad, FailsToLoadFor, FailsToRecover, FailsToRun, HasReasonFrom, MayActFrom, MayStart, rowids_of_job}
 use Rattle.desk_jobs.proofs.RecoveredLemmas.{recovery_of}
 

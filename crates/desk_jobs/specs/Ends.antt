@@ -4,9 +4,9 @@ use Rattle.std.specs.Io.KnownBytes.{Appends}
 use Rattle.commands.specs.Texts.{reply_line, sentence}
 use Rattle.commands.specs.declared.replies.Reply.{Reply}
 use Rattle.commands.specs.declared.replies.Reply.TheVariants as reply
-use Rattle.protocols.specs.Scenes.{ended}
-use Rattle.protocols.specs.declared.faults.ServeFault.{ServeFault}
-use Rattle.protocols.specs.declared.faults.ServeFault.TheVariants as serve
+use Rattle.streams.specs.Scenes.{ended}
+use Rattle.streams.specs.declared.serve_faults.ServeFault.{ServeFault}
+use Rattle.streams.specs.declared.serve_faults.ServeFault.TheVariants as serve
 use Rattle.program_ends.specs.declared.ends.End.{End}
 use Rattle.program_ends.specs.declared.ends.End.TheVariants as finish
 use Rattle.program_ends.specs.declared.faults.ProgramFault.{ProgramFault}

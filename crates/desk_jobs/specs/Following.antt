@@ -3,8 +3,8 @@ use Rattle.std.specs.Prelude.{ℕ, List, Option, IfSome, Result, Ok, Err}
 use Rattle.sqlite.specs.Store.{Ghosts}
 use Rattle.sqlite.specs.Held.{Held, state}
 use Rattle.sqlite.specs.State.{HasCleanDisk}
-use Rattle.histories.specs.Following.{LeavesAnswered, LeavesOpened, StandsAnswered, StandsOpened}
-use Rattle.histories.specs.Openings.{Input}
+use Rattle.desk_jobs.specs.Executions.{LeavesAnswered, LeavesOpened, StandsAnswered, StandsOpened}
+use Rattle.desk_jobs.specs.Openings.{Input}
 use Rattle.program_ends.specs.Ends.{IfDone}
 use Rattle.program_ends.specs.declared.ends.End.{End}
 use Rattle.program_ends.specs.declared.ends.End.TheVariants as finish

@@ -8,7 +8,7 @@ use Rattle.allotment_csv.specs.declared.faults.CsvFault.{CsvFault}
 use Rattle.desk_lines.specs.Lines.{lines}
 use Rattle.desk_lines.specs.Worlds.{asks_in}
 use Rattle.ledger.specs.Answer.{State}
-use Rattle.histories.specs.Following.{HasComeUp, HasNotComeUp}
+use Rattle.desk_jobs.specs.Executions.{HasComeUp, HasNotComeUp}
 use Rattle.desk_jobs.specs.Connections.{MayBeLeft, RefusesOtherTables, Represents}
 use Rattle.program_ends.specs.Ends.{EndsBadly, EndsJob, IfDone, IfFault, IfRefused}
 use Rattle.program_ends.specs.declared.ends.End.{End}

@@ -8,3 +8,9 @@ pub mod Reasons
 pub mod Running
 pub mod Connections
 pub mod OpeningEnds
+pub mod Openings
+pub mod Worlds
+pub mod Chains
+pub mod Stages
+pub mod Executions
+pub mod Examples

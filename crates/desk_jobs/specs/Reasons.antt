@@ -21,7 +21,7 @@ use Rattle.sql_model.specs.Spelling.{IsSpelled}
 use Rattle.tables.specs.Acting.{AreShort, MayAct, MayActSince, rowids_for}
 use Rattle.tables.specs.BookTerms.{StandsBook}
 use Rattle.tables.specs.declared.books.TableBook.{TableBook}
-use Rattle.histories.specs.Openings.{ask_of_batch}
+use Rattle.desk_jobs.specs.Openings.{ask_of_batch}
 use Rattle.desk_jobs.specs.Connections.{Represents}
 
 -- how many rowids recovery and these asks after it take at most: recovery one for each event for which the ledger has room, and

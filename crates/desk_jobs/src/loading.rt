@@ -3,10 +3,10 @@ ghost use Rattle.std.specs.Prelude.{◌≡◌, ◌≢◌, None, Some, IfErr, IsE
 ghost use Rattle.std.specs.Io.KnownBytes.{Appends};
 ghost use Rattle.commands.specs.Texts.{reply_line};
 ghost use Rattle.allotment_csv.specs.Files.{batch_of};
-ghost use Rattle.histories.specs.Openings.{File};
+ghost use Rattle.desk_jobs.specs.Openings.{File};
 ghost use Rattle.ledger.specs.Answer.{State};
 ghost use Rattle.streams.specs.Written.{WroteFront};
-ghost use Rattle.protocols.specs.Scenes.{ended};
+ghost use Rattle.streams.specs.Scenes.{ended};
 ghost use Rattle.program_ends.specs.Ends.{IfDone};
 ghost use Rattle.desk_jobs.specs.Ends.{IsFaultOfLoad, IsOfBook, IsOfWriting, TellsAccepted};
 ghost use Rattle.desk_jobs.specs.Following.{FollowsDesk};
@@ -17,13 +17,12 @@ ghost use Rattle.desk_jobs.specs.Reasons.{FailsToLoad};
 use allotment_csv::{CsvFault, read_batch};
 use commands::{Command, Refusal, Reply};
 use program_ends::{End, ProgramFault};
-use protocols::ServeFault;
 use recovery::Ready;
 use saga_core::Book;
 use sqlite::{Alter, Connection};
 use std::alloc::Global;
 use std::io::Write;
-use streams::send;
+use streams::{ServeFault, send};
 use tables::TableBook;
 
 /// Loads the bytes of an allotment file under a name into a recovered desk, and writes the line of the reply. Returns the

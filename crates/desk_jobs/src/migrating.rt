@@ -7,7 +7,7 @@ ghost use Rattle.streams.specs.Written.{WroteFront};
 ghost use Rattle.program_ends.specs.Ends.{EndsBadly, EndsJob, IfDone};
 ghost use Rattle.desk_sql.specs.Calls.{Idle};
 ghost use Rattle.migrate.specs.Outcomes.{Migrates};
-ghost use Rattle.histories.specs.Following.{StandsStill};
+ghost use Rattle.desk_jobs.specs.Executions.{StandsStill};
 ghost use Rattle.desk_jobs.specs.Ends.{EndsWriting, IsOfWriting};
 ghost use Rattle.desk_jobs.specs.Jobs.{Leaves};
 ghost use Rattle.desk_jobs.specs.Migrating.{end_of_migration, FailsMigration, migrated_line};
@@ -15,11 +15,10 @@ ghost use Rattle.desk_jobs.specs.Migrating.{end_of_migration, FailsMigration, mi
 use commands::Refusal;
 use migrate::{MigrateFault, Migrated, migrate};
 use program_ends::{End, ProgramFault};
-use protocols::ServeFault;
 use sqlite::{Alter, Connection};
 use std::alloc::Global;
 use std::io::Write;
-use streams::send;
+use streams::{ServeFault, send};
 
 /// Migrates the tables of a connection from version 1 to version 2, in one commit. Nothing is recovered. Returns the
 /// connection, and how many events were migrated or why none were.

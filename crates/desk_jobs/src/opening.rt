@@ -4,12 +4,12 @@ ghost use Rattle.desk_sql.specs.Calls.{Idle};
 ghost use Rattle.desk_jobs.specs.Jobs.{NotReady, OpensBook, Readies};
 
 use crate::ends::end_of_opening;
-use histories::reopenings;
+use crate::reopenings;
 use program_ends::End;
-use protocols::ServeFault;
 use recovery::{Ready, recover};
 use sqlite::{Alter, Connection};
 use std::alloc::Global;
+use streams::ServeFault;
 use tables::{TableBook, new_desk_may_act, open_from};
 
 /// Opens the desk of a connection and recovers it. Returns the recovered desk, and how many events recovery made; if

@@ -11,17 +11,16 @@ ghost use Rattle.desk_sql.specs.Calls.{Idle};
 ghost use Rattle.desk_jobs.specs.Ends.{EndsWriting, IsOfWriting, recovered_line};
 ghost use Rattle.desk_jobs.specs.Following.{Follows, end_of_recovery};
 ghost use Rattle.desk_jobs.specs.Jobs.{Leaves, NotReady};
-ghost use Rattle.histories.specs.Openings.{Nothing};
+ghost use Rattle.desk_jobs.specs.Openings.{Nothing};
 
 use crate::opening::ready_over;
-use histories::reopenings;
+use crate::reopenings;
 use program_ends::End;
-use protocols::ServeFault;
 use sqlite::{Alter, Connection};
 use std::alloc::Global;
 use std::io::Write;
 use std::marker::Model;
-use streams::send;
+use streams::{ServeFault, send};
 
 /// How many events a recovery made. Only `recover_over` makes one. In a contract it is that number.
 #[derive(Clone, Copy, Debug)]

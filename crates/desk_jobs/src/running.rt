@@ -5,13 +5,13 @@ ghost use Rattle.program_ends.specs.Ends.{IfDone, IsNotRefused};
 ghost use Rattle.desk_sql.specs.Calls.{Idle};
 ghost use Rattle.desk_jobs.specs.Ends.{IsFaultOfRun};
 ghost use Rattle.desk_jobs.specs.Following.{Follows, FollowsDesk};
-ghost use Rattle.histories.specs.Openings.{Lines};
+ghost use Rattle.desk_jobs.specs.Openings.{Lines};
 ghost use Rattle.desk_jobs.specs.Jobs.{EndsOpened, EndsRun, Leaves, LeavesDesk, NotesRun, RunsDesk, RunsOver};
 
 use crate::notes::note_recovered;
 use crate::opening::ready_over;
+use crate::reopenings;
 use desk_lines::run_lines;
-use histories::reopenings;
 use program_ends::End;
 use recovery::{Ready, one_recovery};
 use sqlite::{Alter, Connection};

@@ -14,9 +14,9 @@ use Rattle.desk_lines.specs.Worlds.{asks_in, asks_meant}
 use Rattle.desk_lines.specs.declared.runs.Line.{Line}
 use Rattle.desk_lines.proofs.ServeLemmas.{ComesAfter}
 use Rattle.desk_lines.proofs.WorldLemmas.{asks_in-append}
-use Rattle.protocols.specs.Faults.{served_fault}
-use Rattle.protocols.specs.declared.faults.ServeFault.{ServeFault}
-use Rattle.protocols.specs.declared.faults.ServeFault.TheVariants.{Store}
+use Rattle.streams.specs.Faults.{served_fault}
+use Rattle.streams.specs.declared.serve_faults.ServeFault.{ServeFault}
+use Rattle.streams.specs.declared.serve_faults.ServeFault.TheVariants.{Store}
 
 -- One line.
 

@@ -6,12 +6,12 @@ use Rattle.ledger.specs.Answer.{State}
 use Rattle.desk_lines.specs.Answering.{AnswersLine}
 use Rattle.desk_lines.specs.Lines.{answer_line, answer_lines, lines, state_after_lines, written}
 use Rattle.desk_lines.specs.Reading.{Keeps, TakesLine, Unanswered, to_come}
-use Rattle.protocols.specs.Faults.{IsOfReading}
+use Rattle.streams.specs.Faults.{IsOfReading}
 use Rattle.streams.specs.Written.{WroteFront}
-use Rattle.protocols.specs.Scenes.{Scene, scene, ended}
+use Rattle.streams.specs.Scenes.{Scene, scene, ended}
 use Rattle.desk_lines.specs.Serving.{AnswersAll, AnswersSome, WroteAll}
-use Rattle.protocols.specs.declared.faults.ServeFault.{ServeFault}
-use Rattle.protocols.specs.declared.faults.ServeFault.TheVariants.{Write}
+use Rattle.streams.specs.declared.serve_faults.ServeFault.{ServeFault}
+use Rattle.streams.specs.declared.serve_faults.ServeFault.TheVariants.{Write}
 use Rattle.desk_lines.specs.declared.runs.Line.{Line}
 use Rattle.streams.proofs.ByteLemmas.{appends_more, appends_none, keeps_same}
 

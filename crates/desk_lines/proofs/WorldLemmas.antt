@@ -7,9 +7,9 @@ use Rattle.ledger.specs.World.{Moment, after}
 use Rattle.saga_core.specs.Runs.{Asks, state_after}
 use Rattle.saga_core.specs.Worlds.{KeepLimits, StandsAtEnd, EndsWith, EndsAmong, GoesOnWith}
 use Rattle.saga_core.proofs.WorldLemmas.{KeepLimits-append, ends-with, ends-after, ends-cut}
-use Rattle.protocols.specs.Scenes.{Scene}
-use Rattle.protocols.specs.declared.faults.ServeFault.{ServeFault}
-use Rattle.protocols.specs.declared.faults.ServeFault.TheVariants.{Memory, Read, Store, Write}
+use Rattle.streams.specs.Scenes.{Scene}
+use Rattle.streams.specs.declared.serve_faults.ServeFault.{ServeFault}
+use Rattle.streams.specs.declared.serve_faults.ServeFault.TheVariants.{Memory, Read, Store, Write}
 use Rattle.desk_lines.specs.Lines.{IsLineOf, Meaning, answer_line, answer_to, is_readable, lines, meaning_in, state_after_lines, text_meaning}
 use Rattle.desk_lines.specs.Serving.{AnswersAll, AnswersSome, Leaves}
 use Rattle.desk_lines.specs.Worlds.{asks_meant, asks_in, EndsAmongLines, GoesOnAmongLines}

@@ -3,9 +3,9 @@ use Rattle.std.specs.Prelude.{◌≡◌, ◌⊎◌, List, ℕ, Result, Ok, Err, 
 use Rattle.std.specs.String.{string_bytes}
 use Rattle.ledger.specs.Answer.{State}
 use Rattle.desk_lines.specs.Lines.{Answered, Meaning, answer_line, answer_to}
-use Rattle.protocols.specs.Scenes.{ended}
-use Rattle.protocols.specs.declared.faults.ServeFault.{ServeFault}
-use Rattle.protocols.specs.declared.faults.ServeFault.TheVariants.{Memory, Store}
+use Rattle.streams.specs.Scenes.{ended}
+use Rattle.streams.specs.declared.serve_faults.ServeFault.{ServeFault}
+use Rattle.streams.specs.declared.serve_faults.ServeFault.TheVariants.{Memory, Store}
 
 module _ (stands : State → Type 0) (leaves : State → State → Type 0) (s : State) where
   -- the text is this answer, and the book represents the state after it; or a fault came before the answer or after it

@@ -18,7 +18,7 @@ use Rattle.commands.specs.Texts.{is_journey, refusal_line, reply_line, sentence}
 use Rattle.commands.specs.declared.replies.Refusal.{Refusal}
 use Rattle.commands.specs.declared.replies.Refusal.TheVariants as refusal
 use Rattle.ledger.specs.Answer.{State, outcome}
-use Rattle.protocols.specs.Scenes.{ended}
+use Rattle.streams.specs.Scenes.{ended}
 
 -- Lines.
 

@@ -1,11 +1,10 @@
 -- The result of a run over the lines of a reader: what it wrote, and the state of the book after it.
 use Rattle.std.specs.Prelude.{◌≡◌, ◌⊎◌, ℕ, List, [], ◌∷◌, ◌++◌, length, take}
 use Rattle.ledger.specs.Answer.{State}
-use Rattle.protocols.specs.Scenes.{Scene, Wrote}
+use Rattle.streams.specs.Scenes.{Scene, Wrote, ended}
 use Rattle.desk_lines.specs.Lines.{lines, answer_line, answer_lines, state_after_lines, written}
-use Rattle.protocols.specs.Scenes.{ended}
-use Rattle.protocols.specs.declared.faults.ServeFault.{ServeFault}
-use Rattle.protocols.specs.declared.faults.ServeFault.TheVariants.{Memory, Store, Read, Write}
+use Rattle.streams.specs.declared.serve_faults.ServeFault.{ServeFault}
+use Rattle.streams.specs.declared.serve_faults.ServeFault.TheVariants.{Memory, Store, Read, Write}
 
 -- the answers to these lines were written
 abbrev pub WroteAll : Scene → State → List (List ℕ) → Type 0

@@ -7,10 +7,10 @@ use Rattle.saga_core.specs.Runs.{Asks}
 use Rattle.saga_core.specs.Worlds.{StandsAtEnd, EndsAmong}
 use Rattle.desk_lines.specs.Lines.{Meaning, lines, meaning_in}
 use Rattle.desk_lines.specs.Serving.{AnswersSome, ForNext}
-use Rattle.protocols.specs.Faults.{is_store}
-use Rattle.protocols.specs.Scenes.{Scene}
-use Rattle.protocols.specs.declared.faults.ServeFault.{ServeFault}
-use Rattle.protocols.specs.declared.faults.ServeFault.TheVariants.{Memory, Store, Read, Write}
+use Rattle.streams.specs.Faults.{is_store}
+use Rattle.streams.specs.Scenes.{Scene}
+use Rattle.streams.specs.declared.serve_faults.ServeFault.{ServeFault}
+use Rattle.streams.specs.declared.serve_faults.ServeFault.TheVariants.{Memory, Store, Read, Write}
 
 -- the request of a line, made by the house; a line that is refused makes none
 abbrev pub asks_meant : Meaning → Asks

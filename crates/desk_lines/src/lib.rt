@@ -13,5 +13,5 @@ mod unread;
 
 pub use laws::{commands_have_one_line, line_of_an_abort};
 pub use orders::journey_in;
-pub use protocols::ServeFault;
 pub use runs::run_lines;
+pub use streams::ServeFault;

@@ -17,9 +17,9 @@ use commands::{
     BadBatch, Batch, Command, MOST_EVENTS, MOST_NAMED_POSITION, Name, Refusal, number_between,
 };
 use plan::{Plan, PlanFault};
-use protocols::ServeFault;
 use std::alloc::{AllocError, Global};
 use std::str;
+use streams::ServeFault;
 
 /// The order of a line: a command, or a refusal.
 #[derive(Drop)]

@@ -6,7 +6,7 @@ ghost use Rattle.desk_lines.specs.Reading.{Keeps, KeepsMore, SaysIfAny};
 ghost use Rattle.desk_lines.specs.Serving.{AnswersAll, AnswersSome};
 ghost use Rattle.desk_lines.specs.Worlds.{GoesOnAmongLines, asks_in, asks_meant};
 ghost use Rattle.ledger.specs.Answer.{State};
-ghost use Rattle.protocols.specs.Scenes.{scene};
+ghost use Rattle.streams.specs.Scenes.{scene};
 ghost use Rattle.saga_core.specs.Calls.{Serves};
 ghost use Rattle.saga_core.specs.Reasons.{ActsOnAfter, FailsAmong};
 ghost use Rattle.saga_core.specs.Worlds.{GoesOnWith};
@@ -15,12 +15,11 @@ ghost use Rattle.std.specs.Prelude.{◌≡◌, IfOk, IfErr, IfSome, IsErrOf, OnO
 
 use crate::orders::{Order, order_of};
 use crate::unread::Unread;
-use protocols::ServeFault;
 use recovery::Ready;
 use saga_core::Book;
 use std::alloc::{AllocError, Global};
 use std::io::{Read, Write};
-use streams::send;
+use streams::{ServeFault, send};
 
 /// Answers the lines of a reader, each by one line, and returns how many there were.
 ///

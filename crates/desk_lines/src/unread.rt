@@ -2,14 +2,13 @@
 ghost use Rattle.std.specs.Prelude.{◌≡◌, ◌<◌, ◌-◌, ◌^◌, [], position, true, false, IfOk, IfErr, OnOk};
 ghost use Rattle.std.specs.Io.KnownBytes.{Consumes, IsAtEnd};
 ghost use Rattle.desk_lines.specs.Reading.{is_line_feed, TakesLine, TakesPiece, to_come};
-ghost use Rattle.protocols.specs.Faults.{IsOfReading};
+ghost use Rattle.streams.specs.Faults.{IsOfReading};
 
 use crate::runs::Line;
-use protocols::ServeFault;
 use std::alloc::{AllocError, Global};
 use std::io::Read;
 use std::marker::Model;
-use streams::read_some;
+use streams::{ServeFault, read_some};
 
 /// The most bytes that are read at once.
 const CHUNK: usize = 8192;

@@ -4,3 +4,4 @@ pub mod ReasonLemmas
 pub mod AnswerSteps
 mod ServeLemmas
 mod NextLemmas
+mod ServeReasonLemmas

@@ -7,10 +7,10 @@ use Rattle.std.proofs.lemmas.List.{drop-drop, take-append-drop}
 use Rattle.ledger.specs.Answer.{State}
 use Rattle.http_messages.specs.Messages.{Message}
 use Rattle.streams.proofs.ByteLemmas.{appends_before, appends_more, appends_none, keeps_same}
-use Rattle.protocols.specs.Faults.{IsOfReading}
-use Rattle.protocols.specs.Scenes.{Scene, Wrote, scene}
-use Rattle.protocols.specs.declared.faults.ServeFault.{ServeFault}
-use Rattle.protocols.specs.declared.faults.ServeFault.TheVariants.{Write}
+use Rattle.streams.specs.Faults.{IsOfReading}
+use Rattle.streams.specs.Scenes.{Scene, Wrote, scene}
+use Rattle.streams.specs.declared.serve_faults.ServeFault.{ServeFault}
+use Rattle.streams.specs.declared.serve_faults.ServeFault.TheVariants.{Write}
 use Rattle.desk_http.specs.Pages.{IsPage, closes, state_after, state_after_all, stays_open}
 use Rattle.desk_http.specs.Serving.{Answered, ServesAll, ServesSome}
 use Rattle.desk_http.specs.declared.doors.Door.TheVariants.{Port}

@@ -1,6 +1,6 @@
 -- A worked conversation, computed. Letters stand for messages, and digits for their pages; `c` closes. And why the store failed
 -- at a message without a head.
-use Rattle.std.specs.Prelude.{◌≡◌, ◌++◌, ℕ, true, false, List, [], ◌∷◌, None, codes, refl}
+use Rattle.std.specs.Prelude.{◌≡◌, ◌++◌, ℕ, true, false, List, [], ◌∷◌, Option, None, codes, refl}
 use Rattle.std.proofs.Common.{inl}
 use Rattle.ledger.specs.Answer.{State, start}
 use Rattle.saga_core.specs.Runs.{Asks}
@@ -12,6 +12,7 @@ use Rattle.http_modes.specs.Worlds.{Exchange}
 use Rattle.http_conversations.specs.Exchanges.{bytes_of, pages_of}
 use Rattle.http_conversations.specs.History.{History, after_answer, after_loss, after_received, after_sent, new_history}
 use Rattle.http_conversations.specs.Reasons.{EndsFor, FailsAtLast, Meant, MayGoOn, asks_of}
+use Rattle.http_conversations.specs.ServeReasons.{HasServed}
 
 -- `ac` came in one read, and `a` got the page `12`, one byte of which was yielded
 abbrev pub answered_once : History
@@ -80,3 +81,11 @@ pub messages_leave_a_book_that_may_act :
     (could can : State → Asks → Type 0) (reason : State → State → Type 0) (exchanges : List Exchange) (later : Asks)
     (ends : EndsFor could can reason false exchanges) → could start (asks_of ends.meant ++ later) → MayGoOn can reason false start exchanges ends.meant later
 messages_leave_a_book_that_may_act could can reason exchanges later ends may = ends.ends start later may
+
+-- so it is of one reader and writer: a book that could act for what the messages ask for failed for a reason since it began
+pub serving_failed_for_a_reason :
+    {B : Type 0} (is_sound : B → Type 0) (may : B → B → State → Asks → Type 0) (reason : B → B → State → State → Type 0) (old new : B)
+    (remains remaining : Option (List ℕ)) (h : History) (x : HasServed is_sound may reason remains remaining old new true h) (sound : is_sound new)
+    → may old old start (asks_of (x.reasons sound old).meant ++ [])
+    → FailsAtLast (reason old new) start h.exchanges (x.reasons sound old).meant
+serving_failed_for_a_reason is_sound may reason old new remains remaining h x sound may_act = (x.reasons sound old).ends start [] may_act

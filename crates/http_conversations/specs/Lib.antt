@@ -8,3 +8,4 @@ pub mod Conversations
 pub mod Calls
 pub mod Answering
 pub mod Serving
+pub mod ServeReasons

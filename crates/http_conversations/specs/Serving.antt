@@ -3,8 +3,8 @@ use Rattle.std.specs.Prelude.{◌≡◌, ◌⊎◌, ℕ, Bool, true, false, List
 use Rattle.std.specs.Io.KnownBytes.{Appends}
 use Rattle.ledger.specs.Answer.{State}
 use Rattle.http_messages.specs.Messages.{BeginsWith, HasNoMessage, Message}
-use Rattle.protocols.specs.declared.faults.ServeFault.{ServeFault}
-use Rattle.protocols.specs.declared.faults.ServeFault.TheVariants.{Memory, Store, Read, Write}
+use Rattle.streams.specs.declared.serve_faults.ServeFault.{ServeFault}
+use Rattle.streams.specs.declared.serve_faults.ServeFault.TheVariants.{Memory, Store, Read, Write}
 use Rattle.desk_http.specs.Pages.{IsPage, closes, state_after}
 use Rattle.desk_http.specs.Serving.{ForNext}
 use Rattle.desk_http.specs.declared.doors.Door.TheVariants.{Port}
@@ -56,12 +56,14 @@ module _ (sound : Type 0) (stood stands : State → Type 0) (leaves : State → 
   FindsNext stream remaining h (Ok false) = FindsNone stream
   FindsNext stream remaining h (Err fault) = sound → (s : State) → stood s → FailsAt stream s fault
 
--- the door, the mode, the stage and what waits to be answered are the same
+-- the door, the mode, the stage, what was received, what of it waits and the exchanges are the same
 pub record IsAsBefore (old new : History) : Type 0 where
   pub door : new.door ≡ old.door
   pub mode : new.mode ≡ old.mode
   pub stage : new.stage ≡ old.stage
+  pub received : new.received ≡ old.received
   pub waiting : new.waiting ≡ old.waiting
+  pub exchanges : new.exchanges ≡ old.exchanges
 
 -- a prefix of the page that waited was written, and the others of its bytes wait
 pub record HandsOut (held holds : Option (List ℕ)) (old new : History) : Type 0 where

@@ -1,26 +1,27 @@
 //! A conversation at the port with one reader and one writer, in strict mode, until it is over.
-ghost use Rattle.std.specs.Prelude.{◌≡◌, ◌<◌, ◌≤◌, ◌↔◌, ℕ, List, length, true, Ok, IfOk, IfErr, IfSome, OnOk};
-ghost use Rattle.std.specs.Io.KnownBytes.{Consumes, IsAtEnd};
+ghost use Rattle.std.specs.Prelude.{◌≡◌, ◌<◌, ◌≤◌, ◌↔◌, length, true, IfOk, IfErr, IfSome, OnOk};
 ghost use Rattle.ledger.specs.Answer.{State};
 ghost use Rattle.saga_core.specs.Calls.{Serves};
-ghost use Rattle.protocols.specs.Faults.{IsOfReading};
-ghost use Rattle.protocols.specs.Scenes.{scene};
+ghost use Rattle.streams.specs.Faults.{IsOfReading};
+ghost use Rattle.streams.specs.Scenes.{scene};
 ghost use Rattle.desk_http.specs.Serving.{ServesAll, ServesSome};
 ghost use Rattle.desk_http.specs.Worlds.{GoesOnWithMessages, GoesOnAmongMessages};
+ghost use Rattle.http_conversations.specs.Calls.{Receives};
 ghost use Rattle.http_conversations.specs.Conversations.{history};
-ghost use Rattle.http_conversations.specs.History.{after_received};
+ghost use Rattle.http_conversations.specs.History.{History};
 ghost use Rattle.http_conversations.specs.Serving.{AwaitsNext, FindsNext, HandsOut, HandsOutAll, IsAtPort, to_come};
+ghost use Rattle.http_conversations.specs.ServeReasons.{HasServed, ServesOn, has_store_failed};
 
 use crate::conversation::{Conversation, MOST_READ, Stage};
 use desk_http::Door;
 use http_log::Metrics;
 use http_modes::Mode;
 use http_pages::Paths;
-use protocols::ServeFault;
 use recovery::Ready;
 use report_kinds::Reporting;
 use std::alloc::Global;
 use std::io::{ErrorKind, Read, Write};
+use streams::ServeFault;
 
 /// The result of serving a connection.
 #[derive(Clone, Copy, Debug, PartialEq, Eq)]
@@ -33,7 +34,7 @@ pub struct Served {
 /// read in strict mode.
 ///
 /// Each page is written and flushed before the next message is read, and nothing is read while a whole message is
-/// buffered. A message that the end of the input cuts off gets no page.
+/// buffered. A message that the end of the input cuts off gets no page. Store implies an I/O error, as the book tells it.
 pub fn serve<R: Read, W: Write, B: Reporting>(
     alloc: Global,
     reader: &mut R,
@@ -60,6 +61,9 @@ pub fn serve<R: Read, W: Write, B: Reporting>(
         (B.stands book.new) (B.leaves book.new)) input)) }
     ensures serves { Serves B.is_sound B.leaves B.has_failed book.old book.new
         ServeFault.Store result }
+    ensures reason { (h : History) × HasServed B.is_sound B.may_act B.has_reason
+        (R.remaining reader.old) (R.remaining reader.new) book.old book.new
+        (has_store_failed result) h }
 {
     serve_book(alloc, reader, writer, book)
 }
@@ -82,6 +86,9 @@ fn serve_book<R: Read, W: Write, B: Reporting>(
         (B.stands book.new) (B.leaves book.new)) s input)) }
     ensures serves { Serves B.is_sound B.leaves B.has_failed book.old book.new
         ServeFault.Store result }
+    ensures reason { (h : History) × HasServed B.is_sound B.may_act B.has_reason
+        (R.remaining reader.old) (R.remaining reader.new) book.old book.new
+        (has_store_failed result) h }
 {
     let paths = Paths::new(alloc)?;
     let mut buffer = vec![in alloc; 0u8; MOST_READ]?;
@@ -111,6 +118,9 @@ fn serve_messages<R: Read, W: Write, B: Reporting>(
         (B.stands book.new) (B.leaves book.new)) s input)) }
     ensures serves { Serves B.is_sound B.leaves B.has_failed book.old book.new
         ServeFault.Store result }
+    ensures reason { (h : History) × HasServed B.is_sound B.may_act B.has_reason
+        (R.remaining reader.old) (R.remaining reader.new) book.old book.new
+        (has_store_failed result) h }
 {
     let mut conversation = Conversation::new(alloc, Door::Port, Mode::Strict);
     for pages in 0..u64::MAX {
@@ -151,6 +161,9 @@ fn answer_next<R: Read, B: Reporting>(
     ensures at_port { IsAtPort (history conversation.new) }
     ensures serves { Serves B.is_sound B.leaves B.has_failed book.old book.new
         ServeFault.Store result }
+    ensures reason { ServesOn B.is_sound B.may_act B.has_reason
+        (R.remaining reader.old) (R.remaining reader.new) book.old book.new
+        (has_store_failed result) (history conversation.old) (history conversation.new) }
 {
     let (metrics, mut seen) = (Metrics::new(), None);
     for _ in 0..u64::MAX {
@@ -177,14 +190,9 @@ fn read_more<R: Read>(
     requires small { length buffer.old ≤ MOST_READ }
     requires some { 0 < length buffer.old }
 
-    ensures more { IfOk result (λ count. (more : List ℕ) × (length more ≡ count)
-        × Consumes (R.remaining reader.old) (R.remaining reader.new) more
-        × (history conversation.new ≡ after_received (history conversation.old) more)) }
-    ensures end { result ≡ Ok 0 → IsAtEnd (R.remaining reader.new) }
-
+    ensures receives { Receives (R.remaining reader.old) (R.remaining reader.new)
+        (length buffer.old) result (history conversation.old) (history conversation.new) }
     ensures fault { IfErr result IsOfReading }
-    ensures door { (history conversation.new).door ≡ (history conversation.old).door }
-    ensures mode { (history conversation.new).mode ≡ (history conversation.old).mode }
 {
     if !conversation.wants_read() {
         return Err(ServeFault::Read);

@@ -17,10 +17,10 @@ use http_log::Metrics;
 use http_modes::{Arrived, Mode, answer_by, first_by, go_on_by, go_on_text};
 use http_pages::Paths;
 use http_server::Log;
-use protocols::ServeFault;
 use report_kinds::Reporting;
 use std::alloc::{AllocError, Global};
 use std::io::{self, Read, Write};
+use streams::ServeFault;
 
 /// A message that was taken.
 #[derive(Drop)]

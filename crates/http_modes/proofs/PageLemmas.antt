@@ -13,8 +13,8 @@ use Rattle.desk_http.specs.Hosts.{refusal_at}
 use Rattle.desk_http.specs.Pages.{IsPage, closes}
 use Rattle.desk_http.specs.declared.answering.Answer.{Answer}
 use Rattle.desk_http.specs.declared.doors.Door.{Door}
-use Rattle.protocols.specs.declared.faults.ServeFault.{ServeFault}
-use Rattle.protocols.specs.declared.faults.ServeFault.TheVariants.{Memory, Read, Store, Write}
+use Rattle.streams.specs.declared.serve_faults.ServeFault.{ServeFault}
+use Rattle.streams.specs.declared.serve_faults.ServeFault.TheVariants.{Memory, Read, Store, Write}
 use Rattle.http_modes.specs.Pages.{AnswersAt, IsPageAt, LaysOut, page_for, shown_at, shown_for}
 use Rattle.http_modes.specs.Reading.{IsRead}
 use Rattle.http_modes.specs.Modes.{Said}

@@ -20,7 +20,7 @@ use Rattle.desk_http.specs.declared.doors.Door.TheVariants as doors
 use Rattle.http_messages.specs.declared.asked.AskedKind.{AskedKind}
 use Rattle.http_messages.specs.declared.asked.AskedKind.TheVariants.{Get, Head, Post, Options, Other}
 use Rattle.http_modes.specs.PageTexts.{IsDateLine, denial_text, not_allowed_text, options_text, wide_text}
-use Rattle.protocols.specs.declared.faults.ServeFault.{ServeFault}
+use Rattle.streams.specs.declared.serve_faults.ServeFault.{ServeFault}
 use Rattle.http_modes.specs.Modes.{Said}
 use Rattle.http_modes.specs.declared.showing.Shown.{Shown}
 use Rattle.http_modes.specs.declared.showing.Shown.TheVariants as shown

@@ -26,9 +26,9 @@ use http_messages::{
     first_wide_message, go_on_is_due,
 };
 use http_pages::Paths;
-use protocols::ServeFault;
 use report_kinds::Reporting;
 use std::alloc::{AllocError, Global};
+use streams::ServeFault;
 
 /// How messages are read, and how pages are laid out.
 #[derive(Clone, Copy, Debug, PartialEq, Eq)]

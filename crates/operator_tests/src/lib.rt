@@ -1,5 +1,5 @@
-//! Tests of `http_log` and `progress`: the lines of the log, what a monitor is shown, and what a terminal is shown
-//! of an input.
+//! Tests of `http_log`, and of `Watched` of `program_ends`: the lines of the log, what a monitor is shown, and what a terminal is
+//! shown of an input.
 #![tactic(auto)]
 
 #[cfg(test)]

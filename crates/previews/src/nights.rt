@@ -1,5 +1,5 @@
 //! What is free of each night of a want.
-ghost use Rattle.std.specs.Prelude.{◌≡◌, ◌≢◌, ◌==◌, ℕ, [], ◌∷◌, ◌++◌, List, Some, IfErr, IfOk, OnOk, find, map};
+ghost use Rattle.std.specs.Prelude.{◌≡◌, ◌≢◌, ◌==◌, ℕ, List, Some, IfErr, IfOk, find, map};
 ghost use Rattle.std.specs.List.{list_all};
 ghost use Rattle.std.specs.Option.{option_copied};
 ghost use Rattle.allotment.specs.Cells.{is_cell};
@@ -11,7 +11,7 @@ ghost use Rattle.previews.specs.Nights.{has_room, night_among, night_with, night
 ghost use Rattle.reports.specs.Writing.{Takes};
 
 use allotment::{Cell, Held, Night, Want};
-use reports::ReportFault;
+use reports::{ReportFault, take_rows};
 use saga_core::RowSource;
 use std::alloc::{AllocError, Global};
 
@@ -128,20 +128,9 @@ pub fn read_nights<R: RowSource<(Cell, Held)>>(
 
     ensures takes { Takes R.RowSource rows.old rows.new result }
 {
-    let mut cells = Vec::new(alloc);
-    while let Some(row) = rows.next_row()? {
-        add(&mut cells, &row)?;
-    }
+    let cells = take_rows(alloc, rows, usize::MAX)?;
     let nights = free_nights(alloc, want, cells.as_slice())?;
     Ok(nights)
-}
-
-/// Adds a cell with its places.
-fn add(cells: &mut Vec<(Cell, Held)>, row: &(Cell, Held)) -> Result<(), AllocError>
-    ensures added { OnOk result (cells.new.items ≡ cells.old.items ++ row.now ∷ []) }
-{
-    cells.push(*row)?;
-    Ok(())
 }
 
 /// Whether a night is allotted and has so many free places.

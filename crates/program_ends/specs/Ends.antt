@@ -7,9 +7,9 @@ use Rattle.commands.specs.Texts.{refusal_line, sentence}
 use Rattle.commands.specs.declared.replies.Refusal.{Refusal}
 use Rattle.reports.specs.declared.faults.ReportFault.{ReportFault}
 use Rattle.reports.specs.declared.faults.ReportFault.TheVariants as report
-use Rattle.protocols.specs.Scenes.{ended}
-use Rattle.protocols.specs.declared.faults.ServeFault.{ServeFault}
-use Rattle.protocols.specs.declared.faults.ServeFault.TheVariants as serve
+use Rattle.streams.specs.Scenes.{ended}
+use Rattle.streams.specs.declared.serve_faults.ServeFault.{ServeFault}
+use Rattle.streams.specs.declared.serve_faults.ServeFault.TheVariants as serve
 use Rattle.command_line.specs.declared.jobs.JobFault.{JobFault}
 use Rattle.command_line.specs.declared.jobs.JobFault.TheVariants as job
 use Rattle.program_ends.specs.declared.ends.End.{End}

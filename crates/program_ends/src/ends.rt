@@ -4,16 +4,15 @@
 ghost use Rattle.std.specs.Prelude.{◌≡◌};
 ghost use Rattle.streams.specs.Written.{WroteFront};
 ghost use Rattle.commands.specs.Texts.{refusal_line};
-ghost use Rattle.protocols.specs.Scenes.{ended};
+ghost use Rattle.streams.specs.Scenes.{ended};
 ghost use Rattle.program_ends.specs.Ends.{end_of_both, end_of_job, end_of_result, status_of, told_out, TellsError, TellsNoneOrFault};
 
 use crate::faults::ProgramFault;
 use command_line::JobFault;
 use commands::Refusal;
-use protocols::ServeFault;
 use std::alloc::Global;
 use std::io::Write;
-use streams::send;
+use streams::{ServeFault, send};
 
 /// An end of the program.
 #[derive(Debug, Drop)]

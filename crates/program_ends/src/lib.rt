@@ -5,6 +5,9 @@
 //! `end_of_listening` where the sockets cannot be listened on, and `end_of_connecting` where a desk cannot be asked.
 //!
 //! A `Cause` says why, as far as that is known, and what to do. `Ended::explain` prints its line after that of the end.
+//!
+//! A `Watched` reader gives what its reader gives, byte for byte. Where it has a terminal it also counts the lines, and writes there
+//! how many there were so far: once a second, from the second second on. When the input ends it takes that away.
 #![tactic(auto)]
 
 mod arguments;
@@ -14,6 +17,8 @@ mod ended;
 mod ends;
 mod faults;
 mod listening;
+mod meters;
+mod watched;
 
 pub use arguments::end_of_arguments;
 pub use asking::end_of_connecting;
@@ -22,3 +27,5 @@ pub use ended::Ended;
 pub use ends::End;
 pub use faults::ProgramFault;
 pub use listening::end_of_listening;
+pub use meters::Meter;
+pub use watched::Watched;

@@ -7,3 +7,7 @@ pub mod BlockLemmas
 pub mod ShownLemmas
 pub mod OutcomeLemmas
 pub mod SourceLemmas
+mod PromiseLemmas
+mod ChainLemmas
+pub mod ComposeLemmas
+mod TaskLemmas

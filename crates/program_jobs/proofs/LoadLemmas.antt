@@ -12,8 +12,8 @@ use Rattle.recovery.specs.Reasons.{MayActThen}
 use Rattle.recovery.specs.Recovers.{AreRecovery}
 use Rattle.saga_core.specs.Runs.{Asks}
 use Rattle.streams.proofs.ByteLemmas.{keeps_same}
-use Rattle.histories.specs.Following.{EachMayReopen}
-use Rattle.histories.specs.Openings.{File, Nothing, asks_of_file}
+use Rattle.desk_jobs.specs.Executions.{EachMayReopen}
+use Rattle.desk_jobs.specs.Openings.{File, Nothing, asks_of_file}
 use Rattle.program_ends.specs.Ends.{EndsBadly, IfDone}
 use Rattle.program_ends.specs.declared.ends.End.{End}
 use Rattle.program_ends.specs.declared.ends.End.TheVariants as finish

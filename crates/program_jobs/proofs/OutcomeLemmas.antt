@@ -5,7 +5,7 @@ use Rattle.sqlite.specs.Store.{Ghosts}
 use Rattle.sqlite.specs.Held.{Held, state}
 use Rattle.sqlite.specs.State.{HasCleanDisk}
 use Rattle.recovery.specs.Recovers.{Recovers}
-use Rattle.histories.specs.Openings.{Nothing}
+use Rattle.desk_jobs.specs.Openings.{Nothing}
 use Rattle.desk_jobs.specs.Connections.{Represents}
 use Rattle.desk_jobs.specs.Following.{Follows}
 use Rattle.desk_jobs.specs.Jobs.{NotReady}

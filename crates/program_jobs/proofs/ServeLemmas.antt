@@ -26,10 +26,10 @@ use Rattle.http_modes.specs.Worlds as by_exchange
 use Rattle.http_live.specs.declared.serving.Ending.{Ending}
 use Rattle.http_live.specs.declared.serving.Ending.TheVariants.{NoTurn, Stopped, Spent}
 use Rattle.http_live.specs.declared.serving.Turns as Turns
-use Rattle.histories.specs.Following.{EachMayReopen}
-use Rattle.histories.specs.Openings.{Connections, Nothing}
-use Rattle.histories.specs.Stages.{Stood}
-use Rattle.histories.proofs.StageLemmas.{either, exchanges_answered, exchanges_served, not_asked}
+use Rattle.desk_jobs.specs.Executions.{EachMayReopen}
+use Rattle.desk_jobs.specs.Openings.{Connections, Nothing}
+use Rattle.desk_jobs.specs.Stages.{Stood}
+use Rattle.desk_jobs.proofs.StageLemmas.{either, exchanges_answered, exchanges_served, not_asked}
 use Rattle.program_ends.specs.Ends.{EndsBadly, EndsJob}
 use Rattle.program_ends.specs.declared.ended.Ended.{Ended}
 use Rattle.program_ends.specs.declared.ends.End.{End}

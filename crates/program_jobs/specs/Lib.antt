@@ -7,3 +7,9 @@ pub mod Serving
 pub mod Sources
 pub mod Streams
 pub mod Tasks
+pub mod Promises
+pub mod Doing
+pub mod Invocations
+pub mod InvokedTasks
+pub mod Headline
+pub mod Examples

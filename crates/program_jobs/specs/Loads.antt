@@ -10,7 +10,7 @@ use Rattle.ledger.specs.Answer.{State}
 use Rattle.ledger.specs.Ledger.{Event}
 use Rattle.recovery.specs.Growing.{with_events}
 use Rattle.recovery.specs.Recovers.{IsRecovery}
-use Rattle.histories.specs.Openings.{File, Nothing, asks_of_file}
+use Rattle.desk_jobs.specs.Openings.{File, Nothing, asks_of_file}
 use Rattle.desk_jobs.specs.Connections.{MayBeLeft, Represents}
 use Rattle.program_ends.specs.Ends.{EndsBadly, IfDone}
 use Rattle.program_ends.specs.declared.ends.End.{End}

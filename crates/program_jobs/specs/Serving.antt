@@ -9,7 +9,7 @@ use Rattle.sqlite.specs.Held.{Held}
 use Rattle.commands.specs.Texts.{sentence}
 use Rattle.commands.specs.declared.replies.Fault.{Fault}
 use Rattle.commands.specs.declared.replies.Fault.TheVariants.{Memory, Store}
-use Rattle.protocols.specs.Scenes.{ended}
+use Rattle.streams.specs.Scenes.{ended}
 use Rattle.ledger.specs.Answer.{State}
 use Rattle.saga_core.specs.Books.{LeavesJust}
 use Rattle.http_conversations.specs.Conversations.{history}
@@ -26,7 +26,7 @@ use Rattle.http_live.specs.declared.slots.Slot.{Slot}
 use Rattle.http_live.specs.declared.serving.Ending.{Ending}
 use Rattle.http_live.specs.declared.serving.Ending.TheVariants.{NoTurn, Stopped, Spent}
 use Rattle.http_live.specs.declared.serving.Turns as Turns
-use Rattle.histories.specs.Openings.{Connections, Input, Nothing}
+use Rattle.desk_jobs.specs.Openings.{Connections, Input, Nothing}
 use Rattle.program_ends.specs.Causes.{cause_of_end}
 use Rattle.program_ends.specs.Ends.{EndsBadly, EndsJob}
 use Rattle.program_ends.specs.declared.ended.Ended.{Ended}

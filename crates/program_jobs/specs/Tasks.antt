@@ -11,8 +11,8 @@ use Rattle.recovery.specs.Recovers.{Recovers}
 use Rattle.http_modes.specs.Worlds.{Exchange}
 use Rattle.migrate.specs.Indexing.{HasIndex}
 use Rattle.migrate.specs.Outcomes.{Migrates}
-use Rattle.histories.specs.Following.{StandsStill}
-use Rattle.histories.specs.Openings.{Lines, Nothing}
+use Rattle.desk_jobs.specs.Executions.{StandsStill}
+use Rattle.desk_jobs.specs.Openings.{Lines, Nothing}
 use Rattle.desk_jobs.specs.Connections.{Represents, RepresentsIn}
 use Rattle.program_ends.specs.Causes.{cause_of_end, cause_of_load}
 use Rattle.program_ends.specs.Ends.{IfDone}

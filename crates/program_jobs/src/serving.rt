@@ -10,17 +10,15 @@ ghost use Rattle.program_jobs.specs.Serving.{CameFrom, IsFrom, OpensTo, Serves, 
 
 use crate::environment::Environment;
 use commands::Fault;
-use desk_jobs::{note_recovered, ready_over};
-use histories::reopenings;
+use desk_jobs::{note_recovered, ready_over, reopenings};
 use http_live::{Ending, Turns, serve_to_end};
 use program_ends::{End, Ended, ProgramFault};
-use protocols::ServeFault;
 use recovery::{Ready, one_recovery};
 use saga_core::Book;
 use sqlite::{Alter, Connection};
 use std::alloc::Global;
 use std::io::{Read, Write};
-use streams::send;
+use streams::{ServeFault, send};
 use tables::TableBook;
 
 /// Recovers the desk of a connection, and serves who comes until there is a reason to end. Once somebody may come, the line

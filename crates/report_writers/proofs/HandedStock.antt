@@ -2,10 +2,8 @@
 use Rattle.std.proofs.Common.{◌≡◌, inl, inr, ℕ, ◌≤◌, List, [], ◌∷◌, map, find, true, false, Option, Some, None, refl, sym, ap, ap₂, subst, ◌∙◌, eqb-true, eq-eqb, option_map, arith}
 use Rattle.std.specs.Ordering.{is_lt, ordering_reverse}
 use Rattle.std.specs.declared.cmp.Ordering.{Ordering}
-use Rattle.std.specs.Cmp.{IsTotalOrder}
 use Rattle.std.specs.List.{AllByRecursion}
 use Rattle.std.proofs.Math.Bridge.{le_prop}
-use Rattle.std.proofs.lemmas.Cmp.{on_total, then_total, nat_cmp_total, nat_list_cmp_total}
 use Rattle.std.proofs.lemmas.Bool.{and_parts, and_from}
 use Rattle.std.proofs.lemmas.Slice.Eq.{bytes_eq-Decides}
 use Rattle.sqlite_trees.specs.Tree.{IsAscending}
@@ -27,13 +25,7 @@ use Rattle.sql_model.specs.Standing.{AreApart, is_stock_of, is_same_stock, place
 use Rattle.sql_model.specs.Reading.{stock_row_of}
 use Rattle.sql_model.proofs.Finding.{find-none}
 use Rattle.sql_model.proofs.Orders.{pairs-permutation}
-use Rattle.sql_model.proofs.StockRows.{stock_at-row, row-stock_at, same_back}
-
-pub stock_total : IsTotalOrder stock_cmp
-stock_total =
-    then_total (on_total (λ (r : StockRow). r.kind) nat_cmp_total)
-    (then_total (on_total (λ (r : StockRow). r.supplier) nat_list_cmp_total)
-    (then_total (on_total (λ (r : StockRow). r.product) nat_list_cmp_total) (on_total (λ (r : StockRow). r.night) nat_cmp_total)))
+use Rattle.sql_model.proofs.StockRows.{stock_at-row, row-stock_at, same_back, stock_total}
 
 -- no row is before itself
 not_before : (r : StockRow) → is_lt (stock_cmp r r) ≡ true → ⊥

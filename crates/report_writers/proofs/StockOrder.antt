@@ -1,33 +1,28 @@
--- The rows of stock have one order, and in it they tell the stock. For the rows of cells and of holders.
-use Rattle.std.proofs.Common.{◌≡◌, ℕ, ◌+◌, List, [], ◌∷◌, map, filter, cond, Bool, true, false, IsTrue, Ordering, Less, Equal, Greater, is_gt, is_lt, is_eq, IsSorted, refl, sym, ap, ap₂, subst, ◌∙◌, arith, bytes_eq, ◌==◌}
-use Rattle.std.specs.Cmp.{IsTotalOrder}
-use Rattle.std.specs.Cmp.Lexicographic.{slice_cmp}
+-- The rows of stock can be put in order, and then tell the stock. For the rows of cells and of holders.
+use Rattle.std.proofs.Common.{◌≡◌, List, [], ◌∷◌, map, filter, cond, Bool, true, false, IsTrue, Ordering, Less, Equal, Greater, is_gt, is_lt, refl, sym, ap, ap₂, subst, ◌∙◌}
 use Rattle.std.specs.List.{AllByRecursion}
 use Rattle.std.specs.List.Sorted.{IsPermutation}
-use Rattle.std.specs.Ordering.{nat_cmp, ordering_reverse, ordering_then}
+use Rattle.std.specs.Ordering.{ordering_reverse}
 use Rattle.std.proofs.lemmas.Bool.{and_from}
-use Rattle.std.proofs.lemmas.Bool.Decides.{nat_tests}
-use Rattle.std.proofs.lemmas.Cmp.{on_total, then_total, nat_cmp_total, nat_list_cmp_total, upto}
+use Rattle.std.proofs.lemmas.Cmp.{upto}
 use Rattle.std.proofs.lemmas.List.Sorted.{IsPermutation-sym}
-use Rattle.std.proofs.lemmas.Map.Text.{is_eq-slice_cmp}
 use Rattle.sqlite_keyed.specs.Lists.{insert_sorted, sort_by}
-use Rattle.sqlite_keyed.proofs.SortLemmas.{IsPermutation-sort_by, sorted_is-sort_by}
+use Rattle.sqlite_keyed.proofs.SortLemmas.{IsPermutation-sort_by}
 use Rattle.sqlite_rules.proofs.ListLemmas.{all_from, all_has, has_filtered}
 use Rattle.sqlite_trees.specs.Tree.{IsAscending}
-use Rattle.sqlite_trees.proofs.ListLemmas.{all_weaker, ascending_weaker, ascending-get_or}
+use Rattle.sqlite_trees.proofs.ListLemmas.{all_weaker}
 use Rattle.allotment.specs.Limits.{is_good_cell}
 use Rattle.allotment.specs.declared.cells.Cell.{Cell}
 use Rattle.allotment.specs.declared.places.Held.{Held}
 use Rattle.ledger.specs.Ledger.{Event, IsLegal}
 use Rattle.saga_core.specs.Views.{IsStock}
 use Rattle.desk_sql.specs.Lists.{IsListed}
-use Rattle.desk_sql.specs.RemainingRows.{IsOnlyOrder}
 use Rattle.desk_sql.specs.Rows.{StockRow}
 use Rattle.desk_sql.specs.Stock.{IsByCell, cell_cmp}
 use Rattle.desk_sql.proofs.Members.{permutation_from}
 use Rattle.sql_model.specs.Reading.{stock_row_of}
-use Rattle.sql_model.specs.Standing.{AreApart, is_same_stock, StockStands}
-use Rattle.sql_model.proofs.StockRows.{stock_found}
+use Rattle.sql_model.specs.Standing.{StockStands}
+use Rattle.sql_model.proofs.StockRows.{stock_found, stock_total}
 use Rattle.sql_reads.specs.GoodRows.{IsGoodStock}
 use Rattle.sql_reads.proofs.GoodStock.{good_row}
 
@@ -37,15 +32,9 @@ in_order rows = sort_by cell_cmp rows
 
 -- Rows are in order after they were sorted.
 
-cells_total : IsTotalOrder cell_cmp
-cells_total =
-    then_total (on_total (λ (r : StockRow). r.kind) nat_cmp_total)
-    (then_total (on_total (λ (r : StockRow). r.supplier) nat_list_cmp_total)
-    (then_total (on_total (λ (r : StockRow). r.product) nat_list_cmp_total) (on_total (λ (r : StockRow). r.night) nat_cmp_total)))
-
 -- what is after a row has it before itself
 turned : (r s : StockRow) → is_gt (cell_cmp r s) ≡ is_lt (cell_cmp s r)
-turned r s = ap is_gt (cells_total.antisymm r s) ∙ back (cell_cmp s r)
+turned r s = ap is_gt (stock_total.antisymm r s) ∙ back (cell_cmp s r)
   where
     back : (o : Ordering) → is_gt (ordering_reverse o) ≡ is_lt o
     back Less = refl
@@ -54,7 +43,7 @@ turned r s = ap is_gt (cells_total.antisymm r s) ∙ back (cell_cmp s r)
 
 -- no row before the second is before the first
 by_cell_twice : (r s t : StockRow) → IsByCell r s → IsByCell s t → IsByCell r t
-by_cell_twice r s t one two = sym (turned r t) ∙ upto cells_total r s t (turned r s ∙ one) (turned s t ∙ two)
+by_cell_twice r s t one two = sym (turned r t) ∙ upto stock_total r s t (turned r s ∙ one) (turned s t ∙ two)
 
 after_then : (o : Ordering) → is_gt o ≡ true → is_lt o ≡ false
 after_then Less e = absurd (cc)
@@ -88,49 +77,9 @@ rises (r ∷ rows) = rises_inserted r (in_order rows) (rises rows)
 
 pub listed_in_order : (rows : List StockRow) → IsListed IsByCell rows (in_order rows)
 listed_in_order rows = record {
-  same = IsPermutation-sym (in_order rows) rows (IsPermutation-sort_by cell_cmp cells_total rows);
+  same = IsPermutation-sym (in_order rows) rows (IsPermutation-sort_by cell_cmp stock_total rows);
   rising = rises rows;
 }
-
--- Rows of different cells have no other order.
-
-both_tie : (o p : Ordering) → ordering_then o p ≡ Equal → (o ≡ Equal) × (p ≡ Equal)
-both_tie Less p e = absurd (cc)
-both_tie Equal p e = (refl, e)
-both_tie Greater p e = absurd (cc)
-
-number_tie : (a b : ℕ) → nat_cmp a b ≡ Equal → (a == b) ≡ true
-number_tie a b e = grind (arith, nat_tests)
-
-text_tie : (a b : List ℕ) → slice_cmp nat_cmp a b ≡ Equal → bytes_eq a b ≡ true
-text_tie a b e = sym (is_eq-slice_cmp a b) ∙ ap is_eq e
-
--- rows that compare equal are of one cell
-tied_same : (r s : StockRow) → cell_cmp r s ≡ Equal → is_same_stock r s ≡ true
-tied_same r s e =
-    let one = both_tie (nat_cmp r.kind s.kind) _ e in
-    let two = both_tie (slice_cmp nat_cmp r.supplier s.supplier) _ one.1 in
-    let three = both_tie (slice_cmp nat_cmp r.product s.product) _ two.1 in
-    and_from _ _
-    (and_from _ _ (and_from _ _ (number_tie r.kind s.kind one.0) (text_tie r.supplier s.supplier two.0)) (text_tie r.product s.product three.0))
-    (number_tie r.night s.night three.1)
-
-apart_untied : (r s : StockRow) → is_same_stock r s ≡ false → is_eq (cell_cmp r s) ≡ false
-apart_untied r s off = go (cell_cmp r s) refl
-  where
-    go : (o : Ordering) → cell_cmp r s ≡ o → is_eq o ≡ false
-    go Less e = refl
-    go Equal e = absurd (let bad : true ≡ false = sym (tied_same r s e) ∙ off in cc)
-    go Greater e = refl
-
-pub stock_in_order : (rows : List StockRow) → AreApart is_same_stock rows → IsOnlyOrder IsByCell rows (in_order rows)
-stock_in_order rows once other listed =
-    sorted_is-sort_by cell_cmp cells_total rows other
-    (ascending_weaker (λ (r s : StockRow). is_same_stock r s ≡ false) (λ (r s : StockRow). is_eq (cell_cmp r s) ≡ false) apart_untied rows once)
-    listed.same sorted
-  where
-    sorted : IsSorted cell_cmp other
-    sorted k d low high = ascending-get_or IsByCell other k (k + 1) d listed.rising (omega arith) high
 
 -- The stock of a desk's tables.
 

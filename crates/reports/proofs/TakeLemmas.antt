@@ -1,5 +1,5 @@
 -- Rows that are taken from a source, one after another, and their text at a fault. For the loops over a source.
-use Rattle.std.proofs.Common.{◌≡◌, ◌∙◌, ◌+◌, ◌∷◌, ◌++◌, [], ap, append-nil, append_assoc, refl, sym, ℕ, List, subst, Option, Some, None, Result, Ok, Err, IsErr}
+use Rattle.std.proofs.Common.{◌≡◌, ◌∙◌, ◌+◌, ◌<◌, ◌∷◌, ◌++◌, [], ap, append-nil, append_assoc, arith, length, refl, suc, sym, take, zero, ℕ, List, Vec, subst, Option, Some, None, Result, Ok, Err, IsErr}
 use Rattle.saga_core.specs.RowSources.{count_of, Hands, HandsFirst}
 use Rattle.streams.specs.Written.{WroteFront}
 use Rattle.saga_core.specs.declared.row_sources.RowSource.{Ghosts}
@@ -136,3 +136,21 @@ module _ {R T : Type 0} {source : Ghosts R T} {old new : R} {text : List T → L
     given = it.given;
     takes = it.takes;
   }
+
+-- Lists that were taken.
+
+-- what is fewer than the most that were to be taken is all
+all_of_it : {X : Type 0} (n : ℕ) (taken all : List X) → taken ≡ take n all → length taken < n → taken ≡ all
+all_of_it zero taken all is few = absurd (omega (arith, few))
+all_of_it (suc n) taken [] is few = is
+all_of_it (suc n) taken (x ∷ all) is few =
+    let shorter : length (take n all) < n = let long = ap length is in omega (arith, long, few) in
+    is ∙ ap (λ xs. x ∷ xs) (all_of_it n (take n all) all refl shorter)
+
+-- so all were taken, where as many as a list may have were to be taken
+pub whole_list : {X Z : Type 0} (list : Vec X Z) (all : List X) → list.items ≡ take 18446744073709551615 all → list.items ≡ all
+whole_list list all is =
+    let long = list.ok.0 in
+    let room = list.ok.1 in
+    let small = list.small in
+    all_of_it 18446744073709551615 list.items all is (omega (arith, long, room, small))

@@ -21,6 +21,7 @@ mod pieces;
 mod records;
 mod reports;
 mod rows;
+mod taking;
 
 pub use faults::ReportFault;
 pub use fields::{csv_line, put_field, put_number};
@@ -30,3 +31,4 @@ pub use objects::{journey_object, json_line};
 pub use parts::{begin_stock, end_stock, stock_lines};
 pub use records::put_journey;
 pub use reports::{history_text, journeys_text, stock_text, unfinished_text};
+pub use taking::take_rows;

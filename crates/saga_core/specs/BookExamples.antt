@@ -12,7 +12,7 @@ use Rattle.ledger.specs.Examples.{load, row}
 use Rattle.saga_core.specs.Books.{Replies, MovesOn, KeepsAtMemory, Keeps, LeavesNoMore, LeavesAtStore, Shows}
 use Rattle.saga_core.specs.ChainExamples.{begun}
 use Rattle.saga_core.specs.Reasons.{ActsOn, ActsOnAfter, FailsAmong, HasReasonAmong, ReadsOn}
-use Rattle.saga_core.specs.RowSources.{Hands}
+use Rattle.saga_core.specs.RowSources.{Hands, StaysReady}
 use Rattle.saga_core.specs.Runs.{Asks, AreReplies, MovesOnBy, Stops, StopsAmong, state_after}
 use Rattle.saga_core.specs.Worlds.{EndsWith, GoesOnWith, GoesOnAmong, RunEndsAmong}
 
@@ -125,3 +125,11 @@ pub run_goes_on_with_a_prefix :
     → GoesOnAmong is_new stands leaves begun replies fault → RunEndsAmong stands leaves [] begun replies fault
 run_goes_on_with_a_prefix stands leaves replies fault goes =
     goes [] (record { world = tt; whole = refl; stands_there = refl })
+
+-- Rows, one at a time.
+
+pub row_leaves_the_later_ones_ready : (ready : Type 0) → StaysReady {T = ℕ} ready ⊥ (Ok 7) → ready
+row_leaves_the_later_ones_ready ready stays = stays
+
+pub row_fails_by_its_reason : (reason : Type 0) → StaysReady {T = ℕ} ⊥ reason (Err Store) → reason
+row_fails_by_its_reason reason stays = stays

@@ -206,7 +206,8 @@ stock_at-permutation rows found x same once = go (stock_at rows x) refl
         (permutation_to rows found r.0 same r.1) r.2
         ∙ ap Some r.3 ∙ sym e
 
-stock_total : IsTotalOrder stock_cmp
+-- the rows of the stock have one order
+pub stock_total : IsTotalOrder stock_cmp
 stock_total =
     then_total (on_total (λ (r : StockRow). r.kind) nat_cmp_total)
     (then_total (on_total (λ (r : StockRow). r.supplier) nat_list_cmp_total)

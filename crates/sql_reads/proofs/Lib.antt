@@ -17,5 +17,4 @@ pub mod ReadSought
 pub mod ReadStock
 pub mod ChoiceLemmas
 pub mod OptionReasons
-pub mod TakenItems
 pub mod NextItems

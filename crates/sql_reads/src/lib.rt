@@ -29,4 +29,4 @@ pub use reads::{
     read_stand,
 };
 pub use telling::{brief_of, cell_told};
-pub use traces::read_trace;
+pub use traces::{find_brief, read_items};

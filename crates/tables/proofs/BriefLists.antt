@@ -1,5 +1,5 @@
 -- Lists of journeys above a number, whose rows are taken. For `brief_lists`.
-use Rattle.std.proofs.Common.{◌≡◌, ◌<◌, ℕ, zero, suc, List, [], ◌∷◌, filter, take, length, Bool, refl, ap, ◌∙◌, arith, filter_map, Result, Vec, IfOk, IsErrOf}
+use Rattle.std.proofs.Common.{◌≡◌, ℕ, List, filter, take, Bool, refl, filter_map, Result, Vec, IfOk, IsErrOf}
 use Rattle.sqlite.specs.Store.{Ghosts}
 use Rattle.sqlite.specs.Held.{Held, state}
 use Rattle.sqlite.specs.State.{HasCleanDisk}
@@ -40,21 +40,3 @@ briefs_read {g = g} {old = old} {mid = mid} most test passes agree same started 
 -- the test of rows is that of briefs
 pub owned_agree : (agent : List ℕ) (after : ℕ) (l : List Event) → Agree (is_owned_after agent after) (is_owned_above agent after) l
 owned_agree agent after l n b = refl
-
--- Lists that were taken.
-
--- what is fewer than the most that were to be taken is all
-all_of_it : {X : Type 0} (n : ℕ) (taken all : List X) → taken ≡ take n all → length taken < n → taken ≡ all
-all_of_it zero taken all is few = absurd (omega (arith, few))
-all_of_it (suc n) taken [] is few = is
-all_of_it (suc n) taken (x ∷ all) is few =
-    let shorter : length (take n all) < n = let long = ap length is in omega (arith, long, few) in
-    is ∙ ap (λ xs. x ∷ xs) (all_of_it n (take n all) all refl shorter)
-
--- so all were taken, where as many as a list may have were to be taken
-pub whole_list : {X Z : Type 0} (briefs : Vec X Z) (all : List X) → briefs.items ≡ take 18446744073709551615 all → briefs.items ≡ all
-whole_list briefs all is =
-    let long = briefs.ok.0 in
-    let room = briefs.ok.1 in
-    let small = briefs.small in
-    all_of_it 18446744073709551615 briefs.items all is (omega (arith, long, room, small))

@@ -4,9 +4,9 @@ ghost use Rattle.saga_core.specs.Views.{owned_above};
 ghost use Rattle.sql_reads.specs.Reading.{AreUnfinishedAbove};
 ghost use Rattle.sql_reads.specs.Reads.{Read};
 
-use crate::taking::take_rows;
 use commands::{Agent, Fault};
 use report_writers::{FoundRows, Progress};
+use reports::take_rows;
 use saga_core::Brief;
 use sql_lists::{hand_owned, hand_unfinished};
 use sql_model::fault_of;

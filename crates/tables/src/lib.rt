@@ -15,7 +15,7 @@ mod faults;
 mod laws;
 mod opening;
 mod stock_lists;
-mod taking;
+mod traces;
 
 pub use books::TableBook;
 pub use faults::OpenFault;

@@ -7,10 +7,10 @@ ghost use Rattle.sql_reads.specs.Lending.{LeavesIfErr};
 ghost use Rattle.sql_reads.specs.Reads.{Read};
 ghost use Rattle.tables.specs.StockLeft.{StockRemains};
 
-use crate::taking::take_rows;
 use allotment::{Cell, Held};
 use commands::Fault;
 use report_writers::{FoundRows, Progress};
+use reports::take_rows;
 use sql_lists::hand_stock;
 use sql_model::fault_of;
 use sqlite::{Alter, Connection, Error, Rows};

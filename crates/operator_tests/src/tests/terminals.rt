@@ -1,5 +1,5 @@
 //! What no clause says: what a terminal is shown, while the clock goes on by one second at each look.
-use progress::{Meter, Watched};
+use program_ends::{Meter, Watched};
 use std::cell::Cell;
 use std::io::{self, Read};
 use std::time::{Clock, Duration};

@@ -11,12 +11,13 @@ use crate::books::TableBook;
 use crate::brief_lists::read_owned;
 use crate::counting::counted_after;
 use crate::stock_lists::read_stock;
+use crate::traces::read_trace;
 use allotment::{Cell, Held, Night, Want};
 use commands::{Agent, Ask, Command, Fault, Item, Key, Reply};
 use desk_sql::Version;
 use saga_core::{Book, Brief, Counts, Record, Trace};
 use sql_commands::{answer, know_limits, read_kept};
-use sql_reads::{read_cells, read_history, read_journey, read_trace};
+use sql_reads::{read_cells, read_history, read_journey};
 use sqlite::Alter;
 
 /// The agent of an ask has its form, as each value of its type does. A call does nothing at run time.

@@ -5,8 +5,8 @@ use Rattle.ledger.specs.Answer.{start}
 use Rattle.ledger.specs.World.{after}
 use Rattle.saga_core.specs.Chains.{reopened}
 use Rattle.tables.specs.BookTerms.{LeavesBook, StandsBook}
-use Rattle.histories.proofs.FollowLemmas.{stands_reopened}
-use Rattle.histories.proofs.StageLemmas.{has_recovered, stopped_recovering}
+use Rattle.desk_jobs.proofs.ExecutionLemmas.{stands_reopened}
+use Rattle.desk_jobs.proofs.StageLemmas.{has_recovered, stopped_recovering}
 use Rattle.desk_jobs.proofs.EndLemmas.{book_fault, not_opening}
 use Rattle.desk_jobs.proofs.FollowLemmas.{book_stands}
 use Rattle.desk_jobs.proofs.ReasonLemmas.{acts_from, book_store, fails_as, may_recover, reason_from, run_store}

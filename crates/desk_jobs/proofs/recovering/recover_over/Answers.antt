@@ -5,7 +5,7 @@ use Rattle.sqlite.specs.State.{HasCleanDisk}
 use Rattle.tables.specs.BookTerms.{StandsBook}
 use Rattle.desk_jobs.specs.Connections.{Represents}
 use Rattle.program_ends.specs.declared.ends.End.TheVariants as finish
-use Rattle.histories.specs.Openings.{Nothing}
+use Rattle.desk_jobs.specs.Openings.{Nothing}
 use Rattle.desk_jobs.proofs.FollowLemmas.{follows_not_up, follows_unasked, follows_up}
 use Rattle.desk_jobs.proofs.JobLemmas.{desk_left, recovers_as, represented}
 use Rattle.desk_jobs.proofs.recovering.recover_over.Goals as goal

@@ -2,17 +2,17 @@
 use Rattle.std.proofs.Common.{option_map, sym, subst, ℕ}
 use Rattle.sqlite.specs.Held.{state}
 use Rattle.sqlite.specs.State.{HasCleanDisk}
-use Rattle.protocols.specs.Scenes.{scene}
+use Rattle.streams.specs.Scenes.{scene}
 use Rattle.tables.specs.BookTerms.{LeavesBook, StandsBook}
 use Rattle.desk_lines.specs.Lines.{lines}
 use Rattle.desk_lines.specs.Worlds.{asks_in}
 use Rattle.desk_sql.specs.declared.versions.Version.TheVariants.{Two}
 use Rattle.program_ends.specs.declared.ends.End.TheVariants as finish
-use Rattle.histories.specs.Following.{LeavesAnswered, StandsAnswered}
-use Rattle.histories.specs.Openings.{Lines}
-use Rattle.histories.specs.Stages.{Stood}
-use Rattle.histories.proofs.KnownLemmas.{if_some_more, of_lines}
-use Rattle.histories.proofs.StageLemmas.{lines_answered_if_known, stopped_at_line}
+use Rattle.desk_jobs.specs.Executions.{LeavesAnswered, StandsAnswered}
+use Rattle.desk_jobs.specs.Openings.{Lines}
+use Rattle.desk_jobs.specs.Stages.{Stood}
+use Rattle.desk_jobs.proofs.KnownLemmas.{if_some_more, of_lines}
+use Rattle.desk_jobs.proofs.StageLemmas.{lines_answered_if_known, stopped_at_line}
 use Rattle.desk_jobs.proofs.AnswerLemmas.{all_for_all, front_for_all, front_for_some, none_owed}
 use Rattle.desk_jobs.proofs.EndLemmas.{not_of_opening, run_fault}
 use Rattle.desk_jobs.proofs.FollowLemmas.{leaves_follows, stands_follows}

@@ -4,7 +4,7 @@ use Rattle.streams.proofs.ByteLemmas.{keeps_same}
 use Rattle.desk_lines.specs.Lines.{lines}
 use Rattle.desk_lines.specs.Worlds.{asks_in}
 use Rattle.program_ends.proofs.EndLemmas.{unrefused}
-use Rattle.histories.specs.Openings.{Lines}
+use Rattle.desk_jobs.specs.Openings.{Lines}
 use Rattle.desk_jobs.proofs.AnswerLemmas.{undone_for}
 use Rattle.desk_jobs.proofs.EndLemmas.{bad_job, not_done, recovery_fault}
 use Rattle.desk_jobs.proofs.FollowLemmas.{follows_not_up, follows_up, lines_unserved}

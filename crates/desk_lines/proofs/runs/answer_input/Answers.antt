@@ -1,10 +1,10 @@
 -- A run over lines answers one line after another, until the input ends or a fault comes.
 use Rattle.std.proofs.Common.{ap, sym, subst, refl, [], Err, arith}
 use Rattle.std.proofs.lemmas.Result.{err_from_is_err_and}
-use Rattle.protocols.specs.Faults.{IsOfReading}
-use Rattle.protocols.specs.declared.faults.ServeFault.{ServeFault}
-use Rattle.protocols.specs.declared.faults.ServeFault.TheVariants.{Memory, Read}
-use Rattle.protocols.proofs.KnownLemmas.{for_known}
+use Rattle.streams.specs.Faults.{IsOfReading}
+use Rattle.streams.specs.declared.serve_faults.ServeFault.{ServeFault}
+use Rattle.streams.specs.declared.serve_faults.ServeFault.TheVariants.{Memory, Read}
+use Rattle.streams.proofs.KnownLemmas.{for_known}
 use Rattle.saga_core.proofs.CallLemmas.{stays_alone, stays_served, stays_twice}
 use Rattle.desk_lines.proofs.ReasonLemmas.{line_fails, may_at_end, may_at_first, may_go_on, same_fault}
 use Rattle.desk_lines.proofs.ServeLemmas.{all_answered, answer_fails, goes_on, read_fails, starts, write_fails}

@@ -5,7 +5,7 @@ use Rattle.saga_core.specs.Runs.{Asks}
 use Rattle.desk_lines.specs.Lines.{lines}
 use Rattle.desk_lines.specs.Reading.{to_come}
 use Rattle.desk_lines.specs.Worlds.{asks_in}
-use Rattle.protocols.specs.Scenes.{scene}
+use Rattle.streams.specs.Scenes.{scene}
 use Rattle.desk_lines.proofs.ReasonLemmas.{MayStill}
 use Rattle.desk_lines.proofs.ServeLemmas.{SoFar}
 use Rattle.desk_lines.proofs.runs.answer_input.Given as goal

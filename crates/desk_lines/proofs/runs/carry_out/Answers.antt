@@ -2,7 +2,7 @@
 use Rattle.std.proofs.Common.{Global, Err, arith, None, Ok}
 use Rattle.std.proofs.lemmas.Result.{err_from_is_err_and}
 use Rattle.desk_lines.specs.Answering.{AnswersOrder}
-use Rattle.protocols.specs.Faults.{served_fault}
+use Rattle.streams.specs.Faults.{served_fault}
 use Rattle.desk_lines.proofs.ReasonLemmas.{command_fails, same_fault}
 use Rattle.desk_lines.proofs.runs.carry_out.Goals as goal
 use Rattle.commands.specs.Request.{Request}

@@ -1,6 +1,6 @@
 -- The result of a run says how the execution continues.
 use Rattle.std.proofs.Common.{arith}
-use Rattle.protocols.specs.Scenes.{scene}
+use Rattle.streams.specs.Scenes.{scene}
 use Rattle.desk_lines.proofs.WorldLemmas.{lines_go_on, lines_stop}
 use Rattle.desk_lines.proofs.runs.run_lines.Goals as goal
 

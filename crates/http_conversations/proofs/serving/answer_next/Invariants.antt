@@ -1,7 +1,8 @@
-use Rattle.std.proofs.Common.{◌≡◌, List, ℕ, Some}
+use Rattle.std.proofs.Common.{◌≡◌, List, ℕ, Some, false}
 use Rattle.ledger.specs.Answer.{State}
 use Rattle.saga_core.specs.Calls.{Stays}
 use Rattle.http_conversations.specs.Conversations.{history}
+use Rattle.http_conversations.specs.ServeReasons.{ServesOn}
 use Rattle.http_conversations.specs.Serving.{AwaitsNext, to_come}
 use Rattle.http_conversations.proofs.serving.answer_next.Given as goal
 
@@ -17,4 +18,6 @@ invariant-loop g l =
           → to_come h (left l.reader) ≡ Some stream;
       stands : book.is_sound l.book → (s : State) → book.stands l.fn.book s → book.stands l.book s;
       stays : Stays book.is_sound book.leaves book.has_failed l.fn.book l.book;
+      reason : ServesOn book.is_sound book.may_act book.has_reason (left l.fn.reader) (left l.reader) l.fn.book l.book false
+          (history l.fn.conversation) h;
     }

@@ -3,5 +3,5 @@ use Rattle.std.proofs.Common.{arith}
 use Rattle.streams.proofs.ByteLemmas.{consumes_after}
 use Rattle.http_conversations.proofs.serving.read_more.Goals as goal
 
-pub returns-in-Ok-clause-more : goal.returns-in-Ok-clause-more
-returns-in-Ok-clause-more g c = grind (arith, consumes_after)
+pub returns-in-Ok-clause-receives : goal.returns-in-Ok-clause-receives
+returns-in-Ok-clause-receives g c = grind (arith, consumes_after)

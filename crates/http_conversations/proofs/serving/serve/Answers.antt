@@ -1,6 +1,6 @@
 -- The result of serving says how the execution continues.
 use Rattle.std.proofs.Common.{arith}
-use Rattle.protocols.specs.Scenes.{scene}
+use Rattle.streams.specs.Scenes.{scene}
 use Rattle.desk_http.proofs.WorldLemmas.{messages_go_on, messages_stop}
 use Rattle.http_conversations.specs.declared.serving.Served.{Served}
 use Rattle.http_conversations.proofs.serving.serve.Goals as goal

@@ -1,6 +1,6 @@
 -- The items are read to the last one.
 use Rattle.std.proofs.Common.{arith}
-use Rattle.reports.proofs.TakeLemmas.{given_one, takes_none, takes_row, takes_twice}
+use Rattle.reports.proofs.TakeLemmas.{given_one, takes_none, takes_twice}
 use Rattle.previews.proofs.LatestLemmas.{reads_all, reads_more, reads_none}
 use Rattle.previews.proofs.steps.latest_option.Goals as goal
 

@@ -1,7 +1,7 @@
 -- What the recovery made is counted, or why it failed is the end.
 use Rattle.std.proofs.Common.{subst, ℕ, Some, Result, IfOk, IfErr}
 use Rattle.recovery.specs.Recovers.{Recovers}
-use Rattle.histories.specs.Openings.{Nothing}
+use Rattle.desk_jobs.specs.Openings.{Nothing}
 use Rattle.desk_jobs.specs.Connections.{Represents}
 use Rattle.program_ends.specs.declared.ends.End.{End}
 use Rattle.desk_jobs.specs.Following.{Follows, end_of_recovery}

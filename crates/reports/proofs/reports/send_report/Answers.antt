@@ -1,5 +1,5 @@
 -- A report is written in its parts: its head, its rows and its ending.
-use Rattle.std.proofs.Common.{◌≡◌, ◌∙◌, Err, ap, length, refl, subst, sym}
+use Rattle.std.proofs.Common.{◌∙◌, Err, ap, length, refl, subst, sym}
 use Rattle.std.proofs.lemmas.Result.{err_from_is_err_and}
 use Rattle.std.specs.List.{flat_map}
 use Rattle.reports.specs.Parts.{ending_text}

@@ -1,5 +1,5 @@
 -- The rows are written one after another, until the source has none left or a fault comes.
-use Rattle.std.proofs.Common.{◌≡◌, ◌∙◌, Err, arith, subst, sym}
+use Rattle.std.proofs.Common.{◌≡◌, ◌∙◌, arith, subst, sym}
 use Rattle.std.proofs.lemmas.Result.{err_from_is_err_and}
 use Rattle.saga_core.specs.RowSources.{Hands}
 use Rattle.reports.proofs.RowLemmas.{written_all, written_less, written_more, written_part}

@@ -3,10 +3,11 @@ use Rattle.std.proofs.Common.{rules}
 use Rattle.desk_sql.specs.FoundRows.{is_unfinished_after}
 use Rattle.saga_core.specs.Views.{is_unfinished_above}
 use Rattle.sql_reads.proofs.ReadLemmas.{read_less}
+use Rattle.reports.proofs.TakeLemmas.{whole_list}
 use Rattle.report_writers.proofs.HandedBriefs.{unfinished_agree}
 use Rattle.report_writers.proofs.ReadyLemmas.{ready_alone, takes_fails}
 use Rattle.report_writers.proofs.ShowLemmas.{reported_store}
-use Rattle.tables.proofs.BriefLists.{briefs_read, whole_list}
+use Rattle.tables.proofs.BriefLists.{briefs_read}
 use Rattle.tables.proofs.Taken.{not_begun_read}
 use Rattle.tables.proofs.brief_lists.read_unfinished.Goals as goal
 

@@ -2,9 +2,9 @@
 use Rattle.std.proofs.Common.{◌≡◌, rules, subst, sym, take}
 use Rattle.saga_core.specs.Views.{IsStock}
 use Rattle.sql_reads.proofs.ReadLemmas.{also_ok}
+use Rattle.reports.proofs.TakeLemmas.{whole_list}
 use Rattle.report_writers.proofs.ReadyLemmas.{ready_alone, takes_fails}
 use Rattle.report_writers.proofs.ShowLemmas.{reported_store}
-use Rattle.tables.proofs.BriefLists.{whole_list}
 use Rattle.tables.proofs.Taken.{list_read}
 use Rattle.tables.proofs.stock_lists.read_stock.Goals as goal
 

@@ -1,6 +1,0 @@
-pub mod KnownLemmas
-pub mod TellingLemmas
-pub mod StageLemmas
-pub mod OpeningLemmas
-pub mod FollowLemmas
-pub mod FileLemmas

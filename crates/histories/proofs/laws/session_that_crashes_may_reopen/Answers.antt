@@ -1,8 +1,0 @@
--- The law is used as it stands, of the world that was reopened once.
-use Rattle.saga_core.specs.ChainExamples.{crashed_within_the_step}
-use Rattle.histories.proofs.laws.session_that_crashes_may_reopen.Goals as goal
-
-pub returns : goal.returns
-returns c = record {
-  reopens = c.reopenings.ensures.reopens _ c.session_that_crashes.ensures.reopened.world;
-}

@@ -1,4 +1,0 @@
-mod PromiseLemmas
-mod ChainLemmas
-pub mod ComposeLemmas
-mod TaskLemmas

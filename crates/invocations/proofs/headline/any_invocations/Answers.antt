@@ -1,6 +1,0 @@
--- Each invocation goes on from where the one before it ended.
-use Rattle.invocations.proofs.ChainLemmas.{headline}
-use Rattle.invocations.proofs.headline.any_invocations.Goals as goal
-
-pub returns : goal.returns
-returns c = record { headline = headline c.promises.ensures.kept }
