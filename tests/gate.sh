@@ -22,6 +22,7 @@ if [ "$1" = fmt ]; then
   [ ! -e src/unread.rt ] || { echo "$PWD/src/unread.rt: it does not parse" && exit 1; }
   exit
 fi
+[ "$1" != doc ] || exec echo "$FAKE/kit/first.md"
 if [ "$1" = try ]; then
   mkdir "$TMPDIR/made" && printf tried >"$TMPDIR/made/program" && exec cat "$7"
 fi
@@ -297,6 +298,16 @@ echo "MemAvailable: 17000000 kB" >"$FAKE/memory"
 gate 0
 same "the checks side by side, which rt would run" none "$(cat "$FAKE/jobs")"
 echo "MemAvailable: 12000000 kB" >"$FAKE/memory"
+
+# a machine that takes twice what the table has for a small crate: everything is reckoned to take twice as long
+mkdir -p crates/failing_streams/src "$FAKE/kit/bin"
+echo 'failing_streams:' >>crates.txt
+printf 'failing_streams\t0.01\t-\t-\n' >>docs/minutes.tsv
+printf '#!%s\nimport time\nwhile time.process_time() < 1.2: pass\nprint("\\nlogic=proved")\n' "$(command -v python3)" >"$FAKE/kit/bin/rattle"
+chmod +x "$FAKE/kit/bin/rattle"
+gate 0 -- "a minute of the table takes 2."
+git checkout -q crates.txt docs
+rm -r crates/failing_streams
 
 # what fails
 gate 2 --since nowhere

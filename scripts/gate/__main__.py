@@ -17,7 +17,7 @@ from changes import Unknown, revision_of
 from choice import everything, first_look, of_landing
 from landings import add_landing, this_landing
 from lanes import Fillers, end_group, lanes_now, reckoned
-from proving import Proving, make_copy, wrongly_laid_out
+from proving import Proving, make_copy, pace_of_machine, wrongly_laid_out
 from tables import Tables
 from tasks import Results, all_tasks
 from telling import tell_choice, tell_first_look, tell_fixed, tell_minutes, tell_turns
@@ -56,10 +56,11 @@ class Gate:
         tasks = all_tasks(self, choice, self.results)
         # the scripts of a first look need not wait for proofs
         proving = self.lanes - 1 if choice.over_trial and self.lanes > 2 else self.lanes
-        minutes = reckoned(tasks, self.lanes, proving)
-        say(f"this takes about {minutes:.0f} minutes, with {self.lanes} checks side by side")
         if not is_laid_out(self.tables, self.lanes):
             return False
+        pace = pace_of_machine(self.tables, self.lanes)
+        minutes = reckoned(tasks, self.lanes, proving) * pace
+        say(f"this takes about {minutes:.0f} minutes, with {self.lanes} checks side by side; a minute of the table takes {pace:.2f} here")
         make_copy(self.tables, choice.crates, self.copy)
         self.heard.mkdir(exist_ok=True)
         first = choice.first_crates(self.tables)

@@ -11,7 +11,10 @@ from concurrent.futures import ThreadPoolExecutor
 from pathlib import Path
 
 from lanes import rt_fills
+from prover import Prover, is_proved
 
+# The crate by whose proof the gate learns how fast a machine is.
+SMALL = "failing_streams"
 PROVED = re.compile(r"rt: (\w+)(: its tests are)? (?:proved|is kept: .*)$")
 
 
@@ -47,6 +50,24 @@ def laid_out_otherwise(tables, copy, name):
     odd = [f"rt fmt lays out {it.as_posix()} differently" for it in files if (copy / it).read_bytes() != (tables.top / it).read_bytes()]
     failed = f"rt fmt fails in crates/{name}: {ran.stdout}{ran.stderr}".replace(f"{copy}/", "").strip()
     return odd + ([failed] if ran.returncode else [])
+
+
+def pace_of_machine(tables, lanes):
+    """Returns how many minutes a minute of the table takes here: by the processor's time for the proof of a small crate that stands on
+    none, so many side by side, since checks wait for memory as well."""
+    if SMALL not in tables.uses:
+        return 1.0
+    began = os.times()
+    with ThreadPoolExecutor(lanes) as pool:
+        proved = [*pool.map(lambda _: prove_alone(tables, SMALL), range(lanes))]
+    used = os.times().children_user - began.children_user + os.times().children_system - began.children_system
+    return used / lanes / 60 / tables.proof(SMALL) if all(proved) else 1.0
+
+
+def prove_alone(tables, name):
+    """Proves a crate that stands on none of the repository, from nothing, and returns whether it is proved."""
+    with Prover(tables, name, tables.top) as prover:
+        return is_proved(*prover.check({}, from_nothing=True))
 
 
 class Proving:

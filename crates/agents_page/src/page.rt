@@ -2,7 +2,7 @@
 
 /// What the page may load and do: its own style and script, and requests to the desk that served it.
 pub const POLICY: &str =
-    r#"default-src 'none'; script-src 'sha256-F05n41IqUhsaPsyPINn6TbSlv/R0RFaWpWWVrxFWSOk='; style-src 'sha256-v/aN891YSYsU5LbsCJGC/2lHDiq8mbGuZChwuWO8NmE='; connect-src 'self'; frame-ancestors 'none'; base-uri 'none'; form-action 'none'"#;
+    r#"default-src 'none'; script-src 'sha256-4fUdHBr/GQYhsEc+LWgvXi3arkJHr0EdQRrIN3NZ4qw='; style-src 'sha256-v/aN891YSYsU5LbsCJGC/2lHDiq8mbGuZChwuWO8NmE='; connect-src 'self'; frame-ancestors 'none'; base-uri 'none'; form-action 'none'"#;
 
 /// The page, in HTML.
 pub const PAGE: &str = r##"<!doctype html>
@@ -522,7 +522,7 @@ const WORDS = {
   optionAdded: ['Option {0} of step {1}: {2}.', 'Variante {0} von Schritt {1}: {2}.'],
   optionsMost: ['A step has at most 8 options.', 'Ein Schritt hat höchstens 8 Varianten.'],
   planEmpty: ['Choose a night in the stock, then press “Add as step 1”.', 'Wählen Sie eine Nacht im Bestand und dann „Als Schritt 1 hinzufügen“.'],
-  planHint: ['Each step takes places in one go. A step may have more options, of which the first is tried first, and a save-point after it, to which the journey can come back.', 'Jeder Schritt belegt seine Plätze auf einmal. Er kann mehrere Varianten haben, von denen die erste zuerst versucht wird, und danach einen Sicherungspunkt, zu dem die Reise zurückkommen kann.'],
+  planHint: ['Each step takes places in one go. A step may have several options, of which the first is tried first, and a save-point after it, to which the journey can come back.', 'Jeder Schritt belegt seine Plätze auf einmal. Er kann mehrere Varianten haben, von denen die erste zuerst versucht wird, und danach einen Sicherungspunkt, zu dem die Reise zurückkommen kann.'],
   clear: ['Clear', 'Leeren'],
   clearAll: ['Clear the new journey', 'Die neue Reise leeren'],
   clearSure: ['Clear the new journey?', 'Die neue Reise leeren?'],

@@ -2,10 +2,10 @@
 use Rattle.std.proofs.Common.{◌≡◌, ℕ, Global, List, Option, Vec, refl, subst}
 use Rattle.std.specs.Io.KnownBytes.{Appends}
 use Rattle.commands.specs.declared.replies.Refusal.TheVariants as refusal
-use Rattle.house_asking.specs.Answers.{IsAnswer}
-use Rattle.house_asking.specs.Exchanges.{Received}
-use Rattle.house_asking.specs.declared.answers.Answer.{Answer}
-use Rattle.house_asking.specs.declared.answers.Answer.TheVariants.{Report, NoJourney}
+use Rattle.http_pages.specs.Answers.{IsAnswer}
+use Rattle.http_pages.specs.Exchanges.{Received}
+use Rattle.http_pages.specs.declared.answer_pages.Answer.{Answer}
+use Rattle.http_pages.specs.declared.answer_pages.Answer.TheVariants.{Report, NoJourney}
 use Rattle.cli.specs.Asking.{RefusesAsked, TellsAsked}
 
 module _ (before after : Option (List ℕ)) (answer : Answer) (got : Received before after (λ came. IsAnswer came answer)) where

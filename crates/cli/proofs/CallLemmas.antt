@@ -8,7 +8,7 @@ use Rattle.command_line.specs.declared.jobs.Job.{Job}
 use Rattle.command_line.specs.declared.jobs.Job.TheVariants.{Run, Serve, Recover, Load, Stock, Calendar, Summary, Holders, Holdings, Unfinished, Journeys, History, Why, Migrate, Index, Version}
 use Rattle.command_line.specs.declared.jobs.LogForm.{LogForm}
 use Rattle.desk_jobs.specs.Notes.{MayNoteAll}
-use Rattle.http_modes.specs.Worlds.{Exchange}
+use Rattle.http_conversations.specs.Worlds.{Exchange}
 use Rattle.program_ends.specs.Ends.{EndsBadly, EndsJob, IfDone}
 use Rattle.program_ends.specs.declared.ended.Ended.{Ended}
 use Rattle.program_ends.specs.declared.ends.End.{End}
@@ -21,8 +21,8 @@ use Rattle.program_jobs.specs.declared.tasks.Source.{Source}
 use Rattle.program_jobs.specs.declared.tasks.Source.TheVariants as source
 use Rattle.program_jobs.specs.declared.tasks.Task.{Task}
 use Rattle.program_jobs.specs.declared.tasks.Task.TheVariants as task
-use Rattle.report_kinds.specs.declared.report.Report.{Report}
-use Rattle.report_kinds.specs.declared.report.Report.TheVariants as report
+use Rattle.saga_core.specs.declared.report.Report.{Report}
+use Rattle.saga_core.specs.declared.report.Report.TheVariants as report
 use Rattle.report_words.specs.Jobs.{report_of}
 use Rattle.program_jobs.specs.Doing.{Did, DidOver, IsUnopened}
 use Rattle.cli.specs.Actions.{IsActionOf, IsLoadAction, IsLoadOf, IsOfLoad, IsReportAction, IsSourceOf}

@@ -10,7 +10,7 @@ use Rattle.program_ends.specs.declared.ends.End.{End}
 use Rattle.desk_jobs.specs.Ends.{TellsAccepted}
 use Rattle.desk_jobs.specs.Notes.{MayNoteAll}
 use Rattle.desk_jobs.specs.Openings.{Input}
-use Rattle.http_modes.specs.Worlds.{Exchange}
+use Rattle.http_conversations.specs.Worlds.{Exchange}
 use Rattle.program_jobs.specs.Loads.{Loads, ReadsSource}
 use Rattle.program_jobs.specs.Outcomes.{Closes, HasEnded}
 use Rattle.program_jobs.specs.Serving.{ServesSo}

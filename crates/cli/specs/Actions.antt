@@ -12,7 +12,7 @@ use Rattle.program_jobs.specs.declared.tasks.Source.{Source}
 use Rattle.program_jobs.specs.declared.tasks.Source.TheVariants as source
 use Rattle.program_jobs.specs.declared.tasks.Task.{Task}
 use Rattle.program_jobs.specs.declared.tasks.Task.TheVariants as task
-use Rattle.report_kinds.specs.declared.report.Report.{Report}
+use Rattle.saga_core.specs.declared.report.Report.{Report}
 use Rattle.report_words.specs.Jobs.{report_of}
 use Rattle.cli.specs.declared.actions.Action.{Action}
 use Rattle.cli.specs.declared.actions.Action.TheVariants as action

@@ -3,11 +3,11 @@ use Rattle.std.specs.Prelude.{◌≡◌, ℕ, List, Option, Some, None}
 use Rattle.std.specs.Io.KnownBytes.{Appends}
 use Rattle.commands.specs.declared.replies.Refusal.{Refusal}
 use Rattle.commands.specs.declared.replies.Refusal.TheVariants as refusal
-use Rattle.house_asking.specs.Answers.{IsAnswer, IsPage}
-use Rattle.house_asking.specs.Exchanges.{Received}
-use Rattle.house_asking.specs.declared.answers.Answer.TheVariants as answer
-use Rattle.house_asking.specs.declared.asking.Unanswered.{Unanswered}
-use Rattle.house_asking.specs.declared.asking.Unanswered.TheVariants as unanswered
+use Rattle.http_pages.specs.Answers.{IsAnswer, IsPage}
+use Rattle.http_pages.specs.Exchanges.{Received}
+use Rattle.http_pages.specs.declared.answer_pages.Answer.TheVariants as answer
+use Rattle.http_pages.specs.declared.asking.Unanswered.{Unanswered}
+use Rattle.http_pages.specs.declared.asking.Unanswered.TheVariants as unanswered
 use Rattle.http_pages.specs.Statuses.{status_code}
 use Rattle.http_pages.specs.declared.heads.Status.TheVariants as status
 use Rattle.program_ends.specs.declared.causes.Cause.{Cause}

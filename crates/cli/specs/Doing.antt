@@ -10,7 +10,7 @@ use Rattle.command_line.specs.declared.asking.Socket.{Socket}
 use Rattle.command_line.specs.declared.jobs.Job.{Job}
 use Rattle.desk_files.specs.declared.closing.Left.{Left}
 use Rattle.desk_jobs.specs.Notes.{MayNoteAll}
-use Rattle.http_modes.specs.Worlds.{Exchange}
+use Rattle.http_conversations.specs.Worlds.{Exchange}
 use Rattle.program_ends.specs.Causes.{Explains}
 use Rattle.program_ends.specs.Ends.{EndsJob, IfDone, TellsError, status_of, told_out}
 use Rattle.program_ends.specs.declared.ended.Ended.{Ended}

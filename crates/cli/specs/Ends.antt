@@ -5,8 +5,8 @@ use Rattle.std.specs.Io.KnownBytes.{Appends, IsAtEnd}
 use Rattle.desk_lines.specs.Lines.{journey_in}
 use Rattle.desk_jobs.specs.Ends.{recovered_line, TellsAccepted}
 use Rattle.desk_jobs.specs.Migrating.{indexed_line, migrated_line}
-use Rattle.migrate.specs.declared.indexing.Indexed.{Indexed}
-use Rattle.migrate.specs.declared.migrating.Migrated.{Migrated}
+use Rattle.tables.specs.declared.indexing.Indexed.{Indexed}
+use Rattle.tables.specs.declared.migrating.Migrated.{Migrated}
 use Rattle.program_jobs.specs.Serving.{ready_line}
 use Rattle.command_line.specs.declared.jobs.Job.{Job}
 use Rattle.command_line.specs.Version.{version_line}

@@ -8,8 +8,8 @@ use Rattle.http_pages.specs.declared.answers.HtmlPage.{HtmlPage}
 use Rattle.http_sockets.specs.Options.{AddsPage, Options, options_of}
 use Rattle.http_sockets.specs.declared.limits.TheConstants.{PATIENCE}
 use Rattle.http_sockets.specs.declared.sockets.Sockets.{Sockets}
-use Rattle.http_modes.specs.declared.modes.Mode.{Mode}
-use Rattle.http_modes.specs.declared.modes.Mode.TheVariants.{Strict, Lenient}
+use Rattle.http_conversations.specs.declared.modes.Mode.{Mode}
+use Rattle.http_conversations.specs.declared.modes.Mode.TheVariants.{Strict, Lenient}
 use Rattle.cli.specs.Actions.{IsServedAs}
 use Rattle.cli.specs.declared.actions.Served.{Served}
 

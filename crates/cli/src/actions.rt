@@ -6,8 +6,8 @@ ghost use Rattle.cli.specs.Actions.{IsActionOf, IsLoadOf, IsOfLoad, IsReportActi
 use command_line::{Call, Job, LogForm as Form, Socket};
 use http_sockets::LogForm;
 use program_jobs::{Source, Task};
-use report_kinds::Report;
 use report_words::report_of;
+use saga_core::Report;
 use std::alloc::AllocError;
 
 /// What is done for a call.

@@ -1,13 +1,13 @@
 //! Reports of the desk that serves at a Unix socket, which is asked for them.
 ghost use Rattle.std.specs.Prelude.{◌≡◌, ◌≢◌, true};
 ghost use Rattle.std.specs.Io.KnownBytes.{Keeps};
-ghost use Rattle.house_asking.specs.Requests.{is_target};
+ghost use Rattle.http_pages.specs.Requests.{is_target};
 ghost use Rattle.program_ends.specs.Ends.{EndsJob, IfDone, IfRefused};
 ghost use Rattle.cli.specs.Asking.{cause_of_asking, end_of_asking, RefusesAsked, TellsAsked};
 
 use command_line::Socket;
 use commands::Refusal;
-use house_asking::{Answer, Unanswered, ask, is_target};
+use http_pages::{Answer, Unanswered, ask, is_target};
 use program_ends::{Cause, End, Ended, ProgramFault, end_of_connecting};
 use report_words::target_of;
 use std::alloc::Global;

@@ -8,13 +8,13 @@ use Rattle.allotment.specs.declared.cells.Cell.{Cell}
 use Rattle.clap.specs.Words.{Text}
 use Rattle.commands.specs.Limits.{most_events}
 use Rattle.commands.specs.Names.{is_agent}
-use Rattle.filters.specs.JourneyFilters.{state_named}
-use Rattle.filters.specs.declared.cells.CellFilter.{CellFilter}
-use Rattle.filters.specs.declared.journeys.JourneyFilter.{JourneyFilter}
-use Rattle.filters.specs.declared.journeys.JourneyState.{JourneyState}
-use Rattle.filters.specs.declared.journeys.JourneyState.TheVariants.{Run, Back, Ended, Undone}
-use Rattle.filters.specs.declared.journeys.Phases.{Phases}
-use Rattle.filters.specs.declared.journeys.Phases.TheVariants.{All, Unfinished, Only}
+use Rattle.saga_core.specs.JourneyFilters.{state_named}
+use Rattle.saga_core.specs.declared.cell_filters.CellFilter.{CellFilter}
+use Rattle.saga_core.specs.declared.journey_filters.JourneyFilter.{JourneyFilter}
+use Rattle.saga_core.specs.declared.journey_filters.JourneyState.{JourneyState}
+use Rattle.saga_core.specs.declared.journey_filters.JourneyState.TheVariants.{Run, Back, Ended, Undone}
+use Rattle.saga_core.specs.declared.journey_filters.Phases.{Phases}
+use Rattle.saga_core.specs.declared.journey_filters.Phases.TheVariants.{All, Unfinished, Only}
 
 -- the value that a word spells, if a word is given; nothing if the word spells none
 abbrev pub spelled : {X : Type 0} → (Text → Option X) → Option Text → Option (Option X)

@@ -13,7 +13,7 @@ use Rattle.command_line.specs.declared.jobs.JobFault.{JobFault}
 use Rattle.command_line.specs.declared.jobs.JobFault.TheVariants.{Usage, Memory}
 use Rattle.command_line.specs.declared.subcommands.Subcommand.{Subcommand}
 use Rattle.command_line.specs.declared.subcommands.Subcommand.TheVariants as sub
-use Rattle.reports.specs.declared.formats.Format.TheVariants as format
+use Rattle.saga_core.specs.declared.report.Format.TheVariants as format
 
 -- the subcommand of a job; the calendar is one of the stock, the holders of cells are those of `holders` where no one cell is
 -- given, and the job that prints the version has none

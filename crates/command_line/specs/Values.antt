@@ -6,8 +6,8 @@ use Rattle.clap.specs.Words.{Text, first_value, found_of}
 use Rattle.clap.specs.declared.parser.ArgMatches.{ArgMatches}
 use Rattle.command_line.specs.declared.jobs.LogForm.{LogForm}
 use Rattle.command_line.specs.declared.jobs.LogForm.TheVariants.{Plain}
-use Rattle.reports.specs.declared.formats.Format.{Format}
-use Rattle.reports.specs.declared.formats.Format.TheVariants as format
+use Rattle.saga_core.specs.declared.report.Format.{Format}
+use Rattle.saga_core.specs.declared.report.Format.TheVariants as format
 
 -- the value of each name that clap has read
 abbrev pub values_read : ArgMatches → Text → Option Text

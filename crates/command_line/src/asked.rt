@@ -3,7 +3,7 @@ ghost use Rattle.command_line.specs.Values.{values_read};
 ghost use Rattle.std.specs.Prelude.{◌≡◌, None, false, true, IfOk, IsOk, Some, codes, is_some};
 ghost use Rattle.allotment.specs.Nights.{night_in};
 ghost use Rattle.allotment.specs.Texts.{kind_of_word};
-ghost use Rattle.filters.specs.JourneyFilters.{state_named};
+ghost use Rattle.saga_core.specs.JourneyFilters.{state_named};
 ghost use Rattle.command_line.specs.Filters.{agent_named, asks_for_cells, cell_asked, code_named, has_bad_cells, has_bad_journeys, journey_asked, phases_in, spelled, unfinished_in, unfinished_named, unfinished_state, HasCells, HasJourneys};
 ghost use Rattle.command_line.specs.Jobs.{has_socket, IsUsage};
 
@@ -13,7 +13,7 @@ use crate::subcommands::Subcommand;
 use allotment::{Cell, Code, Kind, Night};
 use clap::ArgMatches;
 use commands::{Agent, MOST_EVENTS, number_between};
-use filters::{CellFilter, JourneyFilter, JourneyState, Phases};
+use saga_core::{CellFilter, JourneyFilter, JourneyState, Phases};
 use std::alloc::Global;
 
 /// The cells that are asked for.

@@ -3,8 +3,7 @@ ghost use Rattle.std.specs.Prelude.{◌≡◌};
 ghost use Rattle.command_line.specs.declared.jobs.JobFault.TheVariants.{Memory};
 
 use allotment::Cell;
-use filters::{CellFilter, JourneyFilter};
-use reports::Format;
+use saga_core::{CellFilter, Format, JourneyFilter};
 use std::alloc::AllocError;
 
 /// A job of the program.

@@ -9,7 +9,7 @@ use crate::errors::{no_number, no_value};
 use crate::jobs::{JobFault, LogForm};
 use clap::ArgMatches;
 use commands::number_between;
-use reports::Format;
+use saga_core::Format;
 use std::alloc::{AllocError, Global};
 
 /// The option of a format.

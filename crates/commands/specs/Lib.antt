@@ -10,3 +10,5 @@ pub mod Batches
 pub mod Making
 pub mod CellKeys
 pub mod Examples
+pub mod Objects
+pub mod Members

@@ -9,7 +9,7 @@ use Rattle.http_messages.specs.Heads.{Parts}
 use Rattle.http_pages.specs.Admitting.{plain}
 use Rattle.http_pages.specs.declared.routes.Denied.{Denied}
 use Rattle.http_pages.specs.declared.routes.Verb.TheVariants.{Get}
-use Rattle.report_kinds.specs.declared.report.Report.{Report}
+use Rattle.saga_core.specs.declared.report.Report.{Report}
 use Rattle.desk_http.specs.Demands.{Carry, Demand, SeeMetrics, Sender, Stop, admitted_of_house, asked_of_house, asked_report, carried, denied_by, report_demand}
 use Rattle.desk_http.specs.DemandValues.{AsksFor, Demands, demand_said}
 use Rattle.desk_http.specs.Monitored.{AsksForMetrics}

@@ -16,7 +16,7 @@ use Rattle.commands.specs.declared.replies.Refusal.TheVariants as refusal
 use Rattle.allotment_csv.specs.Files.{batch_of}
 use Rattle.allotment_csv.specs.declared.faults.CsvFault.{CsvFault}
 use Rattle.allotment_csv.specs.declared.faults.CsvFault.TheVariants as csv
-use Rattle.filters.specs.declared.cells.CellFilter.{CellFilter}
+use Rattle.saga_core.specs.declared.cell_filters.CellFilter.{CellFilter}
 use Rattle.http_messages.specs.Heads.{Parts, agent_of, is_method, is_unnamed, key_of}
 use Rattle.http_pages.specs.Admitting.{admitted, plain}
 use Rattle.http_pages.specs.Routes.{route_of}
@@ -25,7 +25,7 @@ use Rattle.http_pages.specs.declared.answers.HtmlPage.{HtmlPage}
 use Rattle.http_pages.specs.declared.routes.Route.{Route}
 use Rattle.http_pages.specs.declared.routes.Route.TheVariants.{LoadBatch, Begin, Step, Abort, Save, ShowJourney, ShowPlan, ShowWhy, ShowBegun, ShowUnfinished, ShowStock, ShowCells, ShowMine, ShowHealth, ShowAgent}
 use Rattle.http_pages.specs.declared.routes.Verb.TheVariants.{Get}
-use Rattle.report_kinds.specs.declared.report.Report.{Report}
+use Rattle.saga_core.specs.declared.report.Report.{Report}
 use Rattle.report_words.specs.Targets.{asks_for_report, report_asked}
 use Rattle.desk_http.specs.declared.doors.Asker.{Asker}
 use Rattle.desk_http.specs.declared.doors.Asker.TheVariants as who

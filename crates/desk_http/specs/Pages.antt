@@ -11,7 +11,7 @@ use Rattle.commands.specs.declared.replies.Reply.{Reply}
 use Rattle.commands.specs.declared.replies.Reply.TheVariants.{Begun}
 use Rattle.ledger.specs.Answer.{State, outcome}
 use Rattle.ledger.specs.Ledger.{Event, history}
-use Rattle.filters.specs.declared.cells.CellFilter.{CellFilter}
+use Rattle.saga_core.specs.declared.cell_filters.CellFilter.{CellFilter}
 use Rattle.saga_core.specs.Views.{IsStock, brief_of, counts_of, kept_under, owned_above, record_of, unfinished_of}
 use Rattle.saga_core.specs.declared.records.Brief.{Brief}
 use Rattle.saga_core.specs.declared.records.Record.{Record}

@@ -5,7 +5,7 @@ use Rattle.allotment.specs.declared.cells.Cell.{Cell}
 use Rattle.allotment.specs.declared.codes.Kind.TheVariants.{Flight, Room}
 use Rattle.allotment.specs.declared.places.Held.{Held}
 use Rattle.commands.specs.declared.replies.Refusal.TheVariants.{NoAgent}
-use Rattle.filters.specs.declared.cells.CellFilter.{CellFilter}
+use Rattle.saga_core.specs.declared.cell_filters.CellFilter.{CellFilter}
 use Rattle.http_pages.specs.Admitting.{plain}
 use Rattle.http_pages.specs.Pages.{Paged, report_page}
 use Rattle.http_pages.specs.declared.routes.Route.TheVariants.{ShowCells}

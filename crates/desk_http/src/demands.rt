@@ -13,11 +13,10 @@ ghost use Rattle.report_words.specs.Targets.{asks_for_report, report_asked};
 use crate::doors::{Asker, Door, Site};
 use crate::showing::{bare, begin, load};
 use commands::{Ask, Command, Key, Refusal};
-use filters::CellFilter;
 use http_messages::Request;
 use http_pages::{Denied, HtmlPage, Paths, Route, Verb, admit};
-use report_kinds::Report;
 use report_words::{asks_for_report, report_asked};
+use saga_core::{CellFilter, Report};
 use std::alloc::{AllocError, Global};
 
 /// The demand of a request with which nothing is wrong.

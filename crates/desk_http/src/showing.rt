@@ -22,16 +22,15 @@ use crate::doors::Asker;
 use crate::plan_texts::plan_in;
 use allotment_csv::{CsvFault, read_batch};
 use commands::{Command, Name, Refusal};
-use filters::CellFilter;
 use http_log::{Metrics, metrics_text};
 use http_pages::{
     Body, Owners, Page, agent_body, health_body, journey_body, plan_body, refused_page, shown_page,
     unfinished_body,
 };
 use plan::{Plan, PlanFault, json_is_read_back};
-use report_kinds::{Report, Reporting};
-use reports::{Format, stock_text};
-use saga_core::{Book, Brief, Listed, Record};
+use report_kinds::Reporting;
+use reports::stock_text;
+use saga_core::{Book, Brief, CellFilter, Format, Listed, Record, Report};
 use serde_json::Value;
 use std::alloc::{AllocError, Global};
 use std::str;

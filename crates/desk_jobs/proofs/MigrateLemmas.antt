@@ -5,9 +5,9 @@ use Rattle.sqlite.specs.Held.{Held, state}
 use Rattle.sqlite.specs.State.{HasCleanDisk}
 use Rattle.desk_sql.specs.declared.versions.Version.TheVariants.{Two}
 use Rattle.desk_jobs.specs.Executions.{StandsStill}
-use Rattle.migrate.specs.Indexing.{StandsOn}
-use Rattle.migrate.specs.Migrating.{LeavesEither}
-use Rattle.migrate.specs.Outcomes.{Migrates}
+use Rattle.tables.specs.Indexing.{StandsOn}
+use Rattle.tables.specs.Migrating.{LeavesEither}
+use Rattle.tables.specs.Outcomes.{Migrates}
 
 module _ {S : Type 0} (g : Ghosts S) (old new : Held S) (clean : HasCleanDisk (state g new)) where
   pub migrated_still : {n : ℕ} → Migrates g old new n → StandsStill g old new

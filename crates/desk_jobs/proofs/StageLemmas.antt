@@ -18,8 +18,8 @@ use Rattle.streams.specs.declared.serve_faults.ServeFault.{ServeFault}
 use Rattle.desk_lines.specs.Lines.{lines}
 use Rattle.desk_lines.specs.Serving as of_lines
 use Rattle.desk_lines.specs.Worlds as by_line
-use Rattle.http_modes.specs.Worlds.{Exchange}
-use Rattle.http_modes.specs.Worlds as by_exchange
+use Rattle.http_conversations.specs.Worlds.{Exchange}
+use Rattle.http_conversations.specs.Worlds as by_exchange
 use Rattle.desk_jobs.specs.Openings.{Input, Lines, Connections, AsksFor, IsAnsweredBy}
 use Rattle.desk_jobs.specs.Chains.{StandsAs}
 use Rattle.desk_jobs.specs.Stages.{HasRecovered, LeavesRecovering, Answering, LeavesAnswering}

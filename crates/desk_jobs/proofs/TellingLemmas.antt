@@ -11,8 +11,8 @@ use Rattle.desk_lines.specs.Lines.{lines, answer_line, answer_lines, state_after
 use Rattle.desk_lines.specs.Serving as of_lines
 use Rattle.desk_lines.specs.Worlds as by_line
 use Rattle.desk_http.specs.Pages.{state_after}
-use Rattle.http_modes.specs.Modes.{Said, Says}
-use Rattle.http_modes.specs.Worlds.{Exchange, AreDone, HasPage, Heard, asks_of}
+use Rattle.http_conversations.specs.Modes.{Said, Says}
+use Rattle.http_conversations.specs.Worlds.{Exchange, AreDone, HasPage, Heard, asks_of}
 use Rattle.desk_jobs.specs.Openings.{Input, Lines, Connections, IsTold}
 
 -- these bytes were written, and are answers to asks that were carried out

@@ -4,11 +4,11 @@ use Rattle.sqlite.specs.Store.{Ghosts}
 use Rattle.sqlite.specs.Held.{Held}
 use Rattle.commands.specs.Texts.{sentence}
 use Rattle.commands.specs.declared.replies.Refusal.TheVariants as refusal
-use Rattle.migrate.specs.Indexing.{RefusesIndex}
-use Rattle.migrate.specs.Outcomes.{FailsToMigrate}
-use Rattle.migrate.specs.declared.faults.MigrateFault.{MigrateFault}
-use Rattle.migrate.specs.declared.faults.MigrateFault.TheVariants as migration
-use Rattle.migrate.specs.declared.indexing.Indexed.{Indexed}
+use Rattle.tables.specs.Indexing.{RefusesIndex}
+use Rattle.tables.specs.Outcomes.{FailsToMigrate}
+use Rattle.tables.specs.declared.migrate_faults.MigrateFault.{MigrateFault}
+use Rattle.tables.specs.declared.migrate_faults.MigrateFault.TheVariants as migration
+use Rattle.tables.specs.declared.indexing.Indexed.{Indexed}
 use Rattle.program_ends.specs.Ends.{EndsBadly}
 use Rattle.program_ends.specs.declared.ends.End.{End}
 use Rattle.program_ends.specs.declared.ends.End.TheVariants as finish

@@ -16,7 +16,7 @@ use Rattle.recovery.specs.Worlds.{orders_of}
 use Rattle.streams.specs.Scenes.{ended}
 use Rattle.desk_lines.specs.Lines.{lines, answer_lines, written}
 use Rattle.desk_lines.specs.Worlds as by_line
-use Rattle.http_modes.specs.Worlds.{Exchange, AreDone, Heard, asks_of}
+use Rattle.http_conversations.specs.Worlds.{Exchange, AreDone, Heard, asks_of}
 
 -- What comes to a desk that was opened: the bytes of lines, or the exchanges with many connections, in the order in which their
 -- messages were carried out; or an allotment file, under the name of a batch; or nothing, where the desk only recovers.

@@ -6,19 +6,19 @@ ghost use Rattle.sqlite.specs.State.{HasCleanDisk};
 ghost use Rattle.streams.specs.Written.{WroteFront};
 ghost use Rattle.program_ends.specs.Ends.{EndsJob, IfDone};
 ghost use Rattle.desk_sql.specs.Calls.{Idle};
-ghost use Rattle.migrate.specs.Indexing.{HasIndex};
+ghost use Rattle.tables.specs.Indexing.{HasIndex};
 ghost use Rattle.desk_jobs.specs.Executions.{StandsStill};
 ghost use Rattle.desk_jobs.specs.Ends.{EndsWriting, IsOfWriting};
 ghost use Rattle.desk_jobs.specs.Jobs.{Leaves};
 ghost use Rattle.desk_jobs.specs.Migrating.{FailsIndex, indexed_line};
 
 use crate::migrating::end_of_fault;
-use migrate::{Indexed, index};
 use program_ends::End;
 use sqlite::{Alter, Connection};
 use std::alloc::Global;
 use std::io::Write;
 use streams::{ServeFault, send};
+use tables::{Indexed, index};
 
 /// Adds the index on the agents of journeys to the tables of a connection, in one commit, unless they have one. Nothing is
 /// recovered. Returns the connection, and how many journeys are indexed or why none are.

@@ -6,19 +6,19 @@ ghost use Rattle.sqlite.specs.State.{HasCleanDisk};
 ghost use Rattle.streams.specs.Written.{WroteFront};
 ghost use Rattle.program_ends.specs.Ends.{EndsBadly, EndsJob, IfDone};
 ghost use Rattle.desk_sql.specs.Calls.{Idle};
-ghost use Rattle.migrate.specs.Outcomes.{Migrates};
+ghost use Rattle.tables.specs.Outcomes.{Migrates};
 ghost use Rattle.desk_jobs.specs.Executions.{StandsStill};
 ghost use Rattle.desk_jobs.specs.Ends.{EndsWriting, IsOfWriting};
 ghost use Rattle.desk_jobs.specs.Jobs.{Leaves};
 ghost use Rattle.desk_jobs.specs.Migrating.{end_of_migration, FailsMigration, migrated_line};
 
 use commands::Refusal;
-use migrate::{MigrateFault, Migrated, migrate};
 use program_ends::{End, ProgramFault};
 use sqlite::{Alter, Connection};
 use std::alloc::Global;
 use std::io::Write;
 use streams::{ServeFault, send};
+use tables::{MigrateFault, Migrated, migrate};
 
 /// Migrates the tables of a connection from version 1 to version 2, in one commit. Nothing is recovered. Returns the
 /// connection, and how many events were migrated or why none were.

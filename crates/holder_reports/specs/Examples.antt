@@ -8,7 +8,7 @@ use Rattle.commands.specs.Request.{Begin, Step}
 use Rattle.ledger.specs.Answer.{State, start}
 use Rattle.ledger.specs.Examples.{after_all, load, nights_of, row, row_after, step, untried, want}
 use Rattle.ledger.specs.JourneyExamples.{one_aborted}
-use Rattle.reports.specs.declared.formats.Format.TheVariants.{Text, Json, Csv}
+use Rattle.saga_core.specs.declared.report.Format.TheVariants.{Text, Json, Csv}
 use Rattle.holder_reports.specs.Holders.{holders_of}
 use Rattle.holder_reports.specs.Layouts.{holders_in}
 use Rattle.holder_reports.specs.declared.holders.Holder.{Holder}

@@ -5,9 +5,9 @@ use Rattle.serde_json.proofs.OnLiterals.{serde_json_on_literals}
 use Rattle.csv.specs.Writing.{escaped, fields_text, is_blank}
 use Rattle.allotment.specs.declared.cells.Cell.{Cell}
 use Rattle.allotment.specs.declared.codes.Kind.TheVariants.{Flight, Room}
-use Rattle.filters.specs.declared.journeys.JourneyState.TheVariants.{Run, Ended}
+use Rattle.saga_core.specs.declared.journey_filters.JourneyState.TheVariants.{Run, Ended}
 use Rattle.ledger.specs.Examples.{row, row_after}
-use Rattle.reports.specs.declared.formats.Format.TheVariants.{Text, Json, Csv}
+use Rattle.saga_core.specs.declared.report.Format.TheVariants.{Text, Json, Csv}
 use Rattle.holder_reports.specs.Examples.{two_stays}
 use Rattle.holder_reports.specs.HoldingLayouts.{holdings_shown}
 use Rattle.holder_reports.specs.Holdings.{by_night, holdings_in}

@@ -4,14 +4,14 @@ use Rattle.allotment.specs.Nights.{night_text}
 use Rattle.allotment.specs.Texts.{kind_word}
 use Rattle.allotment.specs.declared.cells.Cell.{Cell}
 use Rattle.commands.specs.Texts.{sentence}
-use Rattle.filters.specs.JourneyFilters.{state_word}
+use Rattle.saga_core.specs.JourneyFilters.{state_word}
 use Rattle.serde_json.specs.Data.{Data}
 use Rattle.reports.specs.Columns.{left, right, line}
 use Rattle.reports.specs.Objects.{json_line}
-use Rattle.json_members.specs.Objects.{json, counts, says}
+use Rattle.commands.specs.Objects.{json, counts, says}
 use Rattle.reports.specs.Records.{csv_line}
-use Rattle.reports.specs.declared.formats.Format.{Format}
-use Rattle.reports.specs.declared.formats.Format.TheVariants.{Text, Json, Csv}
+use Rattle.saga_core.specs.declared.report.Format.{Format}
+use Rattle.saga_core.specs.declared.report.Format.TheVariants.{Text, Json, Csv}
 use Rattle.holder_reports.specs.Layouts.{rows_in}
 use Rattle.holder_reports.specs.declared.holdings.Holding.{Holding}
 

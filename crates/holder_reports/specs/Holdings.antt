@@ -2,9 +2,9 @@
 use Rattle.std.specs.Prelude.{◌≡◌, List, [], ◌∷◌, filter, filter_map, flat_map, map, sum_by, if◌then◌else◌, nat_le, Option, option_map}
 use Rattle.allotment.specs.declared.cells.Cell.{Cell}
 use Rattle.allotment.specs.declared.places.Held.{Held}
-use Rattle.filters.specs.CellFilters.{is_cell_asked}
-use Rattle.filters.specs.JourneyFilters.{state_of}
-use Rattle.filters.specs.declared.cells.CellFilter.{CellFilter}
+use Rattle.saga_core.specs.CellFilters.{is_cell_asked}
+use Rattle.saga_core.specs.JourneyFilters.{state_of}
+use Rattle.saga_core.specs.declared.cell_filters.CellFilter.{CellFilter}
 use Rattle.ledger.specs.Ledger.{Event, held}
 use Rattle.saga_core.specs.Views.{brief_of}
 use Rattle.saga_core.specs.declared.records.Brief.{Brief}

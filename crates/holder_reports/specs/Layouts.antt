@@ -5,10 +5,10 @@ use Rattle.serde_json.specs.Data.{Data}
 use Rattle.reports.specs.Columns.{right, line}
 use Rattle.reports.specs.Formats.{last_line}
 use Rattle.reports.specs.Objects.{json_line}
-use Rattle.json_members.specs.Objects.{json, counts}
+use Rattle.commands.specs.Objects.{json, counts}
 use Rattle.reports.specs.Records.{csv_line}
-use Rattle.reports.specs.declared.formats.Format.{Format}
-use Rattle.reports.specs.declared.formats.Format.TheVariants.{Text, Json, Csv}
+use Rattle.saga_core.specs.declared.report.Format.{Format}
+use Rattle.saga_core.specs.declared.report.Format.TheVariants.{Text, Json, Csv}
 use Rattle.holder_reports.specs.declared.holders.Holder.{Holder}
 
 -- four columns on the right: journey, step, option and places

@@ -3,7 +3,7 @@ ghost use Rattle.std.specs.Prelude.{◌≡◌, [], ◌∷◌, codes, decimal, If
 ghost use Rattle.allotment.specs.Nights.{night_text};
 ghost use Rattle.allotment.specs.Texts.{kind_word};
 ghost use Rattle.csv.specs.Records.{partial_of};
-ghost use Rattle.filters.specs.JourneyFilters.{state_word};
+ghost use Rattle.saga_core.specs.JourneyFilters.{state_word};
 ghost use Rattle.holder_reports.specs.HoldingLayouts.{cell_columns, holding_data, holding_fields, holding_line, holding_names, holding_row, holdings_head};
 ghost use Rattle.reports.specs.Columns.{left};
 ghost use Rattle.reports.specs.Objects.{json_line};
@@ -13,10 +13,10 @@ ghost use Rattle.serde_json.specs.View.{view};
 use crate::holdings::Holding;
 use crate::writing::Laid;
 use allotment::Cell;
+use commands::{put_text, put_whole};
 use csv::ByteRecord;
-use filters::JourneyState;
-use json_members::{put_text, put_whole};
-use reports::{Format, csv_line, json_line, night_text, put_field, put_number};
+use reports::{csv_line, json_line, night_text, put_field, put_number};
+use saga_core::{Format, JourneyState};
 use serde_json::{Map, Value};
 use std::alloc::{AllocError, Global};
 

@@ -2,7 +2,7 @@
 
 use allotment::Cell;
 use commands::Agent;
-use filters::JourneyState;
+use saga_core::JourneyState;
 
 /// A step of a journey that holds places of a cell, with what is shown of the cell and of the journey.
 #[derive(Clone, Copy, Debug, PartialEq, Eq)]

@@ -8,7 +8,8 @@ ghost use Rattle.serde_json.specs.View.{view};
 use crate::holders::Holder;
 use crate::writing::Laid;
 use csv::ByteRecord;
-use reports::{Format, csv_line, json_line, put_number};
+use reports::{csv_line, json_line, put_number};
+use saga_core::Format;
 use serde_json::{Value, json};
 use std::alloc::{AllocError, Global};
 

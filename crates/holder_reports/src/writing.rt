@@ -10,8 +10,8 @@ ghost use Rattle.streams.specs.Written.{WroteFront};
 
 use crate::holders::Holder;
 use crate::holdings::Holding;
-use reports::{Format, ReportFault};
-use saga_core::RowSource;
+use reports::ReportFault;
+use saga_core::{Format, RowSource};
 use std::alloc::{AllocError, Global};
 use std::io::Write;
 use streams::send_all;
@@ -19,7 +19,7 @@ use streams::send_all;
 /// A row of a report of holders.
 pub(crate) trait Laid: Sized + Drop {
     ghost use Rattle.std.specs.Prelude.{ℕ, List};
-    ghost use Rattle.reports.specs.declared.formats.Format.{Format};
+    ghost use Rattle.saga_core.specs.declared.report.Format.{Format};
 
     /// The heading of the report in a format.
     ghost heading: { Format → List ℕ };

@@ -5,13 +5,13 @@ use Rattle.commands.specs.declared.replies.Fault.{Fault}
 use Rattle.commands.specs.declared.replies.Fault.TheVariants as fault
 use Rattle.desk_http.specs.Pages.{closes, state_after, stops}
 use Rattle.desk_http.specs.declared.doors.Door.{Door}
-use Rattle.http_modes.specs.Pages.{AnswersAt, IsPageAt}
-use Rattle.http_modes.specs.Modes.{Said, Says}
+use Rattle.http_conversations.specs.Pages.{AnswersAt, IsPageAt}
+use Rattle.http_conversations.specs.Modes.{Said, Says}
 use Rattle.saga_core.specs.Runs.{Asks}
 use Rattle.streams.specs.declared.serve_faults.ServeFault.{ServeFault}
 use Rattle.streams.specs.declared.serve_faults.ServeFault.TheVariants.{Memory, Read, Store, Write}
 use Rattle.http_conversations.specs.Answering.{AnswersFirst, LeadsAs, LeavesAt}
-use Rattle.http_modes.specs.Worlds.{Exchange}
+use Rattle.http_conversations.specs.Worlds.{Exchange}
 use Rattle.http_conversations.specs.Exchanges.{since}
 use Rattle.http_conversations.specs.History.{History, TakesFirst, after_answer, after_loss, exchange, stops_by}
 use Rattle.http_conversations.specs.Leading.{GoesOn, GoesOnByOne, fault_by, has_broken}

@@ -1,3 +1,9 @@
+pub mod HeadLemmas
+pub mod TextLemmas
+pub mod PageLemmas
+pub mod SaidLemmas
+pub mod AskLemmas
+pub mod PageTextLemmas
 pub mod Steps
 pub mod CallLemmas
 pub mod ReasonLemmas

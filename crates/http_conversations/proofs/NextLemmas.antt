@@ -12,11 +12,11 @@ use Rattle.desk_http.specs.Pages.{IsPage, state_after}
 use Rattle.desk_http.specs.declared.doors.Door.{Door}
 use Rattle.desk_http.specs.declared.doors.Door.TheVariants.{Port}
 use Rattle.desk_http.specs.Serving.{ForNext}
-use Rattle.http_modes.specs.Pages.{IsPageAt}
-use Rattle.http_modes.specs.Modes.{Said, Says}
-use Rattle.http_modes.specs.declared.modes.Layout.TheVariants as layout
-use Rattle.http_modes.specs.declared.modes.Mode.{Mode}
-use Rattle.http_modes.specs.declared.modes.Mode.TheVariants.{Strict}
+use Rattle.http_conversations.specs.Pages.{IsPageAt}
+use Rattle.http_conversations.specs.Modes.{Said, Says}
+use Rattle.http_conversations.specs.declared.modes.Layout.TheVariants as layout
+use Rattle.http_conversations.specs.declared.modes.Mode.{Mode}
+use Rattle.http_conversations.specs.declared.modes.Mode.TheVariants.{Strict}
 use Rattle.http_conversations.specs.Answering.{AnswersFirst, LeadsAs}
 use Rattle.http_conversations.specs.History.{HasNoTurn, History, TakesFirst, after_received}
 use Rattle.http_conversations.specs.Serving.{AwaitsNext, FailsAt, GetsNext, IsAtPort, to_come}

@@ -6,7 +6,7 @@ use Rattle.streams.specs.declared.serve_faults.ServeFault.{ServeFault}
 use Rattle.streams.specs.declared.serve_faults.ServeFault.TheVariants.{Memory, Read, Store, Write}
 use Rattle.saga_core.specs.Runs.{Asks}
 use Rattle.desk_http.specs.Reasons.{GoesOnAt}
-use Rattle.http_modes.specs.Worlds.{Exchange}
+use Rattle.http_conversations.specs.Worlds.{Exchange}
 use Rattle.http_conversations.specs.Exchanges.{since}
 use Rattle.http_conversations.specs.Leading.{fault_by, has_broken}
 use Rattle.http_conversations.specs.Reasons.{AreAsked, EndsFor, HasReasons, Meant, MayGoOn, Reaches, asks_of, asks_with, state_with}

@@ -8,7 +8,7 @@ use Rattle.streams.specs.Faults.{IsOfReading, is_store, served_fault}
 use Rattle.streams.specs.declared.serve_faults.ServeFault.{ServeFault}
 use Rattle.saga_core.specs.Runs.{Asks}
 use Rattle.desk_http.specs.declared.doors.Door.TheVariants.{Port}
-use Rattle.http_modes.specs.declared.modes.Mode.TheVariants.{Strict}
+use Rattle.http_conversations.specs.declared.modes.Mode.TheVariants.{Strict}
 use Rattle.http_conversations.specs.Answering.{LeavesTaken}
 use Rattle.http_conversations.specs.Calls.{Receives}
 use Rattle.http_conversations.specs.History.{History, IsServed, new_history}

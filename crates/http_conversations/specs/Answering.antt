@@ -5,10 +5,10 @@ use Rattle.ledger.specs.Answer.{State}
 use Rattle.commands.specs.declared.replies.Fault.{Fault}
 use Rattle.commands.specs.declared.replies.Fault.TheVariants.{Memory, Store}
 use Rattle.desk_http.specs.Pages.{state_after}
-use Rattle.http_modes.specs.Pages.{IsPageAt}
-use Rattle.http_modes.specs.Reading.{IsRead}
-use Rattle.http_modes.specs.Modes.{Said, Says}
-use Rattle.http_modes.specs.declared.modes.Arrived.{Arrived}
+use Rattle.http_conversations.specs.Pages.{IsPageAt}
+use Rattle.http_conversations.specs.Reading.{IsRead}
+use Rattle.http_conversations.specs.Modes.{Said, Says}
+use Rattle.http_conversations.specs.declared.modes.Arrived.{Arrived}
 use Rattle.http_conversations.specs.History.{AnswersOne, History, Passes, TakesFirst, exchange}
 use Rattle.http_conversations.specs.declared.conversation.Stage.TheVariants.{Failed}
 

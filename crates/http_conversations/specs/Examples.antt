@@ -5,10 +5,10 @@ use Rattle.std.proofs.Common.{inl}
 use Rattle.ledger.specs.Answer.{State, start}
 use Rattle.saga_core.specs.Runs.{Asks}
 use Rattle.desk_http.specs.declared.doors.Door.TheVariants.{Port}
-use Rattle.http_modes.specs.Modes.{Says, unread}
-use Rattle.http_modes.specs.declared.modes.Layout.TheVariants as layout
-use Rattle.http_modes.specs.declared.modes.Mode.TheVariants.{Strict}
-use Rattle.http_modes.specs.Worlds.{Exchange}
+use Rattle.http_conversations.specs.Modes.{Says, unread}
+use Rattle.http_conversations.specs.declared.modes.Layout.TheVariants as layout
+use Rattle.http_conversations.specs.declared.modes.Mode.TheVariants.{Strict}
+use Rattle.http_conversations.specs.Worlds.{Exchange}
 use Rattle.http_conversations.specs.Exchanges.{bytes_of, pages_of}
 use Rattle.http_conversations.specs.History.{History, after_answer, after_loss, after_received, after_sent, new_history}
 use Rattle.http_conversations.specs.Reasons.{EndsFor, FailsAtLast, Meant, MayGoOn, asks_of}

@@ -3,10 +3,10 @@ use Rattle.std.specs.Prelude.{◌≡◌, ⊤, ℕ, Bool, true, false, List, [], 
 use Rattle.std.specs.List.{flat_map}
 use Rattle.desk_http.specs.Pages.{closes, stops}
 use Rattle.desk_http.specs.declared.doors.Door.{Door}
-use Rattle.http_modes.specs.PageTexts.{go_on}
-use Rattle.http_modes.specs.Modes.{Said, Says}
-use Rattle.http_modes.specs.Worlds.{Exchange}
-use Rattle.http_modes.specs.declared.modes.Mode.{Mode}
+use Rattle.http_conversations.specs.PageTexts.{go_on}
+use Rattle.http_conversations.specs.Modes.{Said, Says}
+use Rattle.http_conversations.specs.Worlds.{Exchange}
+use Rattle.http_conversations.specs.declared.modes.Mode.{Mode}
 use Rattle.http_conversations.specs.declared.conversation.Stage.{Stage}
 use Rattle.http_conversations.specs.declared.conversation.Stage.TheVariants.{Open, Closing, Failed}
 

@@ -3,11 +3,11 @@ use Rattle.std.specs.Prelude.{◌≡◌, ◌≢◌, ◌≤◌, ◌<◌, ◌⊎�
 use Rattle.commands.specs.declared.replies.Fault.{Fault}
 use Rattle.desk_http.specs.Pages.{closes, stops}
 use Rattle.desk_http.specs.declared.doors.Door.{Door}
-use Rattle.http_modes.specs.PageTexts.{go_on}
-use Rattle.http_modes.specs.Reading.{IsDueBy}
-use Rattle.http_modes.specs.Modes.{Said, Says, SaysNothing}
-use Rattle.http_modes.specs.declared.modes.Mode.{Mode}
-use Rattle.http_modes.specs.Worlds.{Exchange}
+use Rattle.http_conversations.specs.PageTexts.{go_on}
+use Rattle.http_conversations.specs.Reading.{IsDueBy}
+use Rattle.http_conversations.specs.Modes.{Said, Says, SaysNothing}
+use Rattle.http_conversations.specs.declared.modes.Mode.{Mode}
+use Rattle.http_conversations.specs.Worlds.{Exchange}
 use Rattle.http_conversations.specs.Exchanges.{AreAnswered, EndWithStop, IsAt, IsBy, bytes_of, go_on_if, pages_of}
 use Rattle.http_conversations.specs.declared.conversation.Stage.{Stage}
 use Rattle.http_conversations.specs.declared.conversation.Stage.TheVariants.{Open, Closing, Failed}

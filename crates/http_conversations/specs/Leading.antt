@@ -8,9 +8,9 @@ use Rattle.streams.specs.declared.serve_faults.ServeFault.{ServeFault}
 use Rattle.streams.specs.declared.serve_faults.ServeFault.TheVariants as serve
 use Rattle.desk_http.specs.Pages.{state_after}
 use Rattle.desk_http.specs.declared.doors.Door.{Door}
-use Rattle.http_modes.specs.Pages.{IsPageBy}
-use Rattle.http_modes.specs.Modes.{Said, Says}
-use Rattle.http_modes.specs.Worlds.{Exchange}
+use Rattle.http_conversations.specs.Pages.{IsPageBy}
+use Rattle.http_conversations.specs.Modes.{Said, Says}
+use Rattle.http_conversations.specs.Worlds.{Exchange}
 use Rattle.http_conversations.specs.Exchanges.{StopAtLast, since}
 use Rattle.http_conversations.specs.Reasons.{HasReasons}
 

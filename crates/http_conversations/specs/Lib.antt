@@ -1,3 +1,10 @@
+pub mod Modes
+pub mod Reading
+pub mod Pages
+pub mod Worlds
+pub mod Laws
+pub mod PageTexts
+pub mod PageExamples
 pub mod Exchanges
 pub mod History
 pub mod Examples

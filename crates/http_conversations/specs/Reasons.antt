@@ -6,8 +6,8 @@ use Rattle.ledger.specs.Answer.{State}
 use Rattle.saga_core.specs.Runs.{Asks}
 use Rattle.desk_http.specs.Pages.{command_in, state_after}
 use Rattle.desk_http.specs.Worlds.{asks_by}
-use Rattle.http_modes.specs.Modes.{Said, Says}
-use Rattle.http_modes.specs.Worlds.{Exchange}
+use Rattle.http_conversations.specs.Modes.{Said, Says}
+use Rattle.http_conversations.specs.Worlds.{Exchange}
 
 -- an exchange, and what its message says
 pub record Meant : Type 0 where

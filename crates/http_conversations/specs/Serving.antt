@@ -8,7 +8,7 @@ use Rattle.streams.specs.declared.serve_faults.ServeFault.TheVariants.{Memory, S
 use Rattle.desk_http.specs.Pages.{IsPage, closes, state_after}
 use Rattle.desk_http.specs.Serving.{ForNext}
 use Rattle.desk_http.specs.declared.doors.Door.TheVariants.{Port}
-use Rattle.http_modes.specs.declared.modes.Mode.TheVariants.{Strict}
+use Rattle.http_conversations.specs.declared.modes.Mode.TheVariants.{Strict}
 use Rattle.http_conversations.specs.History.{History}
 use Rattle.http_conversations.specs.declared.conversation.Stage.TheVariants.{Open, Closing}
 

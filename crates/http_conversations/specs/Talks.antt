@@ -4,8 +4,8 @@ use Rattle.std.specs.List.{flat_map}
 use Rattle.http_conversations.specs.declared.talk.Talk.{Talk}
 use Rattle.http_conversations.specs.declared.talk.Taken.{Taken}
 use Rattle.desk_http.specs.declared.doors.Door.{Door}
-use Rattle.http_modes.specs.declared.modes.Mode.{Mode}
-use Rattle.http_modes.specs.Worlds.{Exchange}
+use Rattle.http_conversations.specs.declared.modes.Mode.{Mode}
+use Rattle.http_conversations.specs.Worlds.{Exchange}
 use Rattle.http_conversations.specs.History.{History}
 
 -- the exchange with a message that was taken of these bytes

@@ -8,12 +8,12 @@ ghost use Rattle.http_conversations.specs.declared.conversation.TheConstants.{MO
 ghost use Rattle.saga_core.specs.Calls.{Serves};
 ghost use Rattle.std.specs.Prelude.{◌≡◌, ◌≢◌, ◌+◌, ◌<◌, ◌≤◌, ◌↔◌, [], length, Ok, false, IsTrue};
 
+use crate::modes::{Arrived, Mode};
 use crate::talk::Talk;
 use commands::{Fault, MOST_BYTES};
 use desk_http::Door;
 use http_log::Metrics;
 use http_messages::LONGEST_HEAD;
-use http_modes::{Arrived, Mode};
 use http_pages::Paths;
 use report_kinds::Reporting;
 use std::alloc::{AllocError, Global};

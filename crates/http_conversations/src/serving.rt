@@ -13,9 +13,9 @@ ghost use Rattle.http_conversations.specs.Serving.{AwaitsNext, FindsNext, HandsO
 ghost use Rattle.http_conversations.specs.ServeReasons.{HasServed, ServesOn, has_store_failed};
 
 use crate::conversation::{Conversation, MOST_READ, Stage};
+use crate::modes::Mode;
 use desk_http::Door;
 use http_log::Metrics;
-use http_modes::Mode;
 use http_pages::Paths;
 use recovery::Ready;
 use report_kinds::Reporting;

@@ -1,7 +1,7 @@
 //! What a conversation holds, and each step of it.
 ghost use Rattle.std.specs.Prelude.{◌≡◌, ◌≢◌, ◌≤◌, [], length, drop, vec_capacity, Ok, false};
 ghost use Rattle.saga_core.specs.Calls.{Serves};
-ghost use Rattle.http_modes.specs.Reading.{IsFirstOfBy};
+ghost use Rattle.http_conversations.specs.Reading.{IsFirstOfBy};
 ghost use Rattle.http_conversations.specs.Answering.{AnswersFirst, Sees, SeesLast};
 ghost use Rattle.http_conversations.specs.Calls.{GivesIfDue, Receives, Sends};
 ghost use Rattle.http_conversations.specs.Exchanges.{since};
@@ -11,10 +11,10 @@ ghost use Rattle.http_conversations.specs.Reasons.{HasReasons};
 ghost use Rattle.http_conversations.specs.Talks.{history_of};
 
 use crate::conversation::Stage;
+use crate::modes::{Arrived, Mode, answer_by, first_by, go_on_by, go_on_text};
 use commands::Fault;
 use desk_http::{Answer, Door};
 use http_log::Metrics;
-use http_modes::{Arrived, Mode, answer_by, first_by, go_on_by, go_on_text};
 use http_pages::Paths;
 use http_server::Log;
 use report_kinds::Reporting;

@@ -4,7 +4,7 @@ use Rattle.std.proofs.lemmas.Option.{slice_get_within}
 use Rattle.std.specs.Option.{option_copied, option_map_or}
 use Rattle.http_log.specs.declared.counting.Metrics.{Metrics}
 use Rattle.http_log.specs.declared.endings.Why.{Why}
-use Rattle.http_modes.specs.declared.modes.Arrived.{Arrived}
+use Rattle.http_conversations.specs.declared.modes.Arrived.{Arrived}
 use Rattle.http_journal.specs.Ends.{counted_end, is_taken, why_of}
 use Rattle.http_journal.specs.Seen.{counted_answer, counted_over, with_answer, with_slot}
 use Rattle.http_journal.specs.declared.known.Known.{Known}

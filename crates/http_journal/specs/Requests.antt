@@ -10,8 +10,8 @@ use Rattle.http_messages.specs.declared.requests.Message.TheVariants.{NoHead, As
 use Rattle.http_messages.specs.declared.requests.Request.{Request}
 use Rattle.http_messages.specs.declared.asked.AskedKind.{AskedKind}
 use Rattle.http_messages.specs.declared.asked.AskedKind.TheVariants.{Get, Head, Post, Options, Other}
-use Rattle.http_modes.specs.declared.modes.Layout.{Layout}
-use Rattle.http_modes.specs.declared.modes.Layout.TheVariants as layout
+use Rattle.http_conversations.specs.declared.modes.Layout.{Layout}
+use Rattle.http_conversations.specs.declared.modes.Layout.TheVariants as layout
 
 -- the method of a request as it was sent: HEAD is read as the GET that is meant, with a layout of its own
 abbrev pub method_of : AskedKind → Request → List ℕ

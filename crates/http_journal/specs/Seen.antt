@@ -9,7 +9,7 @@ use Rattle.http_log.specs.declared.counting.Metrics.{Metrics}
 use Rattle.http_live.specs.declared.slots.Standing.{Standing}
 use Rattle.http_live.specs.declared.slots.Standing.TheVariants as standing
 use Rattle.http_messages.specs.declared.requests.Message.{Message}
-use Rattle.http_modes.specs.declared.modes.Arrived.{Arrived}
+use Rattle.http_conversations.specs.declared.modes.Arrived.{Arrived}
 use Rattle.http_journal.specs.Ends.{why_of}
 use Rattle.http_journal.specs.Requests.{is_post, status_of}
 use Rattle.http_journal.specs.declared.known.Known.{Known}

@@ -15,10 +15,10 @@ ghost use Rattle.http_journal.specs.Seen.{counted_answer, counted_over, counted_
 use crate::clocks::{micros_between, millis_of};
 use crate::known::Known;
 use crate::texts::{ask_of, asked_by, is_post, refusal_in, status_in};
+use http_conversations::Arrived;
 use http_live::Standing;
 use http_log::{Asked, LogForm, Metrics, Peer, Recent, Why, opened_line, request_line, timed_line};
 use http_messages::Message;
-use http_modes::Arrived;
 use log::info;
 use std::alloc::{AllocError, Global};
 use std::io;

@@ -4,9 +4,9 @@ ghost use Rattle.std.specs.Char.{is_ascii_digit};
 ghost use Rattle.http_journal.specs.Requests.{ask_of, both, digits_of, is_post, is_post_of, method_by, method_of, refusal_of, status_of, text_of};
 
 use commands::{Agent, Key};
+use http_conversations::{Arrived, Layout};
 use http_log::Asked;
 use http_messages::{AskedKind, Message, Request};
-use http_modes::{Arrived, Layout};
 
 /// The name of the member of a body that reports a refusal's number.
 const REFUSED: &[u8] = b"\"refused\":";

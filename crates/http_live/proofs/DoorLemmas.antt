@@ -5,7 +5,7 @@ use Rattle.std.proofs.lemmas.List.Elements.{All-append, All-cons, All-get_or, Al
 use Rattle.std.specs.declared.io.traits.Read as Read
 use Rattle.std.specs.declared.io.traits.Write as Write
 use Rattle.desk_http.specs.declared.doors.Door.{Door}
-use Rattle.http_modes.specs.declared.modes.Mode.{Mode}
+use Rattle.http_conversations.specs.declared.modes.Mode.{Mode}
 use Rattle.http_conversations.specs.History.{History, Passes}
 use Rattle.http_live.specs.Arrivals.{Arrival, HasBothOfOne, IsAtItsDoor, IsReadInItsMode, arrival, arrival_of, arrivals_at}
 use Rattle.http_live.specs.Calls.{Admits, AreLeft, IsEmpty}

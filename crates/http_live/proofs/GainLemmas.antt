@@ -2,7 +2,7 @@
 use Rattle.std.proofs.Common.{◌≡◌, ◌∙◌, ℕ, Bool, true, false, List, [], ◌∷◌, ◌++◌, Option, Ok, Err, refl, sym, ap, subst, inl, inr, append_assoc}
 use Rattle.std.specs.Prelude.{Some, None}
 use Rattle.commands.specs.declared.replies.Fault.{Fault}
-use Rattle.http_modes.specs.Worlds.{Exchange}
+use Rattle.http_conversations.specs.Worlds.{Exchange}
 use Rattle.http_conversations.specs.History.{History, TakesFirst, exchange}
 use Rattle.http_live.specs.Endings.{is_stop}
 use Rattle.http_live.specs.Gains.{Gains, GainsOne, is_answer}

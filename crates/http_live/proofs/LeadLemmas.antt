@@ -4,7 +4,7 @@ use Rattle.std.proofs.lemmas.List.{length-append}
 use Rattle.std.proofs.Math.Seq.{drop-append-add}
 use Rattle.ledger.specs.Answer.{State}
 use Rattle.saga_core.specs.Runs.{Asks}
-use Rattle.http_modes.specs.Worlds.{Exchange}
+use Rattle.http_conversations.specs.Worlds.{Exchange}
 use Rattle.http_conversations.specs.Exchanges.{StopAtLast, since}
 use Rattle.http_conversations.specs.Leading.{Ends, GoesOnByOne, Leads}
 use Rattle.http_conversations.specs.Reasons.{HasReasons}

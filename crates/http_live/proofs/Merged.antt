@@ -6,7 +6,7 @@ use Rattle.std.proofs.lemmas.Bool.{cases_eq}
 use Rattle.std.proofs.lemmas.Grind.{common_steps, get_or-set_at}
 use Rattle.ledger.specs.Answer.{State}
 use Rattle.saga_core.specs.Runs.{Asks}
-use Rattle.http_modes.specs.Worlds.{Exchange}
+use Rattle.http_conversations.specs.Worlds.{Exchange}
 use Rattle.http_conversations.specs.Exchanges.{IsNoStop, StopAtLast, since}
 use Rattle.http_conversations.proofs.Steps.{since_more}
 use Rattle.http_conversations.specs.Leading.{Ends, GoesOnByOne}

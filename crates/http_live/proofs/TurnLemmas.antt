@@ -9,7 +9,7 @@ use Rattle.std.specs.declared.io.traits.Write as Write
 use Rattle.ledger.specs.Answer.{State}
 use Rattle.saga_core.specs.Runs.{Asks}
 use Rattle.desk_http.specs.declared.doors.Door.{Door}
-use Rattle.http_modes.specs.declared.modes.Mode.{Mode}
+use Rattle.http_conversations.specs.declared.modes.Mode.{Mode}
 use Rattle.http_conversations.specs.Leading.{GoesOnByOne, has_broken}
 use Rattle.http_live.specs.Arrivals.{arrivals_at}
 use Rattle.http_live.specs.Calls.{Admits, ChangesAt, ChangesOne, TakesTurns}

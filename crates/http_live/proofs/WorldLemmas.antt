@@ -9,7 +9,7 @@ use Rattle.saga_core.proofs.WorldLemmas.{KeepLimits-append, ends-cut, ends-with}
 use Rattle.desk_http.specs.Pages.{command_in, state_after}
 use Rattle.desk_http.specs.Worlds.{asks_by}
 use Rattle.desk_http.proofs.WorldLemmas.{by-in_limits, leads-by, limits_of, one-asked}
-use Rattle.http_modes.specs.Worlds.{Exchange, AreDone, GoesOnBy, HasPage, Heard, asks_of}
+use Rattle.http_conversations.specs.Worlds.{Exchange, AreDone, GoesOnBy, HasPage, Heard, asks_of}
 use Rattle.http_conversations.specs.Leading.{Comes, Ends, Leads, LeadsBy}
 use Rattle.http_live.specs.Merging.{Merges, Slotted, exchange_of}
 use Rattle.http_live.specs.Worlds.{WorldsGoOn}

@@ -3,7 +3,7 @@ use Rattle.std.specs.Prelude.{◌≡◌, List, [], ◌∷◌, All, map}
 use Rattle.std.specs.declared.io.traits.Read as Read
 use Rattle.std.specs.declared.io.traits.Write as Write
 use Rattle.desk_http.specs.declared.doors.Door.{Door}
-use Rattle.http_modes.specs.declared.modes.Mode.{Mode}
+use Rattle.http_conversations.specs.declared.modes.Mode.{Mode}
 use Rattle.http_conversations.specs.Conversations.{history}
 use Rattle.http_conversations.specs.Exchanges.{IsAt, IsBy}
 use Rattle.http_live.specs.Slots.{connections_at, exchanges_with}

@@ -1,7 +1,7 @@
 -- By which door a peer comes, in which mode it is read, and with which ends; and for which reason none comes.
 use Rattle.std.specs.Prelude.{⊤}
 use Rattle.desk_http.specs.declared.doors.Door.{Door}
-use Rattle.http_modes.specs.declared.modes.Mode.{Mode}
+use Rattle.http_conversations.specs.declared.modes.Mode.{Mode}
 use Rattle.http_live.specs.declared.serving.Turn.{Turn}
 use Rattle.http_live.specs.declared.serving.Turn.TheVariants.{Comes, Ready, Leaves, End}
 

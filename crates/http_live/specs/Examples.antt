@@ -1,8 +1,8 @@
 -- Three exchanges of two slots, as they were merged, computed.
 use Rattle.std.specs.Prelude.{◌≡◌, ℕ, List, [], ◌∷◌, false, codes, Some, refl}
 use Rattle.desk_http.specs.declared.doors.Door.TheVariants.{Port}
-use Rattle.http_modes.specs.declared.modes.Mode.TheVariants.{Strict}
-use Rattle.http_modes.specs.Worlds.{Exchange}
+use Rattle.http_conversations.specs.declared.modes.Mode.TheVariants.{Strict}
+use Rattle.http_conversations.specs.Worlds.{Exchange}
 use Rattle.http_live.specs.Merging.{Slotted, of_slot}
 
 -- a message, and its page

@@ -1,6 +1,6 @@
 -- What a turn gains: a message with its page, which waits to go out, or nothing.
 use Rattle.std.specs.Prelude.{◌≡◌, ℕ, ◌⊎◌, Bool, true, false, List, [], ◌∷◌, ◌++◌, Option, Some, None}
-use Rattle.http_modes.specs.Worlds.{Exchange}
+use Rattle.http_conversations.specs.Worlds.{Exchange}
 use Rattle.http_live.specs.declared.slots.Standing.{Standing}
 use Rattle.http_live.specs.declared.slots.Standing.TheVariants.{Answered, Stopped, Over}
 

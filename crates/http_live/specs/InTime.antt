@@ -7,7 +7,7 @@ use Rattle.ledger.specs.Answer.{State}
 use Rattle.saga_core.specs.Runs.{Asks}
 use Rattle.commands.specs.declared.replies.Fault.{Fault}
 use Rattle.desk_http.specs.declared.doors.Door.{Door}
-use Rattle.http_modes.specs.declared.modes.Mode.{Mode}
+use Rattle.http_conversations.specs.declared.modes.Mode.{Mode}
 use Rattle.http_conversations.specs.Leading.{has_broken}
 use Rattle.http_live.specs.Calls.{ChangesAt, ChangesOne, GoesOn, IsCleared, IsTakenBy, TakesTurns}
 use Rattle.http_live.specs.Endings.{turn_stops}

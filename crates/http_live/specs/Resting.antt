@@ -1,6 +1,6 @@
 -- What a connection waits for after its turn.
 use Rattle.std.specs.Prelude.{◌≡◌, ◌≢◌, ◌⊎◌, [], true, false, ⊤}
-use Rattle.http_modes.specs.Modes.{SaysNothing}
+use Rattle.http_conversations.specs.Modes.{SaysNothing}
 use Rattle.http_conversations.specs.History.{History}
 use Rattle.http_conversations.specs.declared.conversation.Stage.TheVariants.{Open, Closing}
 use Rattle.http_live.specs.declared.slots.Standing.{Standing}

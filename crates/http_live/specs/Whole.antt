@@ -6,8 +6,8 @@ use Rattle.commands.specs.declared.replies.Fault.{Fault}
 use Rattle.ledger.specs.Answer.{State}
 use Rattle.saga_core.specs.Runs.{Asks}
 use Rattle.desk_http.specs.declared.doors.Door.{Door}
-use Rattle.http_modes.specs.declared.modes.Mode.{Mode}
-use Rattle.http_modes.specs.Worlds.{Exchange}
+use Rattle.http_conversations.specs.declared.modes.Mode.{Mode}
+use Rattle.http_conversations.specs.Worlds.{Exchange}
 use Rattle.http_conversations.specs.Leading.{has_broken}
 use Rattle.http_live.specs.Arrivals.{AreAtTheirDoors, ArePairs, AreReadInTheirModes}
 use Rattle.http_live.specs.Slots.{exchanges_at}

@@ -4,7 +4,7 @@ use Rattle.ledger.specs.Answer.{State}
 use Rattle.ledger.specs.World.{Moment}
 use Rattle.saga_core.specs.Runs.{Asks}
 use Rattle.saga_core.specs.Worlds.{StandsAtEnd}
-use Rattle.http_modes.specs.Worlds.{Exchange, GoesOnBy}
+use Rattle.http_conversations.specs.Worlds.{Exchange, GoesOnBy}
 use Rattle.http_conversations.specs.Exchanges.{StopAtLast}
 use Rattle.http_conversations.specs.Reasons.{HasReasons}
 use Rattle.http_live.specs.Merging.{IsMerged, Slotted, exchange_of}

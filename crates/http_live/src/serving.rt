@@ -11,14 +11,13 @@ ghost use Rattle.http_live.specs.Doors.{ComesByItsDoor, ComesInItsMode, ComesWit
 ghost use Rattle.http_live.specs.declared.slots.Standing.{Standing};
 ghost use Rattle.http_live.specs.declared.serving.Turn.{Turn};
 ghost use Rattle.http_log.specs.declared.counting.Metrics.{Metrics};
-ghost use Rattle.http_modes.specs.declared.modes.Mode.{Mode};
+ghost use Rattle.http_conversations.specs.declared.modes.Mode.{Mode};
 
 use crate::slots::{Slot, Standing};
 use commands::Fault;
 use desk_http::Door;
-use http_conversations::MOST_READ;
+use http_conversations::{Arrived, MOST_READ, Mode};
 use http_log::Metrics;
-use http_modes::{Arrived, Mode};
 use http_pages::Paths;
 use recovery::Ready;
 use report_kinds::Reporting;

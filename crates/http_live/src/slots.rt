@@ -13,9 +13,8 @@ ghost use Rattle.std.specs.Prelude.{◌≡◌, ◌≤◌, ◌↔◌, All, length
 use crate::connection::Connection;
 use commands::Fault;
 use desk_http::Door;
-use http_conversations::{Conversation, MOST_READ, Stage};
+use http_conversations::{Arrived, Conversation, MOST_READ, Mode, Stage};
 use http_log::Metrics;
-use http_modes::{Arrived, Mode};
 use http_pages::Paths;
 use http_server::Log;
 use report_kinds::Reporting;

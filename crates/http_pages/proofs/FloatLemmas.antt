@@ -9,7 +9,7 @@ use Rattle.saga_core.specs.declared.records.Brief.{Brief}
 use Rattle.http_pages.specs.declared.bodies.Owners.{Owners}
 use Rattle.http_pages.specs.declared.bodies.Owners.TheVariants.{Hidden, Shown}
 use Rattle.http_pages.specs.Bodies.{list, item_data, brief_data, mine_data, unfinished_data}
-use Rattle.json_members.specs.Objects.{members, standing_members, json}
+use Rattle.commands.specs.Objects.{members, standing_members, json}
 
 -- where a journey is contains no float
 no_float-standing : (id pos : ℕ) (phase : Phase) → members_have_float (members (standing_members id pos phase)) ≡ false

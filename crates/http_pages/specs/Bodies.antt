@@ -9,7 +9,7 @@ use Rattle.commands.specs.declared.items.Phase.{Phase}
 use Rattle.commands.specs.declared.replies.Refusal.{Refusal}
 use Rattle.commands.specs.declared.replies.Reply.{Reply}
 use Rattle.commands.specs.declared.replies.Reply.TheVariants.{Loaded, Begun, Moved, Refused}
-use Rattle.json_members.specs.Objects.{Named, json, standing_members, whole}
+use Rattle.commands.specs.Objects.{Named, json, standing_members, whole}
 use Rattle.saga_core.specs.declared.records.Brief.{Brief}
 use Rattle.saga_core.specs.declared.records.Counts.{Counts}
 use Rattle.http_pages.specs.declared.bodies.Owners.{Owners}

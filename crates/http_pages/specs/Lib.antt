@@ -6,3 +6,6 @@ pub mod Statuses
 pub mod Bodies
 pub mod Pages
 pub mod PageExamples
+pub mod Requests
+pub mod Answers
+pub mod Exchanges

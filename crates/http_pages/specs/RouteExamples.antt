@@ -6,7 +6,7 @@ use lib.Utf8.{encode}
 use Rattle.matchit.proofs.OnLiterals.{matchit_on_literals}
 use Rattle.allotment.specs.declared.codes.Kind.TheVariants.{Room}
 use Rattle.commands.specs.declared.replies.Refusal.TheVariants as refusal
-use Rattle.filters.specs.declared.cells.CellFilter.{CellFilter}
+use Rattle.saga_core.specs.declared.cell_filters.CellFilter.{CellFilter}
 use Rattle.http_pages.specs.Admitting.{admitted, plain}
 use Rattle.http_pages.specs.Routes.{asked, cells_at, routes, route_of}
 use Rattle.http_pages.specs.declared.routes.Place.TheVariants as place

@@ -14,7 +14,7 @@ use Rattle.allotment.specs.Texts.{parts, slash, keep_if, kind_of_word, number_fr
 use Rattle.allotment.specs.declared.codes.Kind.{Kind}
 use Rattle.commands.specs.Limits.{most_events, most_named_position}
 use Rattle.commands.specs.Names.{is_batch_name, is_key}
-use Rattle.filters.specs.declared.cells.CellFilter.{CellFilter}
+use Rattle.saga_core.specs.declared.cell_filters.CellFilter.{CellFilter}
 use Rattle.http_pages.specs.Verbs.{verb_text}
 use Rattle.http_pages.specs.declared.routes.Entry.{Entry}
 use Rattle.http_pages.specs.declared.routes.Place.{Place}

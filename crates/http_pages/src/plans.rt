@@ -6,7 +6,7 @@ ghost use Rattle.plan.specs.PlanData.{plan_data, step_data, want_data};
 ghost use Rattle.plan.specs.PlanModel.{StepPlan, numbered, step_count};
 
 use allotment::Want;
-use json_members::{put_text, put_whole};
+use commands::{put_text, put_whole};
 use plan::Plan;
 use serde_json::{Map, Value, put};
 use std::alloc::{AllocError, Global};

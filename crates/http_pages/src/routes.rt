@@ -8,8 +8,8 @@ ghost use Rattle.std.specs.Prelude.{◌≡◌, IfOk, OnOk, is_some, IfErr, optio
 
 use allotment::{Code, Kind, Night};
 use commands::{Key, MOST_EVENTS, MOST_NAMED_POSITION, Name, Refusal, number_between};
-use filters::CellFilter;
 use matchit::Router;
+use saga_core::CellFilter;
 use std::alloc::{AllocError, Global};
 use std::str;
 

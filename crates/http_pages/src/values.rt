@@ -7,8 +7,7 @@ ghost use Rattle.http_pages.specs.Bodies.{journey_data, brief_data, mine_data, u
 ghost use Rattle.http_pages.specs.Bodies.{agent_data, begun_data, health_data, loaded_data, stopping_data};
 
 use crate::bodies::Owners;
-use commands::{Agent, Cursor, Item, Phase, Refusal, Reply};
-use json_members::{put_standing, put_text, put_whole};
+use commands::{Agent, Cursor, Item, Phase, Refusal, Reply, put_standing, put_text, put_whole};
 use plan::BadPlan;
 use saga_core::{Brief, Counts};
 use serde_json::{Map, Value, json, put};

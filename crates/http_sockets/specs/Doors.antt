@@ -4,7 +4,7 @@ use Rattle.desk_http.specs.declared.doors.Door.{Door}
 use Rattle.desk_http.specs.declared.doors.Door.TheVariants.{House}
 use Rattle.desk_http.specs.declared.doors.Door.TheVariants as doors
 use Rattle.desk_http.specs.declared.doors.Site.{Site}
-use Rattle.http_modes.specs.declared.modes.Mode.{Mode}
+use Rattle.http_conversations.specs.declared.modes.Mode.{Mode}
 use Rattle.http_live.specs.Doors.{ComesByItsDoor, ComesInItsMode, ComesWithBoth, EndsOnlyIf}
 use Rattle.http_live.specs.declared.serving.Turn.{Turn}
 use Rattle.http_live.specs.declared.serving.Turn.TheVariants.{Comes, Ready, Leaves, End}

@@ -6,8 +6,8 @@ use Rattle.http_log.specs.declared.forms.LogForm.{LogForm}
 use Rattle.http_pages.specs.declared.answers.HtmlPage.{HtmlPage}
 use Rattle.http_sockets.specs.declared.limits.Limits.{Limits}
 use Rattle.http_sockets.specs.declared.sockets.Sockets.{Sockets}
-use Rattle.http_modes.specs.declared.modes.Mode.{Mode}
-use Rattle.http_modes.specs.declared.modes.Mode.TheVariants.{Strict}
+use Rattle.http_conversations.specs.declared.modes.Mode.{Mode}
+use Rattle.http_conversations.specs.declared.modes.Mode.TheVariants.{Strict}
 
 -- how many peers may still come, if that is limited
 abbrev pub still_to_come : Sockets → Option ℕ

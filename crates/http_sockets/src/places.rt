@@ -7,9 +7,9 @@ ghost use Rattle.http_sockets.specs.Owed.{is_owed_anew, owed_after, shows_life};
 ghost use Rattle.http_sockets.specs.Slots.{HaveTurns};
 
 use desk_http::{Door, Site};
+use http_conversations::Mode;
 use http_live::Standing;
 use http_log::Why;
-use http_modes::Mode;
 use mio::net::{TcpStream, UnixStream};
 use mio::{Interest, Registry, Token};
 use std::alloc::{AllocError, Global};

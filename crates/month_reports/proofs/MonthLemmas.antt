@@ -4,8 +4,8 @@ use Rattle.std.proofs.lemmas.Bool.{and_parts, ltb-true}
 use Rattle.allotment.specs.Nights.{date_of}
 use Rattle.allotment.specs.declared.cells.Cell.{Cell}
 use Rattle.saga_core.specs.RowSources.{Hands, HandsFirst}
-use Rattle.filters.specs.CellFilters.{is_cell_asked}
-use Rattle.filters.specs.declared.cells.CellFilter.{CellFilter}
+use Rattle.saga_core.specs.CellFilters.{is_cell_asked}
+use Rattle.saga_core.specs.declared.cell_filters.CellFilter.{CellFilter}
 use Rattle.month_reports.specs.Months.{asked_of, AskedRest, before_first, goes_on, is_followed, months_of, MonthsRest, Places}
 
 -- these cells are in the first of these months, before its other cells

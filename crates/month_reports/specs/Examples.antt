@@ -5,11 +5,11 @@ use Rattle.std.proofs.Common.{lit≤}
 use Rattle.allotment.specs.Cells.{the_cell}
 use Rattle.allotment.specs.declared.codes.Kind.TheVariants.{Room}
 use Rattle.allotment.specs.declared.places.Held.{Held}
-use Rattle.reports.specs.declared.formats.Format.TheVariants.{Text}
+use Rattle.saga_core.specs.declared.report.Format.TheVariants.{Text}
 use Rattle.month_reports.specs.Calendars.{mark_of}
 use Rattle.month_reports.specs.Months.{Places, months_of}
 use Rattle.month_reports.specs.MonthReports.{months_in}
-use Rattle.month_reports.specs.declared.by_month.MonthReport.TheVariants.{Summary, Calendar}
+use Rattle.saga_core.specs.declared.report.MonthReport.TheVariants.{Summary, Calendar}
 
 -- ten places, of which nine are free; four, of which none is
 abbrev pub nine_free : Held

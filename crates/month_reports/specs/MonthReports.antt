@@ -1,17 +1,17 @@
 -- The reports by month: what stands before the months, the months, and what stands after so many of them.
 use Rattle.std.specs.Prelude.{◌+◌, ◌≤◌, ℕ, List, [], ◌++◌, length, codes, Option, Result}
 use Rattle.std.specs.List.{flat_map}
-use Rattle.filters.specs.declared.cells.CellFilter.{CellFilter}
+use Rattle.saga_core.specs.declared.cell_filters.CellFilter.{CellFilter}
 use Rattle.reports.specs.Formats.{last_line}
 use Rattle.reports.specs.Writing.{WritesCounted}
 use Rattle.reports.specs.declared.faults.ReportFault.{ReportFault}
-use Rattle.reports.specs.declared.formats.Format.TheVariants.{Text}
+use Rattle.saga_core.specs.declared.report.Format.TheVariants.{Text}
 use Rattle.saga_core.specs.declared.row_sources.RowSource.{Ghosts}
 use Rattle.month_reports.specs.Calendars.{calendar_head, calendar_row}
 use Rattle.month_reports.specs.Months.{asked_of, AskedRest, months_of, Places}
 use Rattle.month_reports.specs.Summaries.{summary_head, summary_row}
-use Rattle.month_reports.specs.declared.by_month.MonthReport.{MonthReport}
-use Rattle.month_reports.specs.declared.by_month.MonthReport.TheVariants.{Summary, Calendar}
+use Rattle.saga_core.specs.declared.report.MonthReport.{MonthReport}
+use Rattle.saga_core.specs.declared.report.MonthReport.TheVariants.{Summary, Calendar}
 
 -- what comes before the months
 abbrev pub months_head : MonthReport → List ℕ

@@ -4,8 +4,8 @@ use Rattle.allotment.specs.Cells.{kind_number}
 use Rattle.allotment.specs.Nights.{date_of}
 use Rattle.allotment.specs.declared.cells.Cell.{Cell}
 use Rattle.allotment.specs.declared.places.Held.{Held}
-use Rattle.filters.specs.CellFilters.{is_cell_asked}
-use Rattle.filters.specs.declared.cells.CellFilter.{CellFilter}
+use Rattle.saga_core.specs.CellFilters.{is_cell_asked}
+use Rattle.saga_core.specs.declared.cell_filters.CellFilter.{CellFilter}
 
 -- a cell and its places
 abbrev pub Places : Type 0

@@ -9,10 +9,10 @@ use Rattle.serde_json.specs.Data.{Data}
 use Rattle.commands.specs.Texts.{sentence}
 use Rattle.reports.specs.Columns.{left, right, line}
 use Rattle.reports.specs.Objects.{json_line}
-use Rattle.json_members.specs.Objects.{json, counts, says}
+use Rattle.commands.specs.Objects.{json, counts, says}
 use Rattle.reports.specs.Records.{csv_line}
-use Rattle.reports.specs.declared.formats.Format.{Format}
-use Rattle.reports.specs.declared.formats.Format.TheVariants.{Text, Json, Csv}
+use Rattle.saga_core.specs.declared.report.Format.{Format}
+use Rattle.saga_core.specs.declared.report.Format.TheVariants.{Text, Json, Csv}
 use Rattle.month_reports.specs.Months.{Places}
 use Rattle.month_reports.specs.declared.sums.Sums.{Sums}
 

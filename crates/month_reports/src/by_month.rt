@@ -1,5 +1,5 @@
 //! The reports by month.
-ghost use Rattle.std.specs.Prelude.{◌≡◌, ◌≤◌, length, IfErr, IfOk, OnOk};
+ghost use Rattle.std.specs.Prelude.{◌≡◌, ◌≤◌, length, string_bytes, IfErr, IfOk, OnOk};
 ghost use Rattle.std.specs.List.{flat_map};
 ghost use Rattle.std.specs.Io.KnownBytes.{Appends};
 ghost use Rattle.month_reports.specs.MonthReports.{month_shown, months_end, months_head, months_in, WritesMonths};
@@ -10,57 +10,43 @@ use crate::months::{next_asked, read_month};
 use crate::summaries::{summary_head, summary_row};
 use crate::sums::MOST_NIGHTS;
 use allotment::{Cell, Held};
-use filters::CellFilter;
-use reports::{Format, ReportFault};
-use saga_core::RowSource;
+use reports::ReportFault;
+use saga_core::{CellFilter, Format, MonthReport, RowSource};
 use std::alloc::{AllocError, Global};
 use std::io::Write;
 use streams::send_all;
 
-/// A report by month.
-#[derive(Clone, Copy, Debug, PartialEq, Eq)]
-pub enum MonthReport {
-    /// How many nights each month has and the sums of their places, in this format.
-    Summary(Format),
-    /// Each month's days in a row, with a mark that says how full each night is, as a text.
-    Calendar,
+/// What comes before the months.
+fn head_of(report: MonthReport) -> &'static str
+    ensures head { result.now ≡ months_head report }
+{
+    match report {
+        MonthReport::Summary(format) => summary_head(format),
+        MonthReport::Calendar => calendar_head(),
+    }
 }
 
-impl MonthReport {
-    ghost use Rattle.std.specs.Prelude.{string_bytes};
+/// The text of a month.
+fn show(alloc: Global, report: MonthReport, month: &[(Cell, Held)]) -> Result<Vec<u8>, AllocError>
+    requires few { length month.now ≤ MOST_NIGHTS }
 
-    /// What comes before the months.
-    fn head(self) -> &'static str
-        ensures head { result.now ≡ months_head self }
-    {
-        match self {
-            MonthReport::Summary(format) => summary_head(format),
-            MonthReport::Calendar => calendar_head(),
-        }
+    ensures text { IfOk result (λ bytes. bytes.items ≡ month_shown report month.now) }
+{
+    match report {
+        MonthReport::Summary(format) => summary_row(alloc, format, month),
+        MonthReport::Calendar => calendar_row(alloc, month),
     }
+}
 
-    /// The text of a month.
-    fn show(self, alloc: Global, month: &[(Cell, Held)]) -> Result<Vec<u8>, AllocError>
-        requires few { length month.now ≤ MOST_NIGHTS }
-
-        ensures text { IfOk result (λ bytes. bytes.items ≡ month_shown self month.now) }
-    {
-        match self {
-            MonthReport::Summary(format) => summary_row(alloc, format, month),
-            MonthReport::Calendar => calendar_row(alloc, month),
+/// What comes after so many months.
+fn ending_of(alloc: Global, report: MonthReport, count: u64) -> Result<String, AllocError>
+    ensures ending { IfOk result (λ text. string_bytes text ≡ months_end report count) }
+{
+    match report {
+        MonthReport::Summary(Format::Text) | MonthReport::Calendar => {
+            format!(in alloc; "months {count}\n")
         }
-    }
-
-    /// What comes after so many months.
-    fn ending(self, alloc: Global, count: u64) -> Result<String, AllocError>
-        ensures ending { IfOk result (λ text. string_bytes text ≡ months_end self count) }
-    {
-        match self {
-            MonthReport::Summary(Format::Text) | MonthReport::Calendar => {
-                format!(in alloc; "months {count}\n")
-            }
-            MonthReport::Summary(Format::Json | Format::Csv) => Ok(String::new(alloc)),
-        }
+        MonthReport::Summary(Format::Json | Format::Csv) => Ok(String::new(alloc)),
     }
 }
 
@@ -80,9 +66,9 @@ pub fn months_text<R: RowSource<(Cell, Held)>, W: Write>(
     ensures writes { WritesMonths R.RowSource rows.old rows.new filter.now (months_in report)
         (W.contents out.old) (W.contents out.new) result }
 {
-    send(out, report.head().as_bytes())?;
+    send(out, head_of(report).as_bytes())?;
     let count = send_months(alloc, report, filter, rows, out)?;
-    let text = report.ending(alloc, count)?;
+    let text = ending_of(alloc, report, count)?;
     send(out, text.as_bytes())?;
     Ok(count)
 }
@@ -102,7 +88,7 @@ fn send_months<R: RowSource<(Cell, Held)>, W: Write>(
     let mut next = next_asked(filter, rows)?;
     while let Some(first) = next {
         let month = read_month(alloc, filter, &first, rows)?;
-        let bytes = report.show(alloc, &month.cells)?;
+        let bytes = show(alloc, report, &month.cells)?;
         send(out, &bytes)?;
         count += 1;
         next = month.after;

@@ -2,7 +2,7 @@
 ghost use Rattle.std.specs.Prelude.{◌≡◌, ◌∷◌, List, IsTrue};
 ghost use Rattle.allotment.specs.declared.cells.Cell.{Cell};
 ghost use Rattle.allotment.specs.declared.places.Held.{Held};
-ghost use Rattle.filters.specs.declared.cells.CellFilter.{CellFilter};
+ghost use Rattle.saga_core.specs.declared.cell_filters.CellFilter.{CellFilter};
 ghost use Rattle.saga_core.specs.Views.{are_in_order};
 ghost use Rattle.month_reports.specs.Examples.{on_29};
 ghost use Rattle.month_reports.specs.Laws.{are_apart, cells_in, have_nights};

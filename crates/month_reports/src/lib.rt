@@ -16,5 +16,5 @@ mod months;
 mod summaries;
 mod sums;
 
-pub use by_month::{MonthReport, months_text};
+pub use by_month::months_text;
 pub use laws::{each_month_is_one_run, months_from_a_room};

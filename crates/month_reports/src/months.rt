@@ -9,9 +9,8 @@ use crate::days::goes_on;
 use crate::sums::MOST_NIGHTS;
 use allotment::{Cell, Held};
 use commands::Fault;
-use filters::CellFilter;
 use reports::ReportFault;
-use saga_core::RowSource;
+use saga_core::{CellFilter, RowSource};
 use std::alloc::{AllocError, Global};
 
 /// A month that was read, and the first cell after it.

@@ -9,9 +9,10 @@ ghost use Rattle.month_reports.specs.Summaries.{month_text, product_columns, sum
 
 use crate::sums::{MOST_NIGHTS, Sums, sums_of};
 use allotment::{Cell, Held, Night};
+use commands::{put_text, put_whole};
 use csv::ByteRecord;
-use json_members::{put_text, put_whole};
-use reports::{Format, csv_line, json_line, put_field, put_number};
+use reports::{csv_line, json_line, put_field, put_number};
+use saga_core::Format;
 use serde_json::{Map, Value};
 use std::alloc::{AllocError, Global};
 

@@ -1,5 +1,8 @@
 // Values from outside: the tables of routes and codes, and bodies and pages as the formats give them.
+mod log_lines;
+mod metrics;
 mod shown;
+mod terminals;
 
 use commands::{Agent, Cause, CsvCause, Cursor, Item, Key, Name, Phase, Refusal, Reply};
 use http_pages::{

@@ -3,7 +3,7 @@ use Rattle.std.proofs.Common.{refl, ◌≡◌, false, List, [], ◌∷◌, ◌++
 use Rattle.serde_json.specs.View.{items_of}
 use Rattle.serde_json.specs.Written.{has_float, items_have_float, members_have_float}
 use Rattle.commands.specs.declared.items.Phase.{Phase}
-use Rattle.json_members.specs.Objects.{Named, members, target_member}
+use Rattle.commands.specs.Objects.{Named, members, target_member}
 use Rattle.previews.specs.Layouts.{free_data, want_member, why_data}
 use Rattle.previews.specs.declared.nights.FreeNight.{FreeNight}
 use Rattle.previews.specs.declared.steps.NextStep.{NextStep}

@@ -10,7 +10,7 @@ use Rattle.commands.specs.Request.{Begin, Step}
 use Rattle.ledger.specs.Answer.{State, start}
 use Rattle.ledger.specs.Examples.{after_all, flight, load, nights_of, row, step, untried}
 use Rattle.ledger.specs.Ledger.{Journey}
-use Rattle.reports.specs.declared.formats.Format.TheVariants.{Text, Json, Csv}
+use Rattle.saga_core.specs.declared.report.Format.TheVariants.{Text, Json, Csv}
 use Rattle.previews.specs.Layouts.{why_of}
 
 -- a flight, and then two nights in a room

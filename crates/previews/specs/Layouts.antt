@@ -12,10 +12,10 @@ use Rattle.saga_core.specs.declared.records.Brief.{Brief}
 use Rattle.reports.specs.Columns.{line}
 use Rattle.reports.specs.Layouts.{history_ending}
 use Rattle.reports.specs.Objects.{json_line, journey_data}
-use Rattle.json_members.specs.Objects.{Named, json, counts, says, target_member}
+use Rattle.commands.specs.Objects.{Named, json, counts, says, target_member}
 use Rattle.reports.specs.Records.{csv_line, journey_names, journey_fields}
-use Rattle.reports.specs.declared.formats.Format.{Format}
-use Rattle.reports.specs.declared.formats.Format.TheVariants.{Text, Json, Csv}
+use Rattle.saga_core.specs.declared.report.Format.{Format}
+use Rattle.saga_core.specs.declared.report.Format.TheVariants.{Text, Json, Csv}
 use Rattle.previews.specs.Previews.{nights_ahead, preview_of}
 use Rattle.previews.specs.declared.nights.FreeNight.{FreeNight}
 use Rattle.previews.specs.declared.steps.NextStep.{NextStep}

@@ -3,7 +3,7 @@ use Rattle.std.specs.Prelude.{codes, Option, Some, None}
 use Rattle.serde_json.specs.Data.{Members, put, string}
 use Rattle.allotment.specs.Texts.{want_text}
 use Rattle.commands.specs.Texts.{item_text}
-use Rattle.json_members.specs.Members.{with_standing}
+use Rattle.commands.specs.Members.{with_standing}
 use Rattle.saga_core.specs.declared.records.Brief.{Brief}
 use Rattle.previews.specs.declared.steps.NextStep.{NextStep}
 

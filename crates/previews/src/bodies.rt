@@ -11,7 +11,7 @@ ghost use Rattle.previews.specs.declared.nights.FreeNight.{FreeNight};
 use crate::lines::step_word;
 use crate::nights::FreeNight;
 use crate::steps::{NextStep, Preview};
-use json_members::{put_standing, put_text};
+use commands::{put_standing, put_text};
 use reports::night_text;
 use saga_core::Brief;
 use serde_json::{Map, Value, json, put};

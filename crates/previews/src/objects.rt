@@ -3,14 +3,13 @@ ghost use Rattle.std.specs.Prelude.{◌≡◌, [], ◌∷◌, false, codes, IfOk
 ghost use Rattle.allotment.specs.Nights.{night_text};
 ghost use Rattle.serde_json.specs.View.{view};
 ghost use Rattle.reports.specs.Objects.{json_line};
-ghost use Rattle.json_members.specs.Objects.{counts, json, says};
+ghost use Rattle.commands.specs.Objects.{counts, json, says};
 ghost use Rattle.previews.specs.Layouts.{next_object, night_data, step_data};
 
 use crate::lines::step_word;
 use crate::nights::FreeNight;
 use crate::steps::NextStep;
-use commands::Item;
-use json_members::{put_text, put_whole};
+use commands::{Item, put_text, put_whole};
 use reports::{json_line, night_text};
 use serde_json::{Map, Value, json};
 use std::alloc::{AllocError, Global};

@@ -21,7 +21,7 @@ use Rattle.desk_jobs.specs.OpeningEnds.{end_of_open}
 use Rattle.desk_jobs.proofs.ReasonLemmas.{opening_fails}
 use Rattle.program_jobs.specs.Jobs.{EndsReport, FailsReport, RefusesAbsent, RefusesToShow}
 use Rattle.program_jobs.specs.Reporting.{IsFaultOfReport, Reports}
-use Rattle.report_kinds.specs.declared.report.Report.{Report}
+use Rattle.saga_core.specs.declared.report.Report.{Report}
 use Rattle.program_jobs.proofs.ReportLemmas.{failed_report}
 
 -- a fault of a report that was begun is one of a report

@@ -19,7 +19,7 @@ use Rattle.program_jobs.specs.Loads.{Loads}
 use Rattle.program_jobs.specs.Outcomes.{HasEnded, end_of}
 use Rattle.program_jobs.specs.Streams.{Streams}
 use Rattle.program_jobs.specs.Tasks.{CountsRecovery, Does, HasIndexed, HasMigrated, HasRecovered, HasServed, Runs}
-use Rattle.http_modes.specs.Worlds.{Exchange}
+use Rattle.http_conversations.specs.Worlds.{Exchange}
 use Rattle.program_jobs.specs.declared.outcomes.Count.TheVariants as count
 use Rattle.program_jobs.specs.declared.outcomes.Outcome.{Outcome}
 use Rattle.program_jobs.specs.declared.outcomes.Outcome.TheVariants as outcome

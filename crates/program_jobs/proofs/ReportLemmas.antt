@@ -8,7 +8,7 @@ use Rattle.program_ends.specs.Ends.{fault_of_report}
 use Rattle.program_ends.specs.declared.ends.End.TheVariants as finish
 use Rattle.program_ends.specs.declared.faults.ProgramFault.{ProgramFault}
 use Rattle.commands.specs.declared.replies.Refusal.TheVariants as refusal
-use Rattle.report_kinds.specs.declared.report.Report.{Report}
+use Rattle.saga_core.specs.declared.report.Report.{Report}
 use Rattle.ledger.specs.Answer.{State}
 use Rattle.report_writers.specs.Writing.{WritesIfThere}
 use Rattle.program_jobs.specs.Reporting.{end_of_report, Reports, ReportsIfThere}

@@ -16,13 +16,13 @@ use Rattle.ledger.specs.Answer.{State}
 use Rattle.ledger.specs.World.{Moment}
 use Rattle.saga_core.specs.Worlds.{StandsAtEnd}
 use Rattle.sql_model.specs.Keeping.{MayLeave, StoodFor}
-use Rattle.http_modes.specs.Worlds.{Exchange}
+use Rattle.http_conversations.specs.Worlds.{Exchange}
 use Rattle.http_conversations.specs.Leading.{has_broken}
 use Rattle.http_live.specs.Merging.{exchange_of}
 use Rattle.http_live.specs.Slots.{connections_at}
 use Rattle.http_live.specs.declared.slots.Slot.{Slot}
 use Rattle.http_live.specs.Whole.{EndsOver, GoOnByTurns}
-use Rattle.http_modes.specs.Worlds as by_exchange
+use Rattle.http_conversations.specs.Worlds as by_exchange
 use Rattle.http_live.specs.declared.serving.Ending.{Ending}
 use Rattle.http_live.specs.declared.serving.Ending.TheVariants.{NoTurn, Stopped, Spent}
 use Rattle.http_live.specs.declared.serving.Turns as Turns

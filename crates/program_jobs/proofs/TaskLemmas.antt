@@ -23,7 +23,7 @@ use Rattle.program_jobs.specs.Loads.{Loads}
 use Rattle.program_jobs.specs.Outcomes.{HasEnded, end_of}
 use Rattle.program_jobs.specs.Streams.{IsUntouched, Streams}
 use Rattle.program_jobs.specs.Tasks.{CountsRecovery, Does, HasServed, Runs}
-use Rattle.http_modes.specs.Worlds.{Exchange}
+use Rattle.http_conversations.specs.Worlds.{Exchange}
 use Rattle.program_jobs.specs.declared.outcomes.Outcome.{Outcome}
 use Rattle.program_jobs.specs.declared.outcomes.Outcome.TheVariants as outcome
 use Rattle.program_jobs.specs.declared.tasks.Source.{Source}

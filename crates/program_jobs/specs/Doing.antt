@@ -3,7 +3,7 @@ use Rattle.std.specs.Prelude.{◌⊎◌, ℕ, List, Option}
 use Rattle.sqlite.specs.Store.{Ghosts}
 use Rattle.sqlite.specs.Held.{Held}
 use Rattle.program_ends.specs.Ends.{EndsBadly, EndsJob}
-use Rattle.http_modes.specs.Worlds.{Exchange}
+use Rattle.http_conversations.specs.Worlds.{Exchange}
 use Rattle.program_ends.specs.declared.ended.Ended.{Ended}
 use Rattle.program_ends.specs.declared.ends.End.{End}
 use Rattle.program_jobs.specs.Outcomes.{Closes}

@@ -18,7 +18,7 @@ use Rattle.sql_model.specs.Spelling.{IsSpelled}
 use Rattle.tables.specs.Opening.{FailsToFound, FailsToOpen}
 use Rattle.tables.specs.declared.faults.OpenFault.TheVariants.{Store}
 use Rattle.report_kinds.specs.Texts.{IsOfJourney}
-use Rattle.report_kinds.specs.declared.report.Report.{Report}
+use Rattle.saga_core.specs.declared.report.Report.{Report}
 use Rattle.program_jobs.specs.Reporting.{IsFaultOfReport, IsNoJourney, RefusesVersion}
 
 -- a report of one journey is refused where there is none of its number, and no other report

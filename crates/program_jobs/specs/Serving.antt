@@ -13,7 +13,7 @@ use Rattle.streams.specs.Scenes.{ended}
 use Rattle.ledger.specs.Answer.{State}
 use Rattle.saga_core.specs.Books.{LeavesJust}
 use Rattle.http_conversations.specs.Conversations.{history}
-use Rattle.http_modes.specs.Worlds.{Exchange}
+use Rattle.http_conversations.specs.Worlds.{Exchange}
 use Rattle.http_conversations.specs.Exchanges.{StopAtLast}
 use Rattle.http_conversations.specs.History.{IsServed}
 use Rattle.http_live.specs.Arrivals.{AreAtTheirDoors, ArePairs, AreReadInTheirModes}

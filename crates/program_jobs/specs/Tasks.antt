@@ -8,9 +8,9 @@ use Rattle.sqlite.specs.State.{HasCleanDisk}
 use Rattle.desk_sql.specs.declared.versions.Version.{Version}
 use Rattle.ledger.specs.Answer.{State}
 use Rattle.recovery.specs.Recovers.{Recovers}
-use Rattle.http_modes.specs.Worlds.{Exchange}
-use Rattle.migrate.specs.Indexing.{HasIndex}
-use Rattle.migrate.specs.Outcomes.{Migrates}
+use Rattle.http_conversations.specs.Worlds.{Exchange}
+use Rattle.tables.specs.Indexing.{HasIndex}
+use Rattle.tables.specs.Outcomes.{Migrates}
 use Rattle.desk_jobs.specs.Executions.{StandsStill}
 use Rattle.desk_jobs.specs.Openings.{Lines, Nothing}
 use Rattle.desk_jobs.specs.Connections.{Represents, RepresentsIn}
@@ -20,7 +20,7 @@ use Rattle.program_ends.specs.declared.ends.End.{End}
 use Rattle.desk_jobs.specs.Following.{Follows}
 use Rattle.desk_jobs.specs.Jobs.{EndsRun, NotReady, NotesRun, RunsOver}
 use Rattle.desk_jobs.specs.Migrating.{FailsIndex, FailsMigration}
-use Rattle.report_kinds.specs.declared.report.Report.{Report}
+use Rattle.saga_core.specs.declared.report.Report.{Report}
 use Rattle.program_jobs.specs.Jobs.{EndsReport, FailsReport, KeepsDesk, RefusesToShow}
 use Rattle.program_jobs.specs.Loads.{Loads}
 use Rattle.program_jobs.specs.Outcomes.{HasEnded, IsReported, end_of}

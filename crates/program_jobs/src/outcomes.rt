@@ -7,10 +7,10 @@ ghost use Rattle.desk_jobs.specs.Ends.{EndsWriting};
 ghost use Rattle.program_jobs.specs.Outcomes.{Closes, IsReported, count_line, end_of, end_or};
 
 use desk_jobs::{Recovered, tell_indexed, tell_migrated};
-use migrate::{Indexed, Migrated};
 use program_ends::{End, Ended};
 use std::alloc::Global;
 use std::io::Write;
+use tables::{Indexed, Migrated};
 
 /// What a job counted, which is printed once the connection is closed.
 #[derive(Clone, Copy, Debug)]

@@ -11,7 +11,7 @@ ghost use Rattle.program_jobs.specs.Reporting.{Reports};
 use crate::blocks::{BLOCK, Blocks};
 use crate::reporting::report_over;
 use program_ends::{End, ProgramFault};
-use report_kinds::Report;
+use saga_core::Report;
 use sqlite::{Alter, Connection};
 use std::alloc::Global;
 use std::io::Write;

@@ -1,6 +1,6 @@
 //! What a job of the program does over a connection.
 
-use report_kinds::Report;
+use saga_core::Report;
 
 /// Where the bytes of an allotment file come from.
 #[derive(Debug, Drop)]

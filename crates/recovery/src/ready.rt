@@ -3,8 +3,8 @@ ghost use Rattle.std.specs.Prelude.{◌≡◌};
 
 use allotment::{Cell, Held, Night, Want};
 use commands::{Agent, Ask, Command, Fault, Item, Key, Reply};
-use report_kinds::{Report, Reporting};
-use saga_core::{Book, Brief, Counts, Record, Trace};
+use report_kinds::Reporting;
+use saga_core::{Book, Brief, Counts, Record, Report, Trace};
 use std::marker::Model;
 
 /// A book that is recovered. Only `recover` makes one. In a contract it is the book itself.

@@ -1,11 +1,11 @@
 -- Worked examples of what reports show: each is computed by the definitions.
 use Rattle.std.specs.Prelude.{◌≡◌, ℕ, List, [], ◌∷◌, true, Option, None, Some, is_some, refl}
-use Rattle.filters.specs.declared.cells.CellFilter.{CellFilter}
+use Rattle.saga_core.specs.declared.cell_filters.CellFilter.{CellFilter}
 use Rattle.holder_reports.specs.Examples.{two_stays}
 use Rattle.month_reports.specs.Examples.{on_1, on_29, on_30}
-use Rattle.reports.specs.declared.formats.Format.TheVariants.{Text}
+use Rattle.saga_core.specs.declared.report.Format.TheVariants.{Text}
 use Rattle.report_kinds.specs.Texts.{OfReport, asked_cells, report_text}
-use Rattle.report_kinds.specs.declared.report.Report.TheVariants.{History, Why}
+use Rattle.saga_core.specs.declared.report.Report.TheVariants.{History, Why}
 
 -- the stock from 2030-06-30 on, which is day 22095
 abbrev from_30 : CellFilter

@@ -3,9 +3,9 @@ use Rattle.std.specs.Prelude.{◌≡◌, ⊤, ℕ, List, filter, Option, Some, o
 use Rattle.allotment.specs.declared.cells.Cell.{Cell}
 use Rattle.allotment.specs.declared.places.Held.{Held}
 use Rattle.ledger.specs.Ledger.{Event, history}
-use Rattle.filters.specs.CellFilters.{is_cell_asked}
-use Rattle.filters.specs.JourneyFilters.{asked_of}
-use Rattle.filters.specs.declared.cells.CellFilter.{CellFilter}
+use Rattle.saga_core.specs.CellFilters.{is_cell_asked}
+use Rattle.saga_core.specs.JourneyFilters.{asked_of}
+use Rattle.saga_core.specs.declared.cell_filters.CellFilter.{CellFilter}
 use Rattle.holder_reports.specs.Holders.{holders_of}
 use Rattle.holder_reports.specs.HoldingLayouts.{holdings_shown}
 use Rattle.holder_reports.specs.Holdings.{cells_asked, holdings_in}
@@ -16,8 +16,8 @@ use Rattle.previews.specs.Previews.{begun_as}
 use Rattle.reports.specs.Formats.{history_in, journeys_in, stock_in}
 use Rattle.saga_core.specs.Views.{IsStock, record_of}
 use Rattle.saga_core.specs.declared.records.Record.{Record}
-use Rattle.report_kinds.specs.declared.report.Report.{Report}
-use Rattle.report_kinds.specs.declared.report.Report.TheVariants.{Stock, Journeys, Holders, Holdings, Months, History, Why}
+use Rattle.saga_core.specs.declared.report.Report.{Report}
+use Rattle.saga_core.specs.declared.report.Report.TheVariants.{Stock, Journeys, Holders, Holdings, Months, History, Why}
 
 -- the cells that are asked for, with their places
 abbrev pub asked_cells : CellFilter → List (Cell × Held) → List (Cell × Held)

@@ -1,11 +1,9 @@
-//! The reports of a desk: which there are, what each is of a ledger, and the call of a book that returns one.
+//! The reports of a desk: what each is of a ledger, and the call of a book that returns one.
 //!
-//! `Report` names a report with its filter and format, and `specs/Texts.antt` says which text it has. A book that keeps the
-//! contract of `Reporting` returns that text.
+//! `saga_core::Report` names a report with its filter and format, and `specs/Texts.antt` says which text it has. A book that
+//! keeps the contract of `Reporting` returns that text.
 #![tactic(auto)]
 
-mod report;
 mod reporting;
 
-pub use report::Report;
 pub use reporting::Reporting;

@@ -1,7 +1,6 @@
 //! The call of a book that returns a report.
-use crate::report::Report;
 use commands::Fault;
-use saga_core::Book;
+use saga_core::{Book, Report};
 
 /// A book that returns each report of what it represents.
 pub trait Reporting: Book {

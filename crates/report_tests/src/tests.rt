@@ -11,8 +11,8 @@ use commands::{Agent, Cause, Cursor, Fault, Item, Phase};
 use failing_streams::Sink;
 use fakes::Failing;
 use plan::{Marks, Plan, PlanFault};
-use reports::{Format, ReportFault, history_text, stock_text, unfinished_text};
-use saga_core::{Brief, Listed, Record};
+use reports::{ReportFault, history_text, stock_text, unfinished_text};
+use saga_core::{Brief, Format, Listed, Record};
 use std::alloc::{AllocError, Global};
 use std::process::Abort;
 

@@ -12,15 +12,15 @@ use Rattle.command_line.specs.Subcommands.{app_for, name_of, subcommand_in}
 use Rattle.command_line.specs.Values.{format_in}
 use Rattle.command_line.specs.declared.jobs.Job.{Job}
 use Rattle.command_line.specs.declared.jobs.Job.TheVariants as job
-use Rattle.filters.specs.declared.cells.CellFilter.{CellFilter}
-use Rattle.filters.specs.declared.journeys.JourneyFilter.{JourneyFilter}
-use Rattle.filters.specs.declared.journeys.Phases.{Phases}
-use Rattle.month_reports.specs.declared.by_month.MonthReport.TheVariants.{Summary, Calendar}
-use Rattle.reports.specs.declared.formats.Format.{Format}
-use Rattle.reports.specs.declared.formats.Format.TheVariants.{Text as AsText}
-use Rattle.reports.specs.declared.formats.JourneyReport.TheVariants as name
-use Rattle.report_kinds.specs.declared.report.Report.{Report}
-use Rattle.report_kinds.specs.declared.report.Report.TheVariants.{Stock, Journeys, Holders, Holdings, Months, Why}
+use Rattle.saga_core.specs.declared.cell_filters.CellFilter.{CellFilter}
+use Rattle.saga_core.specs.declared.journey_filters.JourneyFilter.{JourneyFilter}
+use Rattle.saga_core.specs.declared.journey_filters.Phases.{Phases}
+use Rattle.saga_core.specs.declared.report.MonthReport.TheVariants.{Summary, Calendar}
+use Rattle.saga_core.specs.declared.report.Format.{Format}
+use Rattle.saga_core.specs.declared.report.Format.TheVariants.{Text as AsText}
+use Rattle.saga_core.specs.declared.report.JourneyReport.TheVariants as name
+use Rattle.saga_core.specs.declared.report.Report.{Report}
+use Rattle.saga_core.specs.declared.report.Report.TheVariants.{Stock, Journeys, Holders, Holdings, Months, Why}
 use Rattle.report_words.specs.Jobs.{cells_of, history_of, journeys_of, known, phases_or_all, report_in, report_of, report_with}
 use Rattle.report_words.specs.Targets.{report_of_words}
 

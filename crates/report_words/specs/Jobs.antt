@@ -10,15 +10,15 @@ use Rattle.command_line.specs.Values.{calendar_in, format_in}
 use Rattle.command_line.specs.declared.jobs.Job.{Job}
 use Rattle.command_line.specs.declared.jobs.Job.TheVariants as job
 use Rattle.commands.specs.Limits.{most_events}
-use Rattle.filters.specs.declared.cells.CellFilter.{CellFilter}
-use Rattle.filters.specs.declared.journeys.JourneyFilter.{JourneyFilter}
-use Rattle.filters.specs.declared.journeys.Phases.{Phases}
-use Rattle.filters.specs.declared.journeys.Phases.TheVariants.{All}
-use Rattle.month_reports.specs.declared.by_month.MonthReport.TheVariants.{Summary, Calendar}
-use Rattle.reports.specs.declared.formats.Format.{Format}
-use Rattle.reports.specs.declared.formats.JourneyReport.TheVariants as name
-use Rattle.report_kinds.specs.declared.report.Report.{Report}
-use Rattle.report_kinds.specs.declared.report.Report.TheVariants.{Stock, Journeys, Holders, Holdings, Months, History, Why}
+use Rattle.saga_core.specs.declared.cell_filters.CellFilter.{CellFilter}
+use Rattle.saga_core.specs.declared.journey_filters.JourneyFilter.{JourneyFilter}
+use Rattle.saga_core.specs.declared.journey_filters.Phases.{Phases}
+use Rattle.saga_core.specs.declared.journey_filters.Phases.TheVariants.{All}
+use Rattle.saga_core.specs.declared.report.MonthReport.TheVariants.{Summary, Calendar}
+use Rattle.saga_core.specs.declared.report.Format.{Format}
+use Rattle.saga_core.specs.declared.report.JourneyReport.TheVariants as name
+use Rattle.saga_core.specs.declared.report.Report.{Report}
+use Rattle.saga_core.specs.declared.report.Report.TheVariants.{Stock, Journeys, Holders, Holdings, Months, History, Why}
 
 -- the history of the journey that a word names, if it is the number of one
 abbrev pub history_of : Format → Text → Option Report

@@ -9,7 +9,7 @@ use Rattle.clap.specs.Words.{Text}
 use Rattle.command_line.specs.Asking.{over_file}
 use Rattle.command_line.specs.Jobs.{are_refused, value_in}
 use Rattle.command_line.specs.Subcommands.{app_for, subcommand_in}
-use Rattle.report_kinds.specs.declared.report.Report.{Report}
+use Rattle.saga_core.specs.declared.report.Report.{Report}
 use Rattle.report_words.specs.Jobs.{report_with}
 
 -- `?` and `&`

@@ -4,9 +4,7 @@ ghost use Rattle.report_words.specs.Jobs.{report_of};
 
 use command_line::Job;
 use commands::{MOST_EVENTS, number_between};
-use month_reports::MonthReport;
-use report_kinds::Report;
-use reports::JourneyReport;
+use saga_core::{JourneyReport, MonthReport, Report};
 
 /// The report of a job; `None` for a job that does something else, and for the history of a word that is no number of a
 /// journey.

@@ -8,7 +8,7 @@ ghost use Rattle.report_words.specs.Targets.{ampersand, asks_for_report, fits_ta
 
 use crate::jobs::report_of;
 use command_line::{JobFault, report_job};
-use report_kinds::Report;
+use saga_core::Report;
 use std::alloc::{AllocError, Global};
 use std::str;
 

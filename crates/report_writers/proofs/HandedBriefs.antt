@@ -18,10 +18,10 @@ use Rattle.desk_sql.specs.Readable.{Each}
 use Rattle.desk_sql.specs.RemainingRows.{IsByNumber, Starts}
 use Rattle.desk_sql.specs.Rows.{JourneyRow}
 use Rattle.desk_sql.specs.declared.versions.Version.{Version}
-use Rattle.filters.specs.CellFilters.{is_name_asked}
-use Rattle.filters.specs.JourneyFilters.{is_journey_asked, is_phase_asked}
-use Rattle.filters.specs.declared.journeys.JourneyFilter.{JourneyFilter}
-use Rattle.filters.specs.declared.journeys.Phases.{Phases}
+use Rattle.saga_core.specs.CellFilters.{is_name_asked}
+use Rattle.saga_core.specs.JourneyFilters.{is_journey_asked, is_phase_asked}
+use Rattle.saga_core.specs.declared.journey_filters.JourneyFilter.{JourneyFilter}
+use Rattle.saga_core.specs.declared.journey_filters.Phases.{Phases}
 use Rattle.sql_lists.specs.JourneyLists.{JourneysRest, is_journey_listed, least_phase, most_phase}
 use Rattle.sql_lists.specs.ListedRows.{AreGoodBriefsRest, BriefsRest}
 use Rattle.sql_model.specs.Briefs.{Short, short_of, short_told, TellBriefs}

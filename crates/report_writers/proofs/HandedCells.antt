@@ -10,8 +10,8 @@ use Rattle.sqlite_rules.proofs.ProbeLemmas.{mapped_has}
 use Rattle.allotment.specs.Limits.{first_night, last_night}
 use Rattle.allotment.specs.declared.cells.Cell.{Cell}
 use Rattle.allotment.specs.declared.codes.Kind.{Kind}
-use Rattle.filters.specs.CellFilters.{is_cell_of, is_to, last_day}
-use Rattle.filters.specs.declared.cells.CellFilter.{CellFilter}
+use Rattle.saga_core.specs.CellFilters.{is_cell_of, is_to, last_day}
+use Rattle.saga_core.specs.declared.cell_filters.CellFilter.{CellFilter}
 use Rattle.sql_lists.specs.CellLists.{is_row_asked}
 use Rattle.allotment.specs.declared.places.Held.{Held}
 use Rattle.ledger.specs.Ledger.{Event, IsLegal}

@@ -13,8 +13,8 @@ use Rattle.allotment.specs.Limits.{are_nights, first_night, is_between, is_code,
 use Rattle.allotment.specs.Want.{Wanted}
 use Rattle.plan.specs.PlanModel.{StepPlan, is_step}
 use Rattle.plan.proofs.LimitLemmas.{limited, step_limited}
-use Rattle.filters.specs.CellFilters.{is_cell_asked}
-use Rattle.filters.specs.declared.cells.CellFilter.{CellFilter}
+use Rattle.saga_core.specs.CellFilters.{is_cell_asked}
+use Rattle.saga_core.specs.declared.cell_filters.CellFilter.{CellFilter}
 use Rattle.ledger.specs.Ledger.{Event, IsLegal, Journey, history, journey_at, journeys}
 use Rattle.saga_core.specs.Views.{IsStock}
 use Rattle.commands.specs.Names.{is_agent}

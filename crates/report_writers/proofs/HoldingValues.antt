@@ -3,7 +3,7 @@ use Rattle.std.proofs.Common.{◌≡◌, inl, inr, List, [], ◌∷◌, Some, eq
 use Rattle.std.specs.List.{AllByRecursion}
 use Rattle.std.proofs.lemmas.Bool.{and_from}
 use Rattle.std.proofs.lemmas.Slice.Eq.{bytes_eq-Decides}
-use Rattle.filters.specs.declared.journeys.JourneyState.{JourneyState}
+use Rattle.saga_core.specs.declared.journey_filters.JourneyState.{JourneyState}
 use Rattle.ledger.proofs.Cells.{is_cell-same}
 use Rattle.desk_sql.specs.Readable.{Each}
 use Rattle.desk_sql.specs.RemainingRows.{Hands}

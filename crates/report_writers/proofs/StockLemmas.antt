@@ -13,10 +13,10 @@ use Rattle.allotment.specs.declared.cells.Cell.{Cell}
 use Rattle.allotment.specs.declared.codes.Kind.{Kind}
 use Rattle.allotment.specs.declared.codes.Kind.TheVariants.{Flight, Room, Transfer, Cover}
 use Rattle.allotment.specs.declared.places.Held.{Held as Places}
-use Rattle.filters.specs.CellFilters.{is_cell_asked, is_cell_of, is_kind_asked, is_name_asked, is_night_asked}
-use Rattle.filters.specs.declared.cells.CellFilter.{CellFilter}
+use Rattle.saga_core.specs.CellFilters.{is_cell_asked, is_cell_of, is_kind_asked, is_name_asked, is_night_asked}
+use Rattle.saga_core.specs.declared.cell_filters.CellFilter.{CellFilter}
 use Rattle.reports.specs.Formats.{last_line, stock_head, stock_in, stock_row}
-use Rattle.reports.specs.declared.formats.Format.{Format}
+use Rattle.saga_core.specs.declared.report.Format.{Format}
 use Rattle.reports.proofs.FrontLemmas.{front_after, front_before, front_whole}
 use Rattle.saga_core.specs.Views.{are_in_order, cell_cmp}
 use Rattle.streams.specs.Written.{WroteFront}

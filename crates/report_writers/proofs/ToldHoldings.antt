@@ -5,7 +5,7 @@ use Rattle.std.specs.List.{cons_option}
 use Rattle.std.proofs.lemmas.Bool.{ne_eqb}
 use Rattle.std.proofs.lemmas.List.{map-append}
 use Rattle.commands.specs.declared.items.Phase.{Phase}
-use Rattle.filters.specs.JourneyFilters.{state_of}
+use Rattle.saga_core.specs.JourneyFilters.{state_of}
 use Rattle.ledger.specs.Ledger.{Event, Journey, history, journey_at}
 use Rattle.saga_core.specs.Views.{brief_of, brief_of_journey}
 use Rattle.desk_sql.specs.Rows.{JourneyRow, StepRow}

@@ -10,8 +10,8 @@ use Rattle.allotment.specs.Texts.{keep_if}
 use Rattle.allotment.specs.Want.{Wanted}
 use Rattle.allotment.specs.declared.cells.Cell.{Cell}
 use Rattle.allotment.specs.declared.places.Held.{Held as Places}
-use Rattle.filters.specs.CellFilters.{is_cell_of}
-use Rattle.filters.specs.declared.cells.CellFilter.{CellFilter}
+use Rattle.saga_core.specs.CellFilters.{is_cell_of}
+use Rattle.saga_core.specs.declared.cell_filters.CellFilter.{CellFilter}
 use Rattle.ledger.specs.Ledger.{Event}
 use Rattle.ledger.proofs.Cells.{is_cell-same}
 use Rattle.saga_core.specs.Views.{IsStock, places_at, places_of, places_said}

@@ -5,7 +5,7 @@ use Rattle.allotment.specs.Cells.{kind_number}
 use Rattle.allotment.specs.declared.cells.Cell.{Cell}
 use Rattle.allotment.specs.declared.places.Held.{Held as Places}
 use Rattle.commands.specs.Names.{is_agent}
-use Rattle.filters.specs.declared.cells.CellFilter.{CellFilter}
+use Rattle.saga_core.specs.declared.cell_filters.CellFilter.{CellFilter}
 use Rattle.ledger.specs.Ledger.{Event}
 use Rattle.saga_core.specs.Views.{IsStock}
 use Rattle.sqlite.specs.Store.{Ghosts}

@@ -3,8 +3,8 @@ use Rattle.std.specs.Prelude.{◌≡◌, List, filter}
 use Rattle.allotment.specs.declared.cells.Cell.{Cell}
 use Rattle.allotment.specs.declared.codes.Kind.{Kind}
 use Rattle.allotment.specs.declared.places.Held.{Held as HeldPlaces}
-use Rattle.filters.specs.CellFilters.{is_cell_of}
-use Rattle.filters.specs.declared.cells.CellFilter.{CellFilter}
+use Rattle.saga_core.specs.CellFilters.{is_cell_of}
+use Rattle.saga_core.specs.declared.cell_filters.CellFilter.{CellFilter}
 use Rattle.ledger.specs.Ledger.{Event}
 use Rattle.saga_core.specs.Views.{IsStock}
 

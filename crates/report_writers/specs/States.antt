@@ -1,7 +1,7 @@
 -- The state of a journey, by its number in the tables.
 use Rattle.std.specs.Prelude.{ℕ, zero, suc, Option, None, Some}
-use Rattle.filters.specs.declared.journeys.JourneyState.{JourneyState}
-use Rattle.filters.specs.declared.journeys.JourneyState.TheVariants.{Run, Back, Ended, Undone}
+use Rattle.saga_core.specs.declared.journey_filters.JourneyState.{JourneyState}
+use Rattle.saga_core.specs.declared.journey_filters.JourneyState.TheVariants.{Run, Back, Ended, Undone}
 
 -- the state that has this number
 abbrev pub state_numbered : ℕ → Option JourneyState

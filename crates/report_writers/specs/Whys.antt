@@ -3,8 +3,8 @@ use Rattle.std.specs.Prelude.{◌≡◌, ℕ, true, List, Some}
 use Rattle.std.specs.List.{list_all}
 use Rattle.allotment.specs.Cells.{cells_of}
 use Rattle.allotment.specs.Want.{Wanted}
-use Rattle.filters.specs.CellFilters.{is_cell_of}
-use Rattle.filters.specs.declared.cells.CellFilter.{CellFilter}
+use Rattle.saga_core.specs.CellFilters.{is_cell_of}
+use Rattle.saga_core.specs.declared.cell_filters.CellFilter.{CellFilter}
 use Rattle.ledger.specs.Answer.{State}
 use Rattle.ledger.specs.Ledger.{Event}
 use Rattle.previews.specs.Previews.{begun_as, nights_ahead, preview_of}

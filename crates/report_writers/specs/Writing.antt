@@ -13,16 +13,16 @@ use Rattle.desk_sql.specs.Calls.{Quiet}
 use Rattle.desk_sql.specs.Causes.{HasFaulted, IsUp}
 use Rattle.desk_sql.specs.declared.versions.Version.{Version}
 use Rattle.ledger.specs.Answer.{State}
-use Rattle.filters.specs.CellFilters.{is_cell_asked}
-use Rattle.filters.specs.JourneyFilters.{asked_of}
-use Rattle.filters.specs.declared.cells.CellFilter.{CellFilter}
-use Rattle.filters.specs.declared.journeys.JourneyFilter.{JourneyFilter}
+use Rattle.saga_core.specs.CellFilters.{is_cell_asked}
+use Rattle.saga_core.specs.JourneyFilters.{asked_of}
+use Rattle.saga_core.specs.declared.cell_filters.CellFilter.{CellFilter}
+use Rattle.saga_core.specs.declared.journey_filters.JourneyFilter.{JourneyFilter}
 use Rattle.saga_core.specs.Views.{IsStock}
 use Rattle.reports.specs.Formats.{journeys_in, stock_row}
 use Rattle.reports.specs.declared.faults.ReportFault.{ReportFault}
 use Rattle.reports.specs.declared.faults.ReportFault.TheVariants.{Store}
-use Rattle.reports.specs.declared.formats.Format.{Format}
-use Rattle.reports.specs.declared.formats.JourneyReport.{JourneyReport}
+use Rattle.saga_core.specs.declared.report.Format.{Format}
+use Rattle.saga_core.specs.declared.report.JourneyReport.{JourneyReport}
 use Rattle.streams.specs.Written.{WroteFront}
 use Rattle.sql_model.specs.Keeping.{KeepsIn}
 use Rattle.sql_model.specs.Spelling.{IsSpelled}

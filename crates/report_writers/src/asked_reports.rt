@@ -13,10 +13,8 @@ use crate::cell_rows::start_cells;
 use crate::found_rows::FoundRows;
 use crate::progress::Progress;
 use allotment::{Cell, Held, Kind};
-use filters::{CellFilter, JourneyFilter};
-use reports::{
-    Format, JourneyReport, ReportFault, begin_stock, end_stock, journeys_text, stock_lines,
-};
+use reports::{ReportFault, begin_stock, end_stock, journeys_text, stock_lines};
+use saga_core::{CellFilter, Format, JourneyFilter, JourneyReport};
 use sql_model::fault_of;
 use sqlite::{Alter, Connection};
 use std::alloc::Global;

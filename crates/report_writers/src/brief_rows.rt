@@ -3,7 +3,7 @@
 ghost use Rattle.std.specs.Prelude.{◌≡◌, IfOk};
 ghost use Rattle.std.specs.Borrow.{sem};
 ghost use Rattle.saga_core.specs.Views.{unfinished_of};
-ghost use Rattle.filters.specs.JourneyFilters.{asked_of};
+ghost use Rattle.saga_core.specs.JourneyFilters.{asked_of};
 ghost use Rattle.desk_sql.specs.Calls.{Quiet};
 ghost use Rattle.desk_sql.specs.declared.versions.Version.{Version};
 ghost use Rattle.sql_reads.specs.Lending.{LeavesIfErr};
@@ -13,8 +13,7 @@ ghost use Rattle.report_writers.specs.Ready.{BeginsGood};
 
 use crate::found_rows::FoundRow;
 use commands::Fault;
-use filters::JourneyFilter;
-use saga_core::Brief;
+use saga_core::{Brief, JourneyFilter};
 use sql_lists::{hand_journeys, hand_unfinished, next_journey};
 use sql_model::fault_of;
 use sql_reads::brief_of;

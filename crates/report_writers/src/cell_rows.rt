@@ -14,7 +14,7 @@ ghost use Rattle.report_writers.specs.Ready.{BeginsGood};
 use crate::found_rows::FoundRow;
 use allotment::{Cell, Held, Kind};
 use commands::Fault;
-use filters::CellFilter;
+use saga_core::CellFilter;
 use sql_lists::{hand_cells, hand_stock, next_cell};
 use sql_model::fault_of;
 use sql_reads::cell_told;

@@ -13,8 +13,8 @@ ghost use Rattle.report_writers.specs.Ready.{BeginsGood};
 
 use crate::found_rows::FoundRow;
 use commands::{Agent, Fault};
-use filters::{CellFilter, JourneyState};
 use holder_reports::Holding;
+use saga_core::{CellFilter, JourneyState};
 use sql_lists::{HoldingFound, hand_holdings, next_holding};
 use sql_model::fault_of;
 use sql_reads::cell_told;

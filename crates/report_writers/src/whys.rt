@@ -8,7 +8,7 @@ ghost use Rattle.previews.specs.Layouts.{why_of};
 ghost use Rattle.previews.specs.Nights.{nights_of};
 ghost use Rattle.previews.specs.Previews.{begun_as, latest_option as latest_option_of, nights_ahead, IsTaken};
 ghost use Rattle.report_kinds.specs.Texts.{OfReport};
-ghost use Rattle.report_kinds.specs.declared.report.Report.TheVariants as kind;
+ghost use Rattle.saga_core.specs.declared.report.Report.TheVariants as kind;
 ghost use Rattle.report_writers.specs.Writing.{ShowsDesk, ShowsIn, WritesIfThere, WritesText};
 ghost use Rattle.report_writers.specs.Whys.{HasRecord, IsSeenOf, LetsCellsOf};
 ghost use Rattle.sql_reads.specs.Reads.{AnyDesk};
@@ -21,12 +21,11 @@ use crate::writing::written;
 use allotment::{Night, Want};
 use commands::{Fault, Phase};
 use desk_sql::Version;
-use filters::CellFilter;
 use previews::{
     FreeNight, NextStep, Preview, latest_option, look_ahead, next_step, read_nights, why_text,
 };
-use reports::{Format, ReportFault};
-use saga_core::Record;
+use reports::ReportFault;
+use saga_core::{CellFilter, Format, Record};
 use sql_model::fault_of;
 use sql_reads::read_journey;
 use sqlite::{Alter, Connection};

@@ -9,7 +9,7 @@ use Rattle.commands.specs.declared.items.Phase.TheVariants.{Back}
 use Rattle.saga_core.specs.declared.records.Brief.{Brief}
 use Rattle.reports.specs.Examples.{flight, ten_places, second, stopped}
 use Rattle.reports.specs.Formats.{stock_in, unfinished_in, history_in}
-use Rattle.reports.specs.declared.formats.Format.TheVariants.{Json, Csv}
+use Rattle.saga_core.specs.declared.report.Format.TheVariants.{Json, Csv}
 
 -- a cell with ten places, one of which is held
 pub shows_a_cell_as_an_object :

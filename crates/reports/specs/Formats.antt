@@ -9,10 +9,10 @@ use Rattle.saga_core.specs.declared.records.Record.{Record}
 use Rattle.reports.specs.Layouts.{count_line, stock_heading, stock_line, journey_line, history_report}
 use Rattle.reports.specs.Objects.{json_line, cell_data, journey_data, begin_data, item_data, state_data}
 use Rattle.reports.specs.Records.{csv_line, cell_names, cell_fields, journey_names, journey_fields, item_names, item_fields}
-use Rattle.reports.specs.declared.formats.Format.{Format}
-use Rattle.reports.specs.declared.formats.JourneyReport.{JourneyReport}
-use Rattle.reports.specs.declared.formats.JourneyReport.TheVariants.{Unfinished, Journeys}
-use Rattle.reports.specs.declared.formats.Format.TheVariants.{Text, Json, Csv}
+use Rattle.saga_core.specs.declared.report.Format.{Format}
+use Rattle.saga_core.specs.declared.report.JourneyReport.{JourneyReport}
+use Rattle.saga_core.specs.declared.report.JourneyReport.TheVariants.{Unfinished, Journeys}
+use Rattle.saga_core.specs.declared.report.Format.TheVariants.{Text, Json, Csv}
 
 -- the last line: a text says how many rows there are, a JSON or CSV report has no such line
 abbrev pub last_line : Format → List ℕ → ℕ → List ℕ

@@ -10,7 +10,7 @@ use Rattle.allotment.specs.declared.places.Held.{Held}
 use Rattle.commands.specs.Texts.{item_text}
 use Rattle.commands.specs.declared.items.Cursor.{Cursor}
 use Rattle.commands.specs.declared.items.Item.{Item}
-use Rattle.json_members.specs.Objects.{counts, json, says, standing_members}
+use Rattle.commands.specs.Objects.{counts, json, says, standing_members}
 use Rattle.plan.specs.PlanLine.{plan_line}
 use Rattle.saga_core.specs.declared.records.Brief.{Brief}
 use Rattle.saga_core.specs.declared.records.Record.{Record}

@@ -3,7 +3,7 @@ ghost use Rattle.std.specs.Prelude.{◌≡◌, ℕ, IfOk, string_bytes};
 ghost use Rattle.reports.specs.Formats.{last_line};
 ghost use Rattle.reports.specs.Parts.{ending_text};
 
-use crate::formats::Format;
+use saga_core::Format;
 use std::alloc::{AllocError, Global};
 
 /// The ending of a report, after its rows.

@@ -12,7 +12,6 @@ mod columns;
 mod endings;
 mod faults;
 mod fields;
-mod formats;
 mod lines;
 mod objects;
 mod outputs;
@@ -25,7 +24,6 @@ mod taking;
 
 pub use faults::ReportFault;
 pub use fields::{csv_line, put_field, put_number};
-pub use formats::{Format, JourneyReport};
 pub use lines::night_text;
 pub use objects::{journey_object, json_line};
 pub use parts::{begin_stock, end_stock, stock_lines};

@@ -6,11 +6,10 @@ ghost use Rattle.reports.specs.Layouts.{stock_heading, stock_line, journey_line}
 ghost use Rattle.reports.specs.Parts.{history_head, history_tail, item_word};
 
 use crate::columns::{night_digits, put_number, put_text};
-use crate::formats::Format;
 use crate::records::{cell_heading, journey_heading};
 use allotment::{Cell, Held, Night};
 use commands::{Cursor, Item};
-use saga_core::{Brief, Record};
+use saga_core::{Brief, Format, Record};
 use std::alloc::{AllocError, Global};
 
 /// The heading of the stock report in this format.

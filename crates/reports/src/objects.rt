@@ -3,13 +3,12 @@ ghost use Rattle.std.specs.Prelude.{◌≡◌, [], ◌∷◌, false, codes, IfOk
 ghost use Rattle.serde_json.specs.View.{view};
 ghost use Rattle.serde_json.specs.Written.{has_float};
 ghost use Rattle.reports.specs.Objects.{json_line, cell_data, journey_data, begin_data, item_data, state_data};
-ghost use Rattle.json_members.specs.Objects.{json, counts, says};
+ghost use Rattle.commands.specs.Objects.{json, counts, says};
 
 use crate::columns::night_digits;
 use crate::pieces::{put_count, put_piece};
 use allotment::{Cell, Held};
-use commands::{Cursor, Item};
-use json_members::{put_standing, put_text, put_whole};
+use commands::{Cursor, Item, put_standing, put_text, put_whole};
 use saga_core::{Brief, Record};
 use serde_json::{Map, Value};
 use std::alloc::{AllocError, Global};

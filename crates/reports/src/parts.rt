@@ -8,12 +8,11 @@ ghost use Rattle.streams.specs.Written.{WroteFront};
 
 use crate::endings::Ending;
 use crate::faults::ReportFault;
-use crate::formats::Format;
 use crate::lines::stock_head;
 use crate::outputs::send_text;
 use crate::rows::send_rows;
 use allotment::{Cell, Held};
-use saga_core::RowSource;
+use saga_core::{Format, RowSource};
 use std::alloc::Global;
 use std::io::Write;
 

@@ -1,16 +1,15 @@
 //! The reports.
-ghost use Rattle.std.specs.Prelude.{◌++◌};
+ghost use Rattle.std.specs.Prelude.{◌≡◌, ◌++◌};
 ghost use Rattle.std.specs.List.{flat_map};
-ghost use Rattle.reports.specs.Formats.{stock_in, unfinished_in, journeys_in, history_in};
+ghost use Rattle.reports.specs.Formats.{stock_in, unfinished_in, name_word, journeys_in, history_in};
 ghost use Rattle.reports.specs.Layouts.{history_report};
 ghost use Rattle.reports.specs.Parts.{whole_report};
 ghost use Rattle.reports.specs.Records.{csv_line, item_names, item_fields};
 ghost use Rattle.reports.specs.Writing.{Writes};
-ghost use Rattle.reports.specs.declared.formats.Format.TheVariants.{Json};
+ghost use Rattle.saga_core.specs.declared.report.Format.TheVariants.{Json};
 
 use crate::endings::Ending;
 use crate::faults::ReportFault;
-use crate::formats::{Format, JourneyReport};
 use crate::lines::{history_head, history_tail, stock_head, unfinished_head};
 use crate::objects::{begin_object, state_object};
 use crate::outputs::send_text;
@@ -18,7 +17,7 @@ use crate::records::item_heading;
 use crate::rows::{ItemObjects, ItemRecords, ItemWords, Layout, send_rows};
 use allotment::{Cell, Held};
 use commands::Item;
-use saga_core::{Brief, Record, RowSource};
+use saga_core::{Brief, Format, JourneyReport, Record, RowSource};
 use std::alloc::Global;
 use std::io::Write;
 
@@ -70,8 +69,18 @@ pub fn journeys_text<R: RowSource<Brief>, W: Write>(
     ensures writes { Writes R.RowSource rows.old rows.new (journeys_in name format)
         (W.contents out.old) (W.contents out.new) result }
 {
-    let ending = Ending::of_list(format, name.word());
+    let ending = Ending::of_list(format, word_of(name));
     send_report(alloc, unfinished_head(format), &format, rows, &ending, out)
+}
+
+/// The word of the last line of a report of journeys.
+fn word_of<'a>(name: JourneyReport) -> &'a str
+    ensures word { result.now ≡ name_word name }
+{
+    match name {
+        JourneyReport::Unfinished => "unfinished",
+        JourneyReport::Journeys => "journeys",
+    }
 }
 
 /// Writes the history of the journey of this number, and returns how many items it has.

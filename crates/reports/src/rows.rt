@@ -10,12 +10,11 @@ ghost use Rattle.reports.specs.Writing.{Writes};
 ghost use Rattle.streams.specs.Written.{WroteFront};
 
 use crate::faults::ReportFault;
-use crate::formats::Format;
 use crate::outputs::{send, send_text};
 use crate::{lines, objects, records};
 use allotment::{Cell, Held};
 use commands::Item;
-use saga_core::{Brief, RowSource};
+use saga_core::{Brief, Format, RowSource};
 use std::alloc::Global;
 use std::io::Write;
 

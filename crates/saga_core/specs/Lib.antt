@@ -13,3 +13,6 @@ pub mod Examples
 pub mod DecidingExamples
 pub mod BookExamples
 pub mod Calls
+pub mod CellFilters
+pub mod JourneyFilters
+pub mod FilterExamples

@@ -18,8 +18,8 @@ use Rattle.sqlite_trees.proofs.ListLemmas.{ascending_weaker}
 use Rattle.allotment.specs.Cells.{kind_number}
 use Rattle.allotment.specs.declared.codes.Kind.{Kind}
 use Rattle.allotment.specs.declared.codes.Kind.TheVariants.{Flight, Room, Transfer, Cover}
-use Rattle.filters.specs.CellFilters.{first_day, is_from, is_name_asked, last_day}
-use Rattle.filters.specs.declared.cells.CellFilter.{CellFilter}
+use Rattle.saga_core.specs.CellFilters.{first_day, is_from, is_name_asked, last_day}
+use Rattle.saga_core.specs.declared.cell_filters.CellFilter.{CellFilter}
 use Rattle.desk_sql.specs.declared.versions.Version.{Version}
 use Rattle.desk_sql.specs.Lists.{IsTableOf, numbered_row}
 use Rattle.desk_sql.specs.Meanings.{find_stock_names, find_stock_query}

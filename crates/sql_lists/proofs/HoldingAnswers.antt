@@ -29,8 +29,8 @@ use Rattle.sqlite_trees.specs.Tree.{Trees}
 use Rattle.sqlite_trees.proofs.ListLemmas.{ascending_weaker}
 use Rattle.allotment.specs.Cells.{kind_number}
 use Rattle.allotment.specs.declared.codes.Kind.{Kind}
-use Rattle.filters.specs.CellFilters.{is_from, is_kind_asked, is_name_asked, is_night_asked, is_to}
-use Rattle.filters.specs.declared.cells.CellFilter.{CellFilter}
+use Rattle.saga_core.specs.CellFilters.{is_from, is_kind_asked, is_name_asked, is_night_asked, is_to}
+use Rattle.saga_core.specs.declared.cell_filters.CellFilter.{CellFilter}
 use Rattle.desk_sql.specs.declared.versions.Version.{Version}
 use Rattle.desk_sql.specs.declared.versions.Version.TheVariants.{One, Two}
 use Rattle.desk_sql.specs.FoundRows.{ten_of}

@@ -11,12 +11,12 @@ use Rattle.sqlite.specs.State.{HasCleanDisk, Survives, CommitsShowing}
 use Rattle.sqlite.specs.declared.types.Value.TheVariants.{Text}
 use Rattle.sqlite_trees.specs.Tree.{Trees}
 use Rattle.sqlite_trees.proofs.ListLemmas.{ascending-filter, ascending_weaker}
-use Rattle.filters.specs.CellFilters.{is_name_asked}
-use Rattle.filters.specs.declared.journeys.JourneyFilter.{JourneyFilter}
-use Rattle.filters.specs.declared.journeys.JourneyState.{JourneyState}
-use Rattle.filters.specs.declared.journeys.JourneyState.TheVariants.{Run, Back, Ended, Undone}
-use Rattle.filters.specs.declared.journeys.Phases.{Phases}
-use Rattle.filters.specs.declared.journeys.Phases.TheVariants.{All, Unfinished, Only}
+use Rattle.saga_core.specs.CellFilters.{is_name_asked}
+use Rattle.saga_core.specs.declared.journey_filters.JourneyFilter.{JourneyFilter}
+use Rattle.saga_core.specs.declared.journey_filters.JourneyState.{JourneyState}
+use Rattle.saga_core.specs.declared.journey_filters.JourneyState.TheVariants.{Run, Back, Ended, Undone}
+use Rattle.saga_core.specs.declared.journey_filters.Phases.{Phases}
+use Rattle.saga_core.specs.declared.journey_filters.Phases.TheVariants.{All, Unfinished, Only}
 use Rattle.desk_sql.specs.FoundRows.{is_owned_after, journey_of, nine_of, shows_journey}
 use Rattle.desk_sql.specs.Lists.{IsListed, IsNumbered}
 use Rattle.desk_sql.specs.Meanings.{journey_names, journey_project, rising}

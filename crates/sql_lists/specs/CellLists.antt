@@ -2,8 +2,8 @@
 use Rattle.std.specs.Prelude.{ℕ, ◌==◌, ◌&&◌, Bool, true, false, List, [], ◌∷◌, codes, filter, map, nat_le, Option, None, Some}
 use Rattle.allotment.specs.Cells.{kind_number}
 use Rattle.allotment.specs.declared.codes.Kind.{Kind}
-use Rattle.filters.specs.CellFilters.{is_from, is_name_asked, last_day}
-use Rattle.filters.specs.declared.cells.CellFilter.{CellFilter}
+use Rattle.saga_core.specs.CellFilters.{is_from, is_name_asked, last_day}
+use Rattle.saga_core.specs.declared.cell_filters.CellFilter.{CellFilter}
 use Rattle.sqlite.specs.Order.{Row}
 use Rattle.sqlite.specs.Store.{Ghosts}
 use Rattle.sqlite.specs.Held.{Held}

@@ -1,11 +1,11 @@
 -- The statements that return journeys: which rows they return, their texts, and what these mean.
 use Rattle.std.specs.Prelude.{ℕ, ◌&&◌, Bool, true, false, List, [], ◌∷◌, codes, filter, map, nat_le}
-use Rattle.filters.specs.CellFilters.{is_name_asked}
-use Rattle.filters.specs.declared.journeys.JourneyFilter.{JourneyFilter}
-use Rattle.filters.specs.declared.journeys.JourneyState.{JourneyState}
-use Rattle.filters.specs.declared.journeys.JourneyState.TheVariants.{Run, Back, Ended, Undone}
-use Rattle.filters.specs.declared.journeys.Phases.{Phases}
-use Rattle.filters.specs.declared.journeys.Phases.TheVariants.{All, Unfinished, Only}
+use Rattle.saga_core.specs.CellFilters.{is_name_asked}
+use Rattle.saga_core.specs.declared.journey_filters.JourneyFilter.{JourneyFilter}
+use Rattle.saga_core.specs.declared.journey_filters.JourneyState.{JourneyState}
+use Rattle.saga_core.specs.declared.journey_filters.JourneyState.TheVariants.{Run, Back, Ended, Undone}
+use Rattle.saga_core.specs.declared.journey_filters.Phases.{Phases}
+use Rattle.saga_core.specs.declared.journey_filters.Phases.TheVariants.{All, Unfinished, Only}
 use Rattle.sqlite.specs.Store.{Ghosts}
 use Rattle.sqlite.specs.Held.{Held}
 use Rattle.sqlite.specs.Query.{Query}

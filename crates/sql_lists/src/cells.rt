@@ -15,7 +15,7 @@ ghost use Rattle.sql_lists.specs.CellLists.{CellsRest, IsListOf};
 
 use allotment::Kind;
 use desk_sql::{CellFound, read_cell};
-use filters::CellFilter;
+use saga_core::CellFilter;
 use sqlite::types::ValueRef;
 use sqlite::{Alter, Connection, Error, Rows};
 

@@ -15,7 +15,7 @@ ghost use Rattle.sql_lists.specs.HoldingLists.{AreHoldingTexts, HoldingRow, Hold
 
 use allotment::{Code, Kind, Night};
 use desk_sql::CellFound;
-use filters::CellFilter;
+use saga_core::CellFilter;
 use sqlite::types::ValueRef;
 use sqlite::{Alter, Connection, Error, Row, Rows};
 

@@ -15,7 +15,7 @@ ghost use Rattle.sql_lists.specs.JourneyLists.{JourneysRest, ListsJourneys, leas
 
 use commands::Agent;
 use desk_sql::{JourneyFound, read_journey};
-use filters::{JourneyFilter, JourneyState, Phases};
+use saga_core::{JourneyFilter, JourneyState, Phases};
 use sqlite::types::ValueRef;
 use sqlite::{Alter, Connection, Error, Rows};
 

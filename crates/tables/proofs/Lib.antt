@@ -16,3 +16,16 @@ pub mod Founding
 pub mod BriefLists
 pub mod OwnedLists
 pub mod Taken
+pub mod Ranges
+pub mod Adding
+pub mod Filling
+pub mod Quiet
+pub mod Reading
+pub mod Telling
+pub mod Standing
+pub mod CommitLemmas
+pub mod Stopping
+pub mod NewItems
+pub mod CopyReasons
+pub mod FailLemmas
+pub mod IndexLemmas

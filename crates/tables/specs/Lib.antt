@@ -9,3 +9,9 @@ pub mod Opening
 pub mod Reading
 pub mod UnfinishedCount
 pub mod StockLeft
+pub mod Indexing
+pub mod Statements
+pub mod Copying
+pub mod Migrating
+pub mod MigrateReasons
+pub mod Outcomes

@@ -1,9 +1,8 @@
 //! The jobs of the words of the command line.
 use crate::tests::desks::reads;
 use command_line::{Call, Job, JobFault, LogForm, Socket, call_of};
-use filters::{CellFilter, JourneyFilter, JourneyState, Phases};
 use report_words::target_of;
-use reports::Format;
+use saga_core::{CellFilter, Format, JourneyFilter, JourneyState, Phases};
 use std::alloc::{AllocError, Global};
 use std::test::Fail;
 

@@ -1,13 +1,13 @@
 //! A source of turns over few slots: peers come at any time, some in place of others, go on in a random order, and some
 //! are cut off.
 ghost use Rattle.std.specs.Prelude.{◌≡◌};
-ghost use Rattle.http_modes.specs.declared.modes.Mode.TheVariants.{Strict};
+ghost use Rattle.http_conversations.specs.declared.modes.Mode.TheVariants.{Strict};
 
 use crate::tests::dice::Dice;
 use crate::tests::ends::{Notes, Pieces, Sink};
 use crate::tests::peers::Peer;
+use http_conversations::Mode;
 use http_live::{Metrics, Standing, Turn, Turns};
-use http_modes::Mode;
 
 /// How many slots the peers share.
 const SHARED: u64 = 3;

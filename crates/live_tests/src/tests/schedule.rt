@@ -1,12 +1,12 @@
 //! A source of turns: every peer comes, and then one after another may go on, in a random order or in turn.
 ghost use Rattle.std.specs.Prelude.{◌≡◌};
-ghost use Rattle.http_modes.specs.declared.modes.Mode.TheVariants.{Strict};
+ghost use Rattle.http_conversations.specs.declared.modes.Mode.TheVariants.{Strict};
 
 use crate::tests::dice::Dice;
 use crate::tests::ends::{Notes, Pieces, Sink};
 use crate::tests::peers::Peer;
+use http_conversations::Mode;
 use http_live::{Metrics, Standing, Turn, Turns};
-use http_modes::Mode;
 
 #[derive(Drop)]
 pub struct Schedule<'a> {

@@ -1,7 +1,8 @@
 //! The reports of the book in memory.
 use crate::mem_book::MemBook;
 use commands::Fault;
-use report_kinds::{Report, Reporting};
+use report_kinds::Reporting;
+use saga_core::Report;
 
 /// The book in memory makes no report: whoever asks for one is told that it is out of memory.
 impl Reporting for MemBook {

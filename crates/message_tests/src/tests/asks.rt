@@ -1,6 +1,6 @@
 //! What a desk that is asked for a report is sent, and what is read of what it answers.
 use failing_streams::{Pieces, Sink};
-use house_asking::{Answer, Unanswered, ask, is_target};
+use http_pages::{Answer, Unanswered, ask, is_target};
 use std::alloc::{AllocError, Global};
 use std::test::Fail;
 

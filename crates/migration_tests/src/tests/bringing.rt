@@ -3,11 +3,11 @@ use crate::tests::helping::{bring_over, holds, open_for};
 use crate::tests::old_files::{OldFile, old_file};
 use crate::tests::rows::{Held, Schema, held_in};
 use memory_files::Session;
-use migrate::{MigrateFault, Migrated};
 use sqlite::{Alter, Connection};
 use std::alloc::Global;
 use std::process::Abort;
 use std::test::Fail;
+use tables::{MigrateFault, Migrated};
 
 /// Checks that an old file has these contents, and is migrated with so many events.
 #[derive(Drop)]

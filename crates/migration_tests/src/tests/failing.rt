@@ -6,12 +6,12 @@ use crate::tests::reporting::{desk_over, handed_back, shown};
 use crate::tests::rows::{Held, Schema, held_in};
 use crate::tests::using::keeps_all;
 use memory_files::{ClosedFile, Session, close_failing, disk_of};
-use migrate::{MigrateFault, Migrated};
 use sqlite::{Alter, Connection, Files};
 use sqlite_disk::{Crash, Disk, Fuse, Memory};
 use std::alloc::Global;
 use std::process::Abort;
 use std::test::Fail;
+use tables::{MigrateFault, Migrated};
 
 // more calls than any run here makes of one disk
 pub const MOST_CALLS: u64 = 10_000;

@@ -2,12 +2,11 @@
 ghost use Rattle.std.specs.Prelude.{IsTrue};
 
 use memory_files::{ClosedFile, Session};
-use migrate::{MigrateFault, Migrated, migrate};
 use sqlite::{Alter, Connection};
 use std::alloc::Global;
 use std::process::Abort;
 use std::test::Fail;
-use tables::{Opened, TableBook, open_from};
+use tables::{MigrateFault, Migrated, Opened, TableBook, migrate, open_from};
 
 /// Stops the test where this is false.
 pub fn holds(rt: &impl Abort, case: &str, is_so: bool)

@@ -7,11 +7,11 @@ use crate::tests::old_files::old_file;
 use crate::tests::rows::{Held, Schema, held_in};
 use crate::tests::using::keeps_all;
 use memory_files::Session;
-use migrate::{Indexed, MigrateFault, index};
 use sqlite::{Alter, Connection};
 use std::alloc::Global;
 use std::process::Abort;
 use std::test::Fail;
+use tables::{Indexed, MigrateFault, index};
 
 /// Adds the index to the store of a connection that is in no transaction.
 fn index_over<S: Alter>(

@@ -2,11 +2,11 @@
 use crate::tests::helping::{bring_over, holds, open_for, run};
 use crate::tests::old_files::old_file;
 use memory_files::{ClosedFile, Session};
-use migrate::MigrateFault;
 use sqlite::{Alter, Connection};
 use std::alloc::Global;
 use std::process::Abort;
 use std::test::Fail;
+use tables::MigrateFault;
 
 /// Checks that a store is refused with this fault, at the first migration and at the second.
 #[derive(Drop)]

@@ -4,10 +4,9 @@ use super::months::{asking, code, row, six_cells};
 use super::{is_told, with_room};
 use allotment::{Cell, Held, Kind, Night};
 use commands::Fault;
-use filters::CellFilter;
-use month_reports::{MonthReport, months_text};
+use month_reports::months_text;
 use reports::ReportFault;
-use saga_core::Listed;
+use saga_core::{CellFilter, Listed, MonthReport};
 use std::alloc::{AllocError, Global};
 use std::process::Abort;
 

@@ -5,8 +5,8 @@ use super::{ROOM, is_told, with_room};
 use commands::Fault;
 use failing_streams::Sink;
 use holder_reports::{Holder, holders_text};
-use reports::{Format, ReportFault};
-use saga_core::Listed;
+use reports::ReportFault;
+use saga_core::{Format, Listed};
 use std::alloc::AllocError;
 
 /// The first two steps of journey 3, step 24 of journey 41, and a step of the journey with the greatest number.

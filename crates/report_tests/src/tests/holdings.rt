@@ -2,10 +2,8 @@
 use super::{is_told, with_room};
 use allotment::Cell;
 use commands::Agent;
-use filters::JourneyState;
 use holder_reports::{Holding, holdings_text};
-use reports::Format;
-use saga_core::Listed;
+use saga_core::{Format, JourneyState, Listed};
 use std::process::Abort;
 
 /// A cell, the journey's number, its agent and state, and the places.

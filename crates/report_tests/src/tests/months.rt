@@ -4,10 +4,9 @@ use super::{ROOM, cell, is_told, with_room};
 use allotment::{Cell, Code, Held, Kind, Night};
 use commands::Fault;
 use failing_streams::Sink;
-use filters::CellFilter;
-use month_reports::{MonthReport, months_text};
-use reports::{Format, ReportFault};
-use saga_core::Listed;
+use month_reports::months_text;
+use reports::ReportFault;
+use saga_core::{CellFilter, Format, Listed, MonthReport};
 use std::alloc::AllocError;
 use std::process::Abort;
 

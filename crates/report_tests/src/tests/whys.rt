@@ -7,8 +7,8 @@ use commands::{Cursor, Fault, Phase};
 use failing_streams::Sink;
 use plan::{Marks, Plan};
 use previews::{FreeNight, NextStep, look_ahead, next_step, read_nights, why_body, why_text};
-use reports::{Format, ReportFault};
-use saga_core::{Listed, Record};
+use reports::ReportFault;
+use saga_core::{Format, Listed, Record};
 use std::alloc::{AllocError, Global};
 use std::process::Abort;
 

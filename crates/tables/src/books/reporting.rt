@@ -7,9 +7,10 @@ use crate::books::TableBook;
 use crate::books::calls::Look;
 use commands::Fault;
 use desk_sql::Version;
-use report_kinds::{Report, Reporting};
+use report_kinds::Reporting;
 use report_writers::write_report;
 use reports::ReportFault;
+use saga_core::Report;
 use sqlite::{Alter, Connection};
 use std::alloc::Global;
 

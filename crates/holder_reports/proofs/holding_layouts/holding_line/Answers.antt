@@ -4,7 +4,7 @@ use Rattle.std.specs.Fmt.{styled_decimal, styled_text}
 use Rattle.std.proofs.lemmas.Result.{IfOk-weaker}
 use Rattle.allotment.specs.Nights.{night_text}
 use Rattle.allotment.specs.Texts.{kind_word}
-use Rattle.filters.specs.JourneyFilters.{state_word}
+use Rattle.saga_core.specs.JourneyFilters.{state_word}
 use Rattle.reports.specs.Columns.{left, line, right}
 use Rattle.reports.proofs.FillLemmas.{agent_left, number_right}
 use Rattle.holder_reports.proofs.holding_layouts.holding_line.Goals as goal

@@ -1,7 +1,7 @@
 -- Out of memory at the beginning, nothing was read and no message was answered.
 use Rattle.std.proofs.lemmas.Result.{err_from_is_err_and}
 use Rattle.desk_http.specs.declared.doors.Door.TheVariants.{Port}
-use Rattle.http_modes.specs.declared.modes.Mode.TheVariants.{Strict}
+use Rattle.http_conversations.specs.declared.modes.Mode.TheVariants.{Strict}
 use Rattle.http_conversations.specs.History.{new_history}
 use Rattle.http_conversations.proofs.ServeReasonLemmas.{serves_none}
 use Rattle.http_conversations.proofs.serving.serve_book.Goals as goal

@@ -3,7 +3,7 @@ use Rattle.std.proofs.Common.{◌≡◌, ◌∙◌, ◌+◌, Err, Ok, ap, arith,
 use Rattle.std.proofs.lemmas.Result.{err_from_is_err_and}
 use Rattle.std.specs.List.{flat_map}
 use Rattle.allotment.specs.Cells.{kind_number}
-use Rattle.filters.specs.CellFilters.{is_kind_asked}
+use Rattle.saga_core.specs.CellFilters.{is_kind_asked}
 use Rattle.reports.proofs.FrontLemmas.{appends_none, front_none}
 use Rattle.reports.specs.Formats.{stock_row}
 use Rattle.streams.specs.Written.{WroteFront}

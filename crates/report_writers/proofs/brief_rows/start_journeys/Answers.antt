@@ -1,6 +1,6 @@
 -- The rows that will be returned are those of the journeys that are asked for, and nothing changes, whether they start or not.
 use Rattle.std.proofs.Common.{refl, sym, subst}
-use Rattle.filters.specs.JourneyFilters.{is_journey_asked}
+use Rattle.saga_core.specs.JourneyFilters.{is_journey_asked}
 use Rattle.desk_sql.proofs.Quieting.{quiet_start}
 use Rattle.desk_sql.proofs.Selecting.{ok_then}
 use Rattle.sql_lists.specs.JourneyLists.{is_journey_listed}

@@ -2,7 +2,7 @@
 use Rattle.std.proofs.Common.{refl, map, filter, sym, subst}
 use Rattle.allotment.specs.declared.cells.Cell.{Cell}
 use Rattle.allotment.specs.declared.places.Held.{Held}
-use Rattle.filters.specs.CellFilters.{is_cell_of}
+use Rattle.saga_core.specs.CellFilters.{is_cell_of}
 use Rattle.desk_sql.proofs.Quieting.{quiet_start}
 use Rattle.desk_sql.proofs.Selecting.{ok_then}
 use Rattle.sql_model.specs.Reading.{stock_row_of}

@@ -2,7 +2,7 @@
 use Rattle.std.proofs.Common.{◌≡◌, ap, filter, rules, sym, subst, IfOk}
 use Rattle.allotment.specs.declared.cells.Cell.{Cell}
 use Rattle.allotment.specs.declared.places.Held.{Held as Places}
-use Rattle.filters.specs.CellFilters.{is_cell_of}
+use Rattle.saga_core.specs.CellFilters.{is_cell_of}
 use Rattle.report_writers.proofs.ReadyLemmas.{ready_alone, takes_fails}
 use Rattle.report_writers.proofs.ShowLemmas.{shows_none, shows_rows}
 use Rattle.report_writers.proofs.WhyLemmas.{nights-asked}

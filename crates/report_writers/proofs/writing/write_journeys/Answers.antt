@@ -1,6 +1,6 @@
 -- All unfinished journeys where no others are asked for, and else those that are.
 use Rattle.std.proofs.Common.{◌≡◌, ap₂, rules, sym, subst}
-use Rattle.filters.specs.JourneyFilters.{asked_of}
+use Rattle.saga_core.specs.JourneyFilters.{asked_of}
 use Rattle.reports.specs.Formats.{journeys_in, unfinished_in}
 use Rattle.saga_core.specs.Views.{unfinished_of}
 use Rattle.report_writers.specs.Writing.{WritesText}

@@ -1,7 +1,7 @@
 -- The rows that remain of the query are its only answer, and it changes nothing, whether it starts or not.
 use Rattle.std.proofs.Common.{◌<◌, ◌^◌, true, false, None, Some, refl, subst}
 use Rattle.allotment.specs.Cells.{kind_number}
-use Rattle.filters.specs.CellFilters.{last_day}
+use Rattle.saga_core.specs.CellFilters.{last_day}
 use Rattle.desk_sql.proofs.Beginning.{not_begun}
 use Rattle.desk_sql.proofs.Selecting.{ok_each}
 use Rattle.desk_sql.proofs.Writing.{pos_is}

@@ -1,3 +1,0 @@
-pub mod CellFilters
-pub mod JourneyFilters
-pub mod Examples

@@ -1,0 +1,25 @@
+-- What was read is what was said.
+use Rattle.std.proofs.Common.{subst}
+use Rattle.http_messages.specs.WideReading.{IsFirstOf}
+use Rattle.http_conversations.proofs.TextLemmas.{reads_denied, reads_no_method, reads_request}
+use Rattle.http_conversations.proofs.modes.taken.Goals as goal
+
+pub returns-in-Asks : goal.returns-in-Asks
+returns-in-Asks c = record {
+  first = reads_request c.args.bytes.now c.in-Asks.asks c.args.count c.asked.result
+      (subst (λ m. IsFirstOf c.args.bytes.now m c.args.count) c.in-Asks.is c.requires.first) c.asked.ensures.message c.asked.ensures.layout;
+}
+
+pub returns-in-Denied : goal.returns-in-Denied
+returns-in-Denied c = record {
+  first = reads_denied c.args.bytes.now c.in-Denied.why c.args.count c.unread.result.0 c.unread.result.1
+      (subst (λ m. IsFirstOf c.args.bytes.now m c.args.count) c.in-Denied.is c.requires.first)
+      c.unread.ensures.message c.unread.ensures.layout c.unread.ensures.all;
+}
+
+pub returns-in-NoMethod : goal.returns-in-NoMethod
+returns-in-NoMethod c = record {
+  first = reads_no_method c.args.bytes.now c.args.count c.unread-in-NoMethod.result.0 c.unread-in-NoMethod.result.1
+      (subst (λ m. IsFirstOf c.args.bytes.now m c.args.count) c.in-NoMethod.is c.requires.first)
+      c.unread-in-NoMethod.ensures.message c.unread-in-NoMethod.ensures.layout c.unread-in-NoMethod.ensures.all;
+}

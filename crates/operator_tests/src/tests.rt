@@ -1,3 +1,0 @@
-mod log_lines;
-mod metrics;
-mod terminals;
