@@ -1,97 +1,47 @@
--- The greatest of the numbers that pass: it passes or is 0, and none above it passes. For last_save.
-use Rattle.std.proofs.Common.{◌≡◌, ℕ, zero, suc, ◌+◌, ◌≤◌, ◌<◌, ◌==◌, ◌||◌, Bool, true, false, cond, List, [], ◌∷◌, max, IsTrue, refl, sym, subst, ap, ◌∙◌, inl, inr, arith}
+-- The greatest of the numbers that pass, as a walk over them in order finds it. For last_save.
+use Rattle.std.proofs.Common.{◌≡◌, ℕ, zero, suc, ◌+◌, ◌≤◌, ◌<◌, ◌==◌, ◌||◌, Bool, true, false, IsTrue, refl, arith}
 use Rattle.std.specs.List.{filter}
-use Rattle.std.specs.Ordering.{nat_cmp}
-use Rattle.std.specs.FinSet as set
-use Rattle.std.proofs.lemmas.Bool.{cases_lt, or_right}
+use Rattle.std.proofs.lemmas.Bool.Decides.{nat_tests}
 use Rattle.allotment.specs.Cells.{numbers_from}
-use Rattle.plan.specs.PlanModel.{Planned, step_count}
-use Rattle.plan.specs.Marks.{is_taken_in}
-use Rattle.plan.specs.Rules.{greatest, is_save_point, last_save}
-use Rattle.plan.specs.Turns.{IsLanding, IsNoneAbove}
+use Rattle.plan.specs.Rules.{greatest}
 
--- if two numbers are 0 or pass, so is the greater one
-max_lands :
-    (passes : ℕ → Bool) (p q : ℕ)
-    → passes p ≡ true
-    → IsTrue ((q == 0) || passes q)
-    → IsTrue ((max p q == 0) || passes (max p q))
-max_lands passes p q passed lands =
-    let Lands : ℕ → Type 0 = λ n. IsTrue ((n == 0) || passes n) in
-    elim (cases_lt p q) [
-      | inl above ↦ let same : q ≡ max p q = omega arith in subst Lands same lands
-      | inr below ↦
-          let same : p ≡ max p q = omega arith in
-          subst Lands same (or_right (p == 0) (passes p) passed)
-    ]
+-- the last of the numbers up to n that passes, or 0 where none passes
+pub record IsLastTo (passes : ℕ → Bool) (n last : ℕ) : Type 0 where
+  pub lands : IsTrue ((last == 0) || passes last)
+  pub within : last ≤ n
+  pub none_above : (q : ℕ) → q ≤ n → IsTrue (passes q) → q ≤ last
 
--- the greatest of those that pass is 0, or it passes
-pub greatest_lands :
-    (passes : ℕ → Bool) (ps : List ℕ)
-    → IsTrue ((greatest (filter passes ps) == 0) || passes (greatest (filter passes ps)))
-greatest_lands passes [] = refl
-greatest_lands passes (p ∷ ps) =
-    elim (passes p) as (λ b. passes p ≡ b
-    → IsTrue ((greatest (cond b (p ∷ filter passes ps) (filter passes ps)) == 0)
-    || passes (greatest (cond b (p ∷ filter passes ps) (filter passes ps))))) [
-      | true ↦ λ passed.
-          max_lands passes p (greatest (filter passes ps)) passed (greatest_lands passes ps)
-      | false ↦ λ failed. greatest_lands passes ps
-    ] refl
+-- before the first number none passes
+pub IsLastTo-none : (passes : ℕ → Bool) → IsLastTo passes 0 0
+IsLastTo-none passes = record { lands = refl; within = omega arith; none_above = λ q low passed. low }
 
--- one more number does not lower the greatest
-le-greatest :
-    (b : Bool) (p q : ℕ) (others : List ℕ)
-    → q ≤ greatest others
-    → q ≤ greatest (cond b (p ∷ others) others)
-le-greatest true p q others below = omega arith
-le-greatest false p q others below = below
+-- one more number is the last one where it passes
+pub IsLastTo-here : (passes : ℕ → Bool) (n last : ℕ) → IsLastTo passes n last → passes (n + 1) ≡ true → IsLastTo passes (n + 1) (n + 1)
+IsLastTo-here passes n last so_far passed = record { lands = grind arith; within = omega arith; none_above = λ q low _. low }
 
--- a number that passes is at most the greatest
-first_le-greatest :
-    (b : Bool) (p : ℕ) (others : List ℕ) → b ≡ true → p ≤ greatest (cond b (p ∷ others) others)
-first_le-greatest true p others passed = omega arith
-first_le-greatest false p others passed = cc
+-- and leaves it the same where it does not
+pub IsLastTo-past : (passes : ℕ → Bool) (n last : ℕ) → IsLastTo passes n last → passes (n + 1) ≡ false → IsLastTo passes (n + 1) last
+IsLastTo-past passes n last so_far failed = record {
+  lands = so_far.lands;
+  within = omega (arith, so_far.within);
+  none_above = λ q low passed. grind (arith, so_far.none_above q);
+}
 
--- each number of the row that passes is at most the greatest
-pub passing_le-greatest :
-    (passes : ℕ → Bool) (first more p : ℕ)
-    → first ≤ p
-    → p < first + more
-    → passes p ≡ true
+-- where all that pass are at most this number, so is the greatest
+greatest_at_most : (passes : ℕ → Bool) (first more last : ℕ)
+    → ((q : ℕ) → q < first + more → IsTrue (passes q) → q ≤ last) → greatest (filter passes (numbers_from first more)) ≤ last
+greatest_at_most passes first zero last none = omega arith
+greatest_at_most passes first (suc more) last none =
+    let later = greatest_at_most passes (first + 1) more last (λ q low. none q (omega arith)) in
+    grind (arith, none first, later)
+
+-- a number of the row that passes is at most the greatest
+at_most_greatest : (passes : ℕ → Bool) (first more p : ℕ) → first ≤ p → p < first + more → passes p ≡ true
     → p ≤ greatest (filter passes (numbers_from first more))
-passing_le-greatest passes first zero p low high passed = absurd (omega arith)
-passing_le-greatest passes first (suc more) p low high passed =
-    let later : List ℕ = filter passes (numbers_from (suc first) more) in
-    elim (cases_lt first p) [
-      | inl after ↦ le-greatest (passes first) first p later
-          (passing_le-greatest passes (suc first) more p (omega arith) (omega arith) passed)
-      | inr before ↦
-          let same : first ≡ p = omega arith in
-          omega (arith, first_le-greatest (passes first) first later (ap passes same ∙ passed))
-    ]
+at_most_greatest passes first zero p low high passed = absurd (omega arith)
+at_most_greatest passes first (suc more) p low high passed = grind (arith, at_most_greatest passes (first + 1) more p)
 
--- the last save-point is the start, or a save-point stands there
-pub last_save-lands :
-    (plan : Planned) (marks : set.FinSet nat_cmp) (pos p : ℕ)
-    → p ≡ last_save plan (is_taken_in marks) pos
-    → IsLanding plan marks pos p
-last_save-lands plan marks pos p is =
-    subst (IsLanding plan marks pos) (sym is)
-    (greatest_lands (is_save_point plan (is_taken_in marks) pos) _)
-
--- no save-point stands above the last save-point
-pub last_save-none_above :
-    (plan : Planned) (marks : set.FinSet nat_cmp) (pos p : ℕ)
-    → p ≡ last_save plan (is_taken_in marks) pos
-    → IsNoneAbove plan marks pos p
-last_save-none_above plan marks pos p is = λ q high stands.
-    elim (cases_lt 0 q) [
-      | inl low ↦ omega (
-        arith,
-        is,
-        passing_le-greatest (is_save_point plan (is_taken_in marks) pos) 1
-            (step_count plan) q (omega arith) (omega arith) stands,
-      )
-      | inr start ↦ omega arith
-    ]
+-- the last number that passes is the greatest
+pub greatest-last : (passes : ℕ → Bool) (n last : ℕ) → IsLastTo passes n last → last ≡ greatest (filter passes (numbers_from 1 n))
+greatest-last passes n last is =
+    grind (arith, nat_tests, greatest_at_most passes 1 n last (λ q low. is.none_above q (omega arith)), at_most_greatest passes 1 n last, is.lands, is.within)

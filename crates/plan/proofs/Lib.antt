@@ -19,5 +19,4 @@ pub mod JsonOptionLemmas
 pub mod JsonKeptLemmas
 pub mod FlagsLemmas
 pub mod ChoiceLemmas
-pub mod WalkLemmas
 pub mod LandingLemmas

@@ -28,7 +28,8 @@ pub fn last_save(plan: &Plan, marks: &Marks, pos: usize) -> usize
     ensures none_above { IsNoneAbove plan.now marks.now pos result }
 {
     let mut last = 0;
-    for p in 1..=plan.steps() {
+    for below in 0..plan.steps() {
+        let p = below + 1;
         if is_save_point(plan, marks, pos, p) {
             last = p;
         }
