@@ -1,149 +1,109 @@
--- Reading one part after another, up to the first fault. For the readers of the options of a step and of the steps.
-use mathlib.Core.List.{map-map}
-use Rattle.std.proofs.Common.{◌≡◌, ℕ, suc, ◌+◌, ◌<◌, List, [], ◌∷◌, ◌++◌, map, length, drop, refl, sym, ap, ◌∙◌, arith, append_assoc, get_or, Option, Some, Ok, Err, filter_map, flat_map, option_map, Result, append-nil}
+-- What is read of a list up to one of its parts. For the readers of the options of a step and of the steps, and for the check of steps.
+use Rattle.std.proofs.Common.{◌≡◌, ℕ, ◌+◌, ◌<◌, List, [], ◌∷◌, ◌++◌, map, length, take, drop, refl, true, arith, append-nil, get_or, Option, Some, None, Ok, Err, flat_map, take-append-drop}
 use Rattle.std.specs.List.{enumerate_from}
 use Rattle.std.proofs.Math.Seq.{drop-cons}
-use Rattle.serde_json.specs.View.{view}
-use Rattle.serde_json.specs.declared.value.Value.{Value}
+use Rattle.std.proofs.lemmas.List.{map-append}
+use Rattle.std.proofs.lemmas.List.Concat.{flat_map-append}
+use Rattle.std.proofs.lemmas.List.Elements.{filter_map-append}
 use Rattle.allotment.specs.Want.{Wanted}
 use Rattle.allotment.specs.Making.{first_fault}
-use Rattle.allotment.specs.Texts.{parts, bar, semicolon}
 use Rattle.plan.specs.declared.faults.BadPlan.{BadPlan}
 use Rattle.plan.specs.PlanModel.{StepPlan}
-use Rattle.plan.specs.Drafts.{OptionDraft, StepDraft, want_of, option_faults, step_of, step_faults}
-use Rattle.plan.specs.PlanLine.{option_draft, step_draft}
-use Rattle.plan.specs.PlanJson.{json_option, json_step}
-use Rattle.plan.specs.Levels.{judged_option, option_in, options_in, step_in, steps_in}
-use Rattle.plan.specs.JsonLevels.{judged_step, want_of_json, wants_of_json, step_of_json, steps_of_json, views}
+use Rattle.plan.specs.Drafts.{OptionDraft, StepDraft, step_of, step_faults}
+use Rattle.plan.proofs.PrintLemmas.{mapped_more, texts_many}
+use Rattle.plan.specs.Levels.{judged_option, judged_options, judged_step, judged_steps}
 
--- One after another.
+-- the images of a list, cut before and after one of its elements
+image_at : {X Y : Type 0} (f : X → Y) (xs : List X) (k : ℕ) (x : X) → k < length xs → x ≡ get_or xs k x
+    → map f xs ≡ map f (take k xs) ++ f x ∷ map f (drop (k + 1) xs)
+image_at f xs k x l e = grind (arith, take-append-drop k xs, drop-cons xs k x, map-append f (take k xs) (drop k xs))
 
--- the value prepended to the values, or the first fault
-abbrev pub onto : {X F : Type 0} → Result X F → Result (List X) F → Result (List X) F
-onto (Ok x) (Ok xs) = Ok (x ∷ xs)
-onto (Ok x) (Err f) = Err f
-onto (Err f) _ = Err f
+-- one more value without a fault
+first_more : {X F : Type 0} (xs done : List X) (x y : X) (fs gs : List F) → first_fault xs fs ≡ Ok done → first_fault x gs ≡ Ok y
+    → first_fault (xs ++ x ∷ []) (fs ++ gs) ≡ Ok (done ++ y ∷ [])
+first_more xs done x y fs gs so_far here = grind arith
 
--- what is read of each, numbered from this one on, or the first fault
-abbrev pub each : {A X F : Type 0} → (ℕ → A → Result X F) → ℕ → List A → Result (List X) F
-each read i [] = Ok []
-each read i (t ∷ ts) = onto (read i t) (each read (i + 1) ts)
-
--- these values prepended to the values
-abbrev pub behind : {X F : Type 0} → List X → Result (List X) F → Result (List X) F
-behind done (Ok xs) = Ok (done ++ xs)
-behind done (Err f) = Err f
-
--- nothing prepended to a result leaves it the same
-pub none_behind : {X F : Type 0} (r : Result (List X) F) → behind [] r ≡ r
-none_behind r = grind arith
-
--- a value that is read next is appended to those that were read
-pub behind_more : {X F : Type 0} (done : List X) (x : X) (r : Result (List X) F)
-    → behind (done ++ x ∷ []) r ≡ behind done (onto (Ok x) r)
-behind_more done x r = grind (arith, append_assoc)
-
--- the parts from one of them on
-each_from : {A X F : Type 0} (read : ℕ → A → Result X F) (i k : ℕ) (ts : List A) (t : A)
-    → k < length ts → t ≡ get_or ts k t
-    → each read i (drop k ts) ≡ onto (read i t) (each read (i + 1) (drop (suc k) ts))
-each_from read i k ts t l e = grind (arith, drop-cons)
-
--- one more part was read
-pub each_more : {A X F : Type 0} (read : ℕ → A → Result X F) (i k : ℕ) (ts : List A) (t : A)
-    (done : List X) (x : X) (whole : Result (List X) F)
-    → k < length ts → t ≡ get_or ts k t → read i t ≡ Ok x
-    → behind done (each read i (drop k ts)) ≡ whole
-    → (n : ℕ) → n ≡ k + 1 → behind (done ++ x ∷ []) (each read (i + 1) (drop n ts)) ≡ whole
-each_more read i k ts t done x whole l e r h n next =
-    let later = each read (i + 1) (drop (suc k) ts) in
-    let same : n ≡ suc k = omega arith in
-    ap (λ z. behind (done ++ x ∷ []) (each read (i + 1) (drop z ts))) same
-    ∙ behind_more done x later
-    ∙ ap (λ z. behind done (onto z later)) (sym r)
-    ∙ ap (behind done) (sym (each_from read i k ts t l e))
-    ∙ h
-
--- a part has a fault
-pub each_fails : {A X F : Type 0} (read : ℕ → A → Result X F) (i k : ℕ) (ts : List A) (t : A)
-    (done : List X) (f : F) (whole : Result (List X) F)
-    → k < length ts → t ≡ get_or ts k t → read i t ≡ Err f
-    → behind done (each read i (drop k ts)) ≡ whole → whole ≡ Err f
-each_fails read i k ts t done f whole l e r h = grind (arith, each_from read i k ts t l)
-
--- after all elements there is nothing left
-drop_all : {X : Type 0} (xs : List X) → drop (length xs) xs ≡ []
-drop_all [] = refl
-drop_all (x ∷ xs) = drop_all xs
-
--- all parts were read
-pub each_ends : {A X F : Type 0} (read : ℕ → A → Result X F) (i k : ℕ) (ts : List A) (done : List X)
-    (whole : Result (List X) F) → k ≡ length ts → behind done (each read i (drop k ts)) ≡ whole → whole ≡ Ok done
-each_ends read i k ts done whole e h = grind (arith, drop_all, append-nil)
-
--- The first fault of a list.
-
--- the first fault of a list is that of its head, or else of its tail
-pub first_onto : {X F : Type 0} (x : X) (xs : List X) (fs more : List F)
-    → first_fault (x ∷ xs) (fs ++ more) ≡ onto (first_fault x fs) (first_fault xs more)
-first_onto x xs fs more = grind arith
+-- the first fault after values without one
+first_fails : {X Y F : Type 0} (xs done all : List X) (x : Y) (fs gs more : List F) (f : F) → first_fault xs fs ≡ Ok done → first_fault x gs ≡ Err f
+    → first_fault all (fs ++ gs ++ more) ≡ Err f
+first_fails xs done all x fs gs more f so_far here = grind arith
 
 -- Options, by their drafts.
 
--- the first fault of options, or the wants that they mean
-abbrev pub options_judged : ℕ → List (Option OptionDraft) → Result (List Wanted) BadPlan
-options_judged i os = first_fault (filter_map (option_map want_of) os) (flat_map (option_faults i) os)
+-- one more option
+pub options_more : (i : ℕ) (os : List (Option OptionDraft)) (o : Option OptionDraft) (ws : List Wanted) (w : Wanted)
+    → judged_options i os ≡ Ok ws → judged_option i o ≡ Ok w → judged_options i (os ++ o ∷ []) ≡ Ok (ws ++ w ∷ [])
+unfolding judged_option judged_options
+options_more i os None ws w so_far here = cc
+options_more i os (Some o) ws w so_far here = grind (arith, filter_map-append, flat_map-append, first_more, append-nil)
 
--- the first fault of options is that of the first one, or else of the later ones
-options_onto : (i : ℕ) (o : Option OptionDraft) (os : List (Option OptionDraft))
-    → options_judged i (o ∷ os) ≡ onto (judged_option i o) (options_judged i os)
-options_onto i o os = grind (arith, first_onto)
+-- an option with a fault
+pub options_fail : (i : ℕ) (os later : List (Option OptionDraft)) (o : Option OptionDraft) (ws : List Wanted) (f : BadPlan)
+    → judged_options i os ≡ Ok ws → judged_option i o ≡ Err f → judged_options i (os ++ o ∷ later) ≡ Err f
+unfolding judged_option judged_options
+options_fail i os later None ws f so_far here = grind (arith, flat_map-append, first_fails)
+options_fail i os later (Some o) ws f so_far here = grind (arith, flat_map-append, first_fails)
 
--- options are read one after another, whatever their numbers
-options_each : {A : Type 0} (draft : A → Option OptionDraft) (i k : ℕ) (ts : List A)
-    → each (λ n t. judged_option i (draft t)) k ts ≡ options_judged i (map draft ts)
-options_each draft i k [] = refl
-options_each draft i k (t ∷ ts) =
-    ap (onto (judged_option i (draft t))) (options_each draft i (k + 1) ts) ∙ sym (options_onto i (draft t) (map draft ts))
+-- the same of the parts up to one, where drafts are taken of parts
+pub options_more_at : {A : Type 0} (draft : A → Option OptionDraft) (i k : ℕ) (ts : List A) (t : A) (ws : List Wanted) (w : Wanted)
+    → k < length ts → t ≡ get_or ts k t → judged_options i (map draft (take k ts)) ≡ Ok ws → judged_option i (draft t) ≡ Ok w
+    → judged_options i (map draft (take (k + 1) ts)) ≡ Ok (ws ++ w ∷ [])
+options_more_at draft i k ts t ws w l e so_far here = grind (arith, mapped_more draft ts k t, options_more)
 
--- the options of a text
-pub options_whole : (i : ℕ) (text : List ℕ) → behind [] (each (λ k. option_in i) 0 (parts bar text)) ≡ options_in i text
-unfolding option_in options_in
-options_whole i text = none_behind _ ∙ options_each option_draft i 0 (parts bar text)
+pub options_fail_at : {A : Type 0} (draft : A → Option OptionDraft) (i k : ℕ) (ts : List A) (t : A) (ws : List Wanted) (f : BadPlan)
+    → k < length ts → t ≡ get_or ts k t → judged_options i (map draft (take k ts)) ≡ Ok ws → judged_option i (draft t) ≡ Err f
+    → judged_options i (map draft ts) ≡ Err f
+options_fail_at draft i k ts t ws f l e so_far here = grind (arith, image_at draft ts k t, options_fail)
 
--- the options of JSON values
-pub wants_whole : (i : ℕ) (vs : List Value)
-    → behind [] (each (λ k v. want_of_json i (view v)) 0 vs) ≡ wants_of_json i (views vs)
-unfolding want_of_json wants_of_json
-wants_whole i vs =
-    none_behind _ ∙ options_each (λ v. json_option (view v)) i 0 vs ∙ ap (options_judged i) (sym (map-map json_option view vs))
+-- no option
+pub options_none : (i : ℕ) → judged_options i [] ≡ Ok []
+unfolding judged_options
+options_none i = refl
 
 -- Steps, by their drafts.
 
--- the first fault of steps, of so many and from this number on, or the steps that they mean
-abbrev pub steps_judged : ℕ → ℕ → List (Option StepDraft) → Result (List StepPlan) BadPlan
-steps_judged n i ss = first_fault (filter_map (option_map step_of) ss) (flat_map (step_faults n) (enumerate_from i ss))
+-- the numbers of later ones
+enumerate-append : {X : Type 0} (i : ℕ) (xs : List X) (y : X) (later : List X)
+    → enumerate_from i (xs ++ y ∷ later) ≡ enumerate_from i xs ++ (i + length xs, y) ∷ enumerate_from (i + length xs + 1) later
+enumerate-append i [] y later = grind arith
+enumerate-append i (x ∷ xs) y later = grind (arith, enumerate-append (i + 1) xs y later)
 
--- the first fault of steps is that of the first one, or else of the later ones
-steps_onto : (n i : ℕ) (s : Option StepDraft) (ss : List (Option StepDraft))
-    → steps_judged n i (s ∷ ss) ≡ onto (judged_step n i s) (steps_judged n (i + 1) ss)
-steps_onto n i s ss = grind (arith, first_onto)
+-- a first fault after those without one, whatever the faults of each are
+numbered_fails : {X Y Z F : Type 0} (faults : ℕ × X → List F) (xs later : List X) (x : X) (zs done all : List Z) (y : Y) (f : F)
+    → first_fault zs (flat_map faults (enumerate_from 1 xs)) ≡ Ok done → first_fault y (faults (length xs + 1, x)) ≡ Err f
+    → first_fault all (flat_map faults (enumerate_from 1 (xs ++ x ∷ later))) ≡ Err f
+numbered_fails faults xs later x zs done all y f so_far here =
+    grind (arith, enumerate-append 1 xs x later, flat_map-append faults (enumerate_from 1 xs), first_fails)
 
--- steps are read one after another
-steps_each : {A : Type 0} (draft : A → Option StepDraft) (n i : ℕ) (ts : List A)
-    → each (λ k t. judged_step n k (draft t)) i ts ≡ steps_judged n i (map draft ts)
-steps_each draft n i [] = refl
-steps_each draft n i (t ∷ ts) =
-    ap (onto (judged_step n i (draft t))) (steps_each draft n (i + 1) ts) ∙ sym (steps_onto n i (draft t) (map draft ts))
+-- one more step
+pub steps_more : (n i : ℕ) (ss : List (Option StepDraft)) (s : Option StepDraft) (ps : List StepPlan) (p : StepPlan)
+    → i ≡ length ss + 1 → judged_steps n ss ≡ Ok ps → judged_step n i s ≡ Ok p → judged_steps n (ss ++ s ∷ []) ≡ Ok (ps ++ p ∷ [])
+unfolding judged_step judged_steps
+steps_more n i ss None ps p at so_far here = cc
+steps_more n i ss (Some s) ps p at so_far here = grind (arith, enumerate-append, filter_map-append, flat_map-append, first_more, append-nil)
 
--- the steps of a text
-pub steps_whole : (n : ℕ) (text : List ℕ) → behind [] (each (step_in n) 1 (parts semicolon text)) ≡ steps_in n text
-unfolding step_in steps_in
-steps_whole n text = none_behind _ ∙ steps_each (λ t. Some (step_draft t)) n 1 (parts semicolon text)
+-- a step with a fault
+pub steps_fail : (n i : ℕ) (ss later : List (Option StepDraft)) (s : Option StepDraft) (ps : List StepPlan) (f : BadPlan)
+    → i ≡ length ss + 1 → judged_steps n ss ≡ Ok ps → judged_step n i s ≡ Err f → judged_steps n (ss ++ s ∷ later) ≡ Err f
+unfolding judged_step judged_steps
+steps_fail n i ss later None ps f at so_far here =
+    let any : StepPlan = record { options = []; is_marked = true } in
+    numbered_fails (step_faults n) ss later None _ ps _ any f so_far (rw (← at) here)
+steps_fail n i ss later (Some s) ps f at so_far here =
+    numbered_fails (step_faults n) ss later (Some s) _ ps _ (step_of s) f so_far (rw (← at) here)
 
--- the steps of JSON values
-pub json_steps_whole : (n : ℕ) (vs : List Value)
-    → behind [] (each (λ i v. step_of_json n i (view v)) 1 vs) ≡ steps_of_json n (views vs)
-unfolding step_of_json steps_of_json
-json_steps_whole n vs =
-    none_behind _ ∙ steps_each (λ v. json_step (view v)) n 1 vs ∙ ap (steps_judged n 1) (sym (map-map json_step view vs))
+-- the same of the parts up to one, where drafts are taken of parts
+pub steps_more_at : {A : Type 0} (draft : A → Option StepDraft) (n k : ℕ) (ts : List A) (t : A) (ps : List StepPlan) (p : StepPlan)
+    → k < length ts → t ≡ get_or ts k t → judged_steps n (map draft (take k ts)) ≡ Ok ps → judged_step n (k + 1) (draft t) ≡ Ok p
+    → judged_steps n (map draft (take (k + 1) ts)) ≡ Ok (ps ++ p ∷ [])
+steps_more_at draft n k ts t ps p l e so_far here = grind (arith, mapped_more draft ts k t, steps_more, texts_many draft ts k)
+
+pub steps_fail_at : {A : Type 0} (draft : A → Option StepDraft) (n k : ℕ) (ts : List A) (t : A) (ps : List StepPlan) (f : BadPlan)
+    → k < length ts → t ≡ get_or ts k t → judged_steps n (map draft (take k ts)) ≡ Ok ps → judged_step n (k + 1) (draft t) ≡ Err f
+    → judged_steps n (map draft ts) ≡ Err f
+steps_fail_at draft n k ts t ps f l e so_far here = grind (arith, image_at draft ts k t, steps_fail, texts_many draft ts k)
+
+-- no step
+pub steps_none : (n : ℕ) → judged_steps n [] ≡ Ok []
+unfolding judged_steps
+steps_none n = refl

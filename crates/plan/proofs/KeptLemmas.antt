@@ -1,24 +1,25 @@
 -- Wants, steps and plans, and their drafts: the only faults of these are the limits that they break. For plans that are
 -- made of steps, and for lines.
+use mathlib.Core.List.{map-map}
 use Rattle.std.proofs.Common.{◌≡◌, ◌≢◌, ℕ, ◌+◌, ◌<◌, ◌≤◌, ◌^◌, ◌⊎◌, Bool, true, false, not, ◌&&◌, ◌==◌, List, [], ◌∷◌, ◌++◌, map, length, refl, sym, ap, ◌∙◌, arith, Some, Ok, Err, flat_map, filter_map, option_map, Result}
 use Rattle.std.specs.List.{AllByRecursion, list_all, enumerate_from}
 use Rattle.std.proofs.lemmas.Bool.{le-leb, leb-true, lt-leb}
 use Rattle.std.proofs.lemmas.List.{length-map}
 use Rattle.allotment.specs.Want.{Wanted}
 use Rattle.allotment.specs.Limits.{is_between, is_night, is_code, is_count, are_nights, is_want}
-use Rattle.allotment.specs.Making.{unless, first_fault}
+use Rattle.allotment.specs.Making.{unless}
 use Rattle.plan.specs.Limits.{most_options, most_steps, most_tries}
 use Rattle.plan.specs.declared.causes.PlanCause.TheVariants as cause
 use Rattle.plan.specs.declared.faults.BadPlan.{BadPlan}
-use Rattle.plan.specs.PlanModel.{Planned, StepPlan, is_last_unmarked, is_step, is_plan}
+use Rattle.plan.specs.PlanModel.{Planned, StepPlan, step_said, plan_said, is_last_unmarked, is_step, is_plan}
+use Rattle.plan.specs.declared.steps.PlanStep.{PlanStep}
 use Rattle.plan.specs.Drafts.{at, option_faults, step_faults, want_of, step_of, drafted, drafted_step, drafted_plan, judged, plan_made}
-use Rattle.plan.specs.Levels.{step_limits, step_kept, steps_kept}
+use Rattle.plan.specs.Levels.{step_limits, judged_step, judged_steps, steps_held}
 use Rattle.allotment.proofs.TestLemmas.{and_both}
 use Rattle.plan.proofs.LimitLemmas.{limited}
 use Rattle.plan.proofs.OptionLemmas.{nights_few}
 use Rattle.plan.proofs.CleanLemmas.{HasNight, HasNights, judged_keeps}
-use Rattle.plan.proofs.EachLemmas.{each, behind, none_behind, onto, first_onto}
-use Rattle.plan.proofs.LevelLemmas.{limits_fail, limits_pass, mark_right}
+use Rattle.plan.proofs.LevelLemmas.{step_refused, limits_pass, mark_right}
 use Rattle.plan.proofs.LineLemmas.{between_yes, with_tries, draft_no_tries, draft_miscounted, draft_by_steps}
 
 -- A want.
@@ -62,10 +63,12 @@ drafted_back draft mean back (x ∷ xs) =
     ap (λ z. z ∷ filter_map (option_map mean) (map (λ y. Some (draft y)) xs)) (back x)
     ∙ ap (λ z. x ∷ z) (drafted_back draft mean back xs)
 
--- the steps that their drafts mean
+-- the step that its draft means, and the steps that theirs mean
+step_back : (s : StepPlan) → step_of (drafted_step s) ≡ s
+step_back s = ap (λ z. record { options = z; is_marked = s.is_marked }) (drafted_back drafted want_of (λ w. refl) s.options)
+
 steps_back : (steps : List StepPlan) → filter_map (option_map step_of) (map (λ s. Some (drafted_step s)) steps) ≡ steps
-steps_back = drafted_back drafted_step step_of (λ s.
-    ap (λ z. record { options = z; is_marked = s.is_marked }) (drafted_back drafted want_of (λ w. refl) s.options))
+steps_back = drafted_back drafted_step step_of step_back
 
 -- A step.
 
@@ -75,34 +78,18 @@ step_clean : (n i : ℕ) (s : StepPlan) → not (s.is_marked && i == n) ≡ true
 step_clean n i s mark count good = search (arith, none_append, unless_yes, length-map, options_clean)
 
 -- a limit that a step breaks is reported
-pub kept_refused : (n i : ℕ) (s : StepPlan) (f : BadPlan) → Err f ≡ step_limits n i s.is_marked (length s.options)
-    → step_kept n i s ≡ Err f
-unfolding step_kept
-kept_refused n i s f limits = grind (arith, limits_fail, length-map)
+pub kept_refused : (n i k : ℕ) (s : StepPlan) (f : BadPlan) → k ≡ length s.options → Err f ≡ step_limits n i s.is_marked k
+    → judged_step n i (Some (drafted_step s)) ≡ Err f
+kept_refused n i k s f many limits =
+    step_refused n i k (drafted_step s) f (length-map s.options (λ w. Some (drafted w)) ∙ sym many) limits
 
 -- where a step keeps both limits, it is read unchanged
-pub kept_within : (n i : ℕ) (s : StepPlan) → list_all is_want s.options ≡ true
-    → Ok tt ≡ step_limits n i s.is_marked (length s.options) → step_kept n i s ≡ Ok s
-unfolding step_kept
-kept_within n i s good limits = grind (arith, limits_pass, step_clean)
+pub kept_within : (n i k : ℕ) (s : StepPlan) → list_all is_want s.options ≡ true → k ≡ length s.options
+    → Ok tt ≡ step_limits n i s.is_marked k → judged_step n i (Some (drafted_step s)) ≡ Ok s
+unfolding judged_step
+kept_within n i k s good many limits = grind (arith, limits_pass, step_clean, step_back)
 
 -- The steps.
-
--- steps are checked one after another
-kept_each : (n i : ℕ) (steps : List StepPlan)
-    → each (step_kept n) i steps
-    ≡ first_fault steps (flat_map (step_faults n) (enumerate_from i (map (λ s. Some (drafted_step s)) steps)))
-unfolding step_kept
-kept_each n i [] = refl
-kept_each n i (s ∷ steps) =
-    ap (onto (step_kept n i s)) (kept_each n (i + 1) steps)
-    ∙ sym (first_onto s steps (step_faults n (i, Some (drafted_step s)))
-    (flat_map (step_faults n) (enumerate_from (i + 1) (map (λ r. Some (drafted_step r)) steps))))
-
--- all of them
-pub kept_whole : (n : ℕ) (steps : List StepPlan) → behind [] (each (step_kept n) 1 steps) ≡ steps_kept n steps
-unfolding steps_kept
-kept_whole n steps = none_behind _ ∙ kept_each n 1 steps
 
 -- a test that does not hold is false
 not_so : (b : Bool) → not b ≡ true → b ≡ false
@@ -145,10 +132,13 @@ unfolding plan_made
 made_miscounted p n same few out = grind (arith, draft_miscounted, length-map, le-leb)
 
 -- where tries and number are in order, the first fault of a plan is that of its steps
-pub made_by_steps : (p : Planned) (n : ℕ) (r : Result (List StepPlan) BadPlan) → n ≡ length p.steps → p.tries ≤ most_tries
-    → 1 ≤ n → n ≤ most_steps → steps_kept n p.steps ≡ r → plan_made p ≡ with_tries p.tries r
-unfolding plan_made steps_kept
-made_by_steps p n r same few low high kept = grind (arith, draft_by_steps, length-map, le-leb, steps_back)
+pub made_by_steps : (items : List PlanStep) (tries n : ℕ) (r : Result (List StepPlan) BadPlan) → n ≡ length items → tries ≤ most_tries
+    → 1 ≤ n → n ≤ most_steps → judged_steps n (steps_held items) ≡ r → plan_made (plan_said items tries) ≡ with_tries tries r
+unfolding plan_made
+made_by_steps items tries n r same few low high kept =
+    draft_by_steps (drafted_plan (plan_said items tries)) n r
+    (length-map (map step_said items) (λ s. Some (drafted_step s)) ∙ length-map items step_said ∙ sym same) (le-leb tries most_tries few) low high
+    (ap (judged_steps n) (map-map (λ s. Some (drafted_step s)) step_said items) ∙ kept)
 
 -- the first nights of wants that keep the limits are nights
 wants_nights : (ws : List Wanted) → list_all is_want ws ≡ true → AllByRecursion HasNight (map (λ w. Some (drafted w)) ws)

@@ -1,26 +1,26 @@
 -- What is read of a step, by its mark, the number of its options and what they are; and what faults say. For the readers.
-use Rattle.std.proofs.Common.{◌≡◌, ◌≢◌, ℕ, Bool, true, false, not, ◌&&◌, ◌==◌, ◌⊎◌, List, ◌++◌, map, length, sym, ap, Some, None, Ok, Err, Result, arith, eqb-true}
+use Rattle.std.proofs.Common.{◌≡◌, ◌≢◌, ℕ, Bool, true, false, not, ◌&&◌, ◌==◌, ◌⊎◌, List, ◌++◌, length, refl, sym, ap, ◌∙◌, Option, Some, None, Ok, Err, Result, arith, eqb-true}
+use mathlib.Core.List.{map-map}
 use Rattle.std.proofs.lemmas.List.{length-map}
-use Rattle.serde_json.specs.Data.{Data}
+use Rattle.serde_json.specs.View.{view}
 use Rattle.serde_json.specs.declared.value.Value.{Value}
+use Rattle.allotment.specs.Texts.{parts, bar}
+use Rattle.plan.specs.PlanLine.{has_mark, without_mark, option_draft, step_draft}
+use Rattle.plan.specs.PlanJson.{json_option, step_with}
 use Rattle.allotment.specs.Want.{Wanted}
 use Rattle.allotment.specs.Making.{unless, first_fault}
-use Rattle.allotment.specs.Texts.{parts, bar}
 use Rattle.plan.specs.declared.causes.PlanCause.TheVariants as cause
 use Rattle.plan.specs.declared.faults.BadPlan.{BadPlan}
 use Rattle.plan.specs.declared.faults.PlanFault.{PlanFault}
 use Rattle.plan.specs.PlanModel.{StepPlan}
 use Rattle.plan.specs.Faults.{IfBad}
 use Rattle.plan.specs.Drafts.{StepDraft, at}
-use Rattle.plan.specs.PlanLine.{option_draft, has_mark, without_mark}
-use Rattle.plan.specs.PlanJson.{json_step, step_with}
-use Rattle.plan.specs.Levels.{options_in, step_in, step_limits}
-use Rattle.plan.specs.JsonLevels.{judged_step, wants_of_json, step_of_json, views}
-use Rattle.plan.proofs.EachLemmas.{options_judged}
+use Rattle.plan.specs.Levels.{judged_options, judged_step, step_limits, options_spelled, options_shown, views}
 
--- a fact of a fault of the plan implies each weaker fact
-pub IfBad-weaker : (fault : PlanFault) (P Q : BadPlan → Type 0) → ((b : BadPlan) → P b → Q b) → IfBad P fault → IfBad Q fault
-IfBad-weaker fault P Q f h = grind arith
+-- what is read has the fault of one of its parts
+pub fault_of_part : {Y W : Type 0} (read : Result Y BadPlan) (whole : Result W BadPlan) (fault : PlanFault)
+    → ((b : BadPlan) → read ≡ Err b → whole ≡ Err b) → IfBad (λ b. read ≡ Err b) fault → IfBad (λ b. whole ≡ Err b) fault
+fault_of_part read whole fault h given = grind arith
 
 -- the step of these options, or their fault
 abbrev pub with_mark : Bool → Result (List Wanted) BadPlan → Result StepPlan BadPlan
@@ -52,58 +52,60 @@ limits_pass a b i e = grind arith
 -- the mark of a step, or the number of its options, is wrong
 pub step_refused : (n i k : ℕ) (s : StepDraft) (f : BadPlan) → length s.options ≡ k
     → Err f ≡ step_limits n i s.is_marked k → judged_step n i (Some s) ≡ Err f
+unfolding judged_step
 step_refused n i k s f many limits = grind (arith, limits_fail)
 
 -- where mark and number are in order, the first fault of a step is that of its options
 pub step_by_options : (n i k : ℕ) (s : StepDraft) (r : Result (List Wanted) BadPlan) → length s.options ≡ k
-    → Ok tt ≡ step_limits n i s.is_marked k → options_judged i s.options ≡ r
+    → Ok tt ≡ step_limits n i s.is_marked k → judged_options i s.options ≡ r
     → judged_step n i (Some s) ≡ with_mark s.is_marked r
+unfolding judged_step judged_options
 step_by_options n i k s r many limits read = grind (arith, limits_pass, marked_so)
+
+-- a step of another shape
+pub step_unshaped : (n i : ℕ) → judged_step n i None ≡ Err (at i cause.Shape)
+unfolding judged_step
+step_unshaped n i = refl
 
 -- A step of a line, which was cut into its options and its mark.
 
--- the draft of such a step
-abbrev cut_so : List ℕ → Bool → StepDraft
-cut_so rest m = record { options = map option_draft (parts bar rest); is_marked = m }
-
--- it is that of the text
-draft_cut : (n i : ℕ) (text rest : List ℕ) (m : Bool) → rest ≡ without_mark text → m ≡ has_mark text
-    → step_in n i text ≡ judged_step n i (Some (cut_so rest m))
-unfolding step_in
-draft_cut n i text rest m cut mark = grind arith
+-- the draft of such a step is that of the text
+draft_cut : (text rest : List ℕ) (m : Bool) → rest ≡ without_mark text → m ≡ has_mark text
+    → step_draft text ≡ record { options = options_spelled rest; is_marked = m }
+draft_cut text rest m cut mark = cc
 
 -- its mark, or the number of its options, is wrong
 pub cut_refused : (n i k : ℕ) (text rest : List ℕ) (m : Bool) (f : BadPlan)
     → rest ≡ without_mark text → m ≡ has_mark text → k ≡ length (parts bar rest)
-    → Err f ≡ step_limits n i m k → step_in n i text ≡ Err f
-cut_refused n i k text rest m f cut mark many limits = grind (arith, draft_cut, step_refused, length-map)
+    → Err f ≡ step_limits n i m k → judged_step n i (Some (step_draft text)) ≡ Err f
+cut_refused n i k text rest m f cut mark many limits =
+    rw (draft_cut text rest m cut mark) (step_refused n i k _ f (length-map (parts bar rest) option_draft ∙ sym many) limits)
 
 -- where they are in order, its first fault is that of its options
 pub cut_by_options : (n i k : ℕ) (text rest : List ℕ) (m : Bool) (r : Result (List Wanted) BadPlan)
     → rest ≡ without_mark text → m ≡ has_mark text → k ≡ length (parts bar rest)
-    → Ok tt ≡ step_limits n i m k → options_in i rest ≡ r → step_in n i text ≡ with_mark m r
-unfolding options_in
-cut_by_options n i k text rest m r cut mark many limits read = grind (arith, draft_cut, step_by_options, length-map)
+    → Ok tt ≡ step_limits n i m k → judged_options i (options_spelled rest) ≡ r → judged_step n i (Some (step_draft text)) ≡ with_mark m r
+cut_by_options n i k text rest m r cut mark many limits read =
+    rw (draft_cut text rest m cut mark) (step_by_options n i k _ r (length-map (parts bar rest) option_draft ∙ sym many) limits read)
 
 -- A step of JSON.
 
--- a value of another shape
-pub json_step_unshaped : (n i : ℕ) (d : Data) → None ≡ json_step d → step_of_json n i d ≡ Err (at i cause.Shape)
-unfolding step_of_json
-json_step_unshaped n i d e = ap (judged_step n i) (sym e)
+-- the options of a step that these values represent
+step_shown : (vs : List Value) (m : Bool) → step_with (views vs) m ≡ record { options = options_shown vs; is_marked = m }
+step_shown vs m = ap (λ z. record { options = z; is_marked = m }) (map-map json_option view vs)
 
 -- its mark, or the number of its options, is wrong
-pub json_step_refused : (n i : ℕ) (d : Data) (vs : List Value) (m : Bool) (f : BadPlan)
-    → Some (step_with (views vs) m) ≡ json_step d → Err f ≡ step_limits n i m (length vs) → step_of_json n i d ≡ Err f
-unfolding step_of_json
-json_step_refused n i d vs m f e limits = grind (arith, step_refused, length-map)
+pub shown_refused : (n i : ℕ) (d : Option StepDraft) (vs : List Value) (m : Bool) (f : BadPlan)
+    → Some (step_with (views vs) m) ≡ d → Err f ≡ step_limits n i m (length vs) → judged_step n i d ≡ Err f
+shown_refused n i d vs m f e limits =
+    rw (← e, step_shown vs m) (step_refused n i (length vs) _ f (length-map vs (λ v. json_option (view v))) limits)
 
 -- where they are in order, its first fault is that of its options
-pub json_step_by_wants : (n i : ℕ) (d : Data) (vs : List Value) (m : Bool) (r : Result (List Wanted) BadPlan)
-    → Some (step_with (views vs) m) ≡ json_step d → Ok tt ≡ step_limits n i m (length vs) → wants_of_json i (views vs) ≡ r
-    → step_of_json n i d ≡ with_mark m r
-unfolding step_of_json wants_of_json
-json_step_by_wants n i d vs m r e limits read = grind (arith, step_by_options, length-map)
+pub shown_by_options : (n i : ℕ) (d : Option StepDraft) (vs : List Value) (m : Bool) (r : Result (List Wanted) BadPlan)
+    → Some (step_with (views vs) m) ≡ d → Ok tt ≡ step_limits n i m (length vs) → judged_options i (options_shown vs) ≡ r
+    → judged_step n i d ≡ with_mark m r
+shown_by_options n i d vs m r e limits read =
+    rw (← e, step_shown vs m) (step_by_options n i (length vs) _ r (length-map vs (λ v. json_option (view v))) limits read)
 
 -- Tests of a mark.
 

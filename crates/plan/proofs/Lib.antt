@@ -15,7 +15,6 @@ pub mod PrintLemmas
 pub mod StepLemmas
 pub mod SpellLemmas
 pub mod MemberLemmas
-pub mod JsonOptionLemmas
 pub mod JsonKeptLemmas
 pub mod FlagsLemmas
 pub mod ChoiceLemmas

@@ -1,5 +1,6 @@
 -- What is read of a plan, by its tries, the number of its steps and what they are. For the readers of lines and JSON, and
 -- for the call that makes a plan of steps.
+use mathlib.Core.List.{map-map}
 use Rattle.std.proofs.Common.{◌≡◌, ℕ, ◌<◌, ◌≤◌, ◌⊎◌, inr, Bool, true, false, ◌&&◌, List, ◌++◌, length, refl, sym, ap, ◌∙◌, arith, Option, Some, None, Ok, Err, flat_map, is_some, nat_le, option_map, Result}
 use Rattle.std.specs.List.{enumerate_from}
 use Rattle.std.proofs.lemmas.Bool.{le-leb, lt-leb}
@@ -17,11 +18,9 @@ use Rattle.plan.specs.PlanModel.{Planned, StepPlan}
 use Rattle.plan.specs.Drafts.{Draft, at, number_or_none, step_faults, plan_of, judged}
 use Rattle.plan.specs.PlanLine.{front_of, end_of, tries_in, line_draft, plan_in}
 use Rattle.plan.specs.PlanJson.{json_step, json_steps, json_tries, draft_with, plan_in_json}
-use Rattle.plan.specs.Levels.{steps_in}
-use Rattle.plan.specs.JsonLevels.{steps_of_json, views}
+use Rattle.plan.specs.Levels.{judged_steps, steps_spelled, steps_shown, views}
 use Rattle.allotment.proofs.CutLemmas.{some_part}
 use Rattle.allotment.proofs.TestLemmas.{and_make}
-use Rattle.plan.proofs.EachLemmas.{steps_judged}
 use Rattle.plan.proofs.LevelLemmas.{and_false}
 use Rattle.plan.proofs.ReadLemmas.{tries_read}
 
@@ -69,8 +68,9 @@ draft_miscounted d n many e out = grind (arith, draft_told, between_no)
 
 -- where tries and number are in order, the first fault of a draft is that of its steps
 pub draft_by_steps : (d : Draft) (n : ℕ) (r : Result (List StepPlan) BadPlan) → length d.steps ≡ n → are_tries d.tries ≡ true
-    → 1 ≤ n → n ≤ most_steps → steps_judged n 1 d.steps ≡ r → judged (Some d) ≡ with_tries (number_or_none d.tries) r
-draft_by_steps d n r many e low high read = grind (arith, draft_told, between_yes, tried_so, steps_judged)
+    → 1 ≤ n → n ≤ most_steps → judged_steps n d.steps ≡ r → judged (Some d) ≡ with_tries (number_or_none d.tries) r
+unfolding judged_steps
+draft_by_steps d n r many e low high read = grind (arith, draft_told, between_yes, tried_so)
 
 -- A line.
 
@@ -96,9 +96,12 @@ module _ (text front : List ℕ) (tries n : ℕ) (cut : front ≡ front_of text)
   line_too_long long = draft_miscounted (line_draft text) n line_count line_tries (inr long)
 
   -- where they are not too many, the first fault of a line is that of its steps
-  pub line_by_steps : (r : Result (List StepPlan) BadPlan) → n ≤ most_steps → steps_in n front ≡ r → plan_in text ≡ with_tries tries r
-  unfolding plan_in steps_in
-  line_by_steps r short steps = grind (arith, some_part, draft_by_steps, line_count, line_tries, steps_judged)
+  pub line_by_steps : (r : Result (List StepPlan) BadPlan) → n ≤ most_steps → judged_steps n (steps_spelled front) ≡ r → plan_in text ≡ with_tries tries r
+  unfolding plan_in
+  line_by_steps r short steps =
+      draft_by_steps (line_draft text) n r line_count line_tries (omega (arith, many, some_part semicolon front)) short
+      (ap (λ z. judged_steps n (steps_spelled z)) (sym cut) ∙ steps)
+      ∙ ap (λ o. with_tries (number_or_none o) r) read
 
 -- A JSON value.
 
@@ -133,8 +136,8 @@ module _ (d : Data) (vs : List Value) (tries : ℕ) (shape : Some (views vs) ≡
 
   -- where tries and number are in order, its first fault is that of its steps
   pub json_by_steps : (r : Result (List StepPlan) BadPlan) → 1 ≤ length vs → length vs ≤ most_steps
-      → steps_of_json (length vs) (views vs) ≡ r → plan_in_json d ≡ with_tries tries r
-  unfolding steps_of_json
+      → judged_steps (length vs) (steps_shown vs) ≡ r → plan_in_json d ≡ with_tries tries r
   json_by_steps r low high steps =
       json_shaped d vs (Some tries) shape read
-      ∙ draft_by_steps (draft_with (Some tries) (views vs)) (length vs) r json_count (le-leb tries most_tries few) low high steps
+      ∙ draft_by_steps (draft_with (Some tries) (views vs)) (length vs) r json_count (le-leb tries most_tries few) low high
+      (ap (judged_steps (length vs)) (map-map json_step view vs) ∙ steps)

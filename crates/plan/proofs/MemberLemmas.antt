@@ -9,7 +9,7 @@ use Rattle.serde_json.specs.Find.{get, as_array, as_object}
 use Rattle.serde_json.specs.View.{items_of, items_view, members_view}
 use Rattle.serde_json.specs.declared.value.Value.{Value}
 use Rattle.plan.specs.PlanJson.{member_count, values_of, has_members, has_just, in_member, list_of}
-use Rattle.plan.specs.JsonLevels.{views}
+use Rattle.plan.specs.Levels.{views}
 
 -- an object shows as many members as it has
 pub member_count-members_view : (es : List (String Global × Value)) → member_count (members_view es) ≡ length es

@@ -22,6 +22,6 @@ pub mapped_more : {X Y : Type 0} (f : X → Y) (xs : List X) (k : ℕ) (x : X) �
     → map f (take (k + 1) xs) ≡ map f (take k xs) ++ f x ∷ []
 mapped_more f xs k x l e = grind (arith, take-suc xs k x, map-append f (take k xs) (get_or xs k x ∷ []))
 
--- there are as many texts as the index says
-pub texts_many : {X : Type 0} (f : X → List ℕ) (xs : List X) (k : ℕ) → k ≤ length xs → length (map f (take k xs)) ≡ k
+-- there are as many images as the index says
+pub texts_many : {X Y : Type 0} (f : X → Y) (xs : List X) (k : ℕ) → k ≤ length xs → length (map f (take k xs)) ≡ k
 texts_many f xs k l = length-map (take k xs) f ∙ length-take-le k xs l

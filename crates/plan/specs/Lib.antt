@@ -7,7 +7,6 @@ pub mod PlanLine
 pub mod Cuts
 pub mod Levels
 pub mod PlanJson
-pub mod JsonLevels
 pub mod PlanData
 pub mod Examples
 pub mod Rules

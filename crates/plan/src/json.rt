@@ -1,19 +1,19 @@
 //! The steps of a plan in JSON, read one after another up to the first fault.
 //!
 //! Each list is allocated once, and nothing is copied but the parts of wants.
-ghost use Rattle.std.specs.Prelude.{◌≡◌, ◌≤◌, Ok, Err, option_map, length, IfOk, IfErr, IfSome};
+ghost use Rattle.std.specs.Prelude.{◌≡◌, ◌≤◌, option_map, map, length, IfSome};
 ghost use Rattle.serde_json.specs.View.{view};
-ghost use Rattle.plan.specs.Limits.{most_steps, most_tries};
+ghost use Rattle.plan.specs.Limits.{most_tries};
 ghost use Rattle.plan.specs.PlanModel.{step_said};
-ghost use Rattle.plan.specs.Faults.{IfBad};
-ghost use Rattle.plan.specs.PlanJson.{json_step, json_steps, json_tries, step_with};
-ghost use Rattle.plan.specs.JsonLevels.{want_of_json, wants_of_json, step_of_json, steps_of_json, views, AreJsonSteps};
+ghost use Rattle.plan.specs.Faults.{Gives};
+ghost use Rattle.plan.specs.PlanJson.{json_option, json_step, json_steps, json_tries, step_with};
+ghost use Rattle.plan.specs.Levels.{judged_option, judged_options, judged_step, judged_steps, options_shown, steps_shown, views};
 
 use crate::causes::PlanCause;
 use crate::faults::{BadPlan, PlanFault, bad};
 use crate::limits::{MOST_TRIES, check_limits};
 use crate::members::{answer_in, has_just, list_in, number_in, text_in};
-use crate::options::cause_of;
+use crate::options::want_of;
 use crate::steps::PlanStep;
 use allotment::{Kind, Want};
 use serde_json::Value;
@@ -45,28 +45,19 @@ pub fn plan_tries(value: &Value) -> Option<u8>
 /// Reads the steps that these values spell, or reports the first thing that is wrong with one of them. The other fault
 /// is out of memory.
 pub fn steps_of(alloc: Global, values: &[Value]) -> Result<Vec<PlanStep>, PlanFault>
-    requires few { length values.now ≤ most_steps }
-
-    ensures read { IfOk result (λ steps. AreJsonSteps (length values.now) values.now steps.items) }
-    ensures refused { IfErr result
-        (IfBad (λ bad. steps_of_json (length values.now) (views values.now) ≡ Err bad)) }
+    ensures read { Gives (judged_steps (length values.now) (steps_shown values.now)) (λ steps. map step_said steps.items) result }
 {
     let mut steps = Vec::with_capacity(alloc, values.len())?;
-    let mut number = 1;
-    for value in values {
-        let read = step_of(alloc, values.len(), number, value)?;
+    for (i, value) in values.iter().enumerate() {
+        let read = step_of(alloc, values.len(), i + 1, value)?;
         steps.push(read)?;
-        number += 1;
     }
     Ok(steps)
 }
 
 /// The step of this number that a value spells, where `last` is the number of the last step.
 fn step_of(alloc: Global, last: usize, step: usize, value: &Value) -> Result<PlanStep, PlanFault>
-    ensures read { IfOk result
-        (λ read. step_of_json last step (view value.now) ≡ Ok (step_said read)) }
-    ensures refused { IfErr result
-        (IfBad (λ bad. step_of_json last step (view value.now) ≡ Err bad)) }
+    ensures read { Gives (judged_step last step (json_step (view value.now))) step_said result }
 {
     let Some((options, save)) = step_parts(value) else {
         return Err(PlanFault::Bad(bad(step, PlanCause::Shape)));
@@ -91,10 +82,7 @@ fn step_parts(value: &Value) -> Option<(&[Value], bool)>
 
 /// The wants of the options of a step, which these values spell.
 fn options_of(alloc: Global, step: usize, values: &[Value]) -> Result<Vec<Want>, PlanFault>
-    ensures read { IfOk result
-        (λ options. wants_of_json step (views values.now) ≡ Ok options.items) }
-    ensures refused { IfErr result
-        (IfBad (λ bad. wants_of_json step (views values.now) ≡ Err bad)) }
+    ensures read { Gives (judged_options step (options_shown values.now)) (λ options. options.items) result }
 {
     let mut options = Vec::with_capacity(alloc, values.len())?;
     for value in values {
@@ -106,7 +94,7 @@ fn options_of(alloc: Global, step: usize, values: &[Value]) -> Result<Vec<Want>,
 
 /// The want that an option of this step spells, or the first thing that is wrong with it.
 fn option_of(step: usize, value: &Value) -> Result<Want, BadPlan>
-    ensures want { result ≡ want_of_json step (view value.now) }
+    ensures want { result ≡ judged_option step (json_option (view value.now)) }
 {
     if !has_just(
         value,
@@ -114,16 +102,13 @@ fn option_of(step: usize, value: &Value) -> Result<Want, BadPlan>
     ) {
         return Err(bad(step, PlanCause::Shape));
     }
-    let Some(kind) = Kind::from_word(text_in(value, "kind")) else {
-        return Err(bad(step, PlanCause::Kind));
-    };
-    let supplier = text_in(value, "supplier");
-    let product = text_in(value, "product");
-    let first = text_in(value, "first");
-    let nights = number_in(value, "nights").unwrap_or(0);
-    let count = number_in(value, "count").unwrap_or(0);
-    match Want::new(kind, supplier, product, first, nights, count) {
-        Ok(want) => Ok(want),
-        Err(fault) => Err(bad(step, cause_of(fault))),
-    }
+    want_of(
+        step,
+        Kind::from_word(text_in(value, "kind")),
+        text_in(value, "supplier"),
+        text_in(value, "product"),
+        text_in(value, "first"),
+        number_in(value, "nights").unwrap_or(0),
+        number_in(value, "count").unwrap_or(0),
+    )
 }

@@ -1,10 +1,10 @@
 //! The limits that the steps of a plan keep.
-ghost use Rattle.std.specs.Prelude.{◌≡◌, ◌≤◌, Ok, Err, map, length, IsTrue, OnOk, IfErr};
+ghost use Rattle.std.specs.Prelude.{◌≡◌, Some, Ok, Err, map, length, IsTrue, OnOk, MatchResult};
 ghost use Rattle.std.specs.List.{list_all};
 ghost use Rattle.allotment.specs.Limits.{is_want};
-ghost use Rattle.plan.specs.Limits.{most_steps};
 ghost use Rattle.plan.specs.PlanModel.{step_said, is_step};
-ghost use Rattle.plan.specs.Levels.{step_limits, step_checked, steps_checked};
+ghost use Rattle.plan.specs.Drafts.{drafted_step};
+ghost use Rattle.plan.specs.Levels.{step_limits, judged_step, judged_steps, steps_held};
 
 use crate::causes::PlanCause;
 use crate::faults::{BadPlan, bad};
@@ -22,27 +22,23 @@ pub const MOST_TRIES: u8 = 9;
 
 /// Checks the steps, and reports the first limit that one of them breaks.
 pub fn check_steps(steps: &[PlanStep]) -> Result<(), BadPlan>
-    requires few { length steps.now ≤ most_steps }
-
-    ensures kept { OnOk result (steps_checked steps.now ≡ Ok (map step_said steps.now)) }
+    ensures checked { MatchResult result
+        (λ _. judged_steps (length steps.now) (steps_held steps.now) ≡ Ok (map step_said steps.now))
+        (λ bad. judged_steps (length steps.now) (steps_held steps.now) ≡ Err bad) }
     ensures limits { OnOk result (IsTrue (list_all is_step (map step_said steps.now))) }
-
-    ensures refused { IfErr result (λ bad. steps_checked steps.now ≡ Err bad) }
 {
-    let mut number = 1;
-    for step in steps {
-        check_step(steps.len(), number, step)?;
-        number += 1;
+    for (i, step) in steps.iter().enumerate() {
+        check_step(steps.len(), i + 1, step)?;
     }
     Ok(())
 }
 
 /// Checks the step of this number, where `last` is the number of the last step.
 fn check_step(last: usize, number: usize, step: &PlanStep) -> Result<(), BadPlan>
-    ensures kept { OnOk result (step_checked last number step.now ≡ Ok (step_said step.now)) }
+    ensures checked { MatchResult result
+        (λ _. judged_step last number (Some (drafted_step (step_said step.now))) ≡ Ok (step_said step.now))
+        (λ bad. judged_step last number (Some (drafted_step (step_said step.now))) ≡ Err bad) }
     ensures limits { OnOk result (IsTrue (is_step (step_said step.now))) }
-
-    ensures refused { IfErr result (λ bad. step_checked last number step.now ≡ Err bad) }
 {
     know_limits(step.options.as_slice());
     check_limits(last, number, step.save, step.options.len())?;

@@ -1,12 +1,12 @@
 //! The steps of a plan line, read one after another up to the first fault.
 //!
 //! A text is cut in place, and each list is allocated once.
-ghost use Rattle.std.specs.Prelude.{◌≡◌, ◌≤◌, Ok, Err, length, IfOk, IfErr};
+ghost use Rattle.std.specs.Prelude.{◌≡◌, Some, map, length};
 ghost use Rattle.allotment.specs.Texts.{parts, bar, semicolon};
-ghost use Rattle.plan.specs.Limits.{most_steps};
 ghost use Rattle.plan.specs.PlanModel.{step_said};
-ghost use Rattle.plan.specs.Faults.{IfBad};
-ghost use Rattle.plan.specs.Levels.{options_in as wants_in, step_in as step_read, steps_in as steps_read, AreStepsOf};
+ghost use Rattle.plan.specs.PlanLine.{step_draft};
+ghost use Rattle.plan.specs.Faults.{Gives};
+ghost use Rattle.plan.specs.Levels.{judged_options, judged_step, judged_steps, options_spelled, steps_spelled};
 
 use crate::faults::PlanFault;
 use crate::limits::check_limits;
@@ -19,26 +19,19 @@ use std::alloc::Global;
 /// Reads the `last` steps that a line spells before its tries, or reports the first thing that is wrong with one of
 /// them. The other fault is out of memory.
 pub fn steps_in(alloc: Global, last: usize, text: &str) -> Result<Vec<PlanStep>, PlanFault>
-    requires whole { last ≡ length (parts semicolon text.now) }
-    requires few { last ≤ most_steps }
-
-    ensures read { IfOk result (λ steps. AreStepsOf last text.now steps.items) }
-    ensures refused { IfErr result (IfBad (λ bad. steps_read last text.now ≡ Err bad)) }
+    ensures read { Gives (judged_steps last (steps_spelled text.now)) (λ steps. map step_said steps.items) result }
 {
     let mut steps = Vec::with_capacity(alloc, last)?;
-    let mut step = 1;
     for part in text.split(';') {
-        let read = step_in(alloc, last, step, part)?;
+        let read = step_in(alloc, last, steps.len() + 1, part)?;
         steps.push(read)?;
-        step += 1;
     }
     Ok(steps)
 }
 
 /// The step of this number that a text spells, where `last` is the number of the last step.
 fn step_in(alloc: Global, last: usize, step: usize, text: &str) -> Result<PlanStep, PlanFault>
-    ensures read { IfOk result (λ read. step_read last step text.now ≡ Ok (step_said read)) }
-    ensures refused { IfErr result (IfBad (λ bad. step_read last step text.now ≡ Err bad)) }
+    ensures read { Gives (judged_step last step (Some (step_draft text.now))) step_said result }
 {
     let (rest, save) = split_mark(text);
     let count = count_options(rest);
@@ -49,8 +42,7 @@ fn step_in(alloc: Global, last: usize, step: usize, text: &str) -> Result<PlanSt
 
 /// The wants of so many options of a step, which a text spells.
 fn options_in(alloc: Global, step: usize, count: usize, text: &str) -> Result<Vec<Want>, PlanFault>
-    ensures read { IfOk result (λ options. wants_in step text.now ≡ Ok options.items) }
-    ensures refused { IfErr result (IfBad (λ bad. wants_in step text.now ≡ Err bad)) }
+    ensures read { Gives (judged_options step (options_spelled text.now)) (λ options. options.items) result }
 {
     let mut options = Vec::with_capacity(alloc, count)?;
     for part in text.split('|') {

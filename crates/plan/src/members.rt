@@ -4,7 +4,7 @@ ghost use Rattle.std.specs.List.{list_all};
 ghost use Rattle.serde_json.specs.Find.{get, as_bool};
 ghost use Rattle.serde_json.specs.View.{view};
 ghost use Rattle.plan.specs.PlanJson.{has_members as is_object_of, has_just as is_object_with, in_member, whole_number, list_of, text_of};
-ghost use Rattle.plan.specs.JsonLevels.{views};
+ghost use Rattle.plan.specs.Levels.{views};
 
 use serde_json::Value;
 

@@ -1,15 +1,8 @@
-use Rattle.std.proofs.Common.{◌≡◌, ◌+◌, map, length, drop}
-use Rattle.serde_json.specs.View.{view}
+use Rattle.std.proofs.Common.{◌≡◌, Ok, map, length, take}
 use Rattle.plan.specs.PlanModel.{step_said}
-use Rattle.plan.specs.JsonLevels.{step_of_json, steps_of_json, views}
-use Rattle.plan.proofs.EachLemmas.{each, behind}
+use Rattle.plan.specs.Levels.{judged_steps, steps_shown}
 use Rattle.plan.proofs.json.steps_of.Given as goal
 
--- steps are numbered from 1; the steps so far, and what is read of the remaining ones, are what is read of all
-abbrev pub invariant-loop-value : goal.invariant-loop-value
-invariant-loop-value l = record {
-  number : l.number ≡ l.value-index + 1;
-  whole : behind (map step_said l.steps.items)
-      (each (λ i v. step_of_json (length l.values) i (view v)) l.number (drop l.value-index l.values))
-      ≡ steps_of_json (length l.values) (views l.values);
-}
+-- the steps so far are what is read of the values so far
+abbrev pub invariant-loop-i : goal.invariant-loop-i
+invariant-loop-i l = judged_steps (length l.values) (steps_shown (take l.i l.values)) ≡ Ok (map step_said l.steps.items)

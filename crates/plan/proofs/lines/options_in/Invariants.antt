@@ -1,11 +1,8 @@
-use Rattle.std.proofs.Common.{◌≡◌, length, drop}
-use Rattle.allotment.specs.Texts.{parts, bar}
-use Rattle.plan.specs.Levels.{option_in, options_in}
-use Rattle.plan.proofs.EachLemmas.{each, behind}
+use Rattle.std.proofs.Common.{◌≡◌, Ok, map}
+use Rattle.plan.specs.PlanLine.{option_draft}
+use Rattle.plan.specs.Levels.{judged_options}
 use Rattle.plan.proofs.lines.options_in.Given as goal
 
--- the options so far, and what is read of the remaining text, are what is read of the whole text
+-- the options so far are what is read of the parts so far
 abbrev pub invariant-loop-part : goal.invariant-loop-part
-invariant-loop-part l =
-    behind l.options.items (each (λ k. option_in l.step) (length l.yielded) (drop (length l.yielded) (parts bar l.text)))
-    ≡ options_in l.step l.text
+invariant-loop-part l = judged_options l.step (map option_draft (map (λ part. part.now) l.yielded)) ≡ Ok l.options.items

@@ -4,7 +4,7 @@ use Rattle.serde_json.specs.View.{view}
 use Rattle.plan.specs.Limits.{most_steps}
 use Rattle.plan.specs.PlanModel.{plan_said}
 use Rattle.plan.specs.PlanJson.{plan_in_json}
-use Rattle.plan.proofs.LevelLemmas.{IfBad-weaker}
+use Rattle.plan.proofs.LevelLemmas.{fault_of_part}
 use Rattle.plan.proofs.LineLemmas.{json_unshaped, json_no_tries, json_miscounted, json_by_steps}
 use Rattle.plan.proofs.FaultLemmas.{json_fault_step}
 use Rattle.plan.proofs.JsonKeptLemmas.{json_keeps_limits}
@@ -36,11 +36,11 @@ pub returns-in_err-steps-clause-refused : goal.returns-in_err-steps-clause-refus
 returns-in_err-steps-clause-refused c =
     let p = err_from_is_err_and c.from_residual.result c.from_residual.ensures.1 in
     rw (p.1, p.2)
-    (IfBad-weaker c.in_err-steps.field-0.0 _ _
-    (λ bad same. json_by_steps (view c.args.value.now) c.in-Some.values.now c.in-Some-plan_tries.tries
+    (fault_of_part _ (plan_in_json (view c.args.value.now)) c.in_err-steps.field-0.0
+    (λ bad. json_by_steps (view c.args.value.now) c.in-Some.values.now c.in-Some-plan_tries.tries
     c.in-Some.ensures.steps c.in-Some-plan_tries.ensures.tries c.in-Some-plan_tries.ensures.few (Err bad)
-    (omega (arith, c.if-last-eq0.false)) (omega (arith, c.if-last-gt-MOST_STEPS.false)) same)
-    c.in_err-steps.ensures.refused)
+    (omega (arith, c.if-last-eq0.false)) (omega (arith, c.if-last-gt-MOST_STEPS.false)))
+    c.in_err-steps.ensures.read)
 
 -- the fault of a step names a step up to the last
 pub returns-in_err-steps-clause-step : goal.returns-in_err-steps-clause-step

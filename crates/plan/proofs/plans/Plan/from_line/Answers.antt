@@ -3,7 +3,7 @@ use Rattle.std.proofs.lemmas.Result.{err_from_is_err_and}
 use Rattle.plan.specs.PlanModel.{plan_said}
 use Rattle.plan.specs.PlanLine.{plan_in}
 use Rattle.plan.proofs.ReadLemmas.{read_is_spelled}
-use Rattle.plan.proofs.LevelLemmas.{IfBad-weaker}
+use Rattle.plan.proofs.LevelLemmas.{fault_of_part}
 use Rattle.plan.proofs.LineLemmas.{line_no_tries, line_too_long, line_by_steps}
 use Rattle.plan.proofs.FaultLemmas.{fault_step}
 use Rattle.plan.proofs.plans.Plan.from_line.Goals as goal
@@ -21,10 +21,10 @@ pub returns-in_err-steps-clause-refused : goal.returns-in_err-steps-clause-refus
 returns-in_err-steps-clause-refused c =
     let p = err_from_is_err_and c.from_residual.result c.from_residual.ensures.1 in
     rw (p.1, p.2)
-    (IfBad-weaker c.in_err-steps.field-0.0 _ _
-    (λ bad same. line_by_steps c.args.text.now c.in-Some.front.now c.in-Some.tries c.count_steps-count.result
-    c.in-Some.ensures.rest c.in-Some.ensures.tries c.count_steps-count.ensures.count (Err bad) c.if-count-gt-MOST_STEPS.false same)
-    c.in_err-steps.ensures.refused)
+    (fault_of_part _ (plan_in c.args.text.now) c.in_err-steps.field-0.0
+    (λ bad. line_by_steps c.args.text.now c.in-Some.front.now c.in-Some.tries c.count_steps-count.result
+    c.in-Some.ensures.rest c.in-Some.ensures.tries c.count_steps-count.ensures.count (Err bad) c.if-count-gt-MOST_STEPS.false)
+    c.in_err-steps.ensures.read)
 
 -- the fault of a step names a step up to the last
 pub returns-in_err-steps-clause-step : goal.returns-in_err-steps-clause-step

@@ -1,11 +1,8 @@
-use Rattle.std.proofs.Common.{◌≡◌, ◌<◌, ◌⊎◌, List, map, length, sym, ap, subst, ◌∙◌, arith, inl, inr, Ok, Err, true}
-use Rattle.std.specs.List.{list_all}
+use Rattle.std.proofs.Common.{◌≡◌, ◌<◌, ◌⊎◌, length, sym, ap, ◌∙◌, arith, inl, inr, Err}
 use Rattle.std.proofs.lemmas.List.{length-map}
 use Rattle.std.proofs.lemmas.Result.{err_from_is_err_and}
 use Rattle.plan.specs.Limits.{most_steps}
-use Rattle.plan.specs.declared.steps.PlanStep.{PlanStep}
-use Rattle.plan.specs.PlanModel.{step_said, plan_said, is_step}
-use Rattle.plan.specs.Levels.{steps_kept}
+use Rattle.plan.specs.PlanModel.{step_said, plan_said}
 use Rattle.plan.proofs.KeptLemmas.{made_tries, made_miscounted, made_by_steps, made_keeps}
 use Rattle.plan.proofs.plans.Plan.from_steps.Goals as goal
 use Rattle.plan.proofs.plans.Plan.from_steps.Goals.{then-count-eq0-via-then-count-eq0, then-count-eq0-via-else-count-eq0+then-count-gt-MOST_STEPS}
@@ -34,15 +31,10 @@ returns-in_err-check_steps-clause-refused c = grind (arith, err_from_is_err_and,
 -- all keep all limits
 pub invariant_of-result : goal.invariant_of-result
 invariant_of-result c =
-    let items = c.args.steps.items in
-    let told : List PlanStep → Type 0 = λ z. steps_kept (length z) (map step_said z) ≡ Ok (map step_said z) in
-    let limits : List PlanStep → Type 0 = λ z. list_all is_step (map step_said z) ≡ true in
-    made_keeps (plan_said items c.args.tries) (subst limits c.as_slice.ensures.value c.in_ok-check_steps.ensures.limits)
-    (made_by_steps (plan_said items c.args.tries) (length items) _ (sym (length-map items step_said))
-    c.if-tries-gt-MOST_TRIES.false (omega (arith, c.if-count-eq0.false, c.len-count.ensures))
-    (omega (arith, c.if-count-gt-MOST_STEPS.false, c.len-count.ensures))
-    (subst told c.as_slice.ensures.value c.in_ok-check_steps.ensures.kept))
+    let checked = rw c.as_slice.ensures.value at c.in_ok-check_steps.ensures.checked in
+    let limits = rw c.as_slice.ensures.value at c.in_ok-check_steps.ensures.limits in
+    grind (arith, checked, limits, made_by_steps c.args.steps.items, made_keeps (plan_said c.args.steps.items c.args.tries))
 
 -- the plan is that of the steps
 pub returns-clause-made : goal.returns-clause-made
-returns-clause-made c = grind (arith, made_by_steps, length-map)
+returns-clause-made c = grind (arith, made_by_steps)
