@@ -1,11 +1,9 @@
 -- The mark at the end of a step, and the tries at the end of a line. For what cuts them off.
-use Rattle.std.proofs.Common.{◌≡◌, ◌≢◌, ℕ, zero, suc, ◌+◌, ◌-◌, ◌<◌, ◌≤◌, ◌⊎◌, Bool, true, false, List, [], ◌∷◌, ◌++◌, length, take, drop, refl, sym, ap, ◌∙◌, arith, Option, Some, None, is_some, if◌then◌else◌, MatchOption, IfNone, Bor, length-append, take-append-drop}
+use Rattle.std.proofs.Common.{◌≡◌, ◌≢◌, ℕ, zero, suc, ◌+◌, ◌-◌, ◌<◌, ◌≤◌, ◌⊎◌, Bool, true, false, List, [], ◌∷◌, ◌++◌, length, take, drop, refl, sym, ap, ◌∙◌, arith, Option, Some, None, is_some, if◌then◌else◌, length-append, take-append-drop}
 use Rattle.std.specs.Fmt.{digits}
 use Rattle.std.specs.List.{slice_get}
-use Rattle.std.specs.Str.Pattern.{FindsCharSuffix}
 use Rattle.std.proofs.Math.Seq.{drop-append_seam, take-append_seam}
 use Rattle.std.proofs.lemmas.Fmt.{decimal_digit}
-use Rattle.std.proofs.lemmas.Str.Pattern.{strip_suffix_char}
 use Rattle.allotment.specs.Texts.{star}
 use Rattle.plan.specs.Limits.{most_tries}
 use Rattle.plan.specs.Drafts.{number_or_none}
@@ -143,17 +141,3 @@ tries_no_mark text front d e none =
     none ends.front
     (sym (before_last front d) ∙ ap (λ z. take (length z - 1) z) (sym e ∙ ends.whole)
     ∙ before_last (ends.front ++ 33 ∷ []) ends.digit))
-
--- What is not cut off.
-
--- what is said of both cases is said of the one
-none_only : {X : Type 0} (P : Type 0) (Q : X → Type 0) (r : Option X) → MatchOption r P Q → IfNone r P
-none_only P Q r h = grind arith
-
--- where nothing was cut off, the text does not end so
-pub not_cut : (c last : ℕ) (text : List ℕ) (r : Option (Bor (List ℕ))) → c ≡ last → c < 128
-    → MatchOption r (FindsCharSuffix c text None)
-    (λ x. (n : ℕ) × FindsCharSuffix c text (Some n) × (x.now ≡ take (length text - n) text)
-    × (length x.now + n ≡ length text))
-    → IfNone r ((front : List ℕ) → text ≢ front ++ last ∷ [])
-not_cut c last text r same small h = grind (arith, none_only, strip_suffix_char)

@@ -1,8 +1,9 @@
 -- What the calls of `Marks` do to the flags, and so to the set of positions. For none, has, add and cut.
-use Rattle.std.proofs.Common.{◌≡◌, ℕ, ◌+◌, ◌≤◌, ◌<◌, ◌==◌, ◌&&◌, ◌||◌, ◌∙◌, Bool, true, false, List, length, replicate, set, nat_le, ap, sym, arith, length-set, get_or-set_same, get_or-set_other, refl}
+use Rattle.std.proofs.Common.{◌≡◌, ℕ, ◌+◌, ◌≤◌, ◌<◌, min, ◌==◌, ◌&&◌, ◌||◌, ◌∙◌, Bool, true, false, List, length, replicate, set, nat_le, ap, sym, arith, length-set, length-append, length-drop, length-take-le, get_or-set_same, get_or-set_other, refl}
 use Rattle.std.proofs.lemmas.Bool.Decides.{nat_tests}
 use Rattle.std.proofs.lemmas.Bool.{and_right}
-use Rattle.std.proofs.lemmas.List.{get_or_past, get_or-replicate, length-replicate}
+use borrow.Rule.Slice.PartMut.{put_mid}
+use Rattle.std.proofs.lemmas.List.{get_or_past, get_or-replicate, length-replicate, get_or_append_left, get_or-append_right, get_or-take}
 use Rattle.allotment.specs.Limits.{is_between}
 use Rattle.plan.specs.Limits.{most_steps}
 use Rattle.plan.specs.Marks.{is_taken_in, last_mark, AreInRange}
@@ -60,61 +61,24 @@ pub AreInRange-flagged : (flags : List Bool) → AreFlags flags → AreInRange (
 AreInRange-flagged flags kept = λ p taken.
     in_range flags p kept (sym (is_taken_in-flagged flags p kept) ∙ taken)
 
--- the flags below i that stood above pos are down, and all others are as they were
-pub record IsCut (old now : List Bool) (pos i : ℕ) : Type 0 where
-  pub whole : length now ≡ most_steps
-  pub kept : (q : ℕ) → is_flagged now q ≡ ((nat_le i q || nat_le q pos) && is_flagged old q)
+-- where the flags from the one after pos on are taken down, the others are as they were
+is_flagged-cut : (flags : List Bool) (pos above k q : ℕ) → length flags ≡ most_steps → above ≡ min (pos + 1) most_steps → above + k ≡ most_steps
+    → is_flagged (put_mid above k flags (replicate k false)) q ≡ (nat_le q pos && is_flagged flags q)
+is_flagged-cut flags pos above k q whole at rest =
+    grind (arith, nat_tests, get_or_past, get_or-replicate, length-replicate, length-take-le, get_or_append_left, get_or-append_right, get_or-take, length-append, length-drop)
 
--- before the first flag nothing was taken down
-pub IsCut-none : (flags : List Bool) (pos : ℕ) → AreFlags flags → IsCut flags flags pos 0
-IsCut-none flags pos good = record { whole = good.whole; kept = λ q. grind (arith, nat_tests) }
-
--- one more flag: it stands where it stood and is not above pos
-flag_more :
-    (old now : List Bool) (pos i q : ℕ)
-    → i < length now
-    → is_flagged now i ≡ ((nat_le i i || nat_le i pos) && is_flagged old i)
-    → is_flagged now q ≡ ((nat_le i q || nat_le q pos) && is_flagged old q)
-    → is_flagged (set now i (is_flagged now i && nat_le i pos)) q
-    ≡ ((nat_le (i + 1) q || nat_le q pos) && is_flagged old q)
-flag_more old now pos i q below here there =
-    grind (arith, nat_tests, get_or-set_same, get_or-set_other)
-
-pub IsCut-more :
-    (old now : List Bool) (pos i : ℕ)
-    → i < most_steps
-    → IsCut old now pos i
-    → IsCut old (set now i (is_flagged now i && nat_le i pos)) pos (i + 1)
-IsCut-more old now pos i below cut = record {
-  whole = length-set now i _ ∙ cut.whole;
-  kept = λ q. flag_more old now pos i q (omega (arith, cut.whole)) (cut.kept i) (cut.kept q);
+-- there are as many, and none stands at 0
+pub AreFlags-cut : (flags : List Bool) (pos above k : ℕ) → AreFlags flags → above ≡ min (pos + 1) most_steps → above + k ≡ most_steps
+    → AreFlags (put_mid above k flags (replicate k false))
+AreFlags-cut flags pos above k kept at rest = record {
+  whole = grind (arith, kept.whole, length-take-le, length-append, length-replicate, length-drop);
+  start = is_flagged-cut flags pos above k 0 kept.whole at rest ∙ and_right _ _ kept.start;
 }
 
--- cutting keeps the number of flags, and none at 0
-pub AreFlags-cut :
-    (old now : List Bool) (pos i : ℕ) → AreFlags old → IsCut old now pos i → AreFlags now
-AreFlags-cut old now pos i good cut = record {
-  whole = cut.whole;
-  start = cut.kept 0 ∙ and_right _ _ good.start;
-}
-
--- past the last flag the limit of the loop says nothing
-flag_all :
-    (old : List Bool) (pos i q : ℕ)
-    → length old ≡ most_steps
-    → most_steps ≤ i
-    → ((nat_le i q || nat_le q pos) && is_flagged old q) ≡ (nat_le q pos && is_flagged old q)
-flag_all old pos i q whole past = grind (arith, nat_tests, get_or_past)
-
--- at the end of the loop the set has what it had up to pos
-pub is_taken_in-cut :
-    (old now : List Bool) (pos i q : ℕ)
-    → AreFlags old
-    → IsCut old now pos i
-    → most_steps ≤ i
-    → is_taken_in (flagged now) q ≡ (nat_le q pos && is_taken_in (flagged old) q)
-is_taken_in-cut old now pos i q good cut past =
-    is_taken_in-flagged now q (AreFlags-cut old now pos i good cut)
-    ∙ cut.kept q
-    ∙ flag_all old pos i q good.whole past
-    ∙ ap (λ b. nat_le q pos && b) (sym (is_taken_in-flagged old q good))
+-- so the set has what it had up to pos
+pub is_taken_in-cut : (flags : List Bool) (pos above k q : ℕ) → AreFlags flags → above ≡ min (pos + 1) most_steps → above + k ≡ most_steps
+    → is_taken_in (flagged (put_mid above k flags (replicate k false))) q ≡ (nat_le q pos && is_taken_in (flagged flags) q)
+is_taken_in-cut flags pos above k q kept at rest =
+    is_taken_in-flagged _ q (AreFlags-cut flags pos above k kept at rest)
+    ∙ is_flagged-cut flags pos above k q kept.whole at rest
+    ∙ ap (λ b. nat_le q pos && b) (sym (is_taken_in-flagged flags q kept))

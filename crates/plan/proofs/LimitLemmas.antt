@@ -1,5 +1,5 @@
 -- What a plan that keeps the limits keeps, part by part. For all that is built on plans.
-use Rattle.std.proofs.Common.{◌≡◌, ℕ, ◌≤◌, ◌&&◌, true, List, [], ◌∷◌, zero, suc, length, nat_le, leb-true, IsTrue, option_map, unwrap_or, slice_get, arith}
+use Rattle.std.proofs.Common.{◌≡◌, ℕ, ◌≤◌, ◌<◌, ◌&&◌, true, List, [], ◌∷◌, zero, suc, length, nat_le, leb-true, IsTrue, option_map, unwrap_or, slice_get, arith}
 use Rattle.std.specs.List.{list_all}
 use Rattle.allotment.specs.Limits.{is_between, is_want}
 use Rattle.allotment.proofs.TestLemmas.{and_both}
@@ -51,13 +51,17 @@ limited p good =
 pub few_steps : (plan : Planned) → IsTrue (is_plan plan) → step_count plan ≤ most_steps
 few_steps plan good = (limited plan good).few_steps
 
-few_of : (steps : List StepPlan) → list_all is_step steps ≡ true → (i : ℕ)
-    → unwrap_or (option_map (λ (s : StepPlan). length s.options) (slice_get steps i)) 0 ≤ most_options
-few_of [] all i = omega arith
-few_of (s ∷ steps) all zero = grind (arith, step_limited, and_both)
-few_of (s ∷ steps) all (suc i) = few_of steps (and_both (is_step s) (list_all is_step steps) all).1 i
+-- a step of such a list has at least 1 option, and at most so many
+pub options_within : (steps : List StepPlan) (i : ℕ) → list_all is_step steps ≡ true
+    → let n : ℕ = unwrap_or (option_map (λ (s : StepPlan). length s.options) (slice_get steps i)) 0 in
+    (n ≤ most_options) × (i < length steps → 1 ≤ n)
+options_within [] i all = grind arith
+options_within (s ∷ steps) zero all =
+    let here = step_limited s (and_both (is_step s) (list_all is_step steps) all).0 in (here.few_options, λ _. here.some_options)
+options_within (s ∷ steps) (suc i) all =
+    let later = options_within steps i (and_both (is_step s) (list_all is_step steps) all).1 in (later.0, λ below. later.1 (omega arith))
 
 -- a step of such a plan has at most so many options
 pub few_options : (plan : Planned) (i : ℕ) → IsTrue (is_plan plan) → option_count plan i ≤ most_options
 few_options plan zero good = omega arith
-few_options plan (suc i) good = few_of plan.steps (limited plan good).each_step i
+few_options plan (suc i) good = (options_within plan.steps i (limited plan good).each_step).0

@@ -20,7 +20,7 @@ use Rattle.plan.specs.PlanLine.{front_of, end_of, tries_in, line_draft, plan_in}
 use Rattle.plan.specs.PlanJson.{json_step, json_steps, json_tries, draft_with, plan_in_json}
 use Rattle.plan.specs.Levels.{judged_steps, steps_spelled, steps_shown, views}
 use Rattle.allotment.proofs.CutLemmas.{some_part}
-use Rattle.allotment.proofs.TestLemmas.{and_make}
+use Rattle.allotment.proofs.TestLemmas.{and_both, and_make, keep_if_some}
 use Rattle.plan.proofs.LevelLemmas.{and_false}
 use Rattle.plan.proofs.ReadLemmas.{tries_read}
 
@@ -75,12 +75,12 @@ draft_by_steps d n r many e low high read = grind (arith, draft_told, between_ye
 -- A line.
 
 -- a line that ends in no tries
-pub line_no_tries : (text : List ℕ) → tries_in (end_of text) ≡ None → plan_in text ≡ Err (at 0 cause.Tries)
+pub line_no_tries : (text : List ℕ) → None ≡ tries_in (end_of text) → plan_in text ≡ Err (at 0 cause.Tries)
 unfolding plan_in
-line_no_tries text e = draft_no_tries (line_draft text) (ap are_tries e)
+line_no_tries text e = draft_no_tries (line_draft text) (sym (ap are_tries e))
 
 -- a line that was cut into its steps, so many, and its tries
-module _ (text front : List ℕ) (tries n : ℕ) (cut : front ≡ front_of text) (read : tries_in (end_of text) ≡ Some tries)
+module _ (text front : List ℕ) (tries n : ℕ) (cut : front ≡ front_of text) (read : Some tries ≡ tries_in (end_of text))
     (many : n ≡ length (parts semicolon front)) where
   -- its draft has so many steps
   line_count : length (line_draft text).steps ≡ n
@@ -88,7 +88,7 @@ module _ (text front : List ℕ) (tries n : ℕ) (cut : front ≡ front_of text)
 
   -- tries that are read are at most 9
   line_tries : are_tries (tries_in (end_of text)) ≡ true
-  line_tries = grind (arith, tries_read (end_of text) (ap is_some read))
+  line_tries = grind (arith, tries_read (end_of text) (sym (ap is_some read)))
 
   -- more steps than a plan may have
   pub line_too_long : most_steps < n → plan_in text ≡ Err (at 0 cause.Steps)
@@ -101,7 +101,7 @@ module _ (text front : List ℕ) (tries n : ℕ) (cut : front ≡ front_of text)
   line_by_steps r short steps =
       draft_by_steps (line_draft text) n r line_count line_tries (omega (arith, many, some_part semicolon front)) short
       (ap (λ z. judged_steps n (steps_spelled z)) (sym cut) ∙ steps)
-      ∙ ap (λ o. with_tries (number_or_none o) r) read
+      ∙ ap (λ o. with_tries (number_or_none o) r) (sym read)
 
 -- A JSON value.
 
@@ -122,8 +122,11 @@ pub json_no_tries : (d : Data) (vs : List Value) → Some (views vs) ≡ json_st
 json_no_tries d vs e none = json_shaped d vs None e none ∙ draft_no_tries (draft_with None (views vs)) refl
 
 -- a value of the shape of a plan, with these tries
-module _ (d : Data) (vs : List Value) (tries : ℕ) (shape : Some (views vs) ≡ json_steps d) (read : Some tries ≡ json_tries d)
-    (few : tries ≤ most_tries) where
+module _ (d : Data) (vs : List Value) (tries : ℕ) (shape : Some (views vs) ≡ json_steps d) (read : Some tries ≡ json_tries d) where
+  -- tries that are read are few
+  few : nat_le tries most_tries ≡ true
+  few = grind (arith, keep_if_some, and_both)
+
   -- its draft has as many steps as there are values
   json_count : length (draft_with (Some tries) (views vs)).steps ≡ length vs
   json_count = length-map (views vs) json_step ∙ length-map vs view
@@ -132,12 +135,12 @@ module _ (d : Data) (vs : List Value) (tries : ℕ) (shape : Some (views vs) ≡
   pub json_miscounted : (length vs ≡ 0) ⊎ (most_steps < length vs) → plan_in_json d ≡ Err (at 0 cause.Steps)
   json_miscounted out =
       json_shaped d vs (Some tries) shape read
-      ∙ draft_miscounted (draft_with (Some tries) (views vs)) (length vs) json_count (le-leb tries most_tries few) out
+      ∙ draft_miscounted (draft_with (Some tries) (views vs)) (length vs) json_count few out
 
   -- where tries and number are in order, its first fault is that of its steps
   pub json_by_steps : (r : Result (List StepPlan) BadPlan) → 1 ≤ length vs → length vs ≤ most_steps
       → judged_steps (length vs) (steps_shown vs) ≡ r → plan_in_json d ≡ with_tries tries r
   json_by_steps r low high steps =
       json_shaped d vs (Some tries) shape read
-      ∙ draft_by_steps (draft_with (Some tries) (views vs)) (length vs) r json_count (le-leb tries most_tries few) low high
+      ∙ draft_by_steps (draft_with (Some tries) (views vs)) (length vs) r json_count few low high
       (ap (judged_steps (length vs)) (map-map json_step view vs) ∙ steps)

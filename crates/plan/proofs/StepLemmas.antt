@@ -1,7 +1,7 @@
 -- What the fields of a plan say of its steps. For the readers of a plan, its copy, and the check of its steps.
-use Rattle.std.proofs.Common.{◌≡◌, ℕ, ◌+◌, ◌-◌, ◌<◌, ◌≤◌, true, List, [], ◌∷◌, map, length, take, sym, ap, ◌∙◌, arith, get_or, Some}
+use Rattle.std.proofs.Common.{◌≡◌, ℕ, ◌+◌, ◌-◌, ◌<◌, ◌≤◌, true, List, [], ◌∷◌, map, length, take, arith, get_or, Some}
 use Rattle.std.specs.List.{list_all}
-use Rattle.std.proofs.lemmas.List.{length-map, get_or-map}
+use Rattle.std.proofs.lemmas.List.{length-map}
 use Rattle.std.proofs.lemmas.List.Folds.{list_all-append}
 use Rattle.std.proofs.lemmas.Option.{slice_get_read, slice_get-map}
 use Rattle.plan.specs.declared.steps.PlanStep.{PlanStep}
@@ -18,11 +18,6 @@ pub step_read : (items : List PlanStep) (tries i : ℕ) (plan : Planned) (x : Pl
     → plan_said items tries ≡ plan → 1 ≤ i → i ≤ step_count plan → x ≡ get_or items (i - 1) x
     → numbered plan.steps i ≡ Some (step_said x)
 step_read items tries i plan x said low high e = grind (arith, length-map, slice_get-map, numbered_read)
-
--- what the step at an index says
-pub said_at : (items : List PlanStep) (k : ℕ) (x : PlanStep) → k < length items → x ≡ get_or items k x
-    → step_said x ≡ get_or (map step_said items) k (step_said x)
-said_at items k x l e = ap step_said e ∙ sym (get_or-map step_said items k x (step_said x) l)
 
 -- one more step keeps the limits, like those before it
 pub limits_more : (items : List PlanStep) (k : ℕ) (x : PlanStep) → k < length items → x ≡ get_or items k x

@@ -32,8 +32,6 @@ pub fn plan_steps(value: &Value) -> Option<&[Value]>
 /// The tries of a plan, 0 to 9. Returns `None` if they are anything else.
 pub fn plan_tries(value: &Value) -> Option<u8>
     ensures tries { result ≡ json_tries (view value.now) }
-
-    ensures few { IfSome result (λ tries. tries ≤ most_tries) }
 {
     let tries = number_in(value, "tries")?;
     if tries > u64::from(MOST_TRIES) {

@@ -67,8 +67,7 @@ impl Marks {
     pub fn cut(&mut self, pos: usize)
         ensures kept { (q : ℕ) → is_taken_in self.new q ≡ (nat_le q pos && is_taken_in self.old q) }
     {
-        for p in 0..self.taken.len() {
-            self.taken[p] &= p <= pos;
-        }
+        let above = pos.saturating_add(1).min(MOST_STEPS);
+        self.taken[above..].fill(false);
     }
 }

@@ -1,5 +1,5 @@
 //! Pieces of a plan line. Cutting allocates nothing: each piece is a slice of the text.
-ghost use Rattle.std.specs.Prelude.{◌≡◌, ◌≢◌, ◌<◌, ℕ, Some, None, List, [], ◌∷◌, ◌++◌, MatchOption, IfNone, IfSome};
+ghost use Rattle.std.specs.Prelude.{◌≡◌, ◌≢◌, ◌<◌, ℕ, List, [], ◌∷◌, ◌++◌, option_map, MatchOption, IfSome};
 ghost use Rattle.allotment.specs.Texts.{IsOnePart, IsCut, number_from};
 ghost use Rattle.plan.specs.Drafts.{number_or_none};
 ghost use Rattle.plan.specs.PlanLine.{has_mark, without_mark, tries_in, front_of, end_of};
@@ -58,9 +58,8 @@ pub fn split_mark(text: &str) -> (&str, bool)
 
 /// The line without the tries at its end, and their number. Returns `None` if it ends in no tries.
 pub fn split_tries(text: &str) -> Option<(&str, u8)>
-    ensures none { IfNone result (tries_in (end_of text.now) ≡ None) }
     ensures rest { IfSome result (λ p. p.0.now ≡ front_of text.now) }
-    ensures tries { IfSome result (λ p. tries_in (end_of text.now) ≡ Some p.1) }
+    ensures tries { option_map (λ p. p.1) result ≡ tries_in (end_of text.now) }
 {
     let digit = *text.as_bytes().last()?;
     if !digit.is_ascii_digit() {
@@ -75,8 +74,8 @@ pub fn split_tries(text: &str) -> Option<(&str, u8)>
 fn cut_last(text: &str, last: u8) -> Option<&str>
     requires ascii { last < 128 }
 
-    ensures none { IfNone result ((front : List ℕ) → text.now ≢ front ++ last ∷ []) }
-    ensures rest { IfSome result (λ rest. text.now ≡ rest.now ++ last ∷ []) }
+    ensures cut { MatchOption result ((front : List ℕ) → text.now ≢ front ++ last ∷ [])
+        (λ rest. text.now ≡ rest.now ++ last ∷ []) }
 {
     text.strip_suffix(char::from(last))
 }

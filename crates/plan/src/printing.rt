@@ -12,10 +12,12 @@ use std::alloc::AllocError;
 pub fn push_steps(line: &mut String, steps: &[PlanStep]) -> Result<(), AllocError>
     ensures steps { OnOk result (Writes line.old line.new (steps_text (map step_said steps.now))) }
 {
-    for (i, step) in steps.iter().enumerate() {
-        if i > 0 {
-            line.push_str(";")?;
-        }
+    let Some((first, later)) = steps.split_first() else {
+        return Ok(());
+    };
+    push_step(line, first)?;
+    for step in later {
+        line.push_str(";")?;
         push_step(line, step)?;
     }
     Ok(())
@@ -36,10 +38,12 @@ fn push_step(line: &mut String, step: &PlanStep) -> Result<(), AllocError>
 fn push_options(line: &mut String, options: &[Want]) -> Result<(), AllocError>
     ensures options { OnOk result (Writes line.old line.new (options_text options.now)) }
 {
-    for (i, want) in options.iter().enumerate() {
-        if i > 0 {
-            line.push_str("|")?;
-        }
+    let Some((first, later)) = options.split_first() else {
+        return Ok(());
+    };
+    push_want(line, first)?;
+    for want in later {
+        line.push_str("|")?;
         push_want(line, want)?;
     }
     Ok(())

@@ -25,20 +25,6 @@ pub enum Turn {
 #[derive(Clone, Copy, Debug, PartialEq, Eq)]
 pub struct NoSavePoint;
 
-/// The position to which a refused step leads: the last save-point while there are tries left, else 0.
-fn refused_target(plan: &Plan, marks: &Marks, pos: usize, used: usize) -> usize
-    requires { pos ≤ step_count plan.now }
-
-    ensures target { result ≡ rules.refused_target plan.now (is_taken_in marks.now) pos used }
-    ensures lands { IsLanding plan.now marks.now pos result }
-{
-    if used < usize::from(plan.tries()) {
-        last_save(plan, marks, pos)
-    } else {
-        0
-    }
-}
-
 /// Whether a caller may turn a journey back to `p`.
 fn may_turn(plan: &Plan, marks: &Marks, pos: usize, going: Option<usize>, p: usize) -> bool
     requires { pos ≤ step_count plan.now }
@@ -73,7 +59,11 @@ pub fn target(
 {
     match (turn, going) {
         (Turn::Stop, None) => Ok(last_save(plan, marks, pos)),
-        (Turn::Refused, None) => Ok(refused_target(plan, marks, pos, used)),
+        // a refused step leads to the last save-point while there are tries left, else to the start
+        (Turn::Refused, None) if used < usize::from(plan.tries()) => Ok(last_save(
+            plan, marks, pos,
+        )),
+        (Turn::Refused, None) => Ok(0),
         (Turn::Asked(p), _) if may_turn(plan, marks, pos, going, p) => Ok(p),
         _ => Err(NoSavePoint),
     }

@@ -28,7 +28,7 @@ returns-then-last-eq0-clause-refused c =
       | then-last-eq0-via-else-last-eq0+then-last-gt-MOST_STEPS w ↦ inr (omega (arith, w.if-last-gt-MOST_STEPS.true))
     ] in
     json_miscounted (view c.args.value.now) c.in-Some.values.now c.in-Some-plan_tries.tries c.in-Some.ensures.steps
-    c.in-Some-plan_tries.ensures.tries c.in-Some-plan_tries.ensures.few many
+    c.in-Some-plan_tries.ensures.tries many
     ∙ ap Err (sym c.bad-then-last-eq0.ensures.bad)
 
 -- a step has a fault
@@ -38,7 +38,7 @@ returns-in_err-steps-clause-refused c =
     rw (p.1, p.2)
     (fault_of_part _ (plan_in_json (view c.args.value.now)) c.in_err-steps.field-0.0
     (λ bad. json_by_steps (view c.args.value.now) c.in-Some.values.now c.in-Some-plan_tries.tries
-    c.in-Some.ensures.steps c.in-Some-plan_tries.ensures.tries c.in-Some-plan_tries.ensures.few (Err bad)
+    c.in-Some.ensures.steps c.in-Some-plan_tries.ensures.tries (Err bad)
     (omega (arith, c.if-last-eq0.false)) (omega (arith, c.if-last-gt-MOST_STEPS.false)))
     c.in_err-steps.ensures.read)
 
@@ -46,18 +46,16 @@ returns-in_err-steps-clause-refused c =
 pub returns-in_err-steps-clause-step : goal.returns-in_err-steps-clause-step
 returns-in_err-steps-clause-step c = grind (arith, err_from_is_err_and, json_fault_step, returns-in_err-steps-clause-refused)
 
+-- the plan is the one that is read
+pub returns-clause-read : goal.returns-clause-read
+returns-clause-read c =
+    json_by_steps (view c.args.value.now) c.in-Some.values.now c.in-Some-plan_tries.tries c.in-Some.ensures.steps
+    c.in-Some-plan_tries.ensures.tries _ (omega (arith, c.if-last-eq0.false)) (omega (arith, c.if-last-gt-MOST_STEPS.false)) c.in_ok-steps.ensures.read
+
 -- what is read keeps the limits
 pub invariant_of-result : goal.invariant_of-result
 invariant_of-result c =
     let read : plan_in_json (view c.args.value.now) ≡ Ok (plan_said c.in_ok-steps.steps.items c.in-Some-plan_tries.tries) =
-    json_by_steps (view c.args.value.now) c.in-Some.values.now c.in-Some-plan_tries.tries
-    c.in-Some.ensures.steps c.in-Some-plan_tries.ensures.tries c.in-Some-plan_tries.ensures.few _
-    (omega (arith, c.if-last-eq0.false)) (omega (arith, c.if-last-gt-MOST_STEPS.false)) c.in_ok-steps.ensures.read in
+    json_by_steps (view c.args.value.now) c.in-Some.values.now c.in-Some-plan_tries.tries c.in-Some.ensures.steps
+    c.in-Some-plan_tries.ensures.tries _ (omega (arith, c.if-last-eq0.false)) (omega (arith, c.if-last-gt-MOST_STEPS.false)) c.in_ok-steps.ensures.read in
     json_keeps_limits (view c.args.value.now) _ read
-
--- the plan is the one that is read
-pub returns-clause-read : goal.returns-clause-read
-returns-clause-read c =
-    json_by_steps (view c.args.value.now) c.in-Some.values.now c.in-Some-plan_tries.tries
-    c.in-Some.ensures.steps c.in-Some-plan_tries.ensures.tries c.in-Some-plan_tries.ensures.few _
-    (omega (arith, c.if-last-eq0.false)) (omega (arith, c.if-last-gt-MOST_STEPS.false)) c.in_ok-steps.ensures.read
