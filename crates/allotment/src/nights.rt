@@ -2,7 +2,7 @@
 ghost use Rattle.std.specs.Prelude.{◌≡◌, ◌≤◌, pos, IsTrue, MatchOption};
 ghost use Rattle.jiff_core.specs.Date.{epoch_day};
 ghost use Rattle.allotment.specs.Limits.{is_night};
-ghost use Rattle.allotment.specs.Nights.{date_of, night_in};
+ghost use Rattle.allotment.specs.Nights.{night_in};
 ghost use Rattle.allotment.specs.Dates.{IsNoPair, IsPair, IsNoDate, IsDateText};
 
 use crate::wants::Bad;
@@ -103,7 +103,12 @@ impl Night {
         ensures from_one { 1 ≤ result.day }
         ensures month_long { result.day ≤ 31 }
     {
-        date_of(*self)
+        let date = calendar_date(*self);
+        NightDate {
+            year: (date.year - 2000) as u8,
+            month: date.month,
+            day: date.day,
+        }
     }
 
     /// The text of the night, `YYYY-MM-DD`. The only fault is out of memory.
@@ -137,24 +142,6 @@ fn calendar_date(night: Night) -> Date
     match Date::from_unix_epoch_day(i64::from(night.day())) {
         Ok(date) => date,
         Err(_) => unreachable!(),
-    }
-}
-
-/// The date of a night.
-fn date_of(night: Night) -> NightDate
-    ensures year { result.year ≡ (date_of night).0 }
-    ensures month { result.month ≡ (date_of night).1.0 }
-    ensures day { result.day ≡ (date_of night).1.1 }
-    ensures century { result.year ≤ 99 }
-    ensures year_long { result.month ≤ 12 }
-    ensures from_one { 1 ≤ result.day }
-    ensures month_long { result.day ≤ 31 }
-{
-    let date = calendar_date(night);
-    NightDate {
-        year: (date.year - 2000) as u8,
-        month: date.month,
-        day: date.day,
     }
 }
 

@@ -54,6 +54,7 @@ pub fn steps_of(alloc: Global, values: &[Value]) -> Result<Vec<PlanStep>, PlanFa
 }
 
 /// The step of this number that a value spells, where `last` is the number of the last step.
+#[tactic(auto, using(std::proofs::lemmas::Result::err_from_is_err_and, crate::proofs::LevelLemmas::fault_of_part, crate::proofs::LevelLemmas::step_unshaped, crate::proofs::LevelLemmas::shown_refused, crate::proofs::LevelLemmas::shown_by_options))]
 fn step_of(alloc: Global, last: usize, step: usize, value: &Value) -> Result<PlanStep, PlanFault>
     ensures read { Gives (judged_step last step (json_step (view value.now))) step_said result }
 {
@@ -91,6 +92,7 @@ fn options_of(alloc: Global, step: usize, values: &[Value]) -> Result<Vec<Want>,
 }
 
 /// The want that an option of this step spells, or the first thing that is wrong with it.
+#[tactic(auto, using(crate::proofs::OptionLemmas::option_shape, crate::proofs::OptionLemmas::members_told))]
 fn option_of(step: usize, value: &Value) -> Result<Want, BadPlan>
     ensures want { result ≡ judged_option step (json_option (view value.now)) }
 {

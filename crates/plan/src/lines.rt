@@ -30,6 +30,7 @@ pub fn steps_in(alloc: Global, last: usize, text: &str) -> Result<Vec<PlanStep>,
 }
 
 /// The step of this number that a text spells, where `last` is the number of the last step.
+#[tactic(auto, using(std::proofs::lemmas::Result::err_from_is_err_and, crate::proofs::LevelLemmas::fault_of_part, crate::proofs::LevelLemmas::cut_refused, crate::proofs::LevelLemmas::cut_by_options))]
 fn step_in(alloc: Global, last: usize, step: usize, text: &str) -> Result<PlanStep, PlanFault>
     ensures read { Gives (judged_step last step (Some (step_draft text.now))) step_said result }
 {

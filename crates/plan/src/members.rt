@@ -16,6 +16,7 @@ pub fn has_just(value: &Value, names: &[&str]) -> bool
 }
 
 /// Whether the value is an object with so many members.
+#[tactic(auto, using(crate::proofs::MemberLemmas::members_counted))]
 fn has_members(value: &Value, count: usize) -> bool
     ensures members { result ≡ is_object_of count (view value.now) }
 {
@@ -40,6 +41,7 @@ fn has_member(value: &Value, name: &str) -> bool
 }
 
 /// The list under this name. Returns `None` if there is none.
+#[tactic(auto, using(crate::proofs::MemberLemmas::list_found))]
 pub fn list_in<'a>(value: &'a Value, name: &str) -> Option<&'a [Value]>
     ensures list { option_map (λ list. views list.now) result
         ≡ in_member name.now list_of (view value.now) }

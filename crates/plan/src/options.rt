@@ -9,6 +9,7 @@ use crate::parts::{number, option_parts};
 use allotment::{Bad, Kind, Want};
 
 /// Reads the want that an option of this step spells, or reports the first thing that is wrong with it.
+#[tactic(auto, using(crate::proofs::OptionLemmas::option_shape, crate::proofs::OptionLemmas::option_told))]
 pub fn option_in(step: usize, text: &str) -> Result<Want, BadPlan>
     ensures want { result ≡ judged_option step (option_draft text.now) }
 {

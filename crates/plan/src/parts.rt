@@ -57,6 +57,7 @@ pub fn split_mark(text: &str) -> (&str, bool)
 }
 
 /// The line without the tries at its end, and their number. Returns `None` if it ends in no tries.
+#[tactic(auto, using(crate::proofs::EndLemmas::tries_empty, crate::proofs::EndLemmas::tries_no_digit, crate::proofs::EndLemmas::tries_no_mark, crate::proofs::EndLemmas::tries_found))]
 pub fn split_tries(text: &str) -> Option<(&str, u8)>
     ensures rest { IfSome result (λ p. p.0.now ≡ front_of text.now) }
     ensures tries { option_map (λ p. p.1) result ≡ tries_in (end_of text.now) }
