@@ -5,7 +5,7 @@ use Rattle.std.specs.List.{list_all}
 use Rattle.std.proofs.lemmas.Bool.{eqb-true, not-true}
 use Rattle.std.proofs.lemmas.List.Splits.{slice_split-cons_yes, slice_split-cons_no}
 use Rattle.allotment.specs.Texts.{parts, joined, slash}
-use Rattle.allotment.proofs.TestLemmas.{and_both, and_make}
+use Rattle.allotment.proofs.TestLemmas.{and_both, list_all_weaker}
 use Rattle.allotment.proofs.PlainLemmas.{is_plain_byte, is_plain}
 
 -- the text contains no such byte
@@ -14,23 +14,16 @@ lacks c text = list_all (λ b. not (b == c)) text
 
 -- a byte that is no digit, capital or dash is none of those that are
 other_byte : (c b : ℕ) (t : Bool) → (b == c) ≡ t → is_plain_byte c ≡ false → is_plain_byte b ≡ true → not t ≡ true
-other_byte c b true e odd fine = let same : b ≡ c = eqb-true b c e in let h = ap is_plain_byte same in cc
-other_byte c b false e odd fine = refl
+other_byte c b t e odd fine = grind (arith, eqb-true)
 
 -- a plain text contains no such byte
 plain_lacks : (c : ℕ) (text : List ℕ) → is_plain_byte c ≡ false → is_plain text ≡ true → lacks c text ≡ true
-plain_lacks c [] odd e = refl
-plain_lacks c (b ∷ text) odd e =
-    let both = and_both (is_plain_byte b) (is_plain text) e in
-    and_make _ _ (other_byte c b (b == c) refl odd both.0) (plain_lacks c text odd both.1)
+plain_lacks c text odd e = list_all_weaker is_plain_byte (λ b. not (b == c)) (λ b. other_byte c b (b == c) refl odd) text e
 
 -- plain texts contain no such byte
 pub all_lack : (c : ℕ) (ts : List (List ℕ)) → is_plain_byte c ≡ false
     → list_all is_plain ts ≡ true → list_all (lacks c) ts ≡ true
-all_lack c [] odd e = refl
-all_lack c (t ∷ ts) odd e =
-    let both = and_both (is_plain t) (list_all is_plain ts) e in
-    and_make _ _ (plain_lacks c t odd both.0) (all_lack c ts odd both.1)
+all_lack c ts odd e = list_all_weaker is_plain (lacks c) (λ t. plain_lacks c t odd) ts e
 
 -- a text without the byte is its own one part
 no_cut : (c : ℕ) (t : List ℕ) → lacks c t ≡ true → parts c t ≡ t ∷ []

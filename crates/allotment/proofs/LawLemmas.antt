@@ -1,5 +1,5 @@
 -- A value is read back from its text, and a text that is read is the text of its value. For the laws of the texts.
-use Rattle.std.proofs.Common.{◌≡◌, ℕ, Bool, true, false, cond, ◌&&◌, ◌==◌, List, [], ◌∷◌, refl, sym, ap, ◌∙◌, Option, Some, None, find, bytes_eq, eqb-true}
+use Rattle.std.proofs.Common.{◌≡◌, ℕ, Bool, true, cond, ◌==◌, List, [], ◌∷◌, refl, sym, ap, ◌∙◌, Option, Some, None, find, bytes_eq, eqb-true, arith}
 use Rattle.std.specs.List.{list_all}
 use Rattle.std.proofs.lemmas.List.Splits.{join_with_byte-slice_split}
 use Rattle.allotment.specs.Cells.{kind_number}
@@ -7,7 +7,6 @@ use Rattle.allotment.specs.Limits.{is_code, is_good_cell, is_night}
 use Rattle.allotment.specs.Nights.{night_in, night_text}
 use Rattle.allotment.specs.Texts.{parts, joined, slash, kinds, kind_letter, kind_word, kind_of_letter, kind_of_number, kind_of_word, cell_from, cell_of_parts, cell_in, cell_text}
 use Rattle.allotment.specs.declared.codes.Kind.{Kind}
-use Rattle.allotment.specs.declared.codes.Kind.TheVariants.{Flight, Room, Transfer, Cover}
 use Rattle.allotment.specs.declared.cells.Cell.{Cell}
 use Rattle.allotment.proofs.TestLemmas.{and_both, and_make, keep_if_some, keep_if_yes, same_bytes}
 use Rattle.allotment.proofs.NightLemmas.{night_in-night_text, night_text-night_in}
@@ -19,11 +18,10 @@ use Rattle.allotment.proofs.JoinLemmas.{plain_parts}
 -- the first element passes, or a later one does
 find_if : {X : Type 0} (test : X → Bool) (y x : X) (xs : List X) (b : Bool) → test y ≡ b
     → (find test xs ≡ Some x → test x ≡ true) → cond b (Some y) (find test xs) ≡ Some x → test x ≡ true
-find_if test y x xs true t h e = let same : y ≡ x = cc in ap test (sym same) ∙ t
-find_if test y x xs false t h e = h e
+find_if test y x xs b t h e = grind arith
 
 -- what a search finds passes
-find_passes : {X : Type 0} (test : X → Bool) (xs : List X) (x : X) → find test xs ≡ Some x → test x ≡ true
+pub find_passes : {X : Type 0} (test : X → Bool) (xs : List X) (x : X) → find test xs ≡ Some x → test x ≡ true
 find_passes test [] x e = cc
 find_passes test (y ∷ ys) x e = find_if test y x ys (test y) refl (find_passes test ys x) e
 
@@ -41,24 +39,15 @@ word_read text k e = sym (same_bytes _ text (find_passes (λ kind. bytes_eq (kin
 
 -- the number of a kind is read back as the kind
 pub number_again : (k : Kind) → kind_of_number (kind_number k) ≡ Some k
-number_again Flight = refl
-number_again Room = refl
-number_again Transfer = refl
-number_again Cover = refl
+number_again k = grind arith
 
 -- the letter of a kind is read back as the kind
 pub letter_again : (k : Kind) → kind_of_letter (kind_letter k) ≡ Some k
-letter_again Flight = refl
-letter_again Room = refl
-letter_again Transfer = refl
-letter_again Cover = refl
+letter_again k = grind arith
 
 -- the word of a kind is read back as the kind
 pub word_again : (k : Kind) → kind_of_word (kind_word k) ≡ Some k
-word_again Flight = refl
-word_again Room = refl
-word_again Transfer = refl
-word_again Cover = refl
+word_again k = grind arith
 
 -- Cells.
 
@@ -83,12 +72,8 @@ cell_made a s p t (Some kind) (Some night) x is falls e =
 
 -- only four parts make a cell, and they spell it
 parts_made : (ps : List (List ℕ)) (x : Cell) → cell_of_parts ps ≡ Some x → ReadsCell (joined slash ps) x
-parts_made [] x e = cc
-parts_made (a ∷ []) x e = cc
-parts_made (a ∷ s ∷ []) x e = cc
-parts_made (a ∷ s ∷ p ∷ []) x e = cc
 parts_made (a ∷ s ∷ p ∷ t ∷ []) x e = cell_made a s p t (kind_of_letter a) (night_in t) x refl refl e
-parts_made (a ∷ s ∷ p ∷ t ∷ u ∷ more) x e = cc
+parts_made _ x e = cc
 
 -- a text that is read as a cell is the text of that cell
 pub cell_read : (text : List ℕ) (x : Cell) → cell_in text ≡ Some x → (is_good_cell x ≡ true) × (text ≡ cell_text x)
@@ -104,19 +89,12 @@ pub record IsSound (x : Cell) : Type 0 where
 
 -- a good cell keeps them
 pub is_sound : (x : Cell) → is_good_cell x ≡ true → IsSound x
-is_sound x e =
-    let both = and_both (is_code x.supplier && is_code x.product) (is_night x.night) e in
-    let codes = and_both (is_code x.supplier) (is_code x.product) both.0 in
-    record { supplier = codes.0; product = codes.1; night = both.1 }
+is_sound x e = grind (arith, and_both)
 
 -- the four parts of a cell contain no `/`
 four_plain : (x : Cell) → IsSound x
     → list_all is_plain (kind_letter x.kind ∷ x.supplier ∷ x.product ∷ night_text x.night ∷ []) ≡ true
-four_plain x g =
-    and_make _ _ (letter_plain x.kind)
-    (and_make _ _ (code_plain x.supplier g.supplier)
-    (and_make _ _ (code_plain x.product g.product)
-    (and_make _ _ (night_plain x.night g.night) refl)))
+four_plain x g = grind (arith, and_make, letter_plain, code_plain, night_plain)
 
 -- the four parts of a cell are read as the cell
 pub four_again : (x : Cell) → is_good_cell x ≡ true

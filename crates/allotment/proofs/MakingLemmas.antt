@@ -1,11 +1,10 @@
 -- How a want is made of its parts.
-use Rattle.std.proofs.Common.{◌≡◌, ℕ, Bool, true, false, ◌&&◌, List, ◌++◌, refl, sym, ap, ◌∙◌, Option, Some, None, Result, Ok, Err}
+use Rattle.std.proofs.Common.{◌≡◌, ℕ, true, false, ◌&&◌, List, sym, ap, ◌∙◌, Option, Some, None, Ok, Err, arith}
 use Rattle.std.specs.Option.{ok_or}
 use Rattle.allotment.specs.Limits.{is_code, are_nights, is_count}
-use Rattle.allotment.specs.Making.{unless, first_fault, want_of_parts, want_from, want_made}
+use Rattle.allotment.specs.Making.{want_of_parts, want_made}
 use Rattle.allotment.specs.Nights.{night_in}
 use Rattle.allotment.specs.Texts.{keep_if}
-use Rattle.allotment.specs.Want.{Wanted}
 use Rattle.allotment.specs.declared.codes.Kind.{Kind}
 use Rattle.allotment.specs.declared.wants.Bad.{Bad}
 use Rattle.allotment.specs.declared.wants.Bad.TheVariants as bad
@@ -15,8 +14,7 @@ use Rattle.allotment.proofs.TestLemmas.{and_make, keep_if_some}
 
 -- what was read is what was there
 ok_some : {X F : Type 0} (o : Option X) (x : X) (fault : F) → Ok x ≡ ok_or o fault → o ≡ Some x
-ok_some (Some y) x fault e = cc
-ok_some None x fault e = cc
+ok_some o x fault e = grind arith
 
 -- a code that was read is its text
 pub code_read : (text code : List ℕ) (read : Option (List ℕ)) → read ≡ keep_if is_code text → Ok code ≡ ok_or read bad.Code
@@ -48,70 +46,33 @@ night_read o night e = ok_some o night bad.Night e
 
 -- where a fault was reported, nothing was there
 err_none : {X F : Type 0} (o : Option X) (e fault : F) → Err e ≡ ok_or o fault → (o ≡ None) × (e ≡ fault)
-err_none (Some y) e fault is = cc
-err_none None e fault is = (refl, cc)
+err_none o e fault is = grind arith
 
 -- where none was read, the text has none
 pub no_night : (o : Option ℕ) (e : Bad) → Err e ≡ ok_or o bad.Night → (o ≡ None) × (e ≡ bad.Night)
 no_night o e is = err_none o e bad.Night is
-
--- The first of four faults.
-
--- the four tests of a want, in order, and the fault that each of them reports
-abbrev first_of_four : Wanted → Bool → Bool → Bool → Bool → Result Wanted Bad
-first_of_four want codes night nights count =
-    first_fault want
-    (unless codes bad.Code ++ unless night bad.Night ++ unless nights bad.Nights ++ unless count bad.Count)
-
--- good codes, and no first night
-second_fault : (want : Wanted) (codes night nights count : Bool) → codes ≡ true → night ≡ false
-    → first_of_four want codes night nights count ≡ Err bad.Night
-second_fault want codes night nights count e f = cc
-
--- good codes and a first night, and too few or too many nights
-third_fault : (want : Wanted) (codes nights count : Bool) → codes ≡ true → nights ≡ false
-    → first_of_four want codes true nights count ≡ Err bad.Nights
-third_fault want codes nights count e f = cc
-
--- only the count is wrong
-fourth_fault : (want : Wanted) (codes nights count : Bool) → codes ≡ true → nights ≡ true → count ≡ false
-    → first_of_four want codes true nights count ≡ Err bad.Count
-fourth_fault want codes nights count e f g = cc
-
--- nothing is wrong
-no_fault : (want : Wanted) (codes nights count : Bool) → codes ≡ true → nights ≡ true → count ≡ true
-    → first_of_four want codes true nights count ≡ Ok want
-no_fault want codes nights count e f g = cc
 
 -- What is made of codes that are some, by what else is wrong.
 
 module _ (kind : Kind) (supplier product text : List ℕ) (nights count : ℕ) (codes : (is_code supplier && is_code product) ≡ true) where
   -- there is no first night
   pub made_no_night : night_in text ≡ None → want_made kind supplier product text nights count ≡ Err bad.Night
-  made_no_night none =
-      ap (λ o. want_from kind supplier product o nights count) none
-      ∙ second_fault _ _ false (are_nights kind 0 nights) (is_count count) codes refl
+  made_no_night none = grind arith
 
   module _ (first : ℕ) (read : night_in text ≡ Some first) where
     -- there are too few or too many nights
     pub made_no_nights : are_nights kind first nights ≡ false → want_made kind supplier product text nights count ≡ Err bad.Nights
-    made_no_nights none =
-        ap (λ o. want_from kind supplier product o nights count) read
-        ∙ third_fault _ _ (are_nights kind first nights) (is_count count) codes none
+    made_no_nights none = grind arith
 
     -- the count is out of range
     pub made_no_count : are_nights kind first nights ≡ true → is_count count ≡ false
         → want_made kind supplier product text nights count ≡ Err bad.Count
-    made_no_count some none =
-        ap (λ o. want_from kind supplier product o nights count) read
-        ∙ fourth_fault _ _ (are_nights kind first nights) (is_count count) codes some none
+    made_no_count some none = grind arith
 
     -- nothing is wrong
     pub made_whole : are_nights kind first nights ≡ true → is_count count ≡ true
         → want_made kind supplier product text nights count ≡ Ok (want_of_parts kind supplier product (Some first) nights count)
-    made_whole some good =
-        ap (λ o. want_from kind supplier product o nights count) read
-        ∙ no_fault (want_of_parts kind supplier product (Some first) nights count) _ (are_nights kind first nights) (is_count count) codes some good
+    made_whole some good = grind arith
 
 -- a want of what was read is one of the parts
 pub parts_same : (kind : Kind) {supplier product s p : List ℕ} → supplier ≡ s → product ≡ p → (first nights count : ℕ)

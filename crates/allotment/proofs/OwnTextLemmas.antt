@@ -67,11 +67,11 @@ row_same r s good fine e =
 -- Wants.
 
 -- the parts of a want after its letter
-abbrev five_of : Wanted → List (List ℕ)
+abbrev pub five_of : Wanted → List (List ℕ)
 five_of w = w.supplier ∷ w.product ∷ night_text w.first ∷ decimal w.nights ∷ decimal w.count ∷ []
 
 -- the limits of a want, one by one
-record IsSoundWant (w : Wanted) : Type 0 where
+pub record IsSoundWant (w : Wanted) : Type 0 where
   pub supplier : is_code w.supplier ≡ true
   pub product : is_code w.product ≡ true
   pub first : is_night w.first ≡ true
@@ -79,15 +79,15 @@ record IsSoundWant (w : Wanted) : Type 0 where
   pub count : w.count < 2 ^ 64
 
 -- no kind may have more nights than cover
-fewer_than_cover : (k : Kind) → most_nights k ≤ most_nights Cover
+pub fewer_than_cover : (k : Kind) → most_nights k ≤ most_nights Cover
 fewer_than_cover k = grind arith
 
 -- a good want keeps them
-is_sound_want : (w : Wanted) → is_want w ≡ true → IsSoundWant w
+pub is_sound_want : (w : Wanted) → is_want w ≡ true → IsSoundWant w
 is_sound_want w e = grind (arith, and_both, leb-true, fewer_than_cover)
 
 -- the six parts of a want contain no `/`
-want_plain : (w : Wanted) → IsSoundWant w → list_all is_plain (kind_letter w.kind ∷ five_of w) ≡ true
+pub want_plain : (w : Wanted) → IsSoundWant w → list_all is_plain (kind_letter w.kind ∷ five_of w) ≡ true
 want_plain w g = grind (arith, and_make, letter_plain, code_plain, night_plain, decimal_plain)
 
 -- cutting the text of a want gives its parts back

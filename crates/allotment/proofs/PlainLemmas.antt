@@ -11,7 +11,7 @@ use Rattle.allotment.specs.Nights.{year_of, days_before, months, month_and_day, 
 use Rattle.allotment.specs.Texts.{kind_letter}
 use Rattle.allotment.specs.declared.codes.Kind.{Kind}
 use Rattle.allotment.proofs.NightLemmas.{is_civil, night_range}
-use Rattle.allotment.proofs.TestLemmas.{and_both, and_make}
+use Rattle.allotment.proofs.TestLemmas.{and_both, and_make, list_all_weaker}
 
 -- a digit, a capital or a dash
 abbrev pub is_plain_byte : ℕ → Bool
@@ -46,14 +46,10 @@ night_plain n e =
 code_byte : (a b c : Bool) → (a || b) ≡ true → (b || a || c) ≡ true
 code_byte a b c e = grind arith
 
--- a text of such bytes is plain
-code_bytes : (t : List ℕ) → list_all (λ b. is_capital b || is_digit b) t ≡ true → is_plain t ≡ true
-code_bytes [] e = refl
-code_bytes (b ∷ t) e = grind (arith, and_both, and_make, code_byte, code_bytes t)
-
 -- a code is plain
 pub code_plain : (t : List ℕ) → is_code t ≡ true → is_plain t ≡ true
-code_plain t e = code_bytes t (and_both _ _ e).1
+code_plain t e =
+    list_all_weaker (λ b. is_capital b || is_digit b) is_plain_byte (λ b. code_byte (is_capital b) (is_digit b) (b == 45)) t (and_both _ _ e).1
 
 -- a text of digits is plain
 digits_plain : (t : List ℕ) → AllDigits 10 t → is_plain t ≡ true

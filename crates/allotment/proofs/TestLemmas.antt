@@ -1,5 +1,5 @@
 -- What the answer of a test implies, and what is kept where a test passes.
-use Rattle.std.proofs.Common.{◌≡◌, ℕ, Bool, true, false, ◌&&◌, List, [], ◌∷◌, refl, sym, ap, ◌∙◌, Some, None, bytes_eq, if◌then◌else◌}
+use Rattle.std.proofs.Common.{◌≡◌, ℕ, Bool, true, false, ◌&&◌, List, [], ◌∷◌, refl, arith, Some, None, bytes_eq}
 use Rattle.std.specs.List.{list_all}
 use Rattle.std.proofs.lemmas.Slice.Eq.{bytes_eq-Decides}
 use Rattle.allotment.specs.Texts.{keep_if}
@@ -13,45 +13,25 @@ and_both false b e = cc
 pub and_make : (a b : Bool) → a ≡ true → b ≡ true → (a && b) ≡ true
 and_make a b p q = cc
 
--- where the test answered true, the choice keeps the value
-keep_yes : {X : Type 0} (x : X) (b : Bool) → b ≡ true → (if b then Some x else None) ≡ Some x
-keep_yes x b t = cc
-
 -- a value that passes is kept
 pub keep_if_yes : {X : Type 0} (test : X → Bool) (x : X) → test x ≡ true → keep_if test x ≡ Some x
-keep_if_yes test x t = keep_yes x (test x) t
-
--- where the test answered false, the choice keeps nothing
-keep_no : {X : Type 0} (x : X) (b : Bool) → b ≡ false → (if b then Some x else None) ≡ None
-keep_no x b t = cc
+keep_if_yes test x t = grind arith
 
 -- a value that does not pass is not kept
 pub keep_if_no : {X : Type 0} (test : X → Bool) (x : X) → test x ≡ false → keep_if test x ≡ None
-keep_if_no test x t = keep_no x (test x) t
-
--- where a choice kept something, the test passed
-keep_by : {X : Type 0} (test : X → Bool) (y x : X) (b : Bool) → test y ≡ b → (if b then Some y else None) ≡ Some x
-    → (y ≡ x) × (test x ≡ true)
-keep_by test y x true t e = let same : y ≡ x = cc in (same, ap test (sym same) ∙ t)
-keep_by test y x false t e = cc
+keep_if_no test x t = grind arith
 
 -- what is kept is the value, and it passes
 pub keep_if_some : {X : Type 0} (test : X → Bool) (y x : X) → keep_if test y ≡ Some x → (y ≡ x) × (test x ≡ true)
-keep_if_some test y x e = keep_by test y x (test y) refl e
-
--- where a choice kept nothing, the test failed
-kept_none : {X : Type 0} (x : X) (b : Bool) → (if b then Some x else None) ≡ None → b ≡ false
-kept_none x true e = cc
-kept_none x false e = refl
+keep_if_some test y x e = grind arith
 
 -- where nothing is kept, the value does not pass
 pub keep_if_none : {X : Type 0} (test : X → Bool) (x : X) → keep_if test x ≡ None → test x ≡ false
-keep_if_none test x e = kept_none x (test x) e
+keep_if_none test x e = grind arith
 
 -- a test fails if a test that it implies fails
 pub fails_too : (a b : Bool) → (a ≡ true → b ≡ true) → b ≡ false → a ≡ false
-fails_too true b h e = cc (h refl)
-fails_too false b h e = refl
+fails_too a b h e = grind arith
 
 -- where each element that passes one test passes another, so does a list
 pub list_all_weaker : {X : Type 0} (p q : X → Bool) → ((x : X) → p x ≡ true → q x ≡ true) → (xs : List X)
