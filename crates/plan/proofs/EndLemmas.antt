@@ -1,5 +1,5 @@
 -- The mark at the end of a step, and the tries at the end of a line. For what cuts them off.
-use Rattle.std.proofs.Common.{◌≡◌, ◌≢◌, ℕ, zero, suc, ◌+◌, ◌-◌, ◌<◌, ◌≤◌, ◌⊎◌, Bool, true, false, List, [], ◌∷◌, ◌++◌, length, take, drop, refl, sym, ap, ◌∙◌, arith, Option, Some, None, is_some, if◌then◌else◌, length-append, take-append-drop}
+use Rattle.std.proofs.Common.{◌≡◌, ◌≢◌, ℕ, zero, suc, ◌+◌, ◌-◌, ◌<◌, ◌≤◌, ◌⊎◌, true, false, List, [], ◌∷◌, ◌++◌, length, take, drop, refl, sym, ap, ◌∙◌, arith, Some, None, is_some, if◌then◌else◌, length-append, take-append-drop}
 use Rattle.std.specs.Fmt.{digits}
 use Rattle.std.specs.List.{slice_get}
 use Rattle.std.proofs.Math.Seq.{drop-append_seam, take-append_seam}
@@ -25,17 +25,10 @@ marked front = grind (arith, seam, drop-append_seam)
 pub marked_front : (front : List ℕ) → without_mark (front ++ star ∷ []) ≡ front
 marked_front front = grind (arith, marked, seam, take-append_seam)
 
--- a text that is no prefix followed by `*` has no mark
-unmarked_by : (text : List ℕ) (b : Bool) → has_mark text ≡ b
-    → ((front : List ℕ) → text ≢ front ++ star ∷ []) → has_mark text ≡ false
-unmarked_by text true e none =
-    absurd (none (take (length text - 1) text) (sym (take-append-drop (length text - 1) text)
-    ∙ ap (λ z. take (length text - 1) text ++ z) (sym (same_bytes (star ∷ []) (drop (length text - 1) text) e))))
-unmarked_by text false e none = e
-
 -- a text that ends with no `*` has no mark
 pub unmarked : (text : List ℕ) → ((front : List ℕ) → text ≢ front ++ star ∷ []) → has_mark text ≡ false
-unmarked text none = unmarked_by text (has_mark text) refl none
+unmarked text none =
+    grind (arith, none (take (length text - 1) text), take-append-drop (length text - 1) text, same_bytes (star ∷ []) (drop (length text - 1) text))
 
 -- a text that ends with no `*` is unchanged without a mark
 pub unmarked_front : (text : List ℕ) → ((front : List ℕ) → text ≢ front ++ star ∷ []) → without_mark text ≡ text
@@ -103,13 +96,9 @@ ends_in_tries text e =
           ∙ sym (two_behind (front_of text) 33 (48 + n));
     }
 
--- a line has tries, or none
-none_by : (text : List ℕ) (o : Option ℕ) → tries_in (end_of text) ≡ o → (EndsInTries text → ⊥) → tries_in (end_of text) ≡ None
-none_by text o e none = grind (arith, ends_in_tries)
-
 -- a line that ends in no tries has none
 tries_none : (text : List ℕ) → (EndsInTries text → ⊥) → tries_in (end_of text) ≡ None
-tries_none text none = none_by text (tries_in (end_of text)) refl none
+tries_none text none = grind (arith, ends_in_tries text)
 
 -- the byte after a prefix
 behind_front : (front : List ℕ) (d : ℕ) → slice_get (front ++ d ∷ []) (length front) ≡ Some d

@@ -1,10 +1,9 @@
 -- What is read of a JSON plan keeps the limits. For the reader of JSON plans.
-use Rattle.std.proofs.Common.{◌≡◌, Bool, true, false, List, Option, Some, None, Ok, codes, option_map, if◌then◌else◌}
+use Rattle.std.proofs.Common.{◌≡◌, arith, Bool, true, false, List, Option, Some, None, Ok, codes, option_map, if◌then◌else◌}
 use Rattle.serde_json.specs.Data.{Data}
-use Rattle.serde_json.specs.Find.{as_bool}
 use Rattle.plan.specs.PlanModel.{Planned, is_plan}
 use Rattle.plan.specs.Drafts.{judged}
-use Rattle.plan.specs.PlanJson.{has_just, in_member, list_of, text_of, option_members, option_said, json_option, step_from, step_members, json_step, json_steps, json_tries, draft_with, plan_in_json}
+use Rattle.plan.specs.PlanJson.{has_just, text_of, option_members, option_said, json_option, json_step, json_steps, json_tries, draft_with, plan_in_json}
 use Rattle.plan.proofs.CleanLemmas.{HasNight, HasNights, all_images, judged_keeps}
 use Rattle.plan.proofs.ReadLemmas.{night_read}
 
@@ -18,14 +17,7 @@ option_night d = by (has_just option_members d)
 
 -- so are those of a step
 step_nights : (d : Data) → HasNights (json_step d)
-step_nights d = by (has_just step_members d) (in_member (codes "options") list_of d) (in_member (codes "save") as_bool d)
-  where
-    by : (b : Bool) (os : Option (List Data)) (m : Option Bool) → HasNights (if b then step_from os m else None)
-    by true (Some ds) (Some m) = all_images HasNight json_option option_night ds
-    by true (Some ds) None = tt
-    by true None (Some m) = tt
-    by true None None = tt
-    by false os m = tt
+step_nights d = grind (arith, all_images HasNight json_option option_night)
 
 -- what is read of a value keeps the limits
 pub json_keeps_limits : (d : Data) (p : Planned) → plan_in_json d ≡ Ok p → is_plan p ≡ true

@@ -1,12 +1,12 @@
 -- Wants, steps and plans, and their drafts: the only faults of these are the limits that they break. For plans that are
 -- made of steps, and for lines.
 use mathlib.Core.List.{map-map}
-use Rattle.std.proofs.Common.{◌≡◌, ◌≢◌, ℕ, ◌+◌, ◌<◌, ◌≤◌, ◌^◌, ◌⊎◌, Bool, true, false, not, ◌&&◌, ◌==◌, List, [], ◌∷◌, ◌++◌, map, length, refl, sym, ap, ◌∙◌, arith, Some, Ok, Err, flat_map, filter_map, option_map, Result}
+use Rattle.std.proofs.Common.{◌≡◌, ◌≢◌, ℕ, ◌+◌, ◌<◌, ◌≤◌, ◌⊎◌, Bool, true, false, not, ◌&&◌, ◌==◌, List, [], ◌∷◌, ◌++◌, map, length, refl, sym, ap, ◌∙◌, arith, Some, Ok, Err, flat_map, filter_map, option_map, Result}
 use Rattle.std.specs.List.{AllByRecursion, list_all, enumerate_from}
-use Rattle.std.proofs.lemmas.Bool.{le-leb, leb-true, lt-leb}
+use Rattle.std.proofs.lemmas.Bool.{le-leb, lt-leb}
 use Rattle.std.proofs.lemmas.List.{length-map}
 use Rattle.allotment.specs.Want.{Wanted}
-use Rattle.allotment.specs.Limits.{is_between, is_night, is_code, is_count, are_nights, is_want}
+use Rattle.allotment.specs.Limits.{is_between, is_want}
 use Rattle.allotment.specs.Making.{unless}
 use Rattle.plan.specs.Limits.{most_options, most_steps, most_tries}
 use Rattle.plan.specs.declared.causes.PlanCause.TheVariants as cause
@@ -17,25 +17,11 @@ use Rattle.plan.specs.Drafts.{at, option_faults, step_faults, want_of, step_of, 
 use Rattle.plan.specs.Levels.{step_limits, judged_step, judged_steps, steps_held}
 use Rattle.allotment.proofs.TestLemmas.{and_both}
 use Rattle.plan.proofs.LimitLemmas.{limited}
-use Rattle.plan.proofs.OptionLemmas.{nights_few}
 use Rattle.plan.proofs.CleanLemmas.{HasNight, HasNights, judged_keeps}
 use Rattle.plan.proofs.LevelLemmas.{step_refused, limits_pass, mark_right}
 use Rattle.plan.proofs.LineLemmas.{between_yes, with_tries, draft_no_tries, draft_miscounted, draft_by_steps}
 
 -- A want.
-
--- what a want that keeps the limits has
-pub record IsGood (w : Wanted) : Type 0 where
-  pub codes : (is_code w.supplier && is_code w.product) ≡ true
-  pub night : is_night w.first ≡ true
-  pub nights : are_nights w.kind w.first w.nights ≡ true
-  pub count : is_count w.count ≡ true
-  pub nights_small : w.nights < 2 ^ 64
-  pub count_small : w.count < 2 ^ 64
-
--- such a want has all of that
-pub is_good : (w : Wanted) → is_want w ≡ true → IsGood w
-is_good w e = grind (arith, and_both, nights_few, leb-true)
 
 -- a test that passes finds nothing wrong
 unless_yes : {F : Type 0} (b : Bool) (f : F) → b ≡ true → unless b f ≡ []
@@ -46,14 +32,14 @@ none_append : {X : Type 0} (xs ys : List X) → xs ≡ [] → ys ≡ [] → xs +
 none_append xs ys e f = cc
 
 -- nothing is wrong with the option of a want
-option_clean : (i : ℕ) (w : Wanted) → IsGood w → option_faults i (Some (drafted w)) ≡ []
-option_clean i w g = grind (arith, none_append, unless_yes)
+option_clean : (i : ℕ) (w : Wanted) → is_want w ≡ true → option_faults i (Some (drafted w)) ≡ []
+option_clean i w e = grind (arith, none_append, unless_yes, and_both)
 
 -- nothing is wrong with the options of wants
 options_clean : (i : ℕ) (ws : List Wanted) → list_all is_want ws ≡ true
     → flat_map (option_faults i) (map (λ w. Some (drafted w)) ws) ≡ []
 options_clean i [] e = refl
-options_clean i (w ∷ ws) e = grind (arith, and_both, none_append, option_clean, is_good, options_clean i ws)
+options_clean i (w ∷ ws) e = grind (arith, and_both, none_append, option_clean, options_clean i ws)
 
 -- what drafts of values mean are the values
 drafted_back : {X Y : Type 0} (draft : X → Y) (mean : Y → X) → ((x : X) → mean (draft x) ≡ x) → (xs : List X)
@@ -143,7 +129,7 @@ made_by_steps items tries n r same few low high kept =
 -- the first nights of wants that keep the limits are nights
 wants_nights : (ws : List Wanted) → list_all is_want ws ≡ true → AllByRecursion HasNight (map (λ w. Some (drafted w)) ws)
 wants_nights [] e = tt
-wants_nights (w ∷ ws) e = grind (arith, and_both, is_good, wants_nights ws)
+wants_nights (w ∷ ws) e = grind (arith, and_both, wants_nights ws)
 
 -- so are those of steps
 steps_nights : (steps : List StepPlan) → list_all is_step steps ≡ true

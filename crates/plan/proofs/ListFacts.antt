@@ -1,7 +1,8 @@
 -- Facts on lists of faults and on searches. For reading a line and for its spelling.
-use Rattle.std.proofs.Common.{◌≡◌, Bool, true, List, [], ◌∷◌, ◌++◌, cond, refl, Option, Some, Ok, flat_map, find, is_some, arith, unwrap_or}
+use Rattle.std.proofs.Common.{◌≡◌, Bool, true, List, [], ◌∷◌, ◌++◌, refl, Option, Some, Ok, flat_map, is_some, arith, unwrap_or}
 use Rattle.std.specs.List.{AllByRecursion}
 use Rattle.allotment.specs.Making.{unless, first_fault}
+pub use Rattle.allotment.proofs.LawLemmas.{find_passes}
 
 -- if a joined list is empty, both its parts are
 pub append_none : {X : Type 0} (xs ys : List X) → xs ++ ys ≡ [] → (xs ≡ []) × (ys ≡ [])
@@ -20,15 +21,6 @@ flat_map_none f (x ∷ xs) e = let both = append_none (f x) (flat_map f xs) e in
 -- an `Ok` result has no fault
 pub first_fault_ok : {X F : Type 0} (x y : X) (fs : List F) → first_fault x fs ≡ Ok y → (fs ≡ []) × (x ≡ y)
 first_fault_ok x y fs e = grind arith
-
--- the first element passes, or a later one does
-find_if : {X : Type 0} (test : X → Bool) (y x : X) (xs : List X) (b : Bool) → test y ≡ b → (find test xs ≡ Some x → test x ≡ true) → cond b (Some y) (find test xs) ≡ Some x → test x ≡ true
-find_if test y x xs b t h e = grind arith
-
--- what a search finds passes
-pub find_passes : {X : Type 0} (test : X → Bool) (xs : List X) (x : X) → find test xs ≡ Some x → test x ≡ true
-find_passes test [] x e = cc
-find_passes test (y ∷ ys) x e = find_if test y x ys (test y) refl (find_passes test ys x) e
 
 -- an option that is there
 pub some_is : {X : Type 0} (o : Option X) (d : X) → is_some o ≡ true → o ≡ Some (unwrap_or o d)

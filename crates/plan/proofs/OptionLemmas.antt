@@ -1,8 +1,8 @@
 -- What is read of an option, in the words of a want that is made of its parts. For the readers of options.
-use Rattle.std.proofs.Common.{◌≡◌, ℕ, ◌≤◌, Bool, true, false, ◌&&◌, List, [], ◌∷◌, ◌++◌, refl, ap, ◌∙◌, arith, Option, Some, None, Err, is_some, option_and_then, Result, le-leb, leb-true, codes, if◌then◌else◌}
+use Rattle.std.proofs.Common.{◌≡◌, ℕ, Bool, true, false, ◌&&◌, List, [], ◌∷◌, ◌++◌, refl, ap, ◌∙◌, arith, Option, Some, None, Err, is_some, option_and_then, Result, le-leb, leb-true, codes, if◌then◌else◌}
 use Rattle.serde_json.specs.Data.{Data}
 use Rattle.allotment.specs.Want.{Wanted}
-use Rattle.allotment.specs.Limits.{is_between, is_code, is_count, are_nights, most_nights}
+use Rattle.allotment.specs.Limits.{is_between, is_code, is_count, are_nights}
 use Rattle.allotment.specs.Making.{unless, first_fault, want_made}
 use Rattle.allotment.specs.Nights.{night_in}
 use Rattle.allotment.specs.Texts.{parts, slash, keep_if, number_in, kind_of_letter, kind_of_word}
@@ -15,19 +15,16 @@ use Rattle.plan.specs.PlanLine.{option_draft, option_of_parts}
 use Rattle.plan.specs.PlanJson.{has_just, in_member, whole_number, text_of, option_members, option_said, json_option}
 use Rattle.plan.specs.Levels.{judged_option, told_want, told_option}
 use Rattle.allotment.proofs.TestLemmas.{and_both, and_make, fails_too}
+use Rattle.allotment.proofs.OwnTextLemmas.{fewer_than_cover}
 use Rattle.plan.proofs.NumberLemmas.{small_number}
 
 -- a number that is there, from 1 to 255
 abbrev small : Option ℕ → ℕ
 small o = number_or_none (option_and_then (keep_if (is_between 1 255)) o)
 
--- no kind may have more than 60 nights
-pub nights_few : (k : Kind) (n : ℕ) → n ≤ most_nights k → n ≤ 60
-nights_few k n l = grind arith
-
 -- nights that a kind may have are from 1 to 255
 nights_between : (k : Kind) (f n : ℕ) → are_nights k f n ≡ true → is_between 1 255 n ≡ true
-nights_between k f n e = grind (arith, and_both, nights_few, leb-true, and_make, le-leb)
+nights_between k f n e = grind (arith, and_both, fewer_than_cover, leb-true, and_make, le-leb)
 
 -- a count that a want may have is from 1 to 255
 count_between : (n : ℕ) → is_count n ≡ true → is_between 1 255 n ≡ true

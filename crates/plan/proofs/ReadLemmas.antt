@@ -1,17 +1,19 @@
 -- What is read as a plan is spelled as its line. For the law that a plan has one spelling.
-use Rattle.std.proofs.Common.{◌≡◌, ℕ, zero, suc, ◌+◌, ◌-◌, ◌<◌, ◌≤◌, Bool, true, ◌&&◌, List, [], ◌∷◌, ◌++◌, map, length, take, drop, refl, sym, ap, subst, ◌∙◌, arith, Option, Some, None, Ok, find, is_some, bytes_eq, decimal, if◌then◌else◌, append-nil, take-append-drop}
+use Rattle.std.proofs.Common.{◌≡◌, ℕ, zero, suc, ◌+◌, ◌-◌, ◌<◌, ◌≤◌, Bool, true, List, [], ◌∷◌, ◌++◌, map, length, take, drop, refl, sym, ap, subst, ◌∙◌, arith, Option, Some, None, Ok, find, is_some, decimal, if◌then◌else◌, append-nil, take-append-drop}
 use Rattle.std.specs.List.{AllByRecursion, enumerate_from}
 use Rattle.std.proofs.lemmas.List.Splits.{join_with_byte-slice_split}
 use Rattle.allotment.specs.Cells.{numbers_from}
 use Rattle.allotment.specs.Limits.{is_night}
-use Rattle.allotment.specs.Texts.{parts, joined, number_in, slash, bar, semicolon, kind_letter, kinds, kind_of_letter, want_text}
-use Rattle.allotment.specs.Nights.{night_text, night_in, named_night}
+use Rattle.allotment.specs.Texts.{parts, joined, number_in, slash, bar, semicolon, kind_letter, kind_of_letter, want_text}
+use Rattle.allotment.specs.Nights.{night_text, night_in}
 use Rattle.allotment.specs.declared.codes.Kind.TheVariants.{Flight}
 use Rattle.plan.specs.Limits.{most_tries}
 use Rattle.plan.specs.PlanModel.{Planned}
 use Rattle.plan.specs.Drafts.{OptionDraft, StepDraft, kind_or_any, number_or_none, option_faults, step_faults, faults, want_of, step_of, plan_of}
 use Rattle.plan.specs.PlanLine.{step_text, mark_text, tries_text, tries_in, IsPlanLine, option_of_parts, option_draft, has_mark, without_mark, step_draft, line_draft, plan_in}
 use Rattle.allotment.proofs.TestLemmas.{keep_if_some, same_bytes, and_both}
+use Rattle.allotment.proofs.LawLemmas.{letter_read}
+use Rattle.allotment.proofs.NightLemmas.{night_text-night_in}
 use Rattle.plan.proofs.ListFacts.{append_none, unless_none, flat_map_none, first_fault_ok, find_passes, some_is}
 use Rattle.plan.proofs.CleanLemmas.{HasNight, HasNights, all_images, wants_of, steps_of, draft_keeps}
 
@@ -19,14 +21,11 @@ use Rattle.plan.proofs.CleanLemmas.{HasNight, HasNights, all_images, wants_of, s
 
 -- a kind that is read has that letter
 kind_read : (k : List ℕ) → is_some (kind_of_letter k) ≡ true → kind_letter (kind_or_any (kind_of_letter k)) ≡ k
-kind_read k e = same_bytes _ k (find_passes (λ kind. bytes_eq (kind_letter kind) k) kinds _ (some_is (kind_of_letter k) Flight e))
+kind_read k e = sym (letter_read k _ (some_is (kind_of_letter k) Flight e))
 
 -- a night that is read has that text
 pub night_read : (t : List ℕ) → is_some (night_in t) ≡ true → (is_night (number_or_none (night_in t)) ≡ true) × (night_text (number_or_none (night_in t)) ≡ t)
-night_read t e =
-    let kept = keep_if_some (λ night. is_night night && bytes_eq (night_text night) t) (named_night t) (number_or_none (night_in t)) (some_is (night_in t) 0 e) in
-    let both = and_both (is_night (number_or_none (night_in t))) (bytes_eq (night_text (number_or_none (night_in t))) t) kept.1 in
-    (both.0, same_bytes _ t both.1)
+night_read t e = night_text-night_in t _ (some_is (night_in t) 0 e)
 
 -- a number that is read has that text
 number_read : (t : List ℕ) → is_some (number_in t) ≡ true → decimal (number_or_none (number_in t)) ≡ t

@@ -1,33 +1,31 @@
 -- What is spelled as the line of a plan is read as it. For the law that a plan has one spelling.
-use Rattle.std.proofs.Common.{◌≡◌, ℕ, ◌-◌, ◌≤◌, Bool, true, false, not, ◌==◌, List, [], ◌∷◌, ◌++◌, map, length, take, drop, refl, ap, ◌∙◌, arith, Option, Some, Ok, decimal, zero, suc}
+use Rattle.std.proofs.Common.{◌≡◌, ℕ, ◌-◌, ◌≤◌, Bool, true, false, not, ◌==◌, List, [], ◌∷◌, ◌++◌, map, length, take, drop, refl, ap, ◌∙◌, arith, Option, Some, Ok, zero, suc}
 use Rattle.std.specs.List.{list_all}
 use Rattle.std.proofs.Math.Seq.{drop-append_seam, take-append_seam}
 use Rattle.std.proofs.lemmas.Fmt.{decimal_digit}
 use Rattle.std.proofs.lemmas.List.{append-nil, length-append, length-map}
-use Rattle.std.proofs.lemmas.List.Folds.{list_all-map}
+use Rattle.std.proofs.lemmas.List.Folds.{list_all-map, list_all-append}
 use Rattle.allotment.specs.Want.{Wanted}
 use Rattle.allotment.specs.Limits.{is_want}
-use Rattle.allotment.specs.Nights.{night_text, night_in}
-use Rattle.allotment.specs.Texts.{parts, joined, number_in, kind_letter, kind_of_letter, want_text, slash, semicolon, star}
-use Rattle.allotment.specs.declared.codes.Kind.{Kind}
+use Rattle.allotment.specs.Texts.{parts, joined, kind_letter, want_text, slash, semicolon, star}
 use Rattle.plan.specs.Limits.{most_tries}
 use Rattle.plan.specs.PlanModel.{Planned, StepPlan, is_step, is_plan}
-use Rattle.plan.specs.Drafts.{OptionDraft, StepDraft, Draft, drafted, drafted_step, drafted_plan, plan_made}
-use Rattle.plan.specs.PlanLine.{step_text, mark_text, tries_text, tries_in, plan_line, IsPlanLine, option_of_parts, option_draft, has_mark, without_mark, step_draft, front_of, end_of, line_draft, plan_in}
+use Rattle.plan.specs.Drafts.{StepDraft, Draft, drafted, drafted_step, drafted_plan, plan_made}
+use Rattle.plan.specs.PlanLine.{step_text, mark_text, tries_text, tries_in, plan_line, IsPlanLine, option_draft, has_mark, without_mark, step_draft, front_of, end_of, line_draft, plan_in}
 use Rattle.allotment.proofs.TestLemmas.{and_both, and_make, list_all_weaker, same_bytes}
 use Rattle.allotment.proofs.NightLemmas.{night_in-night_text}
-use Rattle.allotment.proofs.PlainLemmas.{is_plain_byte, is_plain, night_plain, code_plain, decimal_plain, letter_plain}
-use Rattle.allotment.proofs.JoinLemmas.{lacks, all_lack, parts_joined}
+use Rattle.allotment.proofs.PlainLemmas.{is_plain_byte}
+use Rattle.allotment.proofs.JoinLemmas.{lacks, all_lack, parts_joined, plain_parts}
 use Rattle.plan.proofs.NumberLemmas.{number_again}
 use Rattle.plan.proofs.EndLemmas.{tries_again, marked, marked_front}
-use Rattle.plan.proofs.KeptLemmas.{IsGood, is_good, drafted_again}
+use Rattle.allotment.proofs.LawLemmas.{letter_again}
+use Rattle.allotment.proofs.OwnTextLemmas.{IsSoundWant, is_sound_want, five_of, want_plain}
+use Rattle.plan.proofs.KeptLemmas.{drafted_again}
 use Rattle.plan.proofs.LimitLemmas.{IsLimitedStep, step_limited, limited}
 
 -- two texts without a byte are joined without it
 lacks_append : (c : ℕ) (x y : List ℕ) → lacks c x ≡ true → lacks c y ≡ true → lacks c (x ++ y) ≡ true
-lacks_append c [] y e f = f
-lacks_append c (b ∷ x) y e f =
-    let both = and_both (not (b == c)) (lacks c x) e in and_make _ _ both.0 (lacks_append c x y both.1 f)
+lacks_append c x y e f = grind (arith, and_make, list_all-append)
 
 -- texts without a byte that are joined by another byte are joined without it
 lacks_joined : (c d : ℕ) (ts : List (List ℕ)) → not (d == c) ≡ true
@@ -51,44 +49,21 @@ map_again test print read draft again (x ∷ xs) e = grind (arith, and_both, map
 
 -- Parts of an option.
 
--- the letter of a kind is read as the kind
-letter_again : (k : Kind) → kind_of_letter (kind_letter k) ≡ Some k
-letter_again k = grind arith
-
--- the parts of a want after its letter
-abbrev five_of : Wanted → List (List ℕ)
-five_of w = w.supplier ∷ w.product ∷ night_text w.first ∷ decimal w.nights ∷ decimal w.count ∷ []
-
--- no part of a want contains a separator
-six_plain : (w : Wanted) → IsGood w → list_all is_plain (kind_letter w.kind ∷ five_of w) ≡ true
-six_plain w g = search (arith, and_both, and_make, letter_plain, code_plain, night_plain, decimal_plain)
-
--- the option of these parts
-abbrev made : Wanted → Option Kind → Option ℕ → Option ℕ → Option ℕ → OptionDraft
-made w k f n c = record { kind = k; supplier = w.supplier; product = w.product; first = f; nights = n; count = c }
-
 -- the text of a want is cut into its parts, each of which is read as it was
-option_again : (w : Wanted) → IsGood w → option_draft (want_text w) ≡ Some (drafted w)
+option_again : (w : Wanted) → IsSoundWant w → option_draft (want_text w) ≡ Some (drafted w)
 option_again w g =
-    let n = number_in (decimal w.nights) in
-    let c = number_in (decimal w.count) in
-    ap option_of_parts (parts_joined slash (kind_letter w.kind) (five_of w)
-    (all_lack slash (kind_letter w.kind ∷ five_of w) refl (six_plain w g)))
-    ∙ ap (λ z. Some (made w z (night_in (night_text w.first)) n c)) (letter_again w.kind)
-    ∙ ap (λ z. Some (made w (Some w.kind) z n c)) (night_in-night_text w.first g.night)
-    ∙ ap (λ z. Some (made w (Some w.kind) (Some w.first) z c)) (number_again w.nights g.nights_small)
-    ∙ ap (λ z. Some (made w (Some w.kind) (Some w.first) (Some w.nights) z)) (number_again w.count g.count_small)
+    grind (arith, plain_parts (kind_letter w.kind) (five_of w), want_plain w, letter_again, night_in-night_text, number_again)
 
 -- the text of a want contains no separator of options or steps
-want_lacks : (c : ℕ) (w : Wanted) → not (slash == c) ≡ true → is_plain_byte c ≡ false → IsGood w → lacks c (want_text w) ≡ true
-want_lacks c w o odd g = search (arith, lacks_joined, all_lack, six_plain)
+want_lacks : (c : ℕ) (w : Wanted) → not (slash == c) ≡ true → is_plain_byte c ≡ false → IsSoundWant w → lacks c (want_text w) ≡ true
+want_lacks c w o odd g = search (arith, lacks_joined, all_lack, want_plain)
 
 -- The options of a step.
 
 -- the texts of options contain no separator of options or steps
 wants_lack : (c : ℕ) (ws : List Wanted) → not (slash == c) ≡ true → is_plain_byte c ≡ false → list_all is_want ws ≡ true
     → list_all (lacks c) (map want_text ws) ≡ true
-wants_lack c ws o odd e = grind (arith, list_all-map, lacks, list_all_weaker, want_lacks, is_good)
+wants_lack c ws o odd e = grind (arith, list_all-map, lacks, list_all_weaker, want_lacks, is_sound_want)
 
 -- A step.
 
@@ -113,7 +88,7 @@ parts_back c (t ∷ ts) some e = parts_joined c t ts e
 -- the text of a step is read as the step
 step_again : (s : StepPlan) → IsLimitedStep s → step_draft (step_text s) ≡ drafted_step s
 step_again s g =
-    grind (arith, lacks_joined, wants_lack, without_again, mark_again, parts_back, length-map, map_again, option_again, is_good)
+    grind (arith, lacks_joined, wants_lack, without_again, mark_again, parts_back, length-map, map_again, option_again, is_sound_want)
 
 -- a mark is one byte, or none
 mark_lacks : (c : ℕ) (b : Bool) → not (star == c) ≡ true → lacks c (mark_text b) ≡ true

@@ -3,8 +3,6 @@ use Rattle.std.proofs.Common.{◌≡◌, Bool, true, List, map, length, ap, ◌�
 use Rattle.std.specs.List.{list_all}
 use Rattle.allotment.specs.Want.{Wanted}
 use Rattle.allotment.specs.Limits.{is_between, is_want}
-use Rattle.allotment.specs.Texts.{kind_word, kind_of_word}
-use Rattle.allotment.specs.declared.codes.Kind.{Kind}
 use Rattle.plan.specs.Limits.{most_options, most_tries}
 use Rattle.plan.specs.PlanModel.{Planned, StepPlan, is_step, is_plan}
 use Rattle.plan.specs.Drafts.{OptionDraft, StepDraft, drafted, drafted_step, drafted_plan}
@@ -14,15 +12,13 @@ use Rattle.allotment.proofs.TestLemmas.{and_both, and_make, keep_if_yes}
 use Rattle.allotment.proofs.NightLemmas.{night_in-night_text}
 use Rattle.plan.proofs.MemberLemmas.{values_of-items_of}
 use Rattle.plan.proofs.LimitLemmas.{limited}
-use Rattle.plan.proofs.KeptLemmas.{IsGood, is_good, drafted_again}
+use Rattle.allotment.proofs.LawLemmas.{word_again}
+use Rattle.allotment.proofs.OwnTextLemmas.{IsSoundWant, is_sound_want}
+use Rattle.plan.proofs.KeptLemmas.{drafted_again}
 use Rattle.plan.proofs.SpellLemmas.{map_again}
 
--- the word of a kind is read as the kind
-word_again : (k : Kind) → kind_of_word (kind_word k) ≡ Some k
-word_again k = grind arith
-
 -- the value of a want is read back as the want
-option_again : (w : Wanted) → IsGood w → json_option (want_data w) ≡ Some (drafted w)
+option_again : (w : Wanted) → IsSoundWant w → json_option (want_data w) ≡ Some (drafted w)
 option_again w g = grind (arith, word_again, night_in-night_text)
 
 -- a step with these options
@@ -35,7 +31,7 @@ step_again s e =
     let both = and_both (is_between 1 most_options (length s.options)) (list_all is_want s.options) e in
     ap (λ z. Some (step_with z s.is_marked)) (values_of-items_of (map want_data s.options))
     ∙ ap (λ z. Some (marked_so z s.is_marked))
-    (map_again is_want want_data json_option (λ w. Some (drafted w)) (λ w good. option_again w (is_good w good)) s.options both.1)
+    (map_again is_want want_data json_option (λ w. Some (drafted w)) (λ w good. option_again w (is_sound_want w good)) s.options both.1)
 
 -- the value of a plan is read as what the plan says
 draft_again : (p : Planned) → list_all is_step p.steps ≡ true → nat_le p.tries most_tries ≡ true
