@@ -1,7 +1,8 @@
 -- The answer to each request about a journey, by its cursor, the save-points that it took, and whether its next want
 -- fits. For each desk that stores these.
-use Rattle.std.proofs.Common.{◌≡◌, ℕ, ◌+◌, List, [], ◌∷◌, refl, ap, sym, ◌∙◌, eq-eqb, map, Bool, true, false, not, ◌==◌, ◌&&◌, nat_lt, if◌then◌else◌, find, Some, option_to_list}
-use Rattle.std.proofs.lemmas.Bool.{false_from_ne_true, not-true}
+use Rattle.std.proofs.Common.{◌≡◌, ℕ, ◌+◌, List, refl, ap, sym, ◌∙◌, arith, Bool, true, false, not, ◌==◌, ◌&&◌, nat_lt, if◌then◌else◌, Some}
+use Rattle.std.proofs.lemmas.Bool.{false_from_ne_true}
+use Rattle.std.proofs.lemmas.Bool.Decides.{nat_tests}
 use Rattle.plan.specs.PlanModel.{Planned}
 use Rattle.plan.specs.Marks.{is_taken_in}
 use Rattle.plan.specs.Turns.{may_be_made}
@@ -10,49 +11,38 @@ use Rattle.commands.specs.declared.items.Cause.TheVariants.{Stop, Refused, Asked
 use Rattle.commands.specs.declared.items.Item.{Item}
 use Rattle.commands.specs.declared.items.Item.TheVariants.{Transaction, Compensation, Turn, Save}
 use Rattle.commands.specs.declared.items.Phase.{Phase}
-use Rattle.commands.specs.declared.items.Phase.TheVariants.{Run, Back, Ended, Undone}
+use Rattle.commands.specs.declared.items.Phase.TheVariants.{Run, Back}
 use Rattle.commands.specs.declared.replies.Refusal.TheVariants.{NoSavePoint, NoSave}
 use Rattle.ledger.specs.History.{net, position_of, is_taken, is_save_point, last_save, refused_target, next_option, next_want, phase, is_running, is_going_back, is_finished, may_turn, last_of}
 use Rattle.ledger.specs.Ledger.{Event, Journey, journey_at, history, fits, IsLegal}
-use Rattle.ledger.specs.Replies.{refused, compensation, step_choices, abort_choices, stop_choices, save_choices, answer_move}
+use Rattle.ledger.specs.Replies.{refused, step_choices, abort_choices, stop_choices, save_choices, answer_move}
 use Rattle.ledger.specs.Recovery.{is_forward}
-use Rattle.ledger.proofs.Coming.{compensation-comes, step-comes, step-may_come, refused-comes, refused-may_come, compensation-may_come}
+use Rattle.ledger.proofs.Coming.{step-may_come, refused-may_come, compensation-may_come}
 use Rattle.ledger.specs.AnswerChanges.{moves}
 use Rattle.ledger.specs.JourneyChanges.{target_of}
 use Rattle.ledger.specs.Cursors.{cursor_of, marks_of}
+use Rattle.ledger.proofs.Deciding.{finished-none, one-step}
 use Rattle.ledger.proofs.Histories.{follows}
-use Rattle.ledger.proofs.Moves.{may, move-found, move-only, find-next, find-first}
+use Rattle.ledger.proofs.Ledgers.{all_go}
+use Rattle.ledger.proofs.Moves.{may, move-found, move-only}
 use Rattle.ledger.proofs.Taken.{taken_by-marks}
-
--- Phases.
-
--- a running journey is not finished
-run-unfinished : (p : Phase) → p ≡ Run → is_finished p ≡ false
-run-unfinished p e = ap is_finished e
-
--- a journey that goes back is not finished
-back-unfinished : (p : Phase) (q : ℕ) → p ≡ Back q → is_finished p ≡ false
-back-unfinished p q e = ap is_finished e
-
--- no phase both runs and goes back
-not_running : (p : Phase) (q : ℕ) (b : Bool) → p ≡ Back q → (b ≡ true → is_running p ≡ true)
-    → b ≡ false
-not_running p q b back runs =
-    false_from_ne_true b (λ e. let bad : true ≡ false = sym (runs e) ∙ ap is_running back in
-    absurd (clash bad))
-  where
-    clash : true ≡ false → ⊥
-    clash e = cc
-
--- Steps.
-
--- the choices of a step after its first
-abbrev other_choices : Planned → List Item → List Item
-other_choices plan h = Turn (refused_target plan h) Refused ∷ compensation h
 
 -- the first choice of a step: the next transaction
 abbrev pub next_step : Planned → List Item → Item
 next_step plan h = Transaction (position_of h + 1) (next_option plan h)
+
+-- Steps.
+
+-- to a step: of the items that a step makes, the one that may come next
+pub step-answer : (l : List Event) (j : ℕ) (a : Journey) (x : Item) → IsLegal l
+    → journey_at l j ≡ Some a
+    → is_forward x ≡ true → may l j a x ≡ true
+    → answer_move l j step_choices NoSavePoint (Some a)
+    ≡ moves j a.plan (cursor_of a.plan (history l j)) x
+step-answer l j a x legal at forward comes =
+    let unfinished = false_from_ne_true _ (λ e. finished-none a.plan (history l j) _ x e comes) in
+    let one = one-step a.plan (history l j) (fits l (next_want a.plan (history l j))) ((all_go l legal).go j a at) (ap not unfinished) in
+    move-found l j step_choices NoSavePoint a x legal at unfinished (one.found ∙ sym (ap Some (one.alone x forward comes)))
 
 -- to a step of a running journey whose next want fits: the next transaction
 pub step-fits : (l : List Event) (j : ℕ) (a : Journey) → IsLegal l → journey_at l j ≡ Some a
@@ -60,13 +50,7 @@ pub step-fits : (l : List Event) (j : ℕ) (a : Journey) → IsLegal l → journ
     → answer_move l j step_choices NoSavePoint (Some a)
     ≡ moves j a.plan (cursor_of a.plan (history l j)) (next_step a.plan (history l j))
 step-fits l j a legal at run fitting =
-    let comes = step-may_come a.plan (history l j) (fits l (next_want a.plan (history l j)))
-    (ap is_running run) fitting in
-    move-found l j step_choices NoSavePoint a (next_step a.plan (history l j)) legal at
-    (run-unfinished _ run)
-    (find-first (may l j a) (next_step a.plan (history l j))
-    (other_choices a.plan (history l j)) comes)
-    comes
+    step-answer l j a _ legal at refl (step-may_come a.plan (history l j) _ (ap is_running run) fitting)
 
 -- where the next want does not fit: the refused turn
 pub step-refused : (l : List Event) (j : ℕ) (a : Journey) → IsLegal l → journey_at l j ≡ Some a
@@ -75,20 +59,7 @@ pub step-refused : (l : List Event) (j : ℕ) (a : Journey) → IsLegal l → jo
     ≡ moves j a.plan (cursor_of a.plan (history l j))
     (Turn (refused_target a.plan (history l j)) Refused)
 step-refused l j a legal at run unfitting =
-    let fit : Bool = fits l (next_want a.plan (history l j)) in
-    let comes = refused-may_come a.plan (history l j) (fits l (next_want a.plan (history l j)))
-    (ap is_running run) unfitting in
-    let first : may l j a (next_step a.plan (history l j)) ≡ false =
-    false_from_ne_true _ (λ e. let fitting = (step-comes a.plan (history l j) _ _ _ e).fitting in
-    let bad : true ≡ false = sym fitting ∙ unfitting in cc) in
-    move-found l j step_choices NoSavePoint a
-    (Turn (refused_target a.plan (history l j)) Refused) legal at
-    (run-unfinished _ run)
-    (find-next (may l j a) (next_step a.plan (history l j))
-    (other_choices a.plan (history l j)) first
-    ∙ find-first (may l j a) (Turn (refused_target a.plan (history l j)) Refused)
-    (compensation (history l j)) comes)
-    comes
+    step-answer l j a _ legal at refl (refused-may_come a.plan (history l j) _ (ap is_running run) unfitting)
 
 -- to a step of a journey that goes back: the compensation of its last transaction
 pub step-back : (l : List Event) (j : ℕ) (a : Journey) (p i c : ℕ) → IsLegal l
@@ -97,23 +68,8 @@ pub step-back : (l : List Event) (j : ℕ) (a : Journey) (p i c : ℕ) → IsLeg
     → answer_move l j step_choices NoSavePoint (Some a)
     ≡ moves j a.plan (cursor_of a.plan (history l j)) (Compensation i c)
 step-back l j a p i c legal at back last =
-    let comes = compensation-may_come a.plan (history l j)
-    (fits l (next_want a.plan (history l j))) i c
-    (ap is_going_back back) last in
-    let first = not_running (phase a.plan (history l j)) p
-    (may l j a (next_step a.plan (history l j))) back
-    (λ e. (step-comes a.plan (history l j) _ _ _ e).running) in
-    let second = not_running (phase a.plan (history l j)) p
-    (may l j a (Turn (refused_target a.plan (history l j)) Refused)) back
-    (λ e. (refused-comes a.plan (history l j) _ _ e).running) in
-    move-found l j step_choices NoSavePoint a (Compensation i c) legal at (back-unfinished _ p back)
-    (find-next (may l j a) (next_step a.plan (history l j))
-    (other_choices a.plan (history l j)) first
-    ∙ find-next (may l j a) (Turn (refused_target a.plan (history l j)) Refused)
-    (compensation (history l j)) second
-    ∙ ap (λ o. find (may l j a) (map (λ (s : ℕ × ℕ). Compensation s.0 s.1) (option_to_list o))) last
-    ∙ find-first (may l j a) (Compensation i c) [] comes)
-    comes
+    step-answer l j a _ legal at refl
+    (compensation-may_come a.plan (history l j) (fits l (next_want a.plan (history l j))) i c (ap is_going_back back) last)
 
 -- Turns.
 
@@ -124,19 +80,13 @@ pub data Open (p : Phase) : Type 0 where
 
 -- an open journey is not finished
 open-unfinished : (p : Phase) → Open p → is_finished p ≡ false
-open-unfinished p (runs e) = ap is_finished e
-open-unfinished p (goes_back q e) = ap is_finished e
+open-unfinished p o = grind arith
 
 -- in this phase a caller may turn the journey, by the rule for turns
 abort-rule : (plan : Planned) (h : List Item) (p : ℕ) (q : Phase) → Open q
     → may_turn plan h q p ≡ may_be_made plan (is_taken h) (position_of h) (target_of q)
     (turn.Asked p)
-abort-rule plan h p Run o = refl
-abort-rule plan h p (Back r) o = refl
-abort-rule plan h p Ended (runs e) = cc
-abort-rule plan h p Ended (goes_back r e) = cc
-abort-rule plan h p Undone (runs e) = cc
-abort-rule plan h p Undone (goes_back r e) = cc
+abort-rule plan h p q o = grind arith
 
 -- to an abort: the turn if it may be made
 pub abort-answer : (l : List Event) (j : ℕ) (a : Journey) (p : ℕ) → IsLegal l
@@ -155,15 +105,10 @@ abort-answer l j a p legal at o =
     (taken_by-marks a.plan (history l j) (follows l legal j a at)))
 
 -- a stop turns a running journey only
-stop-rule : (plan : Planned) (h : List Item) (q : Phase) → Open q
+stop-rule : (plan : Planned) (h : List Item) (q : Phase) (taken : ℕ → Bool) → Open q
     → (is_running q && (last_save plan h == last_save plan h))
-    ≡ may_be_made plan (is_taken h) (position_of h) (target_of q) turn.Stop
-stop-rule plan h Run o = eq-eqb _ _ refl
-stop-rule plan h (Back r) o = refl
-stop-rule plan h Ended (runs e) = cc
-stop-rule plan h Ended (goes_back r e) = cc
-stop-rule plan h Undone (runs e) = cc
-stop-rule plan h Undone (goes_back r e) = cc
+    ≡ may_be_made plan taken (position_of h) (target_of q) turn.Stop
+stop-rule plan h q taken o = grind (arith, nat_tests)
 
 -- to a stop: the turn to the last save-point if it may be made
 pub stop-answer : (l : List Event) (j : ℕ) (a : Journey) → IsLegal l → journey_at l j ≡ Some a
@@ -176,11 +121,7 @@ pub stop-answer : (l : List Event) (j : ℕ) (a : Journey) → IsLegal l → jou
     else refused NoSavePoint)
 stop-answer l j a legal at o =
     move-only l j stop_choices NoSavePoint a (Turn (last_save a.plan (history l j)) Stop) _ legal at
-    (open-unfinished _ o) refl
-    (stop-rule a.plan (history l j) (phase a.plan (history l j)) o
-    ∙ ap (λ taken. may_be_made a.plan taken (position_of (history l j))
-    (target_of (phase a.plan (history l j))) turn.Stop)
-    (taken_by-marks a.plan (history l j) (follows l legal j a at)))
+    (open-unfinished _ o) refl (stop-rule a.plan (history l j) (phase a.plan (history l j)) (is_taken_in (marks_of (history l j))) o)
 
 -- Save-points.
 
@@ -189,11 +130,7 @@ save-rule : (plan : Planned) (h : List Item) (q : Phase) → q ≡ Run
     → (is_running q && (position_of h == position_of h) && nat_lt 0 (position_of h)
     && not (is_save_point plan h (position_of h)))
     ≡ (nat_lt 0 (position_of h) && not (is_save_point plan h (position_of h)))
-save-rule plan h q e =
-    ap (λ b. b && (position_of h == position_of h) && nat_lt 0 (position_of h)
-    && not (is_save_point plan h (position_of h))) (ap is_running e)
-    ∙ ap (λ b. true && b && nat_lt 0 (position_of h) && not (is_save_point plan h (position_of h)))
-    (eq-eqb _ _ refl)
+save-rule plan h q e = grind (arith, nat_tests)
 
 -- to taking a save-point in a running journey
 pub save-answer : (l : List Event) (j : ℕ) (a : Journey) → IsLegal l → journey_at l j ≡ Some a
@@ -205,8 +142,7 @@ pub save-answer : (l : List Event) (j : ℕ) (a : Journey) → IsLegal l → jou
     else refused NoSave)
 save-answer l j a legal at run =
     move-only l j save_choices NoSave a (Save (position_of (history l j))) _ legal at
-    (run-unfinished _ run) refl
-    (save-rule a.plan (history l j) (phase a.plan (history l j)) run)
+    (ap is_finished run) refl (save-rule a.plan (history l j) (phase a.plan (history l j)) run)
 
 -- to taking a save-point in a journey that goes back: a refusal
 pub save-back : (l : List Event) (j : ℕ) (a : Journey) (p : ℕ) → IsLegal l → journey_at l j ≡ Some a
@@ -214,41 +150,6 @@ pub save-back : (l : List Event) (j : ℕ) (a : Journey) (p : ℕ) → IsLegal l
     → answer_move l j save_choices NoSave (Some a) ≡ refused NoSave
 save-back l j a p legal at back =
     move-only l j save_choices NoSave a (Save (position_of (history l j))) false legal at
-    (back-unfinished _ p back) refl
-    (ap (λ b. b && (position_of (history l j) == position_of (history l j))
-    && nat_lt 0 (position_of (history l j))
+    (ap is_finished back) refl
+    (ap (λ b. b && (position_of (history l j) == position_of (history l j)) && nat_lt 0 (position_of (history l j))
     && not (is_save_point a.plan (history l j) (position_of (history l j)))) (ap is_running back))
-
--- Any step.
-
--- the phase that runs
-running-is : (p : Phase) → is_running p ≡ true → p ≡ Run
-running-is Run e = refl
-running-is _ e = cc
-
--- a phase that goes back goes back to some position
-going_back-is : (p : Phase) → is_going_back p ≡ true → (q : ℕ) × (p ≡ Back q)
-going_back-is (Back q) e = (q, refl)
-going_back-is _ e = cc
-
--- to a step: of the items that a step makes, the one that may come next
-pub step-answer : (l : List Event) (j : ℕ) (a : Journey) (x : Item) → IsLegal l
-    → journey_at l j ≡ Some a
-    → is_forward x ≡ true → may l j a x ≡ true
-    → answer_move l j step_choices NoSavePoint (Some a)
-    ≡ moves j a.plan (cursor_of a.plan (history l j)) x
-step-answer l j a (Transaction i c) legal at forward comes =
-    let k = step-comes a.plan (history l j) (fits l (next_want a.plan (history l j))) i c comes in
-    step-fits l j a legal at (running-is _ k.running) k.fitting
-    ∙ sym (ap (moves j a.plan (cursor_of a.plan (history l j)))
-    (ap (λ n. Transaction n c) k.step ∙ ap (Transaction (position_of (history l j) + 1)) k.option))
-step-answer l j a (Compensation i c) legal at forward comes =
-    let k = compensation-comes a.plan (history l j)
-    (fits l (next_want a.plan (history l j))) i c comes in
-    let back = going_back-is _ k.back in
-    step-back l j a back.0 i c legal at back.1 k.last
-step-answer l j a (Turn p Refused) legal at forward comes =
-    let k = refused-comes a.plan (history l j) (fits l (next_want a.plan (history l j))) p comes in
-    step-refused l j a legal at (running-is _ k.running) (not-true _ k.unfitting)
-    ∙ sym (ap (λ n. moves j a.plan (cursor_of a.plan (history l j)) (Turn n Refused)) k.target)
-step-answer l j a _ legal at forward comes = cc

@@ -31,12 +31,12 @@ open-unfinished p e = grind arith
 -- Of one history.
 
 -- of the items that a step makes this one may come, no other may, and it is the one that is found
-record OneStep (plan : Planned) (h : List Item) (fits : Bool) : Type 0 where
-  step : Item
-  forward : IsTrue (is_forward step)
-  comes : may_come plan h fits step ≡ true
-  alone : (other : Item) → IsTrue (is_forward other) → may_come plan h fits other ≡ true → other ≡ step
-  found : find (may_come plan h fits) (step_choices plan h) ≡ Some step
+pub record OneStep (plan : Planned) (h : List Item) (fits : Bool) : Type 0 where
+  pub step : Item
+  pub forward : IsTrue (is_forward step)
+  pub comes : may_come plan h fits step ≡ true
+  pub alone : (other : Item) → IsTrue (is_forward other) → may_come plan h fits other ≡ true → other ≡ step
+  pub found : find (may_come plan h fits) (step_choices plan h) ≡ Some step
 
 -- the step of a journey: of one that runs the next transaction or the refused turn, else the compensation of t
 abbrev step_of : Planned → List Item → Bool → ℕ × ℕ → Item
@@ -79,7 +79,7 @@ module _ (plan : Planned) (h : List Item) (fits : Bool) (t : ℕ × ℕ) (open_y
   step-found = grind (arith, nat_tests, last)
 
 -- an open journey that follows its word has one step
-one-step : (plan : Planned) (h : List Item) (fits : Bool) → Goes plan h → is_open (phase plan h) ≡ true → OneStep plan h fits
+pub one-step : (plan : Planned) (h : List Item) (fits : Bool) → Goes plan h → is_open (phase plan h) ≡ true → OneStep plan h fits
 one-step plan h fits g unfinished =
     let last = last-standing plan h g in
     record {

@@ -8,6 +8,7 @@ use Rattle.ledger.specs.History.{phase, is_finished}
 use Rattle.ledger.specs.Ledger.{Event, Journey, journey_at, history, may_do, IsLegal}
 use Rattle.ledger.specs.Replies.{refused, sees, seen_journey, moved, answer_move}
 pub use Rattle.ledger.proofs.Lists.{find-next, find-first}
+use Rattle.ledger.proofs.Lists.{find-passes}
 use Rattle.ledger.specs.AnswerChanges.{moves}
 use Rattle.ledger.specs.Cursors.{cursor_of}
 use Rattle.ledger.proofs.Histories.{follows}
@@ -65,11 +66,11 @@ pub move-found : (l : List Event) (j : ℕ) (choices : Planned → List Item →
     (otherwise : Refusal)
     (a : Journey) (x : Item) → IsLegal l → journey_at l j ≡ Some a
     → is_finished (phase a.plan (history l j)) ≡ false
-    → find (may l j a) (choices a.plan (history l j)) ≡ Some x → may l j a x ≡ true
+    → find (may l j a) (choices a.plan (history l j)) ≡ Some x
     → answer_move l j choices otherwise (Some a) ≡ moves j a.plan (cursor_of a.plan (history l j)) x
-move-found l j choices otherwise a x legal at unfinished found comes =
+move-found l j choices otherwise a x legal at unfinished found =
     move-first l j choices otherwise a (Some x) unfinished found
-    ∙ moved-moves l j a x legal at comes
+    ∙ moved-moves l j a x legal at (find-passes (may l j a) (choices a.plan (history l j)) x found)
 
 -- an only choice is made if it is allowed, else the request is refused
 pub move-only : (l : List Event) (j : ℕ) (choices : Planned → List Item → List Item)
@@ -81,5 +82,5 @@ pub move-only : (l : List Event) (j : ℕ) (choices : Planned → List Item → 
     ≡ (if allowed then moves j a.plan (cursor_of a.plan (history l j)) x else refused otherwise)
 move-only l j choices otherwise a x true legal at unfinished only comes =
     move-found l j choices otherwise a x legal at unfinished
-    (ap (find (may l j a)) only ∙ find-first (may l j a) x [] comes) comes
+    (ap (find (may l j a)) only ∙ find-first (may l j a) x [] comes)
 move-only l j choices otherwise a x false legal at unfinished only fails = grind (arith, move-first, find-next)
