@@ -1,5 +1,5 @@
 -- What one more event changes of the allotment of a cell. For each desk that stores how many places are allotted.
-use Rattle.std.proofs.Common.{◌≡◌, ℕ, List, [], ◌∷◌, ◌++◌, refl, ap, sym, ◌∙◌, append-nil, Bool, true, false, not, cond, filter, find, Option, Some, option_map, option_to_list, IsTrue, arith}
+use Rattle.std.proofs.Common.{◌≡◌, ℕ, List, [], ◌∷◌, ◌++◌, refl, append-nil, true, false, filter, find, Option, option_map, option_to_list, IsTrue, arith}
 use Rattle.std.proofs.lemmas.Bool.{and_parts, or_parts, not-true}
 use Rattle.std.proofs.lemmas.Grind.{flat_map-append}
 use Rattle.std.proofs.lemmas.List.Elements.{filter-append}
@@ -13,7 +13,7 @@ use Rattle.ledger.specs.History.{last_of}
 use Rattle.ledger.specs.Ledger.{Event, Loaded, Began, Did, allotment, are_distinct, is_allowed}
 use Rattle.ledger.proofs.Allotted.{allotment-same}
 use Rattle.ledger.proofs.Cells.{is_cell-same}
-use Rattle.ledger.proofs.Lists.{last_of-append}
+use Rattle.ledger.proofs.Lists.{last_of-append, last_of-some}
 use Rattle.ledger.specs.JourneyChanges.{places_in_rows, newer}
 
 -- a begin leaves each allotment
@@ -31,12 +31,7 @@ filter-none : (x y : Cell) (rows : List Row) → x ≡ y
     → list_any (λ (s : Row). is_cell y s.cell) rows ≡ false
     → filter (λ (s : Row). is_cell x s.cell) rows ≡ []
 filter-none x y [] same none = refl
-filter-none x y (r ∷ rows) same none =
-    let both = or_parts (is_cell y r.cell) (list_any (λ (s : Row). is_cell y s.cell) rows) none in
-    ap (λ b. cond b (r ∷ filter (λ (s : Row). is_cell x s.cell) rows)
-    (filter (λ (s : Row). is_cell x s.cell) rows))
-    (ap (λ z. is_cell z r.cell) same ∙ both.0)
-    ∙ (filter-none x y rows same both.1)
+filter-none x y (r ∷ rows) same none = grind (arith, or_parts, filter-none x y rows same)
 
 -- of rows that name each cell once, those of a cell are the first one, if there is one
 filter-distinct : (x : Cell) (rows : List Row) → are_distinct rows ≡ true
@@ -44,25 +39,7 @@ filter-distinct : (x : Cell) (rows : List Row) → are_distinct rows ≡ true
     ≡ option_to_list (find (λ (s : Row). is_cell x s.cell) rows)
 filter-distinct x [] distinct = refl
 filter-distinct x (r ∷ rows) distinct =
-    let both = and_parts (not (list_any (λ (s : Row). is_cell r.cell s.cell) rows))
-    (are_distinct rows) distinct in
-    go (is_cell x r.cell) refl (not-true _ both.0) (filter-distinct x rows both.1)
-  where
-    go : (v : Bool) → is_cell x r.cell ≡ v
-        → list_any (λ (s : Row). is_cell r.cell s.cell) rows ≡ false
-        → filter (λ (s : Row). is_cell x s.cell) rows
-        ≡ option_to_list (find (λ (s : Row). is_cell x s.cell) rows)
-        → cond v (r ∷ filter (λ (s : Row). is_cell x s.cell) rows)
-        (filter (λ (s : Row). is_cell x s.cell) rows)
-        ≡ option_to_list (cond v (Some r) (find (λ (s : Row). is_cell x s.cell) rows))
-    go true e none rest =
-        ap (λ rs. r ∷ rs) (filter-none x r.cell rows (is_cell-same x r.cell e) none)
-    go false e none rest = rest
-
--- a list that is not empty has a last element
-last_of-some : {X : Type 0} (x : X) (xs : List X) → (t : X) × (last_of (x ∷ xs) ≡ Some t)
-last_of-some x [] = (x, refl)
-last_of-some x (y ∷ ys) = last_of-some y ys
+    grind (arith, and_parts, not-true, filter-none x r.cell rows, is_cell-same x r.cell, filter-distinct x rows)
 
 -- the places of the last row, if there is one
 abbrev last_places : List Row → Option ℕ
@@ -71,10 +48,8 @@ last_places rows = option_map (λ (r : Row). r.places) (last_of rows)
 -- the last of some rows and of some more is the last of these, if there is one
 last-newer : (rows more : List Row)
     → last_places (rows ++ more) ≡ newer (last_places more) (last_places rows)
-last-newer rows [] = ap last_places (append-nil rows)
-last-newer rows (r ∷ more) =
-    ap (option_map (λ (s : Row). s.places)) (last_of-append rows r more ∙ (last_of-some r more).1)
-    ∙ sym (ap (λ o. newer (option_map (λ (s : Row). s.places) o) (last_places rows)) (last_of-some r more).1)
+last-newer rows [] = grind (arith, append-nil)
+last-newer rows (r ∷ more) = let some = last_of-some (r ∷ more) (omega arith) in grind (arith, last_of-append)
 
 -- a batch gives a cell the places of its last row for it, if it has one
 pub allotment-loaded_last : (l : List Event) (name : List ℕ) (rows : List Row) (x : Cell)

@@ -1,5 +1,5 @@
 -- Two cells for which the test passes are equal. For the places of a cell.
-use Rattle.std.proofs.Common.{◌≡◌, ℕ, zero, suc, refl, ap, sym, ◌∙◌, eqb-true, true, ◌&&◌, ◌==◌, bytes_eq, arith}
+use Rattle.std.proofs.Common.{◌≡◌, ℕ, zero, suc, ap, sym, ◌∙◌, eqb-true, true, ◌==◌, arith}
 use Rattle.std.proofs.lemmas.Bool.{and_parts}
 use Rattle.allotment.specs.Cells.{is_cell, kind_number}
 use Rattle.allotment.specs.declared.cells.Cell.{Cell}
@@ -26,12 +26,4 @@ same_kind k m e = sym (kind_of-number k) ∙ ap kind_of (eqb-true _ _ e) ∙ kin
 -- cells with the same kind, supplier, product and night are equal
 pub is_cell-same : (x y : Cell) → is_cell x y ≡ true → x ≡ y
 is_cell-same x y e =
-    let first = kind_number x.kind == kind_number y.kind in
-    let second = bytes_eq x.supplier y.supplier in
-    let third = bytes_eq x.product y.product in
-    let all = and_parts (first && second && third) (x.night == y.night) e in
-    let three = and_parts (first && second) third all.0 in
-    let two = and_parts first second three.0 in
-    let product = same_bytes x.product y.product three.1 in
-    let night = eqb-true x.night y.night all.1 in
-    rw ((same_kind x.kind y.kind two.0), same_bytes x.supplier y.supplier two.1, product, night) refl
+    grind (arith, and_parts, same_kind x.kind y.kind, same_bytes x.supplier y.supplier, same_bytes x.product y.product, eqb-true)

@@ -1,5 +1,5 @@
 -- An open journey has just one step, and a finished one does not go on. For the law of steps.
-use Rattle.std.proofs.Common.{◌≡◌, ℕ, ◌+◌, List, refl, sym, ◌∙◌, arith, Bool, true, false, Some, find, if◌then◌else◌, IsTrue}
+use Rattle.std.proofs.Common.{◌≡◌, ℕ, ◌+◌, List, sym, ◌∙◌, arith, Bool, true, false, Some, find, if◌then◌else◌, IsTrue, unwrap_or, ap}
 use Rattle.std.proofs.lemmas.Bool.{false_from_ne_true}
 use Rattle.std.proofs.lemmas.Bool.Decides.{nat_tests}
 use Rattle.plan.specs.PlanModel.{Planned}
@@ -38,57 +38,53 @@ pub record OneStep (plan : Planned) (h : List Item) (fits : Bool) : Type 0 where
   pub alone : (other : Item) → IsTrue (is_forward other) → may_come plan h fits other ≡ true → other ≡ step
   pub found : find (may_come plan h fits) (step_choices plan h) ≡ Some step
 
--- the step of a journey: of one that runs the next transaction or the refused turn, else the compensation of t
-abbrev step_of : Planned → List Item → Bool → ℕ × ℕ → Item
-step_of plan h fits t =
+-- the last transaction that stands, if there is one
+abbrev last_step : List Item → ℕ × ℕ
+last_step h = unwrap_or (last_of (net h)) (0, 0)
+
+-- the step of a journey: of one that runs the next transaction or the refused turn, else the compensation of its last one
+abbrev step_of : Planned → List Item → Bool → Item
+step_of plan h fits =
     if is_running (phase plan h)
     then (if fits then Transaction (position_of h + 1) (next_option plan h) else Turn (refused_target plan h) Refused)
-    else Compensation t.0 t.1
+    else Compensation (last_step h).0 (last_step h).1
 
--- the transaction t is the last that stands, if the journey goes back
-abbrev IsLast : Planned → List Item → ℕ × ℕ → Type 0
-IsLast plan h t = is_going_back (phase plan h) ≡ true → last_of (net h) ≡ Some t
+-- a transaction stands if the journey goes back
+abbrev HasLast : Planned → List Item → Type 0
+HasLast plan h = is_going_back (phase plan h) ≡ true → last_of (net h) ≡ Some (last_step h)
 
 -- a journey that follows its word has a last transaction if it goes back
-last-standing : (plan : Planned) (h : List Item) → Goes plan h → (t : ℕ × ℕ) × IsLast plan h t
-last-standing plan h g = go (is_going_back (phase plan h)) refl
-  where
-    go : (v : Bool) → is_going_back (phase plan h) ≡ v → (t : ℕ × ℕ) × IsLast plan h t
-    go true back =
-        let above = (going_back-falls plan h g.mode back).above in
-        let last = last_of-some (net h) (omega arith) in
-        (last.0, λ b. last.1)
-    go false back = ((0, 0), λ b. let bad : true ≡ false = sym b ∙ back in cc)
+last-standing : (plan : Planned) (h : List Item) → Goes plan h → HasLast plan h
+last-standing plan h g back =
+    let above = (going_back-falls plan h g.mode back).above in
+    let last = last_of-some (net h) (omega arith) in
+    last.1 ∙ sym (ap (λ o. Some (unwrap_or o (0, 0))) last.1)
 
-module _ (plan : Planned) (h : List Item) (fits : Bool) (t : ℕ × ℕ) (open_yet : is_open (phase plan h) ≡ true)
-    (last : IsLast plan h t) where
+module _ (plan : Planned) (h : List Item) (fits : Bool) (open_yet : is_open (phase plan h) ≡ true)
+    (last : HasLast plan h) where
   -- it is an item that a step makes
-  step-forward : IsTrue (is_forward (step_of plan h fits t))
+  step-forward : IsTrue (is_forward (step_of plan h fits))
   step-forward = grind arith
 
   -- the step of an open journey may come
-  step-may : may_come plan h fits (step_of plan h fits t) ≡ true
+  step-may : may_come plan h fits (step_of plan h fits) ≡ true
   step-may = grind (arith, nat_tests, last)
 
   -- no other item that a step makes may come
-  step-alone : (x : Item) → is_forward x ≡ true → may_come plan h fits x ≡ true → x ≡ step_of plan h fits t
+  step-alone : (x : Item) → is_forward x ≡ true → may_come plan h fits x ≡ true → x ≡ step_of plan h fits
   step-alone x forward may = search (arith, step-comes, nat_tests, compensation-comes, refused-comes)
 
   -- it is the first of the choices of a step that may come
-  step-found : find (may_come plan h fits) (step_choices plan h) ≡ Some (step_of plan h fits t)
+  step-found : find (may_come plan h fits) (step_choices plan h) ≡ Some (step_of plan h fits)
   step-found = grind (arith, nat_tests, last)
+
+  -- so it is its one step
+  only-step : OneStep plan h fits
+  only-step = record { step = step_of plan h fits; forward = step-forward; comes = step-may; alone = step-alone; found = step-found }
 
 -- an open journey that follows its word has one step
 pub one-step : (plan : Planned) (h : List Item) (fits : Bool) → Goes plan h → is_open (phase plan h) ≡ true → OneStep plan h fits
-one-step plan h fits g unfinished =
-    let last = last-standing plan h g in
-    record {
-      step = step_of plan h fits last.0;
-      forward = step-forward plan h fits last.0 unfinished last.1;
-      comes = step-may plan h fits last.0 unfinished last.1;
-      alone = step-alone plan h fits last.0 unfinished last.1;
-      found = step-found plan h fits last.0 unfinished last.1;
-    }
+one-step plan h fits g unfinished = only-step plan h fits unfinished (last-standing plan h g)
 
 -- Of a ledger.
 
@@ -108,5 +104,4 @@ finished-none plan h fits item e may = grind (arith, nat_tests)
 
 -- no item is allowed of a finished journey
 pub no_finished_goes_on : (l : List Event) → NoFinishedJourneyGoesOn l
-no_finished_goes_on l j item finished =
-    grind (arith, is_item_allowed-none, false_from_ne_true, finished-none, is_item_allowed-may_do)
+no_finished_goes_on l j item finished = grind (arith, is_item_allowed-none, false_from_ne_true, finished-none, is_item_allowed-may_do)

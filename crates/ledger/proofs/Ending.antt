@@ -1,24 +1,21 @@
 -- A history item by item: each may come after those before it, where the journey is after it, and which of them
 -- finishes it. For those who read a history one item at a time.
-use Rattle.std.proofs.Common.{◌≡◌, ℕ, ◌-◌, ◌<◌, List, [], ◌∷◌, ◌++◌, refl, ap, sym, ◌∙◌, subst, arith, append_assoc, append-nil, Bool, true, false, ◌==◌, ◌&&◌, ◌||◌, Option, Some, IsTrue}
+use Rattle.std.proofs.Common.{◌≡◌, ℕ, ◌-◌, ◌<◌, List, [], ◌∷◌, ◌++◌, refl, sym, subst, arith, append_assoc, append-nil, Bool, true, false, ◌==◌, ◌&&◌, ◌||◌, Option, Some, IsTrue}
 use Rattle.std.proofs.Math.Bool.{or-false}
-use Rattle.std.proofs.lemmas.Bool.{ne_eqb, and_right}
+use Rattle.std.proofs.lemmas.Bool.{ne_eqb}
 use Rattle.std.proofs.lemmas.Bool.Decides.{nat_tests}
 use Rattle.plan.specs.PlanModel.{Planned, step_count}
 use Rattle.commands.specs.declared.items.Cause.{Cause}
-use Rattle.commands.specs.declared.items.Cause.TheVariants.{Stop, Refused, Asked}
 use Rattle.commands.specs.declared.items.Item.{Item}
 use Rattle.commands.specs.declared.items.Item.TheVariants.{Transaction, Compensation, Turn, Save}
-use Rattle.commands.specs.declared.items.Phase.{Phase}
-use Rattle.commands.specs.declared.items.Phase.TheVariants.{Undone}
-use Rattle.ledger.specs.History.{position_of, going_to, has_turned_to_start, phase, phase_at, is_finished, may_come, may_turn}
+use Rattle.ledger.specs.History.{position_of, going_to, has_turned_to_start, phase, phase_at, is_finished, may_come}
 use Rattle.ledger.specs.Ledger.{Event, Journey, journey_at, history, IsLegal}
-use Rattle.ledger.proofs.Coming.{step-comes, compensation-comes, stop-comes, refused-comes, save-comes}
+use Rattle.ledger.proofs.Coming.{step-comes, compensation-comes, save-comes}
 use Rattle.ledger.proofs.Deciding.{finished-none}
-use Rattle.ledger.proofs.Going.{turned-turn, turned-other}
-use Rattle.ledger.proofs.Journeys.{goes-begin, goes-more}
+use Rattle.ledger.proofs.Going.{turned-other}
+use Rattle.ledger.proofs.Journeys.{goes-begin, goes-more, turn-turned}
 use Rattle.ledger.proofs.Ledgers.{Each, each_journey}
-use Rattle.ledger.proofs.Modes.{Rising, Mode, rises, falls, fell, Goes, upward, runs, ended, phase-fallen, running-rises, going_back-falls}
+use Rattle.ledger.proofs.Modes.{Goes, running-rises, going_back-falls}
 use Rattle.ledger.proofs.Standing.{compensates, position_of-transaction, position_of-turn, position_of-save}
 
 -- One item after another.
@@ -36,8 +33,7 @@ AllCome plan before (x ∷ later) = Comes plan before x × AllCome plan (before 
 -- one more item at the end may come after all of them
 all_come-snoc : (plan : Planned) (before h : List Item) (x : Item) → AllCome plan before h
     → Comes plan (before ++ h) x → AllCome plan before (h ++ x ∷ [])
-all_come-snoc plan before [] x all one =
-    (subst (λ g. Comes plan g x) (append-nil before) one, tt)
+all_come-snoc plan before [] x all one = grind (arith, append-nil)
 all_come-snoc plan before (y ∷ h) x all one = (
   all.0,
   all_come-snoc plan (before ++ y ∷ []) h x all.1
@@ -53,11 +49,7 @@ all_come-split : (plan : Planned) (before h rest : List Item) → Goes plan befo
     → AllCome plan before (h ++ rest) → Goes plan (before ++ h) × AllCome plan (before ++ h) rest
 all_come-split plan before [] rest g all = grind (arith, append-nil)
 all_come-split plan before (x ∷ h) rest g all =
-    let both = all_come-split plan (before ++ x ∷ []) h rest
-    (goes-more plan before all.0.fits x g all.0.may) all.1 in (
-      subst (Goes plan) (append_assoc before (x ∷ []) h) both.0,
-      subst (λ b. AllCome plan b rest) (append_assoc before (x ∷ []) h) both.1,
-    )
+    grind (arith, goes-more, append_assoc, all_come-split plan (before ++ x ∷ []) h rest (goes-more plan before all.0.fits x g all.0.may) all.1)
 
 -- a history goes on with this item, and then with the later ones
 pub record GoesOn (plan : Planned) (h : List Item) (x : Item) (later : List Item) : Type 0 where
@@ -118,24 +110,9 @@ module _ (plan : Planned) (h later : List Item) where
       search (arith, compensation-comes, going_back-falls, compensates, finished_by, turned-other, ne_eqb, first_back)
 
   -- a turn finishes it if it leads to the start where no step stands
-  turned_running : (p : ℕ) (cause : Cause) → Rising plan h × (position_of h < step_count plan)
-      → is_finished (phase plan (h ++ Turn p cause ∷ [])) ≡ ((p == 0) && (position_of h == 0))
-  turned_running p cause up = grind (arith, finished_by, position_of-turn, turned-turn, ne_eqb, swapped)
-
   pub finished-turn : (p : ℕ) (cause : Cause) → GoesOn plan h (Turn p cause) later
       → is_finished (phase plan (h ++ Turn p cause ∷ [])) ≡ ((p == 0) && (position_of h == 0))
-  finished-turn p Stop on = grind (arith, turned_running, running-rises, stop-comes)
-  finished-turn p Refused on = grind (arith, turned_running, running-rises, refused-comes)
-  finished-turn p Asked on = by_mode on.goes.mode
-    where
-      at : (q : Phase) → phase plan h ≡ q → may_turn plan h q p ≡ true
-      at q e = ap (λ r. may_turn plan h r p) (sym e) ∙ on.comes.may
-
-      by_mode : Mode plan h
-          → is_finished (phase plan (h ++ Turn p Asked ∷ [])) ≡ ((p == 0) && (position_of h == 0))
-      by_mode (rises r) = grind (arith, upward, runs, turned_running, ended)
-      by_mode (falls f) = grind (arith, ne_eqb, finished_by, position_of-turn, and_right)
-      by_mode (fell f) = absurd (let bad : false ≡ true = at Undone (phase-fallen plan h f) in cc)
+  finished-turn p cause on = grind (arith, turn-turned, finished_by, position_of-turn, ne_eqb, swapped)
 
   -- a save-point never finishes it
   pub finished-save : (p : ℕ) → GoesOn plan h (Save p) later

@@ -1,6 +1,6 @@
 -- What one more event changes of the ledger itself: its length, its journeys and their numbers, their histories, and
 -- the batches of a name.
-use Rattle.std.proofs.Common.{◌≡◌, ℕ, zero, suc, ◌+◌, List, [], ◌∷◌, ◌++◌, length, refl, ap, ◌∙◌, arith, append-nil, length-append, eq-eqb, Some, None, if◌then◌else◌, bytes_eq, ne_eqb}
+use Rattle.std.proofs.Common.{◌≡◌, ℕ, zero, suc, ◌+◌, List, [], ◌∷◌, ◌++◌, length, refl, ap, arith, append-nil, length-append, eq-eqb, Some, None, if◌then◌else◌, bytes_eq, ne_eqb, add-one}
 use Rattle.std.proofs.lemmas.List.Elements.{filter_map-append}
 use Rattle.allotment.specs.Cells.{numbers_from}
 use Rattle.allotment.specs.declared.cells.Row.{Row}
@@ -50,18 +50,14 @@ numbered-last (y ∷ ys) x = numbered-last ys x
 pub journey_at-began_new : (l : List Event) (agent : List ℕ) (plan : Planned)
     → journey_at (l ++ Began agent plan ∷ []) (length (journeys l) + 1) ≡ Some (begun agent plan)
 journey_at-began_new l agent plan =
-    ap (journey_at (l ++ Began agent plan ∷ []))
-    (let e : length (journeys l) + 1 ≡ suc (length (journeys l)) = omega arith in e)
-    ∙ ap (λ js. numbered js (suc (length (journeys l)))) (journeys-began l agent plan)
-    ∙ numbered-last (journeys l) (begun agent plan)
+    rw (add-one, journeys-began l agent plan) (numbered-last (journeys l) (begun agent plan))
 
 -- at a number that is not the last of a list, an appended element changes nothing
 numbered-other : {X : Type 0} (xs : List X) (x : X) (j : ℕ) → (j ≡ suc (length xs) → ⊥)
     → numbered (xs ++ x ∷ []) j ≡ numbered xs j
 numbered-other [] x (suc zero) other = absurd (other refl)
 numbered-other (y ∷ ys) x (suc (suc j)) other =
-    numbered-other ys x (suc j)
-    (λ e. other (let k : suc (suc j) ≡ suc (suc (length ys)) = omega arith in k))
+    grind (arith, numbered-other ys x (suc j) (λ e. other (let k : suc (suc j) ≡ suc (suc (length ys)) = omega arith in k)))
 numbered-other _ x _ other = refl
 
 -- at each other number a begin changes nothing
@@ -72,10 +68,7 @@ journey_at-began_other l agent plan j other = grind (arith, journeys-began, numb
 
 -- before a begin no journey has the next number
 pub journey_at-next : (l : List Event) → journey_at l (length (journeys l) + 1) ≡ None
-journey_at-next l =
-    ap (journey_at l)
-    (let e : length (journeys l) + 1 ≡ suc (length (journeys l)) = omega arith in e)
-    ∙ numbered-past (journeys l)
+journey_at-next l = rw add-one (numbered-past (journeys l))
 
 -- Numbers.
 

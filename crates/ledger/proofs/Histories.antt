@@ -1,6 +1,6 @@
 -- Invariants of the history of each journey of a legal ledger: it follows the rules. For what an item changes, and for
 -- answers.
-use Rattle.std.proofs.Common.{◌≡◌, ℕ, ◌+◌, ◌<◌, ◌≤◌, List, [], ◌∷◌, ◌++◌, map, refl, ap, sym, ◌∙◌, arith, subst, eqb-true, Bool, true, not, ◌==◌, ◌||◌, ◌&&◌, filter, Some, IsTrue}
+use Rattle.std.proofs.Common.{◌≡◌, ℕ, ◌+◌, ◌<◌, ◌≤◌, List, [], ◌∷◌, ◌++◌, map, refl, sym, ◌∙◌, arith, subst, eqb-true, Bool, true, not, ◌==◌, ◌||◌, ◌&&◌, filter, Some, IsTrue}
 use Rattle.std.proofs.lemmas.Bool.{and_parts, or_cases, and_from, eqb-false, ltb-true, le-leb, not-true}
 use Rattle.std.specs.List.{list_all}
 use Rattle.plan.specs.Limits.{most_steps}
@@ -59,15 +59,13 @@ still plan h x p all before here = grind arith
 taken-save : (plan : Planned) (h : List Item) (may_fit : Bool) (q p : ℕ) → Goes plan h
     → IsTrue (may_come plan h may_fit (Save q)) → TakenWithin plan h
     → IsTrue ((p == q) || is_taken h p) → IsWithin plan (h ++ Save q ∷ []) p
-taken-save plan h may_fit q p g may all e =
-    grind (arith, position_of-save, or_cases, still, eqb-true, and_parts, ltb-true, running-rises)
+taken-save plan h may_fit q p g may all e = grind (arith, position_of-save, or_cases, still, eqb-true, and_parts, ltb-true, running-rises)
 
 -- a compensation drops the save-point of its step, so the others are below
 taken-compensation : (plan : Planned) (h : List Item) (may_fit : Bool) (i c p : ℕ) → Goes plan h
     → IsTrue (may_come plan h may_fit (Compensation i c)) → TakenWithin plan h
     → IsTrue (not (p == i) && is_taken h p) → IsWithin plan (h ++ Compensation i c ∷ []) p
-taken-compensation plan h may_fit i c p g may all e =
-    grind (arith, and_parts, compensates, compensation-comes, eqb-false, not-true, still)
+taken-compensation plan h may_fit i c p g may all e = grind (arith, and_parts, compensates, compensation-comes, eqb-false, not-true, still)
 
 -- each item that may come leaves the save-points within
 taken-more : AtItem TakenWithin
@@ -109,14 +107,7 @@ list_all-snoc p (y ∷ ys) x all here =
 -- each item that may come leaves each transaction with an option of its step
 chosen-more : AtItem Chosen
 chosen-more plan h may_fit (Transaction i c) g may all =
-    let comes = step-comes plan h may_fit i c may in
-    record {
-      good = all.good;
-      options =
-          ap (list_all (is_option_of plan)) (net-transaction h i c)
-          ∙ list_all-snoc (is_option_of plan) (net h) (i, c) all.options
-          (next_option-within plan h i c all.good ((running-rises plan h g.mode comes.running).1) comes.step comes.option);
-    }
+    grind (arith, step-comes, net-transaction, list_all-snoc, next_option-within, running-rises)
 chosen-more plan h may_fit (Compensation i c) g may all = grind (arith, net-compensation, filter-passing)
 chosen-more plan h may_fit (Turn p cause) g may all = grind (arith, net-turn)
 chosen-more plan h may_fit (Save p) g may all = grind (arith, net-save)

@@ -1,25 +1,25 @@
 -- What one more item changes of where a journey is: its position, its phase, and how many of its steps were refused.
 -- For each desk that stores a cursor.
-use Rattle.std.proofs.Common.{◌≡◌, ℕ, ◌-◌, ◌≤◌, List, [], ◌∷◌, ◌++◌, refl, ap, sym, ◌∙◌, arith, eqb-true, eq-eqb, Bool, true, false, ◌==◌, ◌||◌, ◌&&◌, nat_lt, if◌then◌else◌, Some, IsTrue}
-use Rattle.std.proofs.lemmas.Bool.{and_parts, ltb-true, ltb-false, eqb-false, ne_eqb}
+use Rattle.std.proofs.Common.{◌≡◌, ℕ, ◌-◌, ◌≤◌, List, [], ◌∷◌, ◌++◌, refl, ap, sym, ◌∙◌, arith, eqb-true, eq-eqb, Bool, true, false, ◌==◌, ◌&&◌, if◌then◌else◌, Some, IsTrue}
+use Rattle.std.proofs.lemmas.Bool.{ltb-true, ltb-false, eqb-false, ne_eqb}
 use Rattle.plan.specs.PlanModel.{Planned, step_count}
 use Rattle.commands.specs.declared.items.Cause.{Cause}
-use Rattle.commands.specs.declared.items.Cause.TheVariants.{Stop, Refused, Asked}
 use Rattle.commands.specs.declared.items.Cursor.{Cursor}
 use Rattle.commands.specs.declared.items.Item.{Item}
 use Rattle.commands.specs.declared.items.Item.TheVariants.{Transaction, Compensation, Turn, Save}
 use Rattle.commands.specs.declared.items.Phase.{Phase}
 use Rattle.commands.specs.declared.items.Phase.TheVariants.{Run, Back, Undone}
-use Rattle.ledger.specs.History.{net, position_of, refusals, phase, going_to, has_turned_to_start, is_save_point, is_running, may_come, may_turn}
-use Rattle.ledger.proofs.Coming.{step-comes, compensation-comes, stop-comes, refused-comes}
-use Rattle.ledger.proofs.Going.{going_to-turn, going_to-compensation, going_to-save, turned-other, turned-turn}
-use Rattle.ledger.proofs.Modes.{Goes, Mode, rises, falls, fell, Rising, upward, runs, ended, phase-falling, phase-fallen, running-rises, going_back-falls}
+use Rattle.ledger.specs.History.{net, position_of, refusals, phase, going_to, has_turned_to_start, may_come}
+use Rattle.ledger.proofs.Coming.{step-comes, compensation-comes}
+use Rattle.ledger.proofs.Going.{going_to-turn, going_to-compensation, going_to-save, turned-other}
+use Rattle.ledger.proofs.Modes.{Rising, upward, runs, ended, phase-falling, running-rises, going_back-falls}
 use Rattle.ledger.proofs.Refusing.{refusals-more, refusals-other}
 use Rattle.ledger.proofs.Rising.{rising-transaction}
 use Rattle.ledger.proofs.Standing.{compensates, position_of-transaction, position_of-turn, position_of-save}
 use Rattle.ledger.specs.JourneyChanges.{phase_up, phase_down, phase_back, used_after, cursor_after}
 use Rattle.ledger.specs.Cursors.{cursor_of}
 use Rattle.ledger.proofs.Histories.{Follows}
+use Rattle.ledger.proofs.Journeys.{turn-turned}
 
 -- Refusals.
 
@@ -49,42 +49,6 @@ phase-going : (plan : Planned) (h : List Item) (p : ℕ) → (position_of h ≡ 
     → phase plan h ≡ phase_down p (position_of h)
 phase-going plan h p short turned going = grind (arith, ne_eqb, going_by-tests, ltb-true, eq-eqb, ltb-false, eqb-true, eqb-false)
 
--- a journey that may turn is below its last step, and had not turned to the start before
-record MayTurn (plan : Planned) (h : List Item) (p : ℕ) (cause : Cause) : Type 0 where
-  short : position_of h ≡ step_count plan → ⊥
-  turned : has_turned_to_start (h ++ Turn p cause ∷ []) ≡ (0 == p)
-
--- a running journey may turn
-run-turn : (plan : Planned) (h : List Item) (p : ℕ) (cause : Cause) → Goes plan h
-    → is_running (phase plan h) ≡ true → MayTurn plan h p cause
-run-turn plan h p cause g run = grind (arith, running-rises, turned-turn)
-
--- a journey that a caller may turn, running or going back, may turn
-asked-turn : (plan : Planned) (h : List Item) (p : ℕ) → Goes plan h
-    → may_turn plan h (phase plan h) p ≡ true → MayTurn plan h p Asked
-asked-turn plan h p g may = by_mode g.mode
-  where
-    at : (q : Phase) → phase plan h ≡ q → may_turn plan h q p ≡ true
-    at q e = ap (λ r. may_turn plan h r p) (sym e) ∙ may
-
-    by_mode : Mode plan h → MayTurn plan h p Asked
-    by_mode (rises r) = grind (arith, upward, runs, run-turn, ended)
-    by_mode (falls f) =
-        let lower = ltb-true _ _ (and_parts ((p == 0) || is_save_point plan h p)
-        (nat_lt p f.target) (at (Back f.target) (phase-falling plan h f))).1 in
-        record {
-          short = λ e. omega arith;
-          turned = turned-turn h p Asked (f.turned ∙ ne_eqb 0 f.target (λ e. omega arith));
-        }
-    by_mode (fell f) = let bad : false ≡ true = at Undone (phase-fallen plan h f) in cc
-
--- each turn that may come meets this
-turn_may : (plan : Planned) (h : List Item) (may_fit : Bool) (p : ℕ) (cause : Cause) → Goes plan h
-    → IsTrue (may_come plan h may_fit (Turn p cause)) → MayTurn plan h p cause
-turn_may plan h may_fit p Stop g may = grind (arith, run-turn, stop-comes)
-turn_may plan h may_fit p Refused g may = grind (arith, run-turn, refused-comes)
-turn_may plan h may_fit p Asked g may = asked-turn plan h p g may
-
 -- Cursors.
 
 -- the cursor of these parts
@@ -102,13 +66,7 @@ cursor_of-transaction : (plan : Planned) (h : List Item) (may_fit : Bool) (i c :
     → cursor_of plan (h ++ Transaction i c ∷ [])
     ≡ cursor_after plan (cursor_of plan h) (Transaction i c)
 cursor_of-transaction plan h may_fit i c f may =
-    let comes = step-comes plan h may_fit i c may in
-    let up = running-rises plan h f.goes.mode comes.running in
-    let pos = position_of-transaction h i c in
-    same_cursor _ _ _ _ _ _ pos
-    (phase-up plan (h ++ Transaction i c ∷ []) (rising-transaction plan h i c up.0 up.1 comes.step)
-    ∙ ap (phase_up (step_count plan)) pos)
-    (refusals-other h (Transaction i c) refl)
+    grind (arith, step-comes, running-rises, position_of-transaction, same_cursor, phase-up, rising-transaction, refusals-other)
 
 -- the compensation of the last transaction takes the cursor one step back
 cursor_of-compensation : (plan : Planned) (h : List Item) (may_fit : Bool) (i c : ℕ)
@@ -136,7 +94,7 @@ cursor_of-turn : (plan : Planned) (h : List Item) (may_fit : Bool) (p : ℕ) (ca
     → IsTrue (may_come plan h may_fit (Turn p cause))
     → cursor_of plan (h ++ Turn p cause ∷ []) ≡ cursor_after plan (cursor_of plan h) (Turn p cause)
 cursor_of-turn plan h may_fit p cause f may =
-    grind (arith, position_of-turn, turn_may, same_cursor, phase-going, going_to-turn, refusals-turn)
+    grind (arith, position_of-turn, turn-turned, same_cursor, phase-going, going_to-turn, refusals-turn)
 
 -- a save-point leaves the cursor
 cursor_of-save : (plan : Planned) (h : List Item) (p : ℕ)
@@ -147,10 +105,8 @@ cursor_of-save plan h p = grind (arith, position_of-save, same_cursor, turned-ot
 pub cursor_of-more : (plan : Planned) (h : List Item) (may_fit : Bool) (x : Item) → Follows plan h
     → IsTrue (may_come plan h may_fit x)
     → cursor_of plan (h ++ x ∷ []) ≡ cursor_after plan (cursor_of plan h) x
-cursor_of-more plan h may_fit (Transaction i c) f may =
-    cursor_of-transaction plan h may_fit i c f may
-cursor_of-more plan h may_fit (Compensation i c) f may =
-    cursor_of-compensation plan h may_fit i c f may
+cursor_of-more plan h may_fit (Transaction i c) f may = grind (arith, cursor_of-transaction)
+cursor_of-more plan h may_fit (Compensation i c) f may = search (arith, cursor_of-compensation)
 cursor_of-more plan h may_fit (Turn p cause) f may = cursor_of-turn plan h may_fit p cause f may
 cursor_of-more plan h may_fit (Save p) f may = cursor_of-save plan h p
 

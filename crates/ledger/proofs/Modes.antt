@@ -127,8 +127,7 @@ upward plan h r = grind (arith, eqb-true, phase-ended, eqb-false, phase-rising)
 -- two phases for which a test answers differently are different
 pub told_apart : {X : Type 0} (test : Phase → Bool) (p q : Phase) → test p ≡ true → p ≡ q
     → test q ≡ false → X
-told_apart test p q passes same fails =
-    let bad : true ≡ false = sym passes ∙ ap test same ∙ fails in cc
+told_apart test p q passes same fails = grind arith
 
 -- a running journey is on its way up, and not at its end
 pub running-rises : (plan : Planned) (h : List Item) → Mode plan h
@@ -145,12 +144,7 @@ going_back-falls plan h x back = search (arith, upward, phase-fallen)
 -- on its way up a journey is completed by the steps that are left
 rising-begins : (plan : Planned) (h : List Item) (r : Rising plan h)
     → GoesToEnd plan (h ++ rise (position_of h) (step_count plan))
-rising-begins plan h r =
-    let rest = rise (position_of h) (step_count plan) in
-    goes_to_end (since-append r.since rest) (let a = r.low in let b = r.within in omega arith)
-    (word-append r.since.part rest ∙ ap (λ w. w ++ word rest) r.reads
-    ∙ ap (λ w. up r.from (position_of h) ++ w) (word-rise (position_of h) (step_count plan))
-    ∙ sym (up-join r.from (position_of h) (step_count plan) r.low r.within))
+rising-begins plan h r = grind (arith, rise, goes_to_end, word-append, append_assoc, word-rise, up-join)
 
 -- on its way down it is completed by the compensations that are left
 falling-begins : (plan : Planned) (h : List Item) (f : Falling plan h)
@@ -159,12 +153,11 @@ falling-begins plan h f = grind (arith, fall, goes_to_start, word-append, append
 
 -- in each mode the history begins an up-and-down word
 pub begins-word : (plan : Planned) (h : List Item) → Goes plan h → BeginsUpAndDown plan h
-begins-word plan h g = by_mode g.mode
-  where
-    by_mode : Mode plan h → BeginsUpAndDown plan h
-    by_mode (rises r) = (rise (position_of h) (step_count plan), inl (rising-begins plan h r))
-    by_mode (falls f) = (fall (position_of h) 0, inr (falling-begins plan h f))
-    by_mode (fell f) = ([], inr (subst (GoesToStart plan) (sym (append-nil h)) f.start))
+begins-word plan h g = elim g.mode [
+  | rises r ↦ (rise (position_of h) (step_count plan), inl (rising-begins plan h r))
+  | falls f ↦ (fall (position_of h) 0, inr (falling-begins plan h f))
+  | fell f ↦ ([], inr (subst (GoesToStart plan) (sym (append-nil h)) f.start))
+]
 
 -- an ended journey went up to its end, and all its steps stand
 pub ended-word : (plan : Planned) (h : List Item) → Goes plan h → phase plan h ≡ Ended

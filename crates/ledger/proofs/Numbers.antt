@@ -1,11 +1,11 @@
 -- Consecutive numbers: how such lists join, the runs up and down of words, and sums over them. For the words of journeys,
 -- and for the places that journeys hold.
-use Rattle.std.proofs.Common.{[], ◌≡◌, ℕ, zero, suc, ◌+◌, ◌-◌, ◌≤◌, ◌∷◌, ◌++◌, ap, ◌∙◌, arith, List, map, reverse, refl, ◌<◌, inl, inr, Bool, filter, sum_by, cond}
+use Rattle.std.proofs.Common.{[], ◌≡◌, ℕ, zero, suc, ◌+◌, ◌-◌, ◌≤◌, ◌∷◌, ◌++◌, ap, ◌∙◌, arith, List, map, reverse, refl, ◌<◌, inl, inr, Bool, filter, sum_by}
 use Rattle.allotment.specs.Cells.{numbers_from}
 use Rattle.std.proofs.lemmas.List.{reverse-append, map-append}
 use Rattle.commands.specs.declared.items.Item.{Item}
 use Rattle.commands.specs.declared.items.Item.TheVariants.{Transaction, Compensation}
-use Rattle.ledger.specs.Word.{Up, Down, word, up, down}
+use Rattle.ledger.specs.Word.{Up, Down, word, up, down, Letter}
 use Rattle.std.proofs.lemmas.Bool.{cases_eq}
 use Rattle.std.proofs.lemmas.Grind.{common_steps}
 use Rattle.std.proofs.lemmas.List.Sums.{sum_by-cons}
@@ -82,25 +82,21 @@ rise a b = map (λ i. Transaction i 1) (numbers_from (suc a) (b - a))
 pub fall : ℕ → ℕ → List Item
 fall b a = map (λ i. Compensation i 1) (reverse (numbers_from (suc a) (b - a)))
 
--- transactions read as their steps, upward
-word-ups : (ns : List ℕ) → word (map (λ i. Transaction i 1) ns) ≡ map Up ns
-word-ups [] = refl
-word-ups (n ∷ ns) = ap (λ w. Up n ∷ w) (word-ups ns)
-
--- compensations read as their steps, downward
-word-downs : (ns : List ℕ) → word (map (λ i. Compensation i 1) ns) ≡ map Down ns
-word-downs [] = refl
-word-downs (n ∷ ns) = ap (λ w. Down n ∷ w) (word-downs ns)
+-- items that each read as one letter read as these letters
+word-each : (item : ℕ → Item) (letter : ℕ → Letter) → ((n : ℕ) (h : List Item) → word (item n ∷ h) ≡ letter n ∷ word h)
+    → (ns : List ℕ) → word (map item ns) ≡ map letter ns
+word-each item letter each [] = refl
+word-each item letter each (n ∷ ns) = each n (map item ns) ∙ ap (λ w. letter n ∷ w) (word-each item letter each ns)
 
 -- these transactions read as a run up
 pub word-rise : (a b : ℕ) → word (rise a b) ≡ up a b
 unfolding rise
-word-rise a b = word-ups (numbers_from (suc a) (b - a))
+word-rise a b = word-each (λ i. Transaction i 1) Up (λ n h. refl) (numbers_from (suc a) (b - a))
 
 -- these compensations read as a run down
 pub word-fall : (b a : ℕ) → word (fall b a) ≡ down b a
 unfolding fall
-word-fall b a = word-downs (reverse (numbers_from (suc a) (b - a)))
+word-fall b a = word-each (λ i. Compensation i 1) Down (λ n h. refl) (reverse (numbers_from (suc a) (b - a)))
 
 -- Sums.
 
@@ -113,11 +109,7 @@ sum_by-same f g xs same = grind (arith, common_steps)
 pub sum_by-filter : {X : Type 0} (f : X → ℕ) (test : X → Bool) (xs : List X)
     → sum_by f (filter test xs) ≤ sum_by f xs
 sum_by-filter f test [] = omega arith
-sum_by-filter f test (x ∷ xs) = go (test x) (sum_by-filter f test xs)
-  where
-    go : (v : Bool) → sum_by f (filter test xs) ≤ sum_by f xs
-        → sum_by f (cond v (x ∷ filter test xs) (filter test xs)) ≤ sum_by f (x ∷ xs)
-    go v rest = grind (arith, sum_by-cons)
+sum_by-filter f test (x ∷ xs) = let rest = sum_by-filter f test xs in grind (arith, sum_by-cons)
 
 -- after the only number where terms differ, sums are the same
 sum_by-behind : (f g : ℕ → ℕ) (k first n : ℕ) → ((j : ℕ) → (j ≡ k → ⊥) → g j ≡ f j) → k < first
@@ -130,18 +122,7 @@ pub sum_by-changed : (f g : ℕ → ℕ) (k first n : ℕ) → ((j : ℕ) → (j
     → first ≤ k → k < first + n
     → sum_by g (numbers_from first n) + f k ≡ sum_by f (numbers_from first n) + g k
 sum_by-changed f g k first zero same low high = absurd (omega arith)
-sum_by-changed f g k first (suc n) same low high =
-    let a = sum_by-cons g first (numbers_from (suc first) n) in
-    let b = sum_by-cons f first (numbers_from (suc first) n) in
-    elim (cases_eq first k) [
-      | inl is ↦ (
-          let new : g first ≡ g k = ap g is in
-          let old : f first ≡ f k = ap f is in
-          let rest = sum_by-behind f g k (suc first) n same (omega arith) in
-          omega arith
-          )
-      | inr other ↦ (
-          let rest = sum_by-changed f g k (suc first) n same (omega arith) (omega arith) in
-          omega arith
-          )
-    ]
+sum_by-changed f g k first (suc n) same low high = elim (cases_eq first k) [
+  | inl is ↦ grind (arith, sum_by-cons, sum_by-behind f g k (suc first) n same (omega arith))
+  | inr other ↦ grind (arith, sum_by-cons, sum_by-changed f g k (suc first) n same (omega arith) (omega arith))
+]

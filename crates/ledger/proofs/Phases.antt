@@ -1,7 +1,7 @@
 -- In which phases the journeys of a ledger are: what the items of other journeys leave, and what follows if none is in
 -- such a phase. For the parts that recovery adds.
-use Rattle.std.proofs.Common.{◌≡◌, ℕ, zero, suc, ◌+◌, ◌<◌, ◌≤◌, List, [], ◌∷◌, ◌++◌, length, refl, ap, sym, ◌∙◌, arith, append_assoc, append-nil, eqb-true, Bool, true, false, ◌==◌, nat_lt, Option, option_map, unwrap_or}
-use Rattle.std.proofs.lemmas.Bool.{and_parts, ltb-true, ltb-false, eqb-false, or_parts, ne_eqb, not-true}
+use Rattle.std.proofs.Common.{◌≡◌, ℕ, zero, suc, ◌+◌, ◌<◌, ◌≤◌, List, [], ◌∷◌, ◌++◌, length, refl, ap, sym, ◌∙◌, arith, append_assoc, append-nil, Bool, true, false, ◌==◌, nat_lt, Option, option_map, unwrap_or, inl, inr}
+use Rattle.std.proofs.lemmas.Bool.{and_parts, ltb-true, or_parts, ne_eqb, not-true, cases_eq, cases_lt}
 use Rattle.std.proofs.lemmas.Option.{slice_get_past}
 use Rattle.std.specs.List.{list_all, list_any}
 use Rattle.allotment.specs.Cells.{numbers_from}
@@ -45,22 +45,16 @@ none-numbered : (test : ℕ → Bool) (first n j : ℕ) → list_any test (numbe
 none-numbered test first zero j none low high = absurd (omega arith)
 none-numbered test first (suc n) j none low high =
     let both = or_parts (test first) (list_any test (numbers_from (suc first) n)) none in
-    go both.0 (λ above. none-numbered test (suc first) n j both.1 above (omega arith))
-    (first == j) refl
-  where
-    go : test first ≡ false → (suc first ≤ j → test j ≡ false) → (v : Bool) → (first == j) ≡ v
-        → test j ≡ false
-    go fails rest v e = grind (arith, eqb-true, eqb-false)
+    elim (cases_eq first j) [
+      | inl is ↦ ap test (sym is) ∙ both.0
+      | inr other ↦ none-numbered test (suc first) n j both.1 (omega arith) (omega arith)
+    ]
 
 -- where no journey is in such a phase, this one is not
 pub has_none-at : (passes : Phase → Bool) (l : List Event) (j : ℕ) → has_none passes l ≡ true
     → is_in passes l j ≡ false
 has_none-at passes l zero none = refl
-has_none-at passes l (suc i) none = go (nat_lt i (length (journeys l))) refl
-  where
-    go : (v : Bool) → nat_lt i (length (journeys l)) ≡ v → is_in passes l (suc i) ≡ false
-    go true e =
-        let within = ltb-true _ _ e in
-        none-numbered (is_in passes l) 1 (length (journeys l)) (suc i) (not-true _ none)
-        (omega arith) (omega arith)
-    go false e = grind (arith, slice_get_past, ltb-false)
+has_none-at passes l (suc i) none = elim (cases_lt i (length (journeys l))) [
+  | inl within ↦ none-numbered (is_in passes l) 1 (length (journeys l)) (suc i) (not-true _ none) (omega arith) (omega arith)
+  | inr past ↦ grind (arith, slice_get_past)
+]

@@ -90,8 +90,7 @@ load-room l name rows may room x = grind (arith, and_parts, held-loaded, allotme
 
 -- each allowed event keeps room in every cell
 room-more : Keeps NoCellIsOverfull
-room-more l x legal may room =
-    search (arith, load-room, allotment-same, held-began, all_go, absurd_item, item-room, is_item_allowed-may_do)
+room-more l x legal may room = grind (arith, load-room, allotment-same, held-began, all_go, absurd_item, item-room, is_item_allowed-may_do)
 
 -- no cell of a legal ledger is overfull
 pub no_cell_overfull : (l : List Event) → IsLegal l → NoCellIsOverfull l

@@ -1,7 +1,7 @@
 -- How far a part of recovery has come, by items of some kind, and that it comes to its end: one journey after another goes
 -- on until none of them is in some kind of phase. For the law of recovery, and for its passes.
-use Rattle.std.proofs.Common.{◌≡◌, ℕ, zero, suc, ◌+◌, ◌<◌, ◌≤◌, List, [], ◌∷◌, ◌++◌, length, refl, ap, sym, ◌∙◌, arith, append_assoc, append-nil, subst, eq-eqb, Bool, true, false, not, ◌==◌, nat_le, nat_lt}
-use Rattle.std.proofs.lemmas.Bool.{and_parts, and_from, ltb-true, ltb-false, not_from_false}
+use Rattle.std.proofs.Common.{◌≡◌, ℕ, zero, suc, ◌+◌, ◌<◌, ◌≤◌, List, [], ◌∷◌, ◌++◌, length, refl, ap, sym, ◌∙◌, arith, append_assoc, append-nil, subst, eq-eqb, Bool, true, false, not, ◌==◌, nat_le, nat_lt, inl, inr}
+use Rattle.std.proofs.lemmas.Bool.{and_parts, and_from, not_from_false, cases_lt}
 use Rattle.std.proofs.lemmas.Bool.Decides.{nat_tests}
 use Rattle.std.proofs.lemmas.List.Folds.{list_all-append}
 use Rattle.std.specs.List.{list_all, list_any}
@@ -27,12 +27,8 @@ reached-further test passes before part a b r low between = record {
   items = r.items;
   by_number = r.by_number;
   up_to = list_all_weaker (λ e. nat_le (journey_of e) a) (λ e. nat_le (journey_of e) b) (λ e up. grind (arith, nat_tests)) part r.up_to;
-  done = λ k below. at k below (nat_lt k a) refl;
+  done = λ k below. elim (cases_lt k a) [ inl lower ↦ r.done k lower | inr high ↦ between k high below ];
 }
-  where
-    at : (k : ℕ) → k < b → (v : Bool) → nat_lt k a ≡ v → is_in passes (before ++ part) k ≡ false
-    at k below true e = r.done k (ltb-true _ _ e)
-    at k below false e = between k (ltb-false _ _ e) below
 
 -- the part is past the journey when it is done with it
 pub reached-past : (test : Item → Bool) (passes : Phase → Bool) (before part : List Event) (j : ℕ)
@@ -45,8 +41,7 @@ reached-past test passes before part j r out =
 -- before its first event a part has come to the first journey
 pub reached-none : (test : Item → Bool) (passes : Phase → Bool) (before : List Event)
     → HasReached test passes before [] 0
-reached-none test passes before =
-    record { allowed = tt; items = refl; by_number = refl; up_to = refl; done = λ j below. absurd (omega arith) }
+reached-none test passes before = grind arith
 
 -- Items of one journey.
 
@@ -57,8 +52,7 @@ AreOf j p = list_all (λ e. journey_of e == j) p ≡ true
 -- they are of a journey that passes a test if this one does
 of-passing : (test : ℕ → Bool) (j : ℕ) (p : List Event) → AreOf j p → test j ≡ true
     → list_all (λ d. test (journey_of d)) p ≡ true
-of-passing test j p all here =
-    list_all_weaker (λ e. journey_of e == j) (λ e. test (journey_of e)) (λ e same. grind (arith, nat_tests)) p all
+of-passing test j p all here = grind (arith, list_all_weaker, nat_tests)
 
 -- they are ordered by number
 of-by_number : (j : ℕ) (p : List Event) → AreOf j p → is_by_number p ≡ true
@@ -150,8 +144,7 @@ module _ (test : Item → Bool) (passes : Phase → Bool) (stage : IsStage test 
       → ((part : List Event) → HasReached test passes before part (suc number) → Completes test passes before part)
       → (most : ℕ) (part : List Event) → HasReached test passes before part number
       → left_of (before ++ part) number ≤ most → Completes test passes before part
-  complete-first number others zero part r low =
-      complete-one part number r (others part) (λ more s fewer. absurd (omega arith))
+  complete-first number others zero part r low = grind (arith, complete-one)
   complete-first number others (suc most) part r low =
       complete-one part number r (others part) (λ more s fewer. complete-first number others most more s (omega arith))
 

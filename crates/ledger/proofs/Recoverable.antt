@@ -1,19 +1,18 @@
 -- What recovery has to go on with, and where it has gone on: a journey that goes back has a compensation, an open one a
 -- step, and after these none is left. For the law of recovery.
-use Rattle.std.proofs.Common.{◌≡◌, ℕ, zero, suc, ◌+◌, ◌<◌, ◌≤◌, List, [], ◌∷◌, ◌++◌, refl, ap, sym, ◌∙◌, arith, append_assoc, append-nil, Bool, true, false, Option, Some, None}
+use Rattle.std.proofs.Common.{◌≡◌, ℕ, zero, suc, ◌+◌, ◌<◌, ◌≤◌, List, [], ◌∷◌, ◌++◌, refl, ap, sym, ◌∙◌, arith, append_assoc, append-nil, Bool, true, false, Option, Some, None, option_map, unwrap_or}
 use Rattle.std.proofs.lemmas.Bool.{and_parts, or_from}
 use Rattle.std.specs.List.{list_all, list_any}
 use Rattle.allotment.specs.Cells.{numbers_from}
-use Rattle.plan.specs.PlanModel.{Planned}
 use Rattle.commands.specs.declared.items.Item.{Item}
 use Rattle.commands.specs.declared.items.Phase.{Phase}
-use Rattle.ledger.specs.History.{next_want, phase, is_going_back, is_open, is_compensation, may_come}
+use Rattle.ledger.specs.History.{next_want, is_going_back, is_open, is_compensation, may_come}
 use Rattle.ledger.specs.Ledger.{Event, Did, Journey, journeys, journey_at, history, fits, is_in, is_item_allowed, IsLegal}
 use Rattle.ledger.specs.Recovery.{are_items, is_forward}
 use Rattle.allotment.proofs.TestLemmas.{list_all_weaker}
 use Rattle.ledger.proofs.Coming.{step-comes, refused-comes}
 use Rattle.ledger.proofs.Deciding.{run_or_back, each_open_has_one}
-use Rattle.ledger.proofs.Growing.{journeys-did, is_item_allowed-may_do}
+use Rattle.ledger.proofs.Growing.{journeys-did}
 use Rattle.ledger.proofs.Phases.{passing}
 use Rattle.ledger.proofs.Recovering.{compensation-forward}
 
@@ -26,38 +25,28 @@ pub record IsStage (test : Item → Bool) (passes : Phase → Bool) : Type 0 whe
       → (x : Item) × (test x ≡ true) × (is_item_allowed l j x ≡ true)
 
 -- a journey that goes back is open
-back-open : (p : Phase) → is_going_back p ≡ true → is_open p ≡ true
-back-open p e = grind arith
+back-open : (h : List Item) (o : Option Journey) → passing is_going_back h o ≡ true → passing is_open h o ≡ true
+back-open h o e = grind arith
 
 -- of the items that a step makes only a compensation may come in it
-back-compensates : (plan : Planned) (h : List Item) (fits : Bool) (x : Item)
-    → is_going_back (phase plan h) ≡ true → is_forward x ≡ true → may_come plan h fits x ≡ true
-    → is_compensation x ≡ true
-back-compensates plan h fits x back forward may = grind (arith, run_or_back, step-comes, refused-comes)
+back-compensates : (h : List Item) (o : Option Journey) (fit : Journey → Bool) (x : Item)
+    → passing is_going_back h o ≡ true → is_forward x ≡ true
+    → unwrap_or (option_map (λ (a : Journey). may_come a.plan h (fit a) x) o) false ≡ true → is_compensation x ≡ true
+back-compensates h None fit x back forward may = cc
+back-compensates h (Some a) fit x back forward may = grind (arith, run_or_back, step-comes, refused-comes)
 
 -- journeys that go back go on by compensations
 pub back-stage : IsStage is_compensation is_going_back
-back-stage = record { steps = compensation-forward; has = has }
-  where
-    has : (l : List Event) (j : ℕ) → IsLegal l → is_in is_going_back l j ≡ true
-        → (x : Item) × (is_compensation x ≡ true) × (is_item_allowed l j x ≡ true)
-    has l j legal back = go (journey_at l j) refl
-      where
-        go : (o : Option Journey) → journey_at l j ≡ o
-            → (x : Item) × (is_compensation x ≡ true) × (is_item_allowed l j x ≡ true)
-        go None at = grind (arith, passing)
-        go (Some a) at =
-            let goes : is_going_back (phase a.plan (history l j)) ≡ true =
-            sym (ap (passing is_going_back (history l j)) at) ∙ back in
-            let one = each_open_has_one l legal j
-            (ap (passing is_open (history l j)) at
-            ∙ back-open (phase a.plan (history l j)) goes) in (
-              one.step,
-              back-compensates a.plan (history l j)
-                  (fits l (next_want a.plan (history l j))) one.step goes one.forward
-                  (sym (is_item_allowed-may_do l j one.step a at) ∙ one.allowed),
-              one.allowed,
-            )
+back-stage = record {
+  steps = compensation-forward;
+  has = λ l j legal back.
+      let one = each_open_has_one l legal j (back-open (history l j) (journey_at l j) back) in (
+        one.step,
+        back-compensates (history l j) (journey_at l j) (λ a. fits l (next_want a.plan (history l j)))
+            one.step back one.forward one.allowed,
+        one.allowed,
+      );
+}
 
 -- open journeys go on by steps
 pub forward-stage : IsStage is_forward is_open

@@ -1,6 +1,6 @@
 -- A ledger has at most one recovered ledger. For the law of recovery.
-use Rattle.std.proofs.Common.{◌≡◌, ℕ, ◌<◌, ◌≤◌, List, [], ◌∷◌, ◌++◌, refl, ap, sym, ◌∙◌, arith, append_assoc, append-nil, subst, Bool, true, false, nat_le, nat_lt}
-use Rattle.std.proofs.lemmas.Bool.{and_parts, and_from, leb-true, ltb-true, ltb-false, lt-ltb}
+use Rattle.std.proofs.Common.{◌≡◌, ℕ, ◌<◌, List, [], ◌∷◌, ◌++◌, refl, ap, sym, ◌∙◌, arith, append_assoc, append-nil, subst, Bool, true, false, nat_le, nat_lt, inl, inr}
+use Rattle.std.proofs.lemmas.Bool.{and_parts, and_from, leb-true, lt-ltb, cases_order}
 use Rattle.std.specs.List.{list_all}
 use Rattle.commands.specs.declared.items.Item.{Item}
 use Rattle.commands.specs.declared.items.Phase.{Phase}
@@ -54,11 +54,7 @@ not_passed test passes l j k y q lower part in_it =
 -- where nothing follows, this journey is not in such a phase either
 not_left : {X : Type 0} (test : Item → Bool) (passes : Phase → Bool) (l : List Event) (j : ℕ)
     → IsPart test passes l [] → is_in passes l j ≡ true → X
-not_left test passes l j part in_it =
-    let bad : true ≡ false =
-    sym in_it
-    ∙ has_none-at passes l j (ap (has_none passes) (sym (append-nil l)) ∙ part.none) in
-    cc
+not_left test passes l j part in_it = grind (arith, has_none-at, append-nil)
 
 -- a part without its first event is a part of what follows that event
 rest-part : (test : Item → Bool) (passes : Phase → Bool) (l : List Event) (e : Event)
@@ -70,27 +66,17 @@ first-same : (test : Item → Bool) (passes : Phase → Bool) → IsAlone test �
     → (l : List Event) (j k : ℕ) (x y : Item) (p q : List Event) → IsLegal l
     → IsPart test passes l (Did j x ∷ p) → IsPart test passes l (Did k y ∷ q)
     → Did k y ≡ Did j x
-first-same test passes alone needs l j k x y p q legal first second = go (nat_lt j k) refl
+first-same test passes alone needs l j k x y p q legal first second = elim (cases_order j k) [
+  | inl same ↦ grind arith
+  | inr (inl lower) ↦ not_passed test passes l j k y q lower second (needs l j x x_is first.allowed.0)
+  | inr (inr higher) ↦ not_passed test passes l k j x p higher first (needs l k y y_is second.allowed.0)
+]
   where
     x_is : test x ≡ true
     x_is = (and_parts (test x) (list_all (are_items test) p) first.items).0
 
     y_is : test y ≡ true
     y_is = (and_parts (test y) (list_all (are_items test) q) second.items).0
-
-    same : j ≡ k → Did k y ≡ Did j x
-    same e = grind arith
-
-    not_below : (v : Bool) → nat_lt k j ≡ v → k ≤ j → Did k y ≡ Did j x
-    not_below true e low =
-        not_passed test passes l k j x p (ltb-true _ _ e) first
-        (needs l k y y_is second.allowed.0)
-    not_below false e low = let high = ltb-false _ _ e in same (omega arith)
-
-    go : (v : Bool) → nat_lt j k ≡ v → Did k y ≡ Did j x
-    go true e =
-        not_passed test passes l j k y q (ltb-true _ _ e) second (needs l j x x_is first.allowed.0)
-    go false e = let low = ltb-false _ _ e in not_below (nat_lt k j) refl low
 
 -- two parts are the same, event by event
 part-unique : (test : Item → Bool) (passes : Phase → Bool) → IsAlone test → NeedsPhase test passes

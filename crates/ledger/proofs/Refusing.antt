@@ -1,14 +1,16 @@
 -- How often a journey was refused, as items come: within its tries, unless it has turned to its start. For the modes of
 -- a journey, and for how many steps it may still make.
-use Rattle.std.proofs.Common.{◌≡◌, ℕ, ◌+◌, ◌≤◌, List, [], ◌∷◌, ◌++◌, arith, eq-eqb, false, if◌then◌else◌}
+use Rattle.std.proofs.Common.{◌≡◌, ℕ, ◌+◌, ◌≤◌, List, [], ◌∷◌, ◌++◌, arith, eq-eqb, false, if◌then◌else◌, Bool, true, refl}
 use Rattle.std.proofs.lemmas.Bool.{ltb-true, or_parts}
 use Rattle.std.proofs.lemmas.List.Sums.{sum_by_push}
 use Rattle.plan.specs.PlanModel.{Planned}
-use Rattle.commands.specs.declared.items.Cause.TheVariants.{Refused}
+use Rattle.commands.specs.declared.items.Cause.TheVariants.{Refused, Stop, Asked}
 use Rattle.commands.specs.declared.items.Item.{Item}
 use Rattle.commands.specs.declared.items.Item.TheVariants.{Turn}
-use Rattle.ledger.specs.History.{refusals, refused_target, is_refused_turn, has_turned_to_start, is_turn_to}
+use Rattle.ledger.specs.History.{refusals, refused_target, is_refused_turn, has_turned_to_start, is_turn_to, may_come}
 use Rattle.ledger.proofs.Going.{turned-more}
+use Rattle.ledger.proofs.Coming.{refused-comes}
+use Rattle.commands.specs.declared.items.Cause.{Cause}
 
 -- it was refused no more often than it has tries, unless it has turned to its start
 abbrev pub HasTries : Planned → List Item → Type 0
@@ -41,3 +43,10 @@ has_tries-other plan h x other has unturned = grind (arith, refusals-other, untu
 pub has_tries-refused : (plan : Planned) (h : List Item) (p : ℕ) → p ≡ refused_target plan h
     → HasTries plan h → HasTries plan (h ++ Turn p Refused ∷ [])
 has_tries-refused plan h p is has unturned = grind (arith, unturned-parts, ltb-true, refusals-refused, eq-eqb)
+
+-- each turn that may come does one or the other
+pub has_tries-turn : (plan : Planned) (h : List Item) (fits : Bool) (p : ℕ) (cause : Cause)
+    → may_come plan h fits (Turn p cause) ≡ true → HasTries plan h → HasTries plan (h ++ Turn p cause ∷ [])
+has_tries-turn plan h fits p Refused may has = has_tries-refused plan h p (refused-comes plan h fits p may).target has
+has_tries-turn plan h fits p Stop may has = has_tries-other plan h (Turn p Stop) refl has
+has_tries-turn plan h fits p Asked may has = has_tries-other plan h (Turn p Asked) refl has

@@ -1,13 +1,13 @@
 -- One more item: on the way up a transaction, a save-point, or a turn; on the way down a turn further down, or a
 -- compensation. For each item that may come.
-use Rattle.std.proofs.Common.{◌≡◌, ℕ, suc, ◌+◌, ◌<◌, ◌≤◌, ◌⊎◌, List, [], ◌∷◌, ◌++◌, refl, ap, sym, ◌∙◌, arith, subst, append_assoc, append-nil, inl, inr, false, ◌==◌, Some, IsTrue}
+use Rattle.std.proofs.Common.{◌≡◌, ℕ, suc, ◌+◌, ◌<◌, ◌≤◌, ◌⊎◌, List, [], ◌∷◌, ◌++◌, refl, ap, sym, ◌∙◌, arith, subst, append_assoc, append-nil, inr, false, ◌==◌, Some, IsTrue}
 use Rattle.std.proofs.lemmas.Bool.{ne_eqb, cases_lt, cases_eq}
 use Rattle.plan.specs.PlanModel.{Planned, step_count}
 use Rattle.commands.specs.declared.items.Cause.{Cause}
 use Rattle.commands.specs.declared.items.Item.{Item}
 use Rattle.commands.specs.declared.items.Item.TheVariants.{Transaction, Compensation, Turn, Save}
 use Rattle.ledger.specs.History.{position_of, going_to, is_save_point, has_turned_to_start}
-use Rattle.ledger.specs.Word.{word, up, down, Up, Down, Returns, goes_on, IsTurnPart}
+use Rattle.ledger.specs.Word.{word, Returns, goes_on, IsTurnPart}
 use Rattle.ledger.proofs.Going.{going_to-transaction, going_to-turn, going_to-save, going_to-compensation, turned-other, turned-turn, kept-turn, is_save_point-compensation}
 use Rattle.ledger.proofs.Modes.{Since, since-append, goes_to_start, Rising, Falling, Fallen, Mode, rises, falls, fell}
 use Rattle.ledger.proofs.Numbers.{word-append, up-none, down-none, up-join, down-join, up-one, down-one}
@@ -24,13 +24,7 @@ rising-transaction plan h i c r below is =
       since = since-append r.since (Transaction i c ∷ []);
       low = let a = r.low in omega arith;
       within = omega arith;
-      reads =
-          word-append r.since.part (Transaction i c ∷ []) ∙ ap (λ w. w ++ Up i ∷ []) r.reads
-          ∙ ap (λ k. up r.from (position_of h) ++ Up k ∷ [])
-          (let k : i ≡ suc (position_of h) = omega arith in k)
-          ∙ ap (λ w. up r.from (position_of h) ++ w) (sym (up-one (position_of h)))
-          ∙ sym (up-join r.from (position_of h) (suc (position_of h)) r.low (omega arith))
-          ∙ ap (up r.from) (omega arith);
+      reads = grind (arith, word-append, up-one, up-join r.from (position_of h) (suc (position_of h)) r.low);
       unturned = turned-other h (Transaction i c) refl ∙ r.unturned;
       arrived = λ p e. let none = going_to-transaction h i c in cc;
     }
@@ -44,9 +38,7 @@ stays plan h x r silent pos unturned arrived = record {
   since = since-append r.since (x ∷ []);
   low = let a = r.low in omega arith;
   within = let a = r.within in omega arith;
-  reads =
-      word-append r.since.part (x ∷ []) ∙ ap (λ w. word r.since.part ++ w) silent ∙ append-nil (word r.since.part) ∙ r.reads
-      ∙ ap (up r.from) (sym pos);
+  reads = grind (arith, word-append, append-nil);
   unturned = unturned;
   arrived = λ p e. let k = arrived p e in omega arith;
 }
@@ -70,11 +62,7 @@ turn-down plan h p cause r below kept lower =
       rises = r.low;
       short = below;
       falls = omega arith;
-      reads =
-          word-append r.since.part (Turn p cause ∷ []) ∙ append-nil (word r.since.part) ∙ r.reads
-          ∙ sym (append-nil (up r.from (position_of h)))
-          ∙ ap (λ w. up r.from (position_of h) ++ w)
-          (sym (down-none (position_of h)) ∙ ap (down (position_of h)) (sym pos));
+      reads = grind (arith, word-append, append-nil, down-none);
       going = going_to-turn h p cause;
       above = omega arith;
       turned = turned-turn h p cause r.unturned;
@@ -97,13 +85,7 @@ turn-at_start plan h p cause r below at_start p_is =
 pub rising-turn : (plan : Planned) (h : List Item) (p : ℕ) (cause : Cause) → Rising plan h
     → position_of h < step_count plan → (p ≡ 0) ⊎ IsTrue (is_save_point plan h p)
     → Mode plan (h ++ Turn p cause ∷ [])
-rising-turn plan h p cause r below kept = elim (cases_lt p (position_of h)) [
-  | inl lower ↦ falls (turn-down plan h p cause r below kept lower)
-  | inr here ↦ elim (cases_eq p 0) [
-    | inl start ↦ fell (turn-at_start plan h p cause r below (omega arith) start)
-    | inr more ↦ rises (turn-here plan h p cause r here (omega arith))
-  ]
-]
+rising-turn plan h p cause r below kept = grind (arith, cases_lt, falls, turn-down, cases_eq, fell, turn-at_start, rises, turn-here)
 
 -- The way down.
 
@@ -121,9 +103,7 @@ falling-turn plan h p cause f lower kept =
       rises = f.rises;
       short = f.short;
       falls = let a = f.falls in omega arith;
-      reads =
-          word-append f.since.part (Turn p cause ∷ []) ∙ append-nil (word f.since.part) ∙ f.reads
-          ∙ ap (λ k. up f.from f.top ++ down f.top k) (sym pos);
+      reads = grind (arith, word-append, append-nil);
       going = going_to-turn h p cause;
       above = let a = f.above in omega arith;
       turned = turned-turn h p cause (f.turned ∙ ne_eqb 0 f.target (λ e. omega arith));
@@ -148,14 +128,7 @@ module _ (plan : Planned) (h : List Item) (i c : ℕ) (f : Falling plan h) (k : 
         rises = f.rises;
         short = f.short;
         falls = let a = f.falls in omega arith;
-        reads =
-            word-append f.since.part (Compensation i c ∷ []) ∙ ap (λ w. w ++ Down i ∷ []) f.reads
-            ∙ append_assoc (up f.from f.top) (down f.top (position_of h)) (Down i ∷ [])
-            ∙ ap (λ w. up f.from f.top ++ w)
-            (ap (λ n. down f.top n ++ Down i ∷ []) above
-            ∙ ap (λ n. down f.top (suc pos) ++ Down n ∷ []) (k.is_last ∙ above)
-            ∙ ap (λ w. down f.top (suc pos) ++ w) (sym (down-one pos))
-            ∙ sym (down-join pos (suc pos) f.top (omega arith) (let a = f.falls in omega arith)));
+        reads = grind (arith, word-append, append_assoc, down-one, down-join pos (suc pos) f.top);
       }
 
   -- the target stays the start or a save-point while the journey is not below it
@@ -226,11 +199,5 @@ module _ (plan : Planned) (h : List Item) (i c : ℕ) (f : Falling plan h) (k : 
 
   -- a compensation leads on down, all the way down, or to the target
   pub falling-compensation : Mode plan (h ++ Compensation i c ∷ [])
-  falling-compensation = elim (cases_lt f.target (position_of next)) [
-    | inl above ↦ falls (compensation-on above)
-    | inr low ↦ (let here : position_of next ≡ f.target = let a = f.above in let b = k.lower in omega arith in
-        elim (cases_eq f.target 0) [
-          | inl start ↦ fell (compensation-to_start start (here ∙ start))
-          | inr more ↦ rises (compensation-to_save_point (omega arith) here)
-        ])
-  ]
+  falling-compensation =
+      grind (arith, cases_lt, falls, compensation-on, cases_eq, fell, compensation-to_start, rises, compensation-to_save_point)

@@ -1,7 +1,7 @@
 -- What the turns of recovery do: each is allowed, each running journey turns once, and with the steps that are left after
 -- them they are within the bound of the ledger. For the law of recovery.
-use Rattle.std.proofs.Common.{◌≡◌, ℕ, zero, suc, ◌+◌, ◌*◌, ◌<◌, ◌≤◌, List, [], ◌∷◌, ◌++◌, length, map, refl, ap, sym, ◌∙◌, arith, append-nil, eq-eqb, Bool, true, false, ◌&&◌, nat_le, nat_lt, Option, Some, None, option_map, filter, filter_map, cond, if◌then◌else◌, IsTrue, sum_by, unwrap_or}
-use Rattle.std.proofs.lemmas.Bool.{and_from, ne_eqb, le-leb, lt-ltb}
+use Rattle.std.proofs.Common.{◌≡◌, ℕ, zero, suc, ◌+◌, ◌*◌, ◌<◌, ◌≤◌, List, [], ◌∷◌, ◌++◌, length, map, refl, ap, sym, ◌∙◌, arith, append-nil, eq-eqb, Bool, true, false, ◌&&◌, nat_le, nat_lt, Option, Some, None, option_map, filter, filter_map, if◌then◌else◌, IsTrue, sum_by, unwrap_or}
+use Rattle.std.proofs.lemmas.Bool.{and_from, ne_eqb, le-leb, lt-ltb, cond_both}
 use Rattle.std.proofs.lemmas.Bool.Decides.{nat_tests}
 use Rattle.std.proofs.lemmas.List.Elements.{filter_map-append}
 use Rattle.allotment.specs.Cells.{numbers_from}
@@ -11,10 +11,10 @@ use Rattle.commands.specs.declared.items.Item.{Item}
 use Rattle.commands.specs.declared.items.Item.TheVariants.{Turn}
 use Rattle.commands.specs.declared.items.Phase.{Phase}
 use Rattle.commands.specs.declared.items.Phase.TheVariants.{Run, Back, Ended, Undone}
-use Rattle.ledger.specs.History.{last_save, phase, is_running, is_open}
-use Rattle.ledger.specs.Ledger.{Event, Did, Journey, journeys, journey_at, begun_by, history, item_of, is_in, is_allowed, AreAllowedAfter, numbers, IsLegal}
+use Rattle.ledger.specs.History.{last_save, phase, is_running, is_open, may_come, next_want}
+use Rattle.ledger.specs.Ledger.{Event, Did, Journey, journeys, journey_at, begun_by, history, item_of, is_in, is_allowed, AreAllowedAfter, IsLegal, fits}
 use Rattle.ledger.specs.Recovery.{last_save_of, stops, bound_of, bound}
-use Rattle.ledger.proofs.Growing.{journeys-did, history-did_other, is_item_allowed-may_do}
+use Rattle.ledger.proofs.Growing.{journeys-did, history-did_other}
 use Rattle.ledger.proofs.Working.{way, left_in, steps_left, left_in-most, way-other, way-most, left_to, left_of, work, work-sum}
 use Rattle.ledger.proofs.Modes.{Goes, running-rises, position_of-most}
 use Rattle.ledger.proofs.Phases.{passing}
@@ -40,11 +40,7 @@ no_stop-begins l (k ∷ ks) = no_stop-begins l ks
 
 -- turns leave the journeys
 pub journeys-stops : (l : List Event) → journeys (l ++ stops l) ≡ journeys l
-journeys-stops l =
-    filter_map-append begun_by l (stops l)
-    ∙ ap (λ js. journeys l ++ js)
-    (no_stop-begins l (filter (is_in is_running l) (numbers_from 1 (length (journeys l)))))
-    ∙ append-nil (journeys l)
+journeys-stops l = grind (arith, filter_map-append, no_stop-begins, append-nil)
 
 -- Each is allowed.
 
@@ -65,55 +61,39 @@ same_from-did first l m item same = record {
 
 -- what is the same from one number on is the same from the next
 same_from-later : (first : ℕ) (l m : List Event) → IsSameFrom first l m → IsSameFrom (suc first) l m
-same_from-later first l m same =
-    record { at = same.at; of = λ j above. same.of j (omega arith) }
+same_from-later first l m same = search arith
+
+-- of a running journey the turn to its last save-point may come
+stop-passes : (h g : List Item) (o : Option Journey) (fit : Journey → Bool) → g ≡ h → passing is_running h o ≡ true
+    → unwrap_or (option_map (λ (a : Journey). may_come a.plan g (fit a)
+    (Turn (unwrap_or (option_map (λ (b : Journey). last_save b.plan h) o) 0) Stop)) o) false ≡ true
+stop-passes h g None fit same run = run
+stop-passes h g (Some a) fit same run =
+    and_from _ _ (ap (λ k. is_running (phase a.plan k)) same ∙ run) (eq-eqb _ _ (ap (last_save a.plan) (sym same)))
 
 -- a running journey may turn to its last save-point
 stop-allowed : (first : ℕ) (l m : List Event) → IsSameFrom first l m
     → is_in is_running l first ≡ true → IsTrue (is_allowed m (stop_of l first))
-stop-allowed first l m same run = go (journey_at l first) refl
-  where
-    go : (o : Option Journey) → journey_at l first ≡ o → IsTrue (is_allowed m (stop_of l first))
-    go None at =
-        let bad : true ≡ false = sym run ∙ ap (passing is_running (history l first)) at in cc
-    go (Some a) at =
-        let here : history m first ≡ history l first = same.of first (omega arith) in
-        let runs : is_running (phase a.plan (history m first)) ≡ true =
-        ap (λ h. is_running (phase a.plan h)) here
-        ∙ sym (ap (passing is_running (history l first)) at) ∙ run in
-        let target : last_save_of l first ≡ last_save a.plan (history m first) =
-        ap (λ o. unwrap_or (option_map (λ (b : Journey). last_save b.plan (history l first)) o) 0)
-        at
-        ∙ ap (last_save a.plan) (sym here) in
-        is_item_allowed-may_do m first (Turn (last_save_of l first) Stop) a (same.at first ∙ at)
-        ∙ and_from _ _ runs (eq-eqb _ _ target)
+stop-allowed first l m same run =
+    rw (same.at first) (stop-passes (history l first) (history m first) (journey_at l first)
+    (λ a. fits m (next_want a.plan (history m first))) (same.of first (omega arith)) run)
 
 -- each turn is allowed, one after another
 stops_from-allowed : (l : List Event) (n first : ℕ) (m : List Event) → IsSameFrom first l m
     → AreAllowedAfter m (stops_from l first n)
 stops_from-allowed l zero first m same = tt
 stops_from-allowed l (suc n) first m same =
-    go (is_in is_running l first) refl (λ k s. stops_from-allowed l n (suc first) k s)
-  where
-    go : (v : Bool) → is_in is_running l first ≡ v
-        → ((k : List Event) → IsSameFrom (suc first) l k
-        → AreAllowedAfter k (stops_from l (suc first) n))
-        → AreAllowedAfter m
-        (map (stop_of l)
-        (cond v (first ∷ filter (is_in is_running l) (numbers_from (suc first) n))
-        (filter (is_in is_running l) (numbers_from (suc first) n))))
-    go true run rest = (
+    cond_both (is_in is_running l first) _ _ (λ ks. AreAllowedAfter m (map (stop_of l) ks))
+    (λ run. (
       stop-allowed first l m same run,
-      rest (m ++ stop_of l first ∷ [])
+      stops_from-allowed l n (suc first) (m ++ stop_of l first ∷ [])
           (same_from-did first l m (Turn (last_save_of l first) Stop) same),
-    )
-    go false e rest = rest m (same_from-later first l m same)
+    ))
+    (λ e. stops_from-allowed l n (suc first) m (same_from-later first l m same))
 
 -- all turns of a ledger are allowed
 pub stops-allowed : (l : List Event) → AreAllowedAfter l (stops l)
-stops-allowed l =
-    stops_from-allowed l (length (journeys l)) 1 l
-    (record { at = λ j. refl; of = λ j above. refl })
+stops-allowed l = grind (arith, stops_from-allowed)
 
 -- Each running journey turns once.
 
@@ -196,81 +176,27 @@ turns-within : (turns may : ℕ → Bool) (left most : ℕ → ℕ) (n first : �
     ≤ sum_by most (filter may (numbers_from first n))
 turns-within turns may left most zero first each = omega arith
 turns-within turns may left most (suc n) first each =
-    go (turns first) (may first) (each first (omega arith) (omega arith))
-    (turns-within turns may left most n (suc first)
-    (λ j low high. each j (omega arith) (omega arith)))
-  where
-    more : sum_by left (first ∷ numbers_from (suc first) n)
-        ≡ left first + sum_by left (numbers_from (suc first) n)
-    more = sum_by-cons left first (numbers_from (suc first) n)
+    let here = each first (omega arith) (omega arith) in
+    let later = turns-within turns may left most n (suc first) (λ j low high. each j (omega arith) (omega arith)) in
+    grind (arith, sum_by-cons)
 
-    more_may : sum_by most (first ∷ filter may (numbers_from (suc first) n))
-        ≡ most first + sum_by most (filter may (numbers_from (suc first) n))
-    more_may = sum_by-cons most first (filter may (numbers_from (suc first) n))
-
-    go : (v w : Bool) → turns_of v + left first ≤ (if w then most first else 0)
-        → length (filter turns (numbers_from (suc first) n))
-        + sum_by left (numbers_from (suc first) n)
-        ≤ sum_by most (filter may (numbers_from (suc first) n))
-        → length (cond v (first ∷ filter turns (numbers_from (suc first) n))
-        (filter turns (numbers_from (suc first) n)))
-        + sum_by left (first ∷ numbers_from (suc first) n)
-        ≤ sum_by most (cond w (first ∷ filter may (numbers_from (suc first) n))
-        (filter may (numbers_from (suc first) n)))
-    go true true here rest = let a = more in let b = more_may in omega arith
-    go true false here rest = absurd (omega arith)
-    go false true here rest = let a = more in let b = more_may in omega arith
-    go false false here rest = let a = more in omega arith
+-- so they are for a journey of a ledger, if there is one, by its history
+option-within : (h : List Item) (o : Option Journey) (p : ℕ) → ((a : Journey) → o ≡ Some a → Goes a.plan h)
+    → turns_of (passing is_running h o) + left_to (h ++ stop_items (passing is_running h o) p) o
+    ≤ (if passing is_open h o
+    then unwrap_or (option_map (λ (a : Journey). 2 * step_count a.plan * (a.plan.tries + 2)) o) 0 else 0)
+option-within h None p goes = omega arith
+option-within h (Some a) p goes = stop-within a.plan h p (goes a refl)
 
 -- each journey needs no more than its bound, and nothing where it is finished
 journey-within : (l : List Event) → IsLegal l → (j : ℕ) → 1 ≤ j → j < 1 + length (journeys l)
     → turns_of (is_in is_running l j) + left_of (l ++ stops l) j
     ≤ (if is_in is_open l j then bound_of l j else 0)
-journey-within l legal j low high = go (journey_at l j) refl
-  where
-    after : journey_at (l ++ stops l) j ≡ journey_at l j
-    after = ap (λ js. numbered js j) (journeys-stops l)
-
-    go : (o : Option Journey) → journey_at l j ≡ o
-        → turns_of (is_in is_running l j) + left_of (l ++ stops l) j
-        ≤ (if is_in is_open l j then bound_of l j else 0)
-    go None at =
-        let none = ap (λ p. turns_of (passing is_running (history l j) p)) at in
-        let nothing = ap (left_to (history (l ++ stops l) j)) (after ∙ at) in
-        omega arith
-    go (Some a) at =
-        let runs : is_in is_running l j ≡ is_running (phase a.plan (history l j)) =
-        ap (passing is_running (history l j)) at in
-        let is_open_too : is_in is_open l j ≡ is_open (phase a.plan (history l j)) =
-        ap (passing is_open (history l j)) at in
-        let needs : bound_of l j ≡ 2 * step_count a.plan * (a.plan.tries + 2) =
-        ap (λ o. unwrap_or (option_map (λ (b : Journey).
-        2 * step_count b.plan * (b.plan.tries + 2)) o) 0) at in
-        let turns = ap turns_of runs in
-        let left : left_of (l ++ stops l) j
-        ≡ steps_left a.plan
-        (history l j ++ stop_items (is_running (phase a.plan (history l j))) (last_save_of l j)) =
-        ap (λ h. left_to h (journey_at (l ++ stops l) j)) (history-stops l j low high)
-        ∙ ap (left_to (history l j ++ stop_items (is_in is_running l j) (last_save_of l j)))
-        (after ∙ at)
-        ∙ ap (λ v. steps_left a.plan (history l j ++ stop_items v (last_save_of l j))) runs in
-        let may : (if is_in is_open l j then bound_of l j else 0)
-        ≡ need_of a.plan (is_open (phase a.plan (history l j))) =
-        ap (λ v. if v then bound_of l j else 0) is_open_too
-        ∙ ap (λ n. if is_open (phase a.plan (history l j)) then n else 0) needs in
-        let goes = (all_go l legal).go j a at in
-        let within = stop-within a.plan (history l j) (last_save_of l j) goes in
-        omega arith
+journey-within l legal j low high =
+    rw (journeys-stops l, history-stops l j low high)
+    (option-within (history l j) (journey_at l j) (last_save_of l j) ((all_go l legal).go j))
 
 -- the turns, and what is left after them, are within the bound
 pub stops-within : (l : List Event) → IsLegal l
     → length (stops l) + work (l ++ stops l) ≤ bound l
-stops-within l legal =
-    let all = turns-within (is_in is_running l) (is_in is_open l) (left_of (l ++ stops l))
-    (bound_of l) (length (journeys l)) 1 (journey-within l legal) in
-    let left : work (l ++ stops l) ≡ sum_by (left_of (l ++ stops l)) (numbers l) =
-    work-sum (l ++ stops l)
-    ∙ ap (λ js. sum_by (left_of (l ++ stops l)) (numbers_from 1 (length js))) (journeys-stops l) in
-    let count : length (stops l) ≡ length (filter (is_in is_running l) (numbers l)) =
-    length-map (filter (is_in is_running l) (numbers l)) (stop_of l) in
-    omega arith
+stops-within l legal = grind (arith, turns-within, left_of, journey-within, work, work-sum, journeys-stops, length-map)

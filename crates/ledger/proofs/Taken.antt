@@ -1,6 +1,6 @@
 -- The set of the save-points that were taken, as a desk stores it: what it means for a history, and what one more item
 -- changes of it.
-use Rattle.std.proofs.Common.{◌≡◌, ℕ, zero, suc, ◌+◌, ◌-◌, ◌≤◌, List, [], ◌∷◌, ◌++◌, refl, ap, sym, ◌∙◌, arith, eqb-true, Bool, true, false, not, ◌==◌, ◌||◌, ◌&&◌, filter, nat_le, nat_lt, IsTrue}
+use Rattle.std.proofs.Common.{◌≡◌, ℕ, zero, suc, ◌+◌, ◌-◌, ◌≤◌, List, [], ◌∷◌, ◌++◌, ap, sym, ◌∙◌, arith, eqb-true, Bool, true, false, not, ◌==◌, ◌||◌, ◌&&◌, filter, nat_le, nat_lt, IsTrue}
 use Rattle.std.proofs.lemmas.Bool.{and_from, eqb-false, lt-ltb, le-leb, lt-leb}
 use Rattle.std.proofs.lemmas.Bool.Decides.{nat_tests}
 use Rattle.std.specs.FinSet as set
@@ -22,29 +22,12 @@ use Rattle.ledger.proofs.Taking.{is_taken-more}
 
 -- Members.
 
--- no number is at least the first one and below it
-none_between : (test : Bool) (first p : ℕ)
-    → false ≡ (nat_le first p && nat_lt p (first + 0) && test)
-none_between test first p = grind (arith, nat_tests)
-
--- where the first number passes, it is the first member
-first_passes : (test : Bool) (first more p : ℕ) (rest : Bool) → (first ≡ p → test ≡ true)
-    → rest ≡ (nat_le (suc first) p && nat_lt p (suc first + more) && test)
-    → ((first == p) || rest) ≡ (nat_le first p && nat_lt p (first + suc more) && test)
-first_passes test first more p rest passed is = grind (arith, nat_tests)
-
--- where the first number fails, the members are among the others
-first_fails : (test : Bool) (first more p : ℕ) (rest : Bool) → (first ≡ p → test ≡ false)
-    → rest ≡ (nat_le (suc first) p && nat_lt p (suc first + more) && test)
-    → rest ≡ (nat_le first p && nat_lt p (first + suc more) && test)
-first_fails test first more p rest failed is = grind (arith, nat_tests)
-
 -- of so many consecutive numbers those that pass are the members, and no others
 list_any-filter : (passes : ℕ → Bool) (first more p : ℕ)
     → list_any (λ q. q == p) (filter passes (numbers_from first more))
     ≡ (nat_le first p && nat_lt p (first + more) && passes p)
-list_any-filter passes first zero p = none_between (passes p) first p
-list_any-filter passes first (suc more) p = grind (arith, first_passes, first_fails, list_any-filter passes (suc first) more p)
+list_any-filter passes first zero p = grind (arith, nat_tests)
+list_any-filter passes first (suc more) p = let later = list_any-filter passes (suc first) more p in grind (arith, nat_tests)
 
 -- a test that passes only between 1 and the last mark needs no limits
 without_limits : (test : Bool) (p : ℕ) → (test ≡ true → 1 ≤ p) → (test ≡ true → p ≤ last_mark)
@@ -68,11 +51,9 @@ pub marks_of-is : (plan : Planned) (h : List Item) (marks : set.FinSet nat_cmp) 
 marks_of-is plan h marks f same =
     same_marks marks (marks_of h) (λ p. same p ∙ sym (is_taken_in-marks_of plan h p f))
 
--- no consecutive number passes a test that none passes
-list_any-none : (first more p : ℕ) → list_any (λ q. q == p)
-    (filter (λ _. false) (numbers_from first more)) ≡ false
-list_any-none first zero p = refl
-list_any-none first (suc more) p = list_any-none (suc first) more p
+-- nothing both passes and fails
+nothing : (b : Bool) → (b && false) ≡ false
+nothing b = grind arith
 
 -- a journey that is just begun took none
 pub marks_of-begin : (marks : set.FinSet nat_cmp) → ((p : ℕ) → is_taken_in marks p ≡ false)
@@ -80,7 +61,7 @@ pub marks_of-begin : (marks : set.FinSet nat_cmp) → ((p : ℕ) → is_taken_in
 marks_of-begin marks none =
     same_marks marks (marks_of [])
     (λ p. none p ∙ sym (contains-from_list_nat (filter (is_taken []) (numbers_from 1 last_mark)) p
-    ∙ list_any-none 1 last_mark p))
+    ∙ list_any-filter (is_taken []) 1 last_mark p ∙ nothing _))
 
 -- The rules by the set.
 

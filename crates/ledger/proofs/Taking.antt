@@ -1,29 +1,14 @@
 -- What one more item does to the save-points that were taken: a save-point adds one, and the compensation of a step
 -- drops the one that was taken after it. For the histories of legal ledgers.
-use Rattle.std.proofs.Common.{◌≡◌, ℕ, List, [], ◌∷◌, ◌++◌, refl, ap, ◌∙◌, Bool, true, false, ◌||◌, ◌&&◌, not, ◌==◌, arith}
+use Rattle.std.proofs.Common.{◌≡◌, ℕ, List, [], ◌∷◌, ◌++◌, refl, Bool, ◌||◌, ◌&&◌, not, ◌==◌, arith}
 use Rattle.std.proofs.Math.Bool.{or-false}
 use Rattle.std.proofs.lemmas.List.Folds.{list_any-append}
-use Rattle.std.specs.List.{list_any}
 use Rattle.commands.specs.declared.items.Item.{Item}
 use Rattle.commands.specs.declared.items.Item.TheVariants.{Compensation, Save}
-use Rattle.ledger.specs.History.{is_taken, is_compensation_of}
+use Rattle.ledger.specs.History.{is_taken}
 use Rattle.ledger.proofs.Going.{is_taken-other}
 use Rattle.ledger.proofs.Standing.{compensated-other}
 use Rattle.ledger.specs.JourneyChanges.{is_taken_after}
-
--- Tests joined in another order.
-
--- of three tests the first two commute
-or_swap : (a b t : Bool) → (a || (b || t)) ≡ (b || (a || t))
-or_swap a b t = grind arith
-
--- what is taken and not dropped, or nothing else, is what is taken
-only_now : (now : Bool) → ((now && true) || false) ≡ (now || false)
-only_now now = grind arith
-
--- of nothing, nothing is left
-none_left : (keeps : Bool) → false ≡ (keeps && false)
-none_left keeps = grind arith
 
 -- what is dropped now is out of what was taken here and of what was taken later
 given_up : (here gone now later : Bool)
@@ -36,18 +21,14 @@ given_up here gone now later = grind arith
 -- a save-point adds one to those that were taken
 is_taken-save : (h : List Item) (q p : ℕ)
     → is_taken (h ++ Save q ∷ []) p ≡ ((p == q) || is_taken h p)
-is_taken-save [] q p = only_now (p == q)
-is_taken-save (Save r ∷ h) q p =
-    ap (λ b. (p == r && not b) || is_taken (h ++ Save q ∷ []) p)
-    (compensated-other p h (Save q) refl)
-    ∙ ap (λ b. (p == r && not (list_any (is_compensation_of p) h)) || b) (is_taken-save h q p)
-    ∙ or_swap (p == r && not (list_any (is_compensation_of p) h)) (p == q) (is_taken h p)
+is_taken-save [] q p = grind arith
+is_taken-save (Save r ∷ h) q p = grind (arith, compensated-other p h (Save q) refl, is_taken-save h q p)
 is_taken-save (_ ∷ h) q p = is_taken-save h q p
 
 -- the compensation of step i drops the save-point at i, and no other
 is_taken-compensation : (h : List Item) (i c p : ℕ)
     → is_taken (h ++ Compensation i c ∷ []) p ≡ (not (p == i) && is_taken h p)
-is_taken-compensation [] i c p = none_left (not (p == i))
+is_taken-compensation [] i c p = grind arith
 is_taken-compensation (Save r ∷ h) i c p = grind (arith, list_any-append, or-false, given_up, is_taken-compensation h i c)
 is_taken-compensation (_ ∷ h) i c p = is_taken-compensation h i c p
 

@@ -15,10 +15,7 @@ use Rattle.ledger.proofs.Working.{steps-within}
 -- a prefix of a prefix of the recovered ledger is a prefix of it
 begins-front : (l begun more : List Event) → BeginsRecovered l (begun ++ more)
     → BeginsRecovered l begun
-begins-front l begun more b = record {
-  rest = more ++ b.rest;
-  recovered = subst (IsRecovered l) (append_assoc begun more b.rest) b.recovered;
-}
+begins-front l begun more b = grind (arith, append_assoc)
 
 -- after the whole way back, and some steps after it, the journeys that are still open go on
 from-back : (l back part : List Event) (number : ℕ) → IsLegal (l ++ stops l)

@@ -2,7 +2,7 @@
 -- recovery.
 use Rattle.std.proofs.Common.{◌≡◌, ℕ, ◌+◌, ◌-◌, ◌*◌, ◌<◌, ◌≤◌, List, [], ◌∷◌, ◌++◌, refl, ap, sym, ◌∙◌, arith, Bool, true, false, length, append_assoc, append-nil, eq-eqb, ◌==◌, Option, Some, None, option_map, sum_by, unwrap_or}
 use Rattle.std.proofs.Math.Nat.{mul-le-mul_left}
-use Rattle.plan.specs.PlanModel.{Planned, step_count, numbered}
+use Rattle.plan.specs.PlanModel.{Planned, step_count}
 use Rattle.commands.specs.declared.items.Cause.TheVariants.{Refused}
 use Rattle.commands.specs.declared.items.Item.{Item}
 use Rattle.commands.specs.declared.items.Item.TheVariants.{Transaction, Compensation, Turn}
@@ -11,7 +11,7 @@ use Rattle.commands.specs.declared.items.Phase.TheVariants.{Run, Back, Ended, Un
 use Rattle.ledger.specs.History.{position_of, refusals, is_refused_turn, phase, is_running, is_going_back, may_come, next_want}
 use Rattle.ledger.specs.Recovery.{is_forward, are_items}
 use Rattle.ledger.proofs.Coming.{step-comes, compensation-comes, refused-comes}
-use Rattle.ledger.proofs.Modes.{Goes, upward, runs, ended, running-rises}
+use Rattle.ledger.proofs.Modes.{Goes, upward, running-rises}
 use Rattle.ledger.proofs.Refusing.{refusals-other, refusals-refused}
 use Rattle.ledger.proofs.Rising.{rising-transaction}
 use Rattle.ledger.proofs.Standing.{position_of-transaction, position_of-turn, compensates}
@@ -19,7 +19,7 @@ use Rattle.std.proofs.lemmas.Bool.{and_parts, ne_eqb}
 use Rattle.std.specs.List.{list_all}
 use Rattle.allotment.specs.Cells.{numbers_from}
 use Rattle.ledger.specs.Ledger.{Event, Did, Journey, journeys, journey_at, numbers, history, fits, is_item_allowed, AreAllowedAfter, IsLegal}
-use Rattle.ledger.proofs.Growing.{IsLegal-append, journeys-did, history-did_same, history-did_other, is_item_allowed-may_do, absurd_item}
+use Rattle.ledger.proofs.Growing.{IsLegal-append, journeys-did, history-did_same, history-did_other, absurd_item}
 use Rattle.ledger.proofs.Ledgers.{all_go}
 use Rattle.ledger.proofs.Lists.{number-within}
 use Rattle.ledger.proofs.Numbers.{sum_by-changed}
@@ -68,8 +68,7 @@ left_in-back plan h _ e = cc
 pub way-other : (plan : Planned) (h : List Item) (x : Item) → is_refused_turn x ≡ false
     → way plan (h ++ x ∷ []) ≡ way plan h
 unfolding way rounds
-way-other plan h x other =
-    ap (λ n. 2 * step_count plan * (plan.tries + 1 - n)) (refusals-other h x other)
+way-other plan h x other = grind (arith, refusals-other)
 
 -- with a try left a refused turn takes one round, of twice the steps
 way-refused : (plan : Planned) (h : List Item) (p : ℕ) → refusals h ≤ plan.tries
@@ -93,9 +92,7 @@ way-least plan h within = let whole = way-refused plan h 0 within in omega arith
 pub way-most : (plan : Planned) (h : List Item)
     → way plan h ≤ 2 * step_count plan * (plan.tries + 1)
 unfolding way rounds
-way-most plan h =
-    mul-le-mul_left (2 * step_count plan)
-    (let low : plan.tries + 1 - refusals h ≤ plan.tries + 1 = omega arith in low)
+way-most plan h = grind (arith, mul-le-mul_left)
 
 -- Steps.
 
@@ -106,46 +103,21 @@ fewer-transaction : (plan : Planned) (h : List Item) (fits : Bool) (i c : ℕ) �
 fewer-transaction plan h fits i c g may =
     let comes = step-comes plan h fits i c may in
     let up = running-rises plan h g.mode comes.running in
-    let below = up.1 in
-    let risen = up.0 in
-    let least = way-least plan h (g.tries risen.unturned) in
-    let before = left_in-running plan h (phase plan h) comes.running in
-    let same = way-other plan h (Transaction i c) refl in
-    let next = position_of-transaction h i c in
-    elim (upward plan (h ++ Transaction i c ∷ [])
-    (rising-transaction plan h i c up.0 up.1 comes.step)) [
-      | runs lower e ↦ (let after = ap (left_in plan (h ++ Transaction i c ∷ [])) e in omega arith)
-      | ended at e ↦ (let after = ap (left_in plan (h ++ Transaction i c ∷ [])) e in omega arith)
-    ]
+    let next = upward plan (h ++ Transaction i c ∷ []) (rising-transaction plan h i c up.0 up.1 comes.step) in
+    grind (arith, way-least plan h (g.tries up.0.unturned), left_in-running, way-other, position_of-transaction)
 
 -- a compensation leaves fewer steps
 fewer-compensation : (plan : Planned) (h : List Item) (fits : Bool) (i c : ℕ) → Goes plan h
     → may_come plan h fits (Compensation i c) ≡ true
     → steps_left plan (h ++ Compensation i c ∷ []) < steps_left plan h
-fewer-compensation plan h fits i c g may =
-    let comes = compensation-comes plan h fits i c may in
-    let lower = (compensates h i c g.stands comes.last).lower in
-    let before = left_in-back plan h (phase plan h) comes.back in
-    let same = way-other plan h (Compensation i c) refl in
-    let after = left_in-most plan (h ++ Compensation i c ∷ [])
-    (phase plan (h ++ Compensation i c ∷ [])) in
-    omega arith
+fewer-compensation plan h fits i c g may = grind (arith, compensation-comes, compensates, left_in-back, way-other, left_in-most)
 
 -- a refused turn leaves fewer steps, however far it leads back
 fewer-refused : (plan : Planned) (h : List Item) (fits : Bool) (p : ℕ) → Goes plan h
     → may_come plan h fits (Turn p Refused) ≡ true
     → steps_left plan (h ++ Turn p Refused ∷ []) < steps_left plan h
 fewer-refused plan h fits p g may =
-    let comes = refused-comes plan h fits p may in
-    let up = running-rises plan h g.mode comes.running in
-    let below = up.1 in
-    let risen = up.0 in
-    let less = way-refused plan h p (g.tries risen.unturned) in
-    let before = left_in-running plan h (phase plan h) comes.running in
-    let here = position_of-turn h p Refused in
-    let after = left_in-most plan (h ++ Turn p Refused ∷ [])
-    (phase plan (h ++ Turn p Refused ∷ [])) in
-    omega arith
+    grind (arith, refused-comes, running-rises, way-refused, left_in-running, position_of-turn, left_in-most)
 
 -- each step leaves fewer steps
 pub fewer_left : (plan : Planned) (h : List Item) (fits : Bool) (x : Item) → Goes plan h
@@ -169,29 +141,23 @@ left_of l j = left_to (history l j) (journey_at l j)
 -- an item of another journey leaves them
 left_of-other : (l : List Event) (k : ℕ) (x : Item) (j : ℕ) → (j == k) ≡ false
     → left_of (l ++ Did k x ∷ []) j ≡ left_of l j
-left_of-other l k x j other =
-    ap (λ h. left_to h (journey_at (l ++ Did k x ∷ []) j)) (history-did_other l k x j other)
-    ∙ ap (λ js. left_to (history l j) (numbered js j)) (journeys-did l k x)
+left_of-other l k x j other = grind (arith, history-did_other, journeys-did)
+
+-- a step leaves fewer with this history to the journey, if there is one
+left_to-fewer : (h : List Item) (o : Option Journey) (fit : Journey → Bool) (x : Item)
+    → ((a : Journey) → o ≡ Some a → Goes a.plan h) → is_forward x ≡ true
+    → unwrap_or (option_map (λ (a : Journey). may_come a.plan h (fit a) x) o) false ≡ true
+    → left_to (h ++ x ∷ []) o < left_to h o
+left_to-fewer h None fit x goes forward may = cc
+left_to-fewer h (Some a) fit x goes forward may = fewer_left a.plan h (fit a) x (goes a refl) forward may
 
 -- a step of the journey leaves fewer
 pub left_of-fewer : (l : List Event) (k : ℕ) (x : Item) → IsLegal l → is_forward x ≡ true
     → is_item_allowed l k x ≡ true → left_of (l ++ Did k x ∷ []) k < left_of l k
-left_of-fewer l k x legal forward may = go (journey_at l k) refl
-  where
-    go : (o : Option Journey) → journey_at l k ≡ o
-        → left_of (l ++ Did k x ∷ []) k < left_of l k
-    go None at = absurd_item l k x at may
-    go (Some a) at =
-        let before : left_of l k ≡ steps_left a.plan (history l k) =
-        ap (left_to (history l k)) at in
-        let after : left_of (l ++ Did k x ∷ []) k ≡ steps_left a.plan (history l k ++ x ∷ []) =
-        ap (λ h. left_to h (journey_at (l ++ Did k x ∷ []) k))
-        (history-did_same l k x k (eq-eqb k k refl))
-        ∙ ap (λ js. left_to (history l k ++ x ∷ []) (numbered js k)) (journeys-did l k x)
-        ∙ ap (left_to (history l k ++ x ∷ [])) at in
-        let fewer = fewer_left a.plan (history l k) (fits l (next_want a.plan (history l k))) x
-        ((all_go l legal).go k a at) forward (sym (is_item_allowed-may_do l k x a at) ∙ may) in
-        omega arith
+left_of-fewer l k x legal forward may =
+    rw (journeys-did l k x, history-did_same l k x k (eq-eqb k k refl))
+    (left_to-fewer (history l k) (journey_at l k) (λ a. fits l (next_want a.plan (history l k))) x ((all_go l legal).go k)
+    forward may)
 
 -- All journeys.
 
@@ -226,8 +192,7 @@ work-fewer l k x legal forward may = go (journey_at l k) refl
 -- there are no more steps than were left
 pub steps-within : (p l : List Event) → IsLegal l → AreAllowedAfter l p
     → list_all (are_items is_forward) p ≡ true → length p + work (l ++ p) ≤ work l
-steps-within [] l legal allowed items =
-    let same = ap work (append-nil l) in omega arith
+steps-within [] l legal allowed items = grind (arith, work, append-nil)
 steps-within (Did k x ∷ p) l legal allowed items =
     let both = and_parts (is_forward x) (list_all (are_items is_forward) p) items in
     let here = work-fewer l k x legal both.0 allowed.0 in
