@@ -1,19 +1,16 @@
 -- What one more event changes of the allotment of a cell. For each desk that stores how many places are allotted.
-use Rattle.std.proofs.Common.{◌≡◌, ℕ, List, [], ◌∷◌, ◌++◌, refl, append-nil, true, false, filter, find, Option, option_map, option_to_list, IsTrue, arith}
+use Rattle.std.proofs.Common.{◌≡◌, ℕ, List, [], ◌∷◌, ◌++◌, refl, true, false, filter, find, Option, option_map, option_to_list, IsTrue, arith}
 use Rattle.std.proofs.lemmas.Bool.{and_parts, or_parts, not-true}
-use Rattle.std.proofs.lemmas.Grind.{flat_map-append}
-use Rattle.std.proofs.lemmas.List.Elements.{filter-append}
 use Rattle.std.specs.List.{list_any}
 use Rattle.allotment.specs.Cells.{is_cell}
 use Rattle.allotment.specs.declared.cells.Cell.{Cell}
 use Rattle.allotment.specs.declared.cells.Row.{Row}
 use Rattle.plan.specs.PlanModel.{Planned}
 use Rattle.commands.specs.declared.items.Item.{Item}
-use Rattle.ledger.specs.History.{last_of}
 use Rattle.ledger.specs.Ledger.{Event, Loaded, Began, Did, allotment, are_distinct, is_allowed}
-use Rattle.ledger.proofs.Allotted.{allotment-same}
+pub use Rattle.ledger.proofs.Allotted.{allotment-loaded_last}
+use Rattle.ledger.proofs.Allotted.{allotment-same, last_places}
 use Rattle.ledger.proofs.Cells.{is_cell-same}
-use Rattle.ledger.proofs.Lists.{last_of-append, last_of-some}
 use Rattle.ledger.specs.JourneyChanges.{places_in_rows, newer}
 
 -- a begin leaves each allotment
@@ -40,24 +37,6 @@ filter-distinct : (x : Cell) (rows : List Row) → are_distinct rows ≡ true
 filter-distinct x [] distinct = refl
 filter-distinct x (r ∷ rows) distinct =
     grind (arith, and_parts, not-true, filter-none x r.cell rows, is_cell-same x r.cell, filter-distinct x rows)
-
--- the places of the last row, if there is one
-abbrev last_places : List Row → Option ℕ
-last_places rows = option_map (λ (r : Row). r.places) (last_of rows)
-
--- the last of some rows and of some more is the last of these, if there is one
-last-newer : (rows more : List Row)
-    → last_places (rows ++ more) ≡ newer (last_places more) (last_places rows)
-last-newer rows [] = grind (arith, append-nil)
-last-newer rows (r ∷ more) = let some = last_of-some (r ∷ more) (omega arith) in grind (arith, last_of-append)
-
--- a batch gives a cell the places of its last row for it, if it has one
-pub allotment-loaded_last : (l : List Event) (name : List ℕ) (rows : List Row) (x : Cell)
-    → allotment (l ++ Loaded name rows ∷ []) x
-    ≡ newer
-    (option_map (λ (r : Row). r.places) (last_of (filter (λ (r : Row). is_cell x r.cell) rows)))
-    (allotment l x)
-allotment-loaded_last l name rows x = grind (arith, flat_map-append, append-nil, filter-append, last-newer)
 
 -- the last of at most one row is that one
 last-only : (o : Option Row)

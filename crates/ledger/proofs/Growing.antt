@@ -1,5 +1,5 @@
 -- How a legal ledger grows by one event, and induction over its events. For what holds of all legal ledgers.
-use Rattle.std.proofs.Common.{◌≡◌, ℕ, List, [], ◌∷◌, ◌++◌, sym, ◌∙◌, append_assoc, subst, append-nil, Bool, true, false, ◌==◌, Some, None, if◌then◌else◌, IsTrue}
+use Rattle.std.proofs.Common.{◌≡◌, ℕ, List, [], ◌∷◌, ◌++◌, sym, ◌∙◌, append_assoc, subst, append-nil, Bool, true, false, ◌==◌, Some, None, if◌then◌else◌, IsTrue, unwrap_or, option_map, Option, refl}
 use Rattle.std.proofs.lemmas.List.Elements.{filter_map-append}
 use Rattle.std.specs.List.{cons_option}
 use Rattle.commands.specs.declared.items.Item.{Item}
@@ -96,6 +96,17 @@ is_item_allowed-may_do l k item a at = cc
 pub is_item_allowed-none : (l : List Event) (k : ℕ) (item : Item) → journey_at l k ≡ None
     → is_item_allowed l k item ≡ false
 is_item_allowed-none l k item absent = cc
+
+-- what a test of an option lets pass is there
+some-passes : {X : Type 0} (o : Option X) (test : X → Bool) → unwrap_or (option_map test o) false ≡ true
+    → (a : X) × (o ≡ Some a)
+some-passes None test e = cc
+some-passes (Some a) test e = (a, refl)
+
+-- there is a journey of which an item is allowed
+pub item-journey : (l : List Event) (k : ℕ) (item : Item) → is_item_allowed l k item ≡ true
+    → (a : Journey) × (journey_at l k ≡ Some a)
+item-journey l k item may = some-passes (journey_at l k) (may_do l k item) may
 
 -- it is absurd that an item is allowed where there is no journey
 pub absurd_item : {X : Type 0} (l : List Event) (k : ℕ) (item : Item) → journey_at l k ≡ None

@@ -1,18 +1,19 @@
 -- How many places of a cell are held, as events come. For the law that no cell is overfull.
-use Rattle.std.proofs.Common.{◌≡◌, ℕ, suc, ◌+◌, ◌≤◌, List, [], ◌∷◌, ◌++◌, length, refl, ap, sym, ◌∙◌, arith, eq-eqb, length-append, Option, Some, None, option_map, sum_by, ne_eqb, unwrap_or}
-use Rattle.std.proofs.lemmas.List.Sums.{sum_by-cons, sum_by-append}
+use Rattle.std.proofs.Common.{◌≡◌, ℕ, ◌+◌, ◌≤◌, List, [], ◌∷◌, ◌++◌, length, refl, ap, ◌∙◌, arith, eq-eqb, Option, Some, None, option_map, sum_by, ne_eqb, unwrap_or}
+use Rattle.std.proofs.lemmas.List.Sums.{sum_by-cons, sum_by-append, sum_by_push}
 use Rattle.allotment.specs.Cells.{numbers_from}
 use Rattle.allotment.specs.declared.cells.Cell.{Cell}
 use Rattle.plan.specs.PlanModel.{Planned, numbered, want_at}
-use Rattle.commands.specs.declared.items.Cause.{Cause}
 use Rattle.commands.specs.declared.items.Item.{Item}
-use Rattle.commands.specs.declared.items.Item.TheVariants.{Transaction, Compensation, Turn, Save}
+use Rattle.commands.specs.declared.items.Item.TheVariants.{Transaction, Compensation}
 use Rattle.ledger.specs.Ledger.{Event, Loaded, Began, Did, Journey, journeys, journey_at, numbers, history, places_in, held_by, held_by_journey, held}
 use Rattle.ledger.proofs.Growing.{journeys-began, journeys-loaded, journeys-did, history-began, history-loaded, history-did_same, history-did_other}
 use Rattle.ledger.proofs.Ledgers.{AllGo}
-use Rattle.ledger.proofs.Lists.{numbered-some, numbered-past, number-within}
-use Rattle.ledger.proofs.Numbers.{numbers_from-append, sum_by-same, sum_by-filter, sum_by-changed}
-use Rattle.ledger.proofs.Standing.{net-transaction, net-compensation, net-turn, net-save}
+use Rattle.ledger.proofs.Lists.{numbered-some, number-within}
+use Rattle.ledger.proofs.Numbers.{sum_by-same, sum_by-filter, sum_by-changed}
+use Rattle.ledger.proofs.Standing.{net-transaction, net-compensation}
+use Rattle.ledger.proofs.Events.{begun, numbers-began, journey_at-next}
+use Rattle.ledger.specs.History.{net}
 
 -- what a journey, if there is one, holds by its history
 abbrev held_in : Cell → List Item → Option Journey → ℕ
@@ -29,53 +30,31 @@ held-loaded l name rows x = search (arith, journeys-loaded, sum_by-same, history
 held_in-nothing : (x : Cell) (o : Option Journey) → held_in x [] o ≡ 0
 held_in-nothing x o = grind arith
 
+-- where the journey that was there still is, and none that has items comes, so much is held
+held_in-kept : (x : Cell) (h : List Item) (o new : Option Journey) → (o ≡ None → h ≡ [])
+    → ((b : Journey) → o ≡ Some b → new ≡ Some b) → held_in x h new ≡ held_in x h o
+held_in-kept x h None new none some = ap (λ g. held_in x g new) (none refl) ∙ held_in-nothing x new
+held_in-kept x h (Some b) new none some = ap (held_in x h) (some b refl)
+
 -- a journey that is begun holds nothing, and the others hold what they held
 held_by_journey-began : (l : List Event) (agent : List ℕ) (plan : Planned) (x : Cell) → AllGo l
     → (j : ℕ) → held_by_journey (l ++ Began agent plan ∷ []) x j ≡ held_by_journey l x j
-held_by_journey-began l agent plan x all j = known (journey_at l j) refl
-  where
-    same : history (l ++ Began agent plan ∷ []) j ≡ history l j
-    same = history-began l agent plan j
-
-    known : (o : Option Journey) → journey_at l j ≡ o
-        → held_by_journey (l ++ Began agent plan ∷ []) x j ≡ held_by_journey l x j
-    known None e =
-        ap (λ h. held_in x h (journey_at (l ++ Began agent plan ∷ []) j)) (same ∙ all.none j e)
-        ∙ held_in-nothing x (journey_at (l ++ Began agent plan ∷ []) j)
-        ∙ sym (ap (held_in x (history l j)) e)
-    known (Some b) e =
-        ap (λ h. held_in x h (journey_at (l ++ Began agent plan ∷ []) j)) same
-        ∙ ap (held_in x (history l j))
-        (ap (λ js. numbered js j) (journeys-began l agent plan)
-        ∙ numbered-some (journeys l) (record { agent = agent; plan = plan }) j b e ∙ sym e)
+held_by_journey-began l agent plan x all j =
+    rw (journeys-began l agent plan, history-began l agent plan j)
+    (held_in-kept x (history l j) (journey_at l j) (numbered (journeys l ++ begun agent plan ∷ []) j) (all.none j)
+    (numbered-some (journeys l) (begun agent plan) j))
 
 -- a begin changes nothing that is held
 pub held-began : (l : List Event) (agent : List ℕ) (plan : Planned) (x : Cell) → AllGo l
     → held (l ++ Began agent plan ∷ []) x ≡ held l x
 held-began l agent plan x all =
-    ap (λ n. sum_by holds (numbers_from 1 n)) count
-    ∙ ap (sum_by holds) (numbers_from-append 1 (length (journeys l)) 1)
-    ∙ sum_by-append holds (numbers l) ((1 + length (journeys l)) ∷ [])
-    ∙ (let rest = sum_by-same holds (held_by_journey l x) (numbers l) each in
-    let none : holds (1 + length (journeys l)) ≡ 0 = each (1 + length (journeys l)) ∙ past in
-    let k : sum_by holds (numbers l) + sum_by holds ((1 + length (journeys l)) ∷ []) ≡ held l x =
-    omega arith in
-    k)
-  where
-    holds : ℕ → ℕ
-    holds = held_by_journey (l ++ Began agent plan ∷ []) x
-
-    each : (j : ℕ) → held_by_journey (l ++ Began agent plan ∷ []) x j ≡ held_by_journey l x j
-    each = held_by_journey-began l agent plan x all
-
-    count : length (journeys (l ++ Began agent plan ∷ [])) ≡ length (journeys l) + 1
-    count = grind (arith, journeys-began, length-append)
-
-    past : held_by_journey l x (1 + length (journeys l)) ≡ 0
-    past =
-        ap (held_by_journey l x)
-        (let e : 1 + length (journeys l) ≡ suc (length (journeys l)) = omega arith in e)
-        ∙ ap (held_in x (history l (suc (length (journeys l))))) (numbered-past (journeys l))
+    let holds : ℕ → ℕ = held_by_journey (l ++ Began agent plan ∷ []) x in
+    let each = held_by_journey-began l agent plan x all in
+    let past = ap (held_in x (history l (length (journeys l) + 1))) (journey_at-next l) in
+    let new = each (length (journeys l) + 1) in
+    let old = sum_by-same holds (held_by_journey l x) (numbers l) each in
+    let sum = ap (sum_by holds) (numbers-began l agent plan) ∙ sum_by_push holds (numbers l) (length (journeys l) + 1) in
+    omega arith
 
 -- Items.
 
@@ -90,9 +69,7 @@ held-did l k item a x at =
     let all = ap (λ js. sum_by (held_by_journey (l ++ Did k item ∷ []) x) (numbers_from 1 (length js))) (journeys-did l k item) in
     let old = ap (held_in x (history l k)) at in
     let new : held_by_journey (l ++ Did k item ∷ []) x k ≡ held_by a.plan (history l k ++ item ∷ []) x =
-    ap (λ h. held_in x h (journey_at (l ++ Did k item ∷ []) k)) (history-did_same l k item k (eq-eqb k k refl))
-    ∙ ap (λ js. held_in x (history l k ++ item ∷ []) (numbered js k)) (journeys-did l k item)
-    ∙ ap (held_in x (history l k ++ item ∷ [])) at in
+    rw (journeys-did l k item, history-did_same l k item k (eq-eqb k k refl), at) refl in
     omega arith
   where
     other : (j : ℕ) → (j ≡ k → ⊥) → held_by_journey (l ++ Did k item ∷ []) x j ≡ held_by_journey l x j
@@ -117,14 +94,7 @@ pub held_by-compensation : (plan : Planned) (h : List Item) (i c : ℕ) (x : Cel
 unfolding places_of
 held_by-compensation plan h i c x = grind (arith, net-compensation, sum_by-filter)
 
--- a turn leaves what is held
-pub held_by-turn : (plan : Planned) (h : List Item) (p : ℕ) (cause : Cause) (x : Cell)
-    → held_by plan (h ++ Turn p cause ∷ []) x ≡ held_by plan h x
+-- an item that leaves what stands leaves what is held
+pub held_by-same : (plan : Planned) (g h : List Item) (x : Cell) → net g ≡ net h → held_by plan g x ≡ held_by plan h x
 unfolding places_of
-held_by-turn plan h p cause x = ap (sum_by (places_of plan x)) (net-turn h p cause)
-
--- a save-point leaves what is held
-pub held_by-save : (plan : Planned) (h : List Item) (p : ℕ) (x : Cell)
-    → held_by plan (h ++ Save p ∷ []) x ≡ held_by plan h x
-unfolding places_of
-held_by-save plan h p x = ap (sum_by (places_of plan x)) (net-save h p)
+held_by-same plan g h x same = ap (sum_by (places_of plan x)) same

@@ -27,7 +27,6 @@ pub mod Answers
 pub mod Outcomes
 pub mod Events
 pub mod Taking
-pub mod Inductions
 pub mod Histories
 pub mod Positions
 pub mod Items

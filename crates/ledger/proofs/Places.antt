@@ -1,13 +1,13 @@
 -- In every legal ledger no cell holds more than its allotment. For the law of places.
-use Rattle.std.proofs.Common.{◌≡◌, ℕ, ◌+◌, ◌≤◌, List, [], ◌∷◌, ◌++◌, refl, ap, sym, ◌∙◌, arith, subst, Bool, true, false, nat_le, Option, Some, None, option_map, if◌then◌else◌, unwrap_or}
-use Rattle.std.proofs.lemmas.Bool.{leb-true, and_parts}
+use Rattle.std.proofs.Common.{◌≡◌, ℕ, ◌+◌, ◌≤◌, List, [], ◌∷◌, ◌++◌, ap, sym, ◌∙◌, arith, subst, true, false, nat_le, Option, Some, None, option_map, unwrap_or, inl, inr}
+use Rattle.std.proofs.lemmas.Bool.{leb-true, and_parts, cases_Bool}
 use Rattle.allotment.specs.Want.{Wanted}
 use Rattle.allotment.specs.Cells.{is_cell, cells_of, wants_cell}
 use Rattle.allotment.specs.declared.cells.Cell.{Cell}
 use Rattle.allotment.specs.declared.cells.Row.{Row}
 use Rattle.plan.specs.PlanModel.{want_at}
 use Rattle.commands.specs.declared.items.Item.{Item}
-use Rattle.commands.specs.declared.items.Item.TheVariants.{Transaction}
+use Rattle.commands.specs.declared.items.Item.TheVariants.{Transaction, Compensation, Turn, Save}
 use Rattle.ledger.specs.History.{position_of, next_want}
 use Rattle.ledger.specs.Ledger.{Event, Loaded, Did, Journey, journey_at, history, allotment, places_in, held_by, held, has_free, fits, is_allowed, may_do, IsLegal}
 use Rattle.ledger.specs.Laws.{NoCellIsOverfull}
@@ -15,9 +15,10 @@ use Rattle.ledger.proofs.Allotted.{allotment-same, allotment-loaded}
 use Rattle.ledger.proofs.Cells.{is_cell-same}
 use Rattle.ledger.proofs.Coming.{step-comes}
 use Rattle.ledger.proofs.Growing.{Keeps, induct, is_item_allowed-may_do, absurd_item}
-use Rattle.ledger.proofs.Held.{held-loaded, held-began, held-did, held_by-transaction, held_by-compensation, held_by-turn, held_by-save}
+use Rattle.ledger.proofs.Held.{held-loaded, held-began, held-did, held_by-transaction, held_by-compensation, held_by-same}
 use Rattle.ledger.proofs.Ledgers.{all_go}
 use Rattle.ledger.proofs.Lists.{list_any-and_all}
+use Rattle.ledger.proofs.Standing.{net-turn, net-save}
 
 -- What fits leaves room.
 
@@ -33,15 +34,14 @@ fits-room : (l : List Event) (x : Cell) (o : Option Wanted)
     → held l x ≤ unwrap_or (allotment l x) 0 → fits l o ≡ true
     → held l x + places_in x o ≤ unwrap_or (allotment l x) 0
 fits-room l x None room e = cc
-fits-room l x (Some w) room e = go (wants_cell w x) refl
-  where
-    go : (v : Bool) → wants_cell w x ≡ v
-        → held l x + (if v then w.count else 0) ≤ unwrap_or (allotment l x) 0
-    go false no_want = omega arith
-    go true want =
-        let found = list_any-and_all (is_cell x) (has_free l w.count) (cells_of w) want e in
-        free-room (held l x) w.count (allotment l x)
-        (ap (has_free l w.count) (is_cell-same x found.0 found.1) ∙ found.2)
+fits-room l x (Some w) room e = elim (cases_Bool (wants_cell w x)) [
+  | inr no_want ↦ grind arith
+  | inl want ↦
+      (let found = list_any-and_all (is_cell x) (has_free l w.count) (cells_of w) want e in
+      let free = free-room (held l x) w.count (allotment l x)
+      (ap (has_free l w.count) (is_cell-same x found.0 found.1) ∙ found.2) in
+      grind arith)
+]
 
 -- Each event leaves room.
 
@@ -80,7 +80,10 @@ step-room l k a i c at may room =
 -- only a transaction adds to what is held
 item-room : (l : List Event) (k : ℕ) (a : Journey) (item : Item) → journey_at l k ≡ Some a
     → may_do l k item a ≡ true → NoCellIsOverfull l → NoCellIsOverfull (l ++ Did k item ∷ [])
-item-room l k a item at may room = search (arith, step-room, still-room, held_by-compensation, held_by-turn, held_by-save)
+item-room l k a (Transaction i c) at may room = step-room l k a i c at may room
+item-room l k a (Compensation i c) at may room = still-room l k _ a at (held_by-compensation a.plan (history l k) i c) room
+item-room l k a (Turn p cause) at may room = grind (arith, still-room, held_by-same, net-turn)
+item-room l k a (Save p) at may room = grind (arith, still-room, held_by-same, net-save)
 
 -- a batch whose rows are not below what is held
 load-room : (l : List Event) (name : List ℕ) (rows : List Row)

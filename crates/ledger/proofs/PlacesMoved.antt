@@ -19,6 +19,7 @@ use Rattle.ledger.proofs.Lists.{number-within}
 pub use Rattle.ledger.proofs.Allotments.{allotment-began, allotment-did, allotment-loaded}
 use Rattle.ledger.proofs.Histories.{follows, may_come-allowed}
 use Rattle.ledger.proofs.Items as items
+use Rattle.ledger.proofs.Standing.{net-turn, net-save}
 
 -- the number of a journey is one from 1 to how many there are
 pub number_within : (l : List Event) (j : ℕ) (a : Journey) → journey_at l j ≡ Some a
@@ -56,13 +57,12 @@ held-compensation l j i c a x legal at may =
 -- a turn leaves what is held
 pub held-turn : (l : List Event) (j p : ℕ) (cause : Cause) (a : Journey) (x : Cell)
     → journey_at l j ≡ Some a → held (l ++ Did j (Turn p cause) ∷ []) x ≡ held l x
-held-turn l j p cause a x at =
-    omega (arith, held-did l j (Turn p cause) a x at, held_before.held_by-turn a.plan (history l j) p cause x)
+held-turn l j p cause a x at = grind (arith, held-did l j (Turn p cause) a x at, held_before.held_by-same, net-turn)
 
 -- a save-point leaves what is held
 pub held-save : (l : List Event) (j p : ℕ) (a : Journey) (x : Cell)
     → journey_at l j ≡ Some a → held (l ++ Did j (Save p) ∷ []) x ≡ held l x
-held-save l j p a x at = omega (arith, held-did l j (Save p) a x at, held_before.held_by-save a.plan (history l j) p x)
+held-save l j p a x at = grind (arith, held-did l j (Save p) a x at, held_before.held_by-same, net-save)
 
 -- a want takes so many places of its own cells
 pub places_in-cell : (w : Wanted) (x : Cell) → wants_cell w x ≡ true

@@ -1,7 +1,7 @@
 -- How far a part of recovery has come, by items of some kind, and that it comes to its end: one journey after another goes
 -- on until none of them is in some kind of phase. For the law of recovery, and for its passes.
 use Rattle.std.proofs.Common.{◌≡◌, ℕ, zero, suc, ◌+◌, ◌<◌, ◌≤◌, List, [], ◌∷◌, ◌++◌, length, refl, ap, sym, ◌∙◌, arith, append_assoc, append-nil, subst, eq-eqb, Bool, true, false, not, ◌==◌, nat_le, nat_lt, inl, inr}
-use Rattle.std.proofs.lemmas.Bool.{and_parts, and_from, not_from_false, cases_lt}
+use Rattle.std.proofs.lemmas.Bool.{and_from, not_from_false, cases_lt, cases_Bool}
 use Rattle.std.proofs.lemmas.Bool.Decides.{nat_tests}
 use Rattle.std.proofs.lemmas.List.Folds.{list_all-append}
 use Rattle.std.specs.List.{list_all, list_any}
@@ -58,20 +58,15 @@ of-passing test j p all here = grind (arith, list_all_weaker, nat_tests)
 of-by_number : (j : ℕ) (p : List Event) → AreOf j p → is_by_number p ≡ true
 of-by_number j [] all = refl
 of-by_number j (e ∷ p) all =
-    let both = and_parts (journey_of e == j) (list_all (λ d. journey_of d == j) p) all in
-    and_from _ _ (of-passing (nat_le (journey_of e)) j p both.1 (grind (arith, nat_tests))) (of-by_number j p both.1)
+    let rest = of-by_number j p in let low = of-passing (nat_le (journey_of e)) j p in grind (arith, nat_tests)
 
 -- events up to a journey, followed by events of that journey, are ordered by number
 by_number-join : (j : ℕ) (p q : List Event) → is_by_number p ≡ true
     → list_all (λ e. nat_le (journey_of e) j) p ≡ true → AreOf j q → is_by_number (p ++ q) ≡ true
 by_number-join j [] q sorted low all = of-by_number j q all
 by_number-join j (e ∷ p) q sorted low all =
-    let first = and_parts (list_all (λ d. nat_le (journey_of e) (journey_of d)) p) (is_by_number p) sorted in
-    let lows = and_parts (nat_le (journey_of e) j) (list_all (λ d. nat_le (journey_of d) j) p) low in
-    and_from _ _
-    (list_all-append (λ d. nat_le (journey_of e) (journey_of d)) p q
-    ∙ and_from _ _ first.0 (of-passing (nat_le (journey_of e)) j q all lows.0))
-    (by_number-join j p q first.1 lows.1 all)
+    let rest = by_number-join j p q in let high = of-passing (nat_le (journey_of e)) j q all in
+    grind (arith, list_all-append)
 
 -- these items of the journey that the part has reached are among the items of the part
 pub reached-carried : (test : Item → Bool) (passes : Phase → Bool) (before part more : List Event)
@@ -121,23 +116,21 @@ module _ (test : Item → Bool) (passes : Phase → Bool) (stage : IsStage test 
       → ((more : List Event) → HasReached test passes before more number
       → left_of (before ++ more) number < left_of (before ++ part) number → Completes test passes before more)
       → Completes test passes before part
-  complete-one part number r others again = go (is_in passes (before ++ part) number) refl
-    where
-      go : (v : Bool) → is_in passes (before ++ part) number ≡ v → Completes test passes before part
-      go false out = others (reached-past test passes before part number r out)
-      go true in_it =
-          let so_far = AreAllowedAfter-join [] before part legal r.allowed in
-          let step = stage.has (before ++ part) number so_far in_it in
-          let more : List Event = part ++ Did number step.0 ∷ [] in
-          let c = again more
-          (reached-carried test passes before part (Did number step.0 ∷ []) number r (step.2, tt)
-          (and_from _ _ step.1 refl) (and_from _ _ (eq-eqb number number refl) refl))
-          (subst (λ l. left_of l number < left_of (before ++ part) number) (append_assoc before part (Did number step.0 ∷ []))
-          (left_of-fewer (before ++ part) number step.0 so_far (stage.steps step.0 step.1) step.2)) in
-          record {
-            rest = Did number step.0 ∷ c.rest;
-            whole = subst (IsPart test passes before) (append_assoc part (Did number step.0 ∷ []) c.rest) c.whole;
-          }
+  complete-one part number r others again = elim (cases_Bool (is_in passes (before ++ part) number)) [
+    | inr out ↦ others (reached-past test passes before part number r out)
+    | inl in_it ↦
+        (let so_far = AreAllowedAfter-join [] before part legal r.allowed in
+        let step = stage.has (before ++ part) number so_far in_it in
+        let c = again (part ++ Did number step.0 ∷ [])
+        (reached-carried test passes before part (Did number step.0 ∷ []) number r (step.2, tt)
+        (and_from _ _ step.1 refl) (and_from _ _ (eq-eqb number number refl) refl))
+        (subst (λ l. left_of l number < left_of (before ++ part) number) (append_assoc before part (Did number step.0 ∷ []))
+        (left_of-fewer (before ++ part) number step.0 so_far (stage.steps step.0 step.1) step.2)) in
+        record {
+          rest = Did number step.0 ∷ c.rest;
+          whole = subst (IsPart test passes before) (append_assoc part (Did number step.0 ∷ []) c.rest) c.whole;
+        })
+  ]
 
   -- the journey goes on to the end, since each step leaves it fewer
   complete-first : (number : ℕ)

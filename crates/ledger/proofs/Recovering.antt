@@ -1,5 +1,5 @@
 -- A ledger has at most one recovered ledger. For the law of recovery.
-use Rattle.std.proofs.Common.{◌≡◌, ℕ, ◌<◌, List, [], ◌∷◌, ◌++◌, refl, ap, sym, ◌∙◌, arith, append_assoc, append-nil, subst, Bool, true, false, nat_le, nat_lt, inl, inr}
+use Rattle.std.proofs.Common.{◌≡◌, ℕ, ◌<◌, List, [], ◌∷◌, ◌++◌, refl, sym, arith, append_assoc, append-nil, subst, Bool, true, nat_le, nat_lt, inl, inr}
 use Rattle.std.proofs.lemmas.Bool.{and_parts, and_from, leb-true, lt-ltb, cases_order}
 use Rattle.std.specs.List.{list_all}
 use Rattle.commands.specs.declared.items.Item.{Item}
@@ -38,69 +38,59 @@ pub above-lower : (j k : ℕ) (p : List Event) → j < k → list_all (λ d. nat
     → list_all (λ d. nat_lt j (journey_of d)) p ≡ true
 above-lower j k p lower = grind (arith, list_all_weaker, leb-true, lt-ltb)
 
--- a part that begins with a later journey leaves this one as it is, so this one cannot be in such a phase
-not_passed : {X : Type 0} (test : Item → Bool) (passes : Phase → Bool) (l : List Event) (j k : ℕ)
-    (y : Item) (q : List Event) → j < k → IsPart test passes l (Did k y ∷ q)
-    → is_in passes l j ≡ true → X
-not_passed test passes l j k y q lower part in_it =
-    let sorted = and_parts (list_all (λ d. nat_le k (journey_of d)) q) (is_by_number q)
-    part.sorted in
-    let later = and_from _ _ (lt-ltb j k lower) (above-lower j k q lower sorted.0) in
-    let bad : true ≡ false =
-    sym in_it ∙ sym (is_in-later passes test j l (Did k y ∷ q) part.items later)
-    ∙ has_none-at passes (l ++ Did k y ∷ q) j part.none in
-    cc
+module _ (test : Item → Bool) (passes : Phase → Bool) where
+  -- a part that begins with a later journey leaves this one as it is, so this one cannot be in such a phase
+  not_passed : {X : Type 0} (l : List Event) (j k : ℕ) (y : Item) (q : List Event) → j < k
+      → IsPart test passes l (Did k y ∷ q) → is_in passes l j ≡ true → X
+  not_passed l j k y q lower part in_it =
+      let sorted = and_parts (list_all (λ d. nat_le k (journey_of d)) q) (is_by_number q) part.sorted in
+      let later = and_from _ _ (lt-ltb j k lower) (above-lower j k q lower sorted.0) in
+      let same = is_in-later passes test j l (Did k y ∷ q) part.items later in
+      let none = has_none-at passes (l ++ Did k y ∷ q) j part.none in
+      cc
 
--- where nothing follows, this journey is not in such a phase either
-not_left : {X : Type 0} (test : Item → Bool) (passes : Phase → Bool) (l : List Event) (j : ℕ)
-    → IsPart test passes l [] → is_in passes l j ≡ true → X
-not_left test passes l j part in_it = grind (arith, has_none-at, append-nil)
+  -- where nothing follows, this journey is not in such a phase either
+  not_left : {X : Type 0} (l : List Event) (j : ℕ) → IsPart test passes l [] → is_in passes l j ≡ true → X
+  not_left l j part in_it = grind (arith, has_none-at, append-nil)
 
--- a part without its first event is a part of what follows that event
-rest-part : (test : Item → Bool) (passes : Phase → Bool) (l : List Event) (e : Event)
-    (p : List Event) → IsPart test passes l (e ∷ p) → IsPart test passes (l ++ e ∷ []) p
-rest-part test passes l e p part = grind (arith, and_parts, append_assoc)
+  -- a part without its first event is a part of what follows that event
+  rest-part : (l : List Event) (e : Event) (p : List Event) → IsPart test passes l (e ∷ p)
+      → IsPart test passes (l ++ e ∷ []) p
+  rest-part l e p part = grind (arith, and_parts, append_assoc)
 
--- the first events of two parts are the same: neither can skip the journey of the other
-first-same : (test : Item → Bool) (passes : Phase → Bool) → IsAlone test → NeedsPhase test passes
-    → (l : List Event) (j k : ℕ) (x y : Item) (p q : List Event) → IsLegal l
-    → IsPart test passes l (Did j x ∷ p) → IsPart test passes l (Did k y ∷ q)
-    → Did k y ≡ Did j x
-first-same test passes alone needs l j k x y p q legal first second = elim (cases_order j k) [
-  | inl same ↦ grind arith
-  | inr (inl lower) ↦ not_passed test passes l j k y q lower second (needs l j x x_is first.allowed.0)
-  | inr (inr higher) ↦ not_passed test passes l k j x p higher first (needs l k y y_is second.allowed.0)
-]
-  where
-    x_is : test x ≡ true
-    x_is = (and_parts (test x) (list_all (are_items test) p) first.items).0
+  module _ (alone : IsAlone test) (needs : NeedsPhase test passes) where
+    -- the first event of a part is such an item, and its journey is in such a phase
+    first-in : (l : List Event) (k : ℕ) (y : Item) (q : List Event) → IsPart test passes l (Did k y ∷ q)
+        → (test y ≡ true) × (is_in passes l k ≡ true)
+    first-in l k y q part =
+        let is = (and_parts (test y) (list_all (are_items test) q) part.items).0 in (is, needs l k y is part.allowed.0)
 
-    y_is : test y ≡ true
-    y_is = (and_parts (test y) (list_all (are_items test) q) second.items).0
+    -- the first events of two parts are the same: neither can skip the journey of the other
+    first-same : (l : List Event) (j k : ℕ) (x y : Item) (p q : List Event) → IsLegal l
+        → IsPart test passes l (Did j x ∷ p) → IsPart test passes l (Did k y ∷ q) → Did k y ≡ Did j x
+    first-same l j k x y p q legal first second =
+        let this = first-in l j x p first in
+        let that = first-in l k y q second in
+        elim (cases_order j k) [
+          | inl same ↦ grind arith
+          | inr (inl lower) ↦ not_passed l j k y q lower second this.1
+          | inr (inr higher) ↦ not_passed l k j x p higher first that.1
+        ]
 
--- two parts are the same, event by event
-part-unique : (test : Item → Bool) (passes : Phase → Bool) → IsAlone test → NeedsPhase test passes
-    → (p q l : List Event) → IsLegal l → IsPart test passes l p → IsPart test passes l q → p ≡ q
-part-unique test passes alone needs [] [] l legal first second = refl
-part-unique test passes alone needs [] (Did k y ∷ q) l legal first second =
-    not_left test passes l k first
-    (needs l k y (and_parts (test y) (list_all (are_items test) q) second.items).0
-    second.allowed.0)
-part-unique test passes alone needs (Did j x ∷ p) [] l legal first second =
-    not_left test passes l j second
-    (needs l j x (and_parts (test x) (list_all (are_items test) p) first.items).0
-    first.allowed.0)
-part-unique test passes alone needs (Did j x ∷ p) (Did k y ∷ q) l legal first second =
-    let same = first-same test passes alone needs l j k x y p q legal first second in
-    let rest = part-unique test passes alone needs p q (l ++ Did j x ∷ [])
-    (IsLegal-append l (Did j x) legal first.allowed.0)
-    (rest-part test passes l (Did j x) p first)
-    (rest-part test passes l (Did j x) q
-    (subst (λ e. IsPart test passes l (e ∷ q)) same second)) in
-    ap (λ r. Did j x ∷ r) rest ∙ ap (λ e. e ∷ q) (sym same)
-part-unique test passes alone needs (Did j x ∷ p) (_ ∷ q) l legal first second = cc second.items
-part-unique test passes alone needs (_ ∷ p) q l legal first second = cc first.items
-part-unique test passes alone needs [] (_ ∷ q) l legal first second = cc second.items
+    -- two parts are the same, event by event
+    part-unique : (p q l : List Event) → IsLegal l → IsPart test passes l p → IsPart test passes l q → p ≡ q
+    part-unique [] [] l legal first second = refl
+    part-unique [] (Did k y ∷ q) l legal first second = not_left l k first (first-in l k y q second).1
+    part-unique (Did j x ∷ p) [] l legal first second = not_left l j second (first-in l j x p first).1
+    part-unique (Did j x ∷ p) (Did k y ∷ q) l legal first second =
+        let same = first-same l j k x y p q legal first second in
+        let rest = part-unique p q (l ++ Did j x ∷ []) (IsLegal-append l (Did j x) legal first.allowed.0)
+        (rest-part l (Did j x) p first)
+        (rest-part l (Did j x) q (subst (λ e. IsPart test passes l (e ∷ q)) same second)) in
+        cc
+    part-unique (Did j x ∷ p) (_ ∷ q) l legal first second = cc second.items
+    part-unique (_ ∷ p) q l legal first second = cc first.items
+    part-unique [] (_ ∷ q) l legal first second = cc second.items
 
 -- The two parts of recovery.
 
@@ -152,13 +142,9 @@ pub recovered-unique : (l : List Event) → AtMostOneIsRecovered l
 recovered-unique l r s first second =
     let p = parts l r first in
     let q = parts l s second in
-    let same_back : p.backward ≡ q.backward =
-    part-unique is_compensation is_going_back compensation-alone compensation-needs_back
+    let same_back = part-unique is_compensation is_going_back compensation-alone compensation-needs_back
     p.backward q.backward (l ++ stops l) p.turned p.back q.back in
-    let same_on : p.forward ≡ q.forward =
-    part-unique is_forward is_open step-alone step-needs_open p.forward q.forward
+    let same_on = part-unique is_forward is_open step-alone step-needs_open p.forward q.forward
     ((l ++ stops l) ++ p.backward) p.returned p.on
-    (subst (λ b. IsPart is_forward is_open ((l ++ stops l) ++ b) q.forward)
-    (sym same_back) q.on) in
-    p.whole ∙ ap (λ b. ((l ++ stops l) ++ b) ++ p.forward) same_back
-    ∙ ap (λ f. ((l ++ stops l) ++ q.backward) ++ f) same_on ∙ sym q.whole
+    (subst (λ b. IsPart is_forward is_open ((l ++ stops l) ++ b) q.forward) (sym same_back) q.on) in
+    cc

@@ -1,5 +1,5 @@
 -- What one more item does to the transactions that stand. For the modes of a journey and for places.
-use Rattle.std.proofs.Common.{◌≡◌, ℕ, zero, suc, ◌+◌, ◌≤◌, List, [], ◌∷◌, ◌++◌, length, map, refl, ap, sym, ◌∙◌, arith, length-append, append-nil, eq-eqb, true, false, filter, not, ◌==◌, Some, cond}
+use Rattle.std.proofs.Common.{◌≡◌, ℕ, zero, suc, ◌+◌, ◌≤◌, List, [], ◌∷◌, ◌++◌, length, map, refl, ap, sym, ◌∙◌, arith, length-append, append-nil, eq-eqb, false, filter, not, ◌==◌, Some}
 use Rattle.std.proofs.Math.Bool.{or-false}
 use Rattle.std.proofs.lemmas.Bool.{ne_eqb, not_from_false}
 use Rattle.std.proofs.lemmas.List.{map-append}
@@ -95,11 +95,7 @@ filter-above : (xs : List (ℕ × ℕ)) (first n m : ℕ) → map (λ t. t.0) xs
 filter-above [] first n m e h = refl
 filter-above (x ∷ xs) first zero m e h = cc
 filter-above (x ∷ xs) first (suc n) m e h =
-    let is : x.0 ≡ first = cc in
-    let rest : map (λ t. t.0) xs ≡ numbers_from (suc first) n = cc in
-    let differs : not (x.0 == m) ≡ true = not_from_false _ (ne_eqb x.0 m (λ same. omega arith)) in
-    ap (λ b. cond b (x ∷ filter (λ t. not (t.0 == m)) xs) (filter (λ t. not (t.0 == m)) xs)) differs
-    ∙ ap (λ ys. x ∷ ys) (filter-above xs (suc first) n m rest (omega arith))
+    let rest = filter-above xs (suc first) n m in grind (arith, not_from_false, ne_eqb)
 
 -- what the compensation of the last transaction does: its step was the last that stood, the position is one lower, the
 -- steps up to there stand, and no other transaction is gone
@@ -122,12 +118,10 @@ compensates h i c stands last =
     sym (map-append (λ t. t.0) front ((i, c) ∷ [])) ∙ ap (map (λ t. t.0)) (sym cut.1) ∙ stands
     ∙ ap (numbers_from 1) size ∙ numbers_from-append 1 (length front) 1 in
     let same = snoc-same (map (λ t. t.0) front) (numbers_from 1 (length front)) i (1 + length front) numbered in
+    let kept = filter-above front 1 (length front) i same.0 (omega (arith, same.1)) in
     let left : net (h ++ Compensation i c ∷ []) ≡ front =
     net-compensation h i c ∙ ap (filter (λ t. not (t.0 == i))) cut.1
-    ∙ filter-append (λ t. not (t.0 == i)) front ((i, c) ∷ [])
-    ∙ ap (λ xs. xs ++ filter (λ t. not (t.0 == i)) ((i, c) ∷ []))
-    (filter-above front 1 (length front) i same.0 (omega (arith, same.1)))
-    ∙ ap (λ b. front ++ cond (not b) ((i, c) ∷ []) []) (eq-eqb i i refl) ∙ append-nil front in
+    ∙ grind (arith, filter-append, eq-eqb, append-nil) in
     record {
       is_last = omega (arith, same.1);
       lower = let size_left = ap length left in omega arith;

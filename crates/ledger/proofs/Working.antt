@@ -19,7 +19,7 @@ use Rattle.std.proofs.lemmas.Bool.{and_parts, ne_eqb}
 use Rattle.std.specs.List.{list_all}
 use Rattle.allotment.specs.Cells.{numbers_from}
 use Rattle.ledger.specs.Ledger.{Event, Did, Journey, journeys, journey_at, numbers, history, fits, is_item_allowed, AreAllowedAfter, IsLegal}
-use Rattle.ledger.proofs.Growing.{IsLegal-append, journeys-did, history-did_same, history-did_other, absurd_item}
+use Rattle.ledger.proofs.Growing.{IsLegal-append, journeys-did, history-did_same, history-did_other, item-journey}
 use Rattle.ledger.proofs.Ledgers.{all_go}
 use Rattle.ledger.proofs.Lists.{number-within}
 use Rattle.ledger.proofs.Numbers.{sum_by-changed}
@@ -174,20 +174,14 @@ work-sum l = refl
 work-fewer : (l : List Event) (k : ℕ) (x : Item) → IsLegal l → is_forward x ≡ true
     → is_item_allowed l k x ≡ true → work (l ++ Did k x ∷ []) < work l
 unfolding work
-work-fewer l k x legal forward may = go (journey_at l k) refl
-  where
-    go : (o : Option Journey) → journey_at l k ≡ o
-        → sum_by (left_of (l ++ Did k x ∷ [])) (numbers (l ++ Did k x ∷ []))
-        < sum_by (left_of l) (numbers l)
-    go None at = absurd_item l k x at may
-    go (Some a) at =
-        let within = number-within (journeys l) k a at in
-        let count = ap (λ js. sum_by (left_of (l ++ Did k x ∷ [])) (numbers_from 1 (length js)))
-        (journeys-did l k x) in
-        let changed = sum_by-changed (left_of l) (left_of (l ++ Did k x ∷ [])) k 1 (length (journeys l))
-        (λ j apart. left_of-other l k x j (ne_eqb j k apart)) within.0 within.1 in
-        let fewer = left_of-fewer l k x legal forward may in
-        omega arith
+work-fewer l k x legal forward may =
+    let it = item-journey l k x may in
+    let within = number-within (journeys l) k it.0 it.1 in
+    let count = ap (λ js. sum_by (left_of (l ++ Did k x ∷ [])) (numbers_from 1 (length js))) (journeys-did l k x) in
+    let changed = sum_by-changed (left_of l) (left_of (l ++ Did k x ∷ [])) k 1 (length (journeys l))
+    (λ j apart. left_of-other l k x j (ne_eqb j k apart)) within.0 within.1 in
+    let fewer = left_of-fewer l k x legal forward may in
+    omega arith
 
 -- there are no more steps than were left
 pub steps-within : (p l : List Event) → IsLegal l → AreAllowedAfter l p

@@ -1,15 +1,16 @@
 -- The worked examples at which the laws are used: journeys that were aborted, stopped and cut off, and what each law has to
 -- be told of them.
-use Rattle.std.specs.Prelude.{◌≡◌, ℕ, zero, suc, false, List, [], ◌∷◌, ◌++◌, Some, refl}
+use Rattle.std.specs.Prelude.{◌≡◌, ℕ, zero, suc, false, [], ◌∷◌, Some, refl}
 use Rattle.allotment.specs.declared.cells.Cell.{Cell}
 use Rattle.allotment.specs.declared.codes.Kind.TheVariants.{Flight, Transfer}
 use Rattle.plan.specs.PlanModel.{Planned, is_marked_at}
 use Rattle.commands.specs.Names.{house}
-use Rattle.ledger.specs.Examples.{want, row, step, untried, done, undone}
+use Rattle.ledger.specs.Examples.{want, row, step, untried}
 use Rattle.ledger.specs.JourneyExamples.{one_aborted, saved_after_1_and_3, stopped_twice, begun_unmarked}
 use Rattle.ledger.specs.Laws.{HasNoSavePoint}
-use Rattle.ledger.specs.Ledger.{Event, Journey, journey_at, history, IsLegal}
-use Rattle.ledger.specs.RecoveryExamples.{allowed_by_test, aborted_to_2, items}
+use Rattle.ledger.specs.Ledger.{Journey, journey_at, history, IsLegal}
+pub use Rattle.ledger.specs.RecoveryExamples.{recovered_from_2, begun_from_2}
+use Rattle.ledger.specs.RecoveryExamples.{allowed_by_test, aborted_to_2}
 
 -- two steps without a save-point, the first one done and compensated: the first journey of `one_aborted`
 abbrev pub flight_and_transfer : Planned
@@ -55,12 +56,3 @@ begun_unmarked_is_legal = allowed_by_test [] begun_unmarked.ledger refl
 -- a journey that goes back
 pub aborted_to_2_is_legal : IsLegal aborted_to_2
 aborted_to_2_is_legal = allowed_by_test [] aborted_to_2 refl
-
--- what recovery makes of it, and the first event of that
-abbrev pub recovered_from_2 : List Event
-recovered_from_2 =
-    aborted_to_2 ++ [] ++ items (undone 4 ∷ undone 3 ∷ [])
-    ++ items (done 3 ∷ done 4 ∷ done 5 ∷ done 6 ∷ [])
-
-abbrev pub begun_from_2 : List Event
-begun_from_2 = aborted_to_2 ++ [] ++ items (undone 4 ∷ [])

@@ -113,11 +113,14 @@ aborted_it_goes_back = refl
 pub aborted_it_needs_at_most_24 : bound aborted_to_2 ≡ 24
 aborted_it_needs_at_most_24 = refl
 
+-- what recovery makes of it
+abbrev pub recovered_from_2 : List Event
+recovered_from_2 =
+    aborted_to_2 ++ [] ++ items (undone 4 ∷ undone 3 ∷ [])
+    ++ items (done 3 ∷ done 4 ∷ done 5 ∷ done 6 ∷ [])
+
 -- recovery keeps its target, compensates two more steps, and goes forward: 6 events
-pub journey_going_back_is_recovered :
-    IsRecovered aborted_to_2
-    (aborted_to_2 ++ [] ++ items (undone 4 ∷ undone 3 ∷ [])
-    ++ items (done 3 ∷ done 4 ∷ done 5 ∷ done 6 ∷ []))
+pub journey_going_back_is_recovered : IsRecovered aborted_to_2 recovered_from_2
 journey_going_back_is_recovered =
     recovered_by_test aborted_to_2 [] (items (undone 4 ∷ undone 3 ∷ []))
     (items (done 3 ∷ done 4 ∷ done 5 ∷ done 6 ∷ [])) refl refl refl
@@ -128,9 +131,12 @@ pub none_is_below_1 : (passes : Phase → Bool) (l : List Event) (j : ℕ) → j
 none_is_below_1 passes l zero below = refl
 none_is_below_1 passes l (suc j) below = absurd (not-suc-le-zero (le_of_suc-le-suc below))
 
--- after the first of these two compensations, recovery is in progress
-pub journey_going_back_is_under_way :
-    HasComeTo aborted_to_2 (aborted_to_2 ++ [] ++ items (undone 4 ∷ []))
+-- the ledger after the first of these two compensations
+abbrev pub begun_from_2 : List Event
+begun_from_2 = aborted_to_2 ++ [] ++ items (undone 4 ∷ [])
+
+-- there recovery is in progress
+pub journey_going_back_is_under_way : HasComeTo aborted_to_2 begun_from_2
 journey_going_back_is_under_way = going_back (items (undone 4 ∷ [])) 1 (record {
   allowed = (refl, tt);
   items = refl;
