@@ -1,6 +1,6 @@
 -- What one more event changes of the ledger itself: its length, its journeys and their numbers, their histories, and
 -- the batches of a name.
-use Rattle.std.proofs.Common.{◌≡◌, ℕ, zero, suc, ◌+◌, List, [], ◌∷◌, ◌++◌, length, refl, ap, arith, append-nil, length-append, eq-eqb, Some, None, if◌then◌else◌, bytes_eq, ne_eqb, add-one}
+use Rattle.std.proofs.Common.{◌≡◌, ℕ, ◌+◌, List, [], ◌∷◌, ◌++◌, length, refl, ap, arith, append-nil, length-append, eq-eqb, Some, None, if◌then◌else◌, bytes_eq, ne_eqb, add-one}
 use Rattle.std.proofs.lemmas.List.Elements.{filter_map-append}
 use Rattle.allotment.specs.Cells.{numbers_from}
 use Rattle.allotment.specs.declared.cells.Row.{Row}
@@ -10,7 +10,7 @@ use Rattle.ledger.specs.Ledger.{Event, Loaded, Began, Did, Journey, journeys, jo
 pub use Rattle.ledger.proofs.Growing.{journeys-loaded, journeys-began, journeys-did, history-loaded, history-began}
 use Rattle.ledger.proofs.Growing as growing
 use Rattle.ledger.proofs.Ledgers.{all_go}
-use Rattle.ledger.proofs.Lists.{numbered-past}
+use Rattle.ledger.proofs.Lists.{numbered-past, numbered-last, numbered-other}
 use Rattle.ledger.proofs.Numbers.{numbers_from-append}
 
 -- The length.
@@ -40,25 +40,11 @@ pub journey_at-did : (l : List Event) (k : ℕ) (item : Item) (j : ℕ)
     → journey_at (l ++ Did k item ∷ []) j ≡ journey_at l j
 journey_at-did l k item j = ap (λ js. numbered js j) (journeys-did l k item)
 
--- the last of a list has the list's length as its number
-numbered-last : {X : Type 0} (xs : List X) (x : X)
-    → numbered (xs ++ x ∷ []) (suc (length xs)) ≡ Some x
-numbered-last [] x = refl
-numbered-last (y ∷ ys) x = numbered-last ys x
-
 -- the journey that is begun has the next number
 pub journey_at-began_new : (l : List Event) (agent : List ℕ) (plan : Planned)
     → journey_at (l ++ Began agent plan ∷ []) (length (journeys l) + 1) ≡ Some (begun agent plan)
 journey_at-began_new l agent plan =
     rw (add-one, journeys-began l agent plan) (numbered-last (journeys l) (begun agent plan))
-
--- at a number that is not the last of a list, an appended element changes nothing
-numbered-other : {X : Type 0} (xs : List X) (x : X) (j : ℕ) → (j ≡ suc (length xs) → ⊥)
-    → numbered (xs ++ x ∷ []) j ≡ numbered xs j
-numbered-other [] x (suc zero) other = absurd (other refl)
-numbered-other (y ∷ ys) x (suc (suc j)) other =
-    grind (arith, numbered-other ys x (suc j) (λ e. other (let k : suc (suc j) ≡ suc (suc (length ys)) = omega arith in k)))
-numbered-other _ x _ other = refl
 
 -- at each other number a begin changes nothing
 pub journey_at-began_other : (l : List Event) (agent : List ℕ) (plan : Planned) (j : ℕ)

@@ -1,5 +1,5 @@
 -- What one more item changes of the journey's target and of its save-points. For its modes.
-use Rattle.std.proofs.Common.{◌≡◌, ℕ, ◌≤◌, ◌⊎◌, List, [], ◌∷◌, ◌++◌, ap, ◌∙◌, arith, Bool, true, false, ◌||◌, ◌&&◌, ◌==◌, Some, None, IsTrue}
+use Rattle.std.proofs.Common.{◌≡◌, ℕ, ◌≤◌, ◌⊎◌, List, [], ◌∷◌, ◌++◌, ap, ◌∙◌, arith, Bool, true, false, ◌||◌, ◌&&◌, ◌==◌, IsTrue, reverse}
 use Rattle.std.proofs.Math.Bool.{or-false}
 use Rattle.std.proofs.lemmas.Bool.Decides.{nat_tests}
 use Rattle.std.proofs.lemmas.List.{reverse-append}
@@ -7,29 +7,15 @@ use Rattle.std.proofs.lemmas.List.Folds.{list_any-append}
 use Rattle.plan.specs.PlanModel.{Planned}
 use Rattle.commands.specs.declared.items.Cause.{Cause}
 use Rattle.commands.specs.declared.items.Item.{Item}
-use Rattle.commands.specs.declared.items.Item.TheVariants.{Transaction, Compensation, Turn, Save}
+use Rattle.commands.specs.declared.items.Item.TheVariants.{Compensation, Turn, Save}
 use Rattle.ledger.specs.History.{position_of, going_to, latest_turn, is_taken, is_save_point, is_compensation_of, has_turned_to_start, is_turn_to}
 use Rattle.ledger.proofs.Standing.{compensated-other, position_of-turn}
 
 -- Its target.
 
--- a transaction ends the way back
-pub going_to-transaction : (h : List Item) (i c : ℕ) → going_to (h ++ Transaction i c ∷ []) ≡ None
-going_to-transaction h i c = ap latest_turn (reverse-append h (Transaction i c ∷ []))
-
--- a turn sets the target
-pub going_to-turn : (h : List Item) (p : ℕ) (cause : Cause)
-    → going_to (h ++ Turn p cause ∷ []) ≡ Some p
-going_to-turn h p cause = ap latest_turn (reverse-append h (Turn p cause ∷ []))
-
--- a compensation leaves the target
-pub going_to-compensation : (h : List Item) (i c : ℕ)
-    → going_to (h ++ Compensation i c ∷ []) ≡ going_to h
-going_to-compensation h i c = ap latest_turn (reverse-append h (Compensation i c ∷ []))
-
--- a save-point leaves the target
-pub going_to-save : (h : List Item) (p : ℕ) → going_to (h ++ Save p ∷ []) ≡ going_to h
-going_to-save h p = ap latest_turn (reverse-append h (Save p ∷ []))
+-- one more item ends the way back, sets its target, or leaves it
+pub going_to-more : (h : List Item) (x : Item) → going_to (h ++ x ∷ []) ≡ latest_turn (x ∷ reverse h)
+going_to-more h x = ap latest_turn (reverse-append h (x ∷ []))
 
 -- a journey has turned to its start if it had before, or if the new item is such a turn
 pub turned-more : (h : List Item) (x : Item)

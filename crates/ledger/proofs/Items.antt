@@ -11,7 +11,7 @@ use Rattle.commands.specs.declared.items.Phase.{Phase}
 use Rattle.commands.specs.declared.items.Phase.TheVariants.{Run, Back, Undone}
 use Rattle.ledger.specs.History.{net, position_of, refusals, phase, going_to, has_turned_to_start, may_come}
 use Rattle.ledger.proofs.Coming.{step-comes, compensation-comes}
-use Rattle.ledger.proofs.Going.{going_to-turn, going_to-compensation, going_to-save, turned-other}
+use Rattle.ledger.proofs.Going.{going_to-more, turned-other}
 use Rattle.ledger.proofs.Modes.{Rising, upward, runs, ended, phase-falling, running-rises, going_back-falls}
 use Rattle.ledger.proofs.Refusing.{refusals-more, refusals-other}
 use Rattle.ledger.proofs.Rising.{rising-transaction}
@@ -83,7 +83,7 @@ cursor_of-compensation plan h may_fit i c f may =
     same_cursor _ _ _ _ _ _ pos
     (phase-going plan (h ++ Compensation i c ∷ []) way.target (λ e. omega arith)
     (turned-other h (Compensation i c) refl ∙ way.turned)
-    (going_to-compensation h i c ∙ way.going)
+    (going_to-more h (Compensation i c) ∙ way.going)
     ∙ ap (phase_down way.target) pos
     ∙ sym (ap (λ q. phase_back q (position_of h - 1)) (phase-falling plan h way)))
     (refusals-other h (Compensation i c) refl)
@@ -94,12 +94,12 @@ cursor_of-turn : (plan : Planned) (h : List Item) (may_fit : Bool) (p : ℕ) (ca
     → IsTrue (may_come plan h may_fit (Turn p cause))
     → cursor_of plan (h ++ Turn p cause ∷ []) ≡ cursor_after plan (cursor_of plan h) (Turn p cause)
 cursor_of-turn plan h may_fit p cause f may =
-    grind (arith, position_of-turn, turn-turned, same_cursor, phase-going, going_to-turn, refusals-turn)
+    grind (arith, position_of-turn, turn-turned, same_cursor, phase-going, going_to-more, refusals-turn)
 
 -- a save-point leaves the cursor
 cursor_of-save : (plan : Planned) (h : List Item) (p : ℕ)
     → cursor_of plan (h ++ Save p ∷ []) ≡ cursor_of plan h
-cursor_of-save plan h p = grind (arith, position_of-save, same_cursor, turned-other, going_to-save, refusals-other)
+cursor_of-save plan h p = grind (arith, position_of-save, same_cursor, turned-other, going_to-more, refusals-other)
 
 -- after each item that may come the journey is where the rule says
 pub cursor_of-more : (plan : Planned) (h : List Item) (may_fit : Bool) (x : Item) → Follows plan h

@@ -14,7 +14,7 @@ use Rattle.ledger.proofs.Coming.{step-comes, compensation-comes, stop-comes, ref
 use Rattle.ledger.proofs.Modes.{Mode, rises, falls, fell, Goes, upward, runs, ended, phase-falling, phase-fallen, running-rises, going_back-falls, Rising, Falling}
 use Rattle.ledger.proofs.Refusing.{has_tries-other, has_tries-turn}
 use Rattle.ledger.proofs.Rising.{rising-transaction, rising-save, rising-turn, falling-turn, falling-compensation}
-use Rattle.ledger.proofs.Standing.{compensates, standing-transaction, standing-turn, standing-save}
+use Rattle.ledger.proofs.Standing.{compensates, standing-transaction, standing-same, net-turn, net-save}
 use Rattle.ledger.proofs.Targets.{last_save-target, refused-target, asked-target, IsTarget}
 use Rattle.ledger.proofs.Going.{turned-turn}
 
@@ -89,7 +89,7 @@ goes-more plan h fits (Compensation i c) g may =
       tries = has_tries-other plan h (Compensation i c) refl g.tries;
     }
 goes-more plan h fits (Turn p cause) g may = record {
-  stands = standing-turn h p cause g.stands;
+  stands = standing-same (h ++ Turn p cause ∷ []) h (net-turn h p cause) g.stands;
   mode = elim (turn_from plan h fits p cause g.mode may) [
     | from_up r below kept ↦ rising-turn plan h p cause r below kept
     | from_down f lower kept ↦ falls (falling-turn plan h p cause f lower kept)
@@ -97,7 +97,7 @@ goes-more plan h fits (Turn p cause) g may = record {
   tries = has_tries-turn plan h fits p cause may g.tries;
 }
 goes-more plan h fits (Save p) g may = record {
-  stands = standing-save h p g.stands;
+  stands = standing-same (h ++ Save p ∷ []) h (net-save h p) g.stands;
   mode = rises (rising-save plan h p (running-rises plan h g.mode (save-comes plan h fits p may)).0);
   tries = has_tries-other plan h (Save p) refl g.tries;
 }

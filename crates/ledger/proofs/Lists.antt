@@ -72,6 +72,15 @@ pub numbered-some : {X : Type 0} (xs : List X) (a : X) (j : ℕ) (b : X)
     → numbered xs j ≡ Some b → numbered (xs ++ a ∷ []) j ≡ Some b
 numbered-some xs a j b e = grind (arith, slice_get-snoc, slice_get_past, nat_tests)
 
+-- an appended element has the length of the longer list as its number
+pub numbered-last : {X : Type 0} (xs : List X) (a : X) → numbered (xs ++ a ∷ []) (suc (length xs)) ≡ Some a
+numbered-last xs a = grind (arith, slice_get-snoc, nat_tests)
+
+-- at each other number it changes nothing
+pub numbered-other : {X : Type 0} (xs : List X) (a : X) (j : ℕ) → (j ≡ suc (length xs) → ⊥)
+    → numbered (xs ++ a ∷ []) j ≡ numbered xs j
+numbered-other xs a j other = grind (arith, slice_get-snoc, nat_tests)
+
 -- numbers end where the list does
 pub numbered-past : {X : Type 0} (xs : List X) → numbered xs (suc (length xs)) ≡ None
 numbered-past [] = refl

@@ -24,11 +24,6 @@ refusals-more h x = sum_by_push (λ y. if is_refused_turn y then 1 else 0) h x
 pub refusals-other : (h : List Item) (x : Item) → is_refused_turn x ≡ false → refusals (h ++ x ∷ []) ≡ refusals h
 refusals-other h x other = grind (arith, refusals-more)
 
--- a refused turn is one more refusal
-pub refusals-refused : (h : List Item) (p : ℕ)
-    → refusals (h ++ Turn p Refused ∷ []) ≡ refusals h + 1
-refusals-refused h p = refusals-more h (Turn p Refused)
-
 -- where a history with one more item has not turned to the start, neither the history nor the item has
 unturned-parts : (h : List Item) (x : Item) → has_turned_to_start (h ++ x ∷ []) ≡ false
     → (has_turned_to_start h ≡ false) × (is_turn_to 0 x ≡ false)
@@ -42,7 +37,7 @@ has_tries-other plan h x other has unturned = grind (arith, refusals-other, untu
 -- a refused turn leads to the start where no try is left, and else uses one
 pub has_tries-refused : (plan : Planned) (h : List Item) (p : ℕ) → p ≡ refused_target plan h
     → HasTries plan h → HasTries plan (h ++ Turn p Refused ∷ [])
-has_tries-refused plan h p is has unturned = grind (arith, unturned-parts, ltb-true, refusals-refused, eq-eqb)
+has_tries-refused plan h p is has unturned = grind (arith, unturned-parts, ltb-true, refusals-more, eq-eqb)
 
 -- each turn that may come does one or the other
 pub has_tries-turn : (plan : Planned) (h : List Item) (fits : Bool) (p : ℕ) (cause : Cause)

@@ -1,6 +1,6 @@
 -- One more item: on the way up a transaction, a save-point, or a turn; on the way down a turn further down, or a
 -- compensation. For each item that may come.
-use Rattle.std.proofs.Common.{◌≡◌, ℕ, suc, ◌+◌, ◌<◌, ◌≤◌, ◌⊎◌, List, [], ◌∷◌, ◌++◌, refl, ap, sym, ◌∙◌, arith, subst, append_assoc, append-nil, inr, false, ◌==◌, Some, IsTrue}
+use Rattle.std.proofs.Common.{◌≡◌, ℕ, suc, ◌+◌, ◌<◌, ◌≤◌, ◌⊎◌, List, [], ◌∷◌, ◌++◌, refl, ap, sym, ◌∙◌, arith, subst, append_assoc, append-nil, inr, false, ◌==◌, Some, IsTrue, None}
 use Rattle.std.proofs.lemmas.Bool.{ne_eqb, cases_lt, cases_eq}
 use Rattle.plan.specs.PlanModel.{Planned, step_count}
 use Rattle.commands.specs.declared.items.Cause.{Cause}
@@ -8,7 +8,7 @@ use Rattle.commands.specs.declared.items.Item.{Item}
 use Rattle.commands.specs.declared.items.Item.TheVariants.{Transaction, Compensation, Turn, Save}
 use Rattle.ledger.specs.History.{position_of, going_to, is_save_point, has_turned_to_start}
 use Rattle.ledger.specs.Word.{word, Returns, goes_on, IsTurnPart}
-use Rattle.ledger.proofs.Going.{going_to-transaction, going_to-turn, going_to-save, going_to-compensation, turned-other, turned-turn, kept-turn, is_save_point-compensation}
+use Rattle.ledger.proofs.Going.{going_to-more, turned-other, turned-turn, kept-turn, is_save_point-compensation}
 use Rattle.ledger.proofs.Modes.{Since, since-append, goes_to_start, Rising, Falling, Fallen, Mode, rises, falls, fell}
 use Rattle.ledger.proofs.Numbers.{word-append, up-none, down-none, up-join, down-join, up-one, down-one}
 use Rattle.ledger.proofs.Standing.{position_of-transaction, position_of-turn, position_of-save, Compensates}
@@ -26,7 +26,7 @@ rising-transaction plan h i c r below is =
       within = omega arith;
       reads = grind (arith, word-append, up-one, up-join r.from (position_of h) (suc (position_of h)) r.low);
       unturned = turned-other h (Transaction i c) refl ∙ r.unturned;
-      arrived = λ p e. let none = going_to-transaction h i c in cc;
+      arrived = λ p e. let none : going_to (h ++ Transaction i c ∷ []) ≡ None = going_to-more h (Transaction i c) in cc;
     }
 
 -- an item that moves nothing leaves the journey on its way up, if it is at its target or below
@@ -46,7 +46,7 @@ stays plan h x r silent pos unturned arrived = record {
 -- a save-point changes neither the word nor the direction
 pub rising-save : (plan : Planned) (h : List Item) (p : ℕ) → Rising plan h
     → Rising plan (h ++ Save p ∷ [])
-rising-save plan h p r = grind (arith, stays, position_of-save, turned-other, going_to-save)
+rising-save plan h p r = grind (arith, stays, position_of-save, turned-other, going_to-more)
 
 -- a turn to a target below is the top of the way up, and the way down begins
 turn-down : (plan : Planned) (h : List Item) (p : ℕ) (cause : Cause) → Rising plan h
@@ -63,7 +63,7 @@ turn-down plan h p cause r below kept lower =
       short = below;
       falls = omega arith;
       reads = grind (arith, word-append, append-nil, down-none);
-      going = going_to-turn h p cause;
+      going = going_to-more h (Turn p cause);
       above = omega arith;
       turned = turned-turn h p cause r.unturned;
       kept = kept-turn plan h p cause p kept;
@@ -72,7 +72,7 @@ turn-down plan h p cause r below kept lower =
 -- a turn to where the journey is, which is not the start, leaves it on its way up
 turn-here : (plan : Planned) (h : List Item) (p : ℕ) (cause : Cause) → Rising plan h
     → position_of h ≤ p → 0 < p → Rising plan (h ++ Turn p cause ∷ [])
-turn-here plan h p cause r here more = grind (arith, stays, position_of-turn, turned-turn, ne_eqb, going_to-turn)
+turn-here plan h p cause r here more = grind (arith, stays, position_of-turn, turned-turn, ne_eqb, going_to-more)
 
 -- a turn to the start, at the start, ends the journey: no step had to be compensated
 turn-at_start : (plan : Planned) (h : List Item) (p : ℕ) (cause : Cause) → Rising plan h
@@ -104,7 +104,7 @@ falling-turn plan h p cause f lower kept =
       short = f.short;
       falls = let a = f.falls in omega arith;
       reads = grind (arith, word-append, append-nil);
-      going = going_to-turn h p cause;
+      going = going_to-more h (Turn p cause);
       above = let a = f.above in omega arith;
       turned = turned-turn h p cause (f.turned ∙ ne_eqb 0 f.target (λ e. omega arith));
       kept = kept-turn plan h p cause p kept;
@@ -151,7 +151,7 @@ module _ (plan : Planned) (h : List Item) (i c : ℕ) (f : Falling plan h) (k : 
     short = f.short;
     falls = part-compensation.falls;
     reads = part-compensation.reads;
-    going = going_to-compensation h i c ∙ f.going;
+    going = going_to-more h (Compensation i c) ∙ f.going;
     above = above;
     turned = turned-compensation;
     kept = kept-compensation (omega arith);
@@ -177,19 +177,15 @@ module _ (plan : Planned) (h : List Item) (i c : ℕ) (f : Falling plan h) (k : 
         reads = sym (up-none (position_of next));
         unturned = turned-compensation ∙ ne_eqb 0 f.target (λ z. omega arith);
         arrived = λ q r.
-            let same : Some q ≡ Some f.target = sym r ∙ going_to-compensation h i c ∙ f.going in
+            let same : Some q ≡ Some f.target = sym r ∙ going_to-more h (Compensation i c) ∙ f.going in
             let n : q ≡ f.target = cc in
             omega arith;
       }
     where
-      saved : (f.target ≡ 0) ⊎ IsTrue (is_save_point plan next f.target)
-          → IsTrue (is_save_point plan next (position_of next))
-      saved x = grind arith
-
       save : IsTrue (is_save_point plan (f.since.before ++ onward.part) (position_of next))
       save =
           subst (λ g. IsTrue (is_save_point plan g (position_of next))) onward.whole
-          (saved (kept-compensation (omega arith)))
+          (let kept = kept-compensation (omega arith) in grind arith)
 
       returns : Returns plan next (position_of next)
       returns =

@@ -70,17 +70,10 @@ position_of-save h p = ap length (net-save h p)
 
 -- Steps 1 to the position stand.
 
--- after a turn the same steps stand
-pub standing-turn : (h : List Item) (p : ℕ) (cause : Cause)
-    → standing h ≡ numbers_from 1 (position_of h)
-    → standing (h ++ Turn p cause ∷ []) ≡ numbers_from 1 (position_of (h ++ Turn p cause ∷ []))
-standing-turn h p cause e = grind (arith, net-turn, position_of-turn)
-
--- after a save-point the same steps stand
-pub standing-save : (h : List Item) (p : ℕ)
-    → standing h ≡ numbers_from 1 (position_of h)
-    → standing (h ++ Save p ∷ []) ≡ numbers_from 1 (position_of (h ++ Save p ∷ []))
-standing-save h p e = grind (arith, net-save, position_of-save)
+-- where the same transactions stand, the same steps do
+pub standing-same : (g h : List Item) → net g ≡ net h → standing h ≡ numbers_from 1 (position_of h)
+    → standing g ≡ numbers_from 1 (position_of g)
+standing-same g h same e = rw same e
 
 -- the next transaction adds the next step
 pub standing-transaction : (h : List Item) (i c : ℕ) → i ≡ position_of h + 1

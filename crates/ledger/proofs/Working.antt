@@ -12,7 +12,7 @@ use Rattle.ledger.specs.History.{position_of, refusals, is_refused_turn, phase, 
 use Rattle.ledger.specs.Recovery.{is_forward, are_items}
 use Rattle.ledger.proofs.Coming.{step-comes, compensation-comes, refused-comes}
 use Rattle.ledger.proofs.Modes.{Goes, upward, running-rises}
-use Rattle.ledger.proofs.Refusing.{refusals-other, refusals-refused}
+use Rattle.ledger.proofs.Refusing.{refusals-other, refusals-more}
 use Rattle.ledger.proofs.Rising.{rising-transaction}
 use Rattle.ledger.proofs.Standing.{position_of-transaction, position_of-turn, compensates}
 use Rattle.std.proofs.lemmas.Bool.{and_parts, ne_eqb}
@@ -76,7 +76,7 @@ way-refused : (plan : Planned) (h : List Item) (p : ℕ) → refusals h ≤ plan
 unfolding way rounds
 way-refused plan h p within =
     let used : plan.tries + 1 - refusals (h ++ Turn p Refused ∷ []) ≡ plan.tries - refusals h =
-    let more = refusals-refused h p in omega arith in
+    let more : refusals (h ++ Turn p Refused ∷ []) ≡ refusals h + 1 = refusals-more h (Turn p Refused) in omega arith in
     let round : plan.tries + 1 - refusals h ≡ plan.tries - refusals h + 1 = omega arith in
     ap (λ n. 2 * step_count plan * n + 2 * step_count plan) used
     ∙ (let sum : (n t : ℕ) → 2 * n * t + 2 * n ≡ 2 * n * (t + 1) = λ n t. omega arith in
