@@ -149,21 +149,18 @@ stop-within plan h p g = go (phase plan h) refl
         → turns_of (is_running q) + steps_left plan (h ++ stop_items (is_running q) p)
         ≤ need_of plan (is_open q)
     go Run e =
-        let below = (running-rises plan h g.mode (ap is_running e)).1 in
-        let here = position_of-turn h p Stop in
-        let same = way-other plan h (Turn p Stop) refl in
-        let after = left_in-most plan (h ++ Turn p Stop ∷ [])
-        (phase plan (h ++ Turn p Stop ∷ [])) in
-        let all = most in
-        omega arith
-    go (Back q) e =
-        let high = position_of-most plan h g.mode in
-        let left = left_in-most plan h (phase plan h) in
-        let same = kept in
-        let all = most in
-        omega arith
-    go Ended e = let same = kept in let none = ap (left_in plan h) e in omega arith
-    go Undone e = let same = kept in let none = ap (left_in plan h) e in omega arith
+        let turned : List Item = h ++ Turn p Stop ∷ [] in
+        omega (
+          arith,
+          most,
+          (running-rises plan h g.mode (ap is_running e)).1,
+          position_of-turn h p Stop,
+          way-other plan h (Turn p Stop) refl,
+          left_in-most plan turned (phase plan turned),
+        )
+    go (Back q) e = omega (arith, most, kept, position_of-most plan h g.mode, left_in-most plan h (phase plan h))
+    go Ended e = omega (arith, kept, ap (left_in plan h) e)
+    go Undone e = omega (arith, kept, ap (left_in plan h) e)
 
 -- All turns.
 
