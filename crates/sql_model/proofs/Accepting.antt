@@ -10,7 +10,7 @@ use Rattle.sqlite_trees.proofs.ListLemmas.{all-append, all-slice_get}
 use Rattle.allotment.specs.Limits.{is_between}
 use Rattle.plan.specs.PlanModel.{Planned, StepPlan, is_plan, step_count, option_count}
 use Rattle.commands.specs.Asks.{Asked}
-use Rattle.commands.specs.Request.{Request, Stop, Save}
+use Rattle.commands.specs.Request.{Request}
 use Rattle.commands.specs.Texts.{is_journey, is_position, is_option, is_item, is_state, is_accepted}
 use Rattle.commands.specs.declared.items.Cause.TheVariants as cause
 use Rattle.commands.specs.declared.items.Item.{Item}
@@ -18,7 +18,6 @@ use Rattle.commands.specs.declared.items.Item.TheVariants as item
 use Rattle.commands.specs.declared.items.Phase.{Phase}
 use Rattle.commands.specs.declared.items.Phase.TheVariants as phases
 use Rattle.commands.specs.declared.replies.Reply.{Reply}
-use Rattle.commands.specs.declared.replies.Reply.TheVariants as reply
 use Rattle.ledger.specs.History.{net, position_of, is_taken, is_compensation_of, phase_at, phase, is_running, has_turned_to_start, going_to, next_option, last_of, may_turn, may_come}
 use Rattle.ledger.specs.Ledger.{Event, Journey, journeys, journey_at, history, may_do, fits, IsLegal}
 use Rattle.ledger.specs.History.{next_want}

@@ -1,5 +1,5 @@
 -- The rows that the begin of a journey writes represent its outcome. For the begin of a journey over tables.
-use Rattle.std.proofs.Common.{◌≡◌, ℕ, suc, ◌+◌, ◌-◌, ◌<◌, ◌≤◌, List, [], ◌∷◌, ◌++◌, length, map, false, Option, None, IsTrue, refl, sym, ap, subst, ◌∙◌, arith, append-nil, length-append, ◌==◌, flat_map, rules}
+use Rattle.std.proofs.Common.{◌≡◌, ℕ, suc, ◌+◌, ◌<◌, ◌≤◌, List, [], ◌∷◌, ◌++◌, length, map, false, Option, None, IsTrue, refl, sym, ap, subst, ◌∙◌, arith, append-nil, length-append, ◌==◌, flat_map, rules}
 use Rattle.std.specs.Prelude.{unwrap_or}
 use Rattle.std.specs.List.Sorted.{IsPermutation}
 use Rattle.std.proofs.lemmas.Bool.Decides.{nat_tests}

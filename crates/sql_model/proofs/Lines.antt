@@ -1,5 +1,5 @@
 -- Good rows have different texts, without line feeds, since their parts lack the separators. For loads.
-use Rattle.std.proofs.Common.{◌≡◌, ℕ, ◌+◌, ◌-◌, ◌%◌, ◌<◌, ◌≤◌, ◌^◌, ◌==◌, List, [], ◌∷◌, ◌++◌, Bool, true, Some, refl, sym, ap, ◌∙◌, arith, append_assoc, decimal, bytes_eq, ◌&&◌, not, rules}
+use Rattle.std.proofs.Common.{◌≡◌, ℕ, ◌+◌, ◌%◌, ◌<◌, ◌≤◌, ◌^◌, ◌==◌, List, [], ◌∷◌, ◌++◌, Bool, true, Some, refl, sym, ap, ◌∙◌, arith, append_assoc, decimal, bytes_eq, ◌&&◌, not, rules}
 use Rattle.std.specs.List.{list_all}
 use Rattle.std.proofs.lemmas.Bool.{and_parts, and_from, or_cases, leb-true, ne_eqb, not_from_false}
 use Rattle.std.proofs.lemmas.Fmt.{decimal_by_steps, decimal_injective}

@@ -1,6 +1,9 @@
 -- The elements of a list with their numbers, and the place of each. For the lemmas on numbered rows.
-use Rattle.std.proofs.Common.{◌≡◌, inl, inr, ℕ, zero, suc, ◌+◌, ◌<◌, List, [], ◌∷◌, map, Some, refl, sym, ap, ◌∙◌, arith, slice_get, option_map, rules}
+use Rattle.std.proofs.Common.{◌≡◌, ◌≢◌, inl, inr, ℕ, zero, suc, ◌+◌, ◌<◌, ◌==◌, List, [], ◌∷◌, map, filter, flat_map, true, false, Option, Some, None, refl, sym, ap, ◌∙◌, arith, eq-eqb, append-nil, slice_get, option_map, rules}
 use Rattle.std.specs.List.{AllByRecursion}
+use Rattle.std.proofs.lemmas.Bool.Decides.{nat_tests}
+use Rattle.std.proofs.lemmas.List.Elements.{filter-append}
+use Rattle.sqlite_trees.proofs.ListLemmas.{all_weaker, filter_all, filter_none}
 use Rattle.sqlite_rules.specs.Lists.{Has}
 use Rattle.sql_model.specs.ExpectedRows.{counted_from}
 use Rattle.sql_model.proofs.Orders.{Rises}
@@ -48,3 +51,47 @@ pub slice_get-map : {X Y : Type 0} (f : X → Y) (xs : List X) (i : ℕ)
     → slice_get (map f xs) i ≡ option_map f (slice_get xs i)
 slice_get-map f (x ∷ xs) (suc i) = slice_get-map f xs i
 slice_get-map f xs i = refl
+
+-- two lists with the same element at each place are equal
+pub same_places : {X : Type 0} (xs ys : List X) → ((i : ℕ) → slice_get xs i ≡ slice_get ys i) → xs ≡ ys
+same_places [] [] same = refl
+same_places [] (y ∷ ys) same = let none = same 0 in cc
+same_places (x ∷ xs) [] same = let none = same 0 in cc
+same_places (x ∷ xs) (y ∷ ys) same =
+    let first = same 0 in
+    let later = same_places xs ys (λ i. same (suc i)) in cc
+
+-- Rows of the elements of a list, each of which has the number of its element.
+module _ {X R : Type 0} (key : R → ℕ) (rows : ℕ → X → List R)
+    (own : (n : ℕ) (x : X) → AllByRecursion (λ r. key r ≡ n) (rows n x)) where
+  -- the rows of all elements, numbered from n
+  abbrev grouped : ℕ → List X → List R
+  grouped n xs = flat_map (λ (p : ℕ × X). rows p.0 p.1) (counted_from n xs)
+
+  -- the rows of an element, if there is one
+  abbrev pub rows_if : ℕ → Option X → List R
+  rows_if n None = []
+  rows_if n (Some x) = rows n x
+
+  -- the rows of an element pass the test of its number
+  same : (n : ℕ) (x : X) → filter (λ r. key r == n) (rows n x) ≡ rows n x
+  same n x =
+      filter_all (λ r. key r == n) (rows n x)
+      (all_weaker (λ r. key r ≡ n) (λ r. (key r == n) ≡ true) (λ r. eq-eqb (key r) n) (rows n x) (own n x))
+
+  -- and no other test
+  other : (n k : ℕ) (x : X) → n ≢ k → filter (λ r. key r == k) (rows n x) ≡ []
+  other n k x off =
+      filter_none (λ r. key r == k) (rows n x)
+      (all_weaker (λ r. key r ≡ n) (λ r. (key r == k) ≡ false) (λ r e. grind (arith, nat_tests)) (rows n x) (own n x))
+
+  past : (n k : ℕ) (xs : List X) → k < n → filter (λ r. key r == k) (grouped n xs) ≡ []
+  past n k [] above = refl
+  past n k (x ∷ xs) above = search (rules, arith, filter-append, other, past (suc n) k xs)
+
+  -- of all rows, those with a number are those of its element
+  pub group_at : (n i k : ℕ) (xs : List X) → n + i ≡ k
+      → filter (λ r. key r == k) (grouped n xs) ≡ rows_if k (slice_get xs i)
+  group_at n i k [] e = refl
+  group_at n zero k (x ∷ xs) e = search (rules, arith, filter-append, same, past, append-nil)
+  group_at n (suc i) k (x ∷ xs) e = search (rules, arith, filter-append, other, group_at (suc n) i k xs)

@@ -1,13 +1,11 @@
 -- The rows of one step of a journey's plan. For Readings, and for the choice of an option.
-use Rattle.std.proofs.Common.{◌≡◌, ℕ, zero, suc, ◌+◌, ◌<◌, ◌==◌, List, [], ◌∷◌, map, filter, length, Bool, true, false, Option, Some, None, IsTrue, refl, sym, ap, subst, ◌∙◌, arith, eq-eqb, append-nil, slice_get, flat_map, ◌&&◌, rules}
+use Rattle.std.proofs.Common.{◌≡◌, ℕ, zero, suc, ◌+◌, ◌==◌, List, [], ◌∷◌, map, filter, length, Bool, true, false, Some, IsTrue, refl, sym, ap, subst, ◌∙◌, arith, slice_get, ◌&&◌, rules}
 use Rattle.std.specs.List.{AllByRecursion}
 use Rattle.std.specs.List.Sorted.{IsPermutation}
-use Rattle.std.proofs.lemmas.Bool.Decides.{nat_tests}
-use Rattle.std.proofs.lemmas.List.Elements.{filter-append}
 use Rattle.std.proofs.lemmas.List.Sorted.{IsPermutation-trans}
 use Rattle.sqlite_rules.proofs.ListLemmas.{has_filtered}
 use Rattle.sqlite_trees.specs.Tree.{IsAscending}
-use Rattle.sqlite_trees.proofs.ListLemmas.{IsPermutation-filter, ascending-filter, filter_all, filter_none, all-map, all_of}
+use Rattle.sqlite_trees.proofs.ListLemmas.{IsPermutation-filter, ascending-filter, all-map, all_of}
 use Rattle.allotment.specs.Want.{Wanted}
 use Rattle.plan.specs.PlanModel.{Planned, StepPlan, numbered, is_plan}
 use Rattle.ledger.specs.Ledger.{Event, Journey, journey_at, history}
@@ -15,6 +13,7 @@ use Rattle.desk_sql.specs.FoundRows.{is_step_of, is_option_of, IsByPlace, step_o
 use Rattle.desk_sql.specs.Rows.{StepRow}
 use Rattle.desk_sql.specs.declared.steps.StepFound.{StepFound}
 use Rattle.sql_model.specs.ExpectedRows.{counted_from, option_row, option_rows, step_rows, is_standing, steps_called}
+use Rattle.sql_model.proofs.Numbering.{rows_if, group_at}
 use Rattle.sql_model.proofs.StepRows.{steps_found}
 use Rattle.sql_model.proofs.Orders.{found_in_order}
 use Rattle.sql_model.proofs.PlanRows.{rank, step_rows-rise, have_options, by_rank}
@@ -23,51 +22,20 @@ use Rattle.sql_model.proofs.PlanRows.{rank, step_rows-rise, have_options, by_ran
 abbrev pub is_at : ℕ → StepRow → Bool
 is_at place r = r.place == place
 
-module _ (taken : ℕ → ℕ → Bool) (id : ℕ) where
-  abbrev rows_in : ℕ × StepPlan → List StepRow
-  rows_in s = option_rows taken id s.0 s.1
-
-  -- the rows of a step, if there is one
-  abbrev rows_if : ℕ → Option StepPlan → List StepRow
-  rows_if place None = []
-  rows_if place (Some p) = option_rows taken id place p
-
-  at_step : (n : ℕ) (p : StepPlan) → AllByRecursion (λ (r : StepRow). r.place ≡ n) (rows_in (n, p))
-  at_step n p = search (rules, arith, all-map, all_of)
-
-  own : (n place : ℕ) (p : StepPlan) → n ≡ place → filter (is_at place) (rows_in (n, p)) ≡ rows_if place (Some p)
-  own n place p e =
-      filter_all (is_at place) (rows_in (n, p)) (each (rows_in (n, p)) (at_step n p)) ∙ ap (λ k. rows_in (k, p)) e
-    where
-      each : (rows : List StepRow) → AllByRecursion (λ (r : StepRow). r.place ≡ n) rows
-          → AllByRecursion (λ r. is_at place r ≡ true) rows
-      each [] all = tt
-      each (r ∷ rows) all = (eq-eqb r.place place (all.0 ∙ e), each rows all.1)
-
-  other : (n place : ℕ) (p : StepPlan) → (n == place) ≡ false → filter (is_at place) (rows_in (n, p)) ≡ []
-  other n place p e = filter_none (is_at place) (rows_in (n, p)) (each (rows_in (n, p)) (at_step n p))
-    where
-      each : (rows : List StepRow) → AllByRecursion (λ (r : StepRow). r.place ≡ n) rows
-          → AllByRecursion (λ r. is_at place r ≡ false) rows
-      each [] all = tt
-      each (r ∷ rows) all = (ap (λ k. k == place) all.0 ∙ e, each rows all.1)
-
-  past : (n place : ℕ) (ps : List StepPlan) → place < n → filter (is_at place) (flat_map rows_in (counted_from n ps)) ≡ []
-  past n place [] above = refl
-  past n place (p ∷ ps) above = search (rules, arith, nat_tests, filter-append, other, past (suc n) place ps)
-
-  from : (n i place : ℕ) (ps : List StepPlan) → n + i ≡ place
-      → filter (is_at place) (flat_map rows_in (counted_from n ps)) ≡ rows_if place (slice_get ps i)
-  from n i place [] e = refl
-  from n zero place (p ∷ ps) e = search (rules, arith, filter-append, own, past, append-nil)
-  from n (suc i) place (p ∷ ps) e = search (rules, arith, nat_tests, filter-append, other, from (suc n) i place ps)
+-- each row of a step has the number of the step
+pub step-rows_at : (taken : ℕ → ℕ → Bool) (id n : ℕ) (p : StepPlan)
+    → AllByRecursion (λ (r : StepRow). r.place ≡ n) (option_rows taken id n p)
+step-rows_at taken id n p = search (rules, arith, all-map, all_of)
 
 -- of the rows of a plan those of one step are the rows of its options
 pub step_rows_at : (taken : ℕ → ℕ → Bool) (id : ℕ) (plan : Planned) (place : ℕ) (p : StepPlan)
     → numbered plan.steps place ≡ Some p → filter (is_at place) (step_rows taken id plan) ≡ option_rows taken id place p
 step_rows_at taken id plan zero p e = cc
 step_rows_at taken id plan (suc i) p e =
-    from taken id 1 i (suc i) plan.steps (omega arith) ∙ ap (rows_if taken id (suc i)) e
+    let rows = option_rows taken id in
+    let own = step-rows_at taken id in
+    group_at (λ (r : StepRow). r.place) rows own 1 i (suc i) plan.steps (omega arith)
+    ∙ ap (rows_if (λ (r : StepRow). r.place) rows own (suc i)) e
 
 -- a filter of a filter tests both
 filter_both : {X : Type 0} (p q : X → Bool) (xs : List X) → filter q (filter p xs) ≡ filter (λ x. p x && q x) xs

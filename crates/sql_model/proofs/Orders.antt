@@ -1,5 +1,5 @@
 -- Rows in another order: they still differ from each other, and just one of their orders rises. For Readings.
-use Rattle.std.proofs.Common.{◌≡◌, ◌≢◌, ◌⊎◌, inl, inr, ℕ, ◌<◌, ◌≤◌, List, [], ◌∷◌, Bool, true, false, filter, find, cond, Option, Some, None, refl, sym, ap, ap₂, subst, ◌∙◌, arith, rules}
+use Rattle.std.proofs.Common.{◌≡◌, ◌≢◌, ◌⊎◌, inl, inr, ℕ, ◌<◌, ◌≤◌, List, [], ◌∷◌, Bool, true, false, filter, find, cond, Option, Some, None, refl, sym, ap, subst, ◌∙◌, arith, rules}
 use Rattle.std.specs.List.{AllByRecursion}
 use Rattle.std.specs.List.Sorted.{IsPermutation}
 use Rattle.std.proofs.lemmas.List.Sorted.{IsPermutation-refl, IsPermutation-cons, IsPermutation-middle, IsPermutation-trans}
@@ -8,7 +8,7 @@ use Rattle.sqlite_trees.proofs.ListLemmas.{along_permutation, all-permutation}
 use Rattle.sqlite_rules.specs.Lists.{Has}
 use Rattle.sqlite_rules.proofs.ListLemmas.{all_has, all_from, has_filtered, has_kept, has_found}
 use Rattle.desk_sql.specs.Lists.{IsOneOf, IsLeastOf}
-use Rattle.desk_sql.proofs.Members.{permutation_from, permutation_to}
+use Rattle.desk_sql.proofs.Members.{permutation_from, permutation_to, one_order as one_of_two}
 use Rattle.sql_model.specs.Standing.{AreApart}
 use Rattle.sql_model.proofs.Finding.{find-none}
 
@@ -47,22 +47,7 @@ module _ {X : Type 0} (R : X → X → Type 0) (back : (a b : X) → R a b → R
 -- two rising lists with the same elements are equal
 pub one_rising : {X : Type 0} (key : X → ℕ) (xs ys : List X) → Rises key xs → Rises key ys
     → ((x : X) → Has xs x → Has ys x) → ((x : X) → Has ys x → Has xs x) → xs ≡ ys
-one_rising key [] [] p q a b = refl
-one_rising key [] (y ∷ ys) p q a b = absurd (b y (inl refl))
-one_rising key (x ∷ xs) [] p q a b = absurd (a x (inl refl))
-one_rising {X} key (x ∷ xs) (y ∷ ys) p q a b =
-    let first : x ≡ y = elim (a x (inl refl)) [
-      | inl e ↦ e
-      | inr later ↦ elim
-          (b y (inl refl)) [ inl e ↦ sym e | inr also ↦ absurd (let one = all_has _ xs y p.0 also in let two = all_has _ ys x q.0 later in omega arith) ]
-    ] in
-    let past =
-    λ (z : X) (zs : List X) (up : AllByRecursion (λ r. key z < key r) zs) (r : X) (h : Has zs r)
-    (e : r ≡ z).
-    let lower = rw e at (all_has _ zs r up h) in absurd {A = ⊥} (omega (arith, lower)) in
-    ap₂ ◌∷◌ first (one_rising key xs ys p.1 q.1
-    (λ r h. elim (a r (inr h)) [ inl e ↦ absurd (past x xs p.0 r h (e ∙ sym first)) | inr k ↦ k ])
-    (λ r h. elim (b r (inr h)) [ inl e ↦ absurd (past y ys q.0 r h (e ∙ first)) | inr k ↦ k ]))
+one_rising key xs ys p q a b = one_of_two (λ a b. key a < key b) (λ a b low high. omega arith) xs ys p q a b
 
 -- a list that rises is the only rising order of its elements
 pub one_order : {X : Type 0} (key : X → ℕ) (xs ys : List X) → IsPermutation xs ys → Rises key xs

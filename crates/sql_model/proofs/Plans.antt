@@ -1,5 +1,5 @@
 -- The wants of a plan that keeps the limits keep the limits of wants. For Taking and GivingBack.
-use Rattle.std.proofs.Common.{◌≡◌, ℕ, zero, suc, ◌≤◌, List, [], ◌∷◌, length, Bool, true, Option, Some, None, ◌-◌, IsTrue, refl, sym, ap, ◌∙◌, ◌<◌, arith, slice_get, nat_le, option_and_then, option_map, unwrap_or, rules}
+use Rattle.std.proofs.Common.{◌≡◌, ℕ, zero, suc, ◌≤◌, List, [], ◌∷◌, length, Bool, true, Option, Some, None, IsTrue, refl, sym, ap, ◌∙◌, ◌<◌, arith, slice_get, nat_le, option_and_then, option_map, unwrap_or, rules}
 use Rattle.std.specs.List.{list_all}
 use Rattle.std.proofs.lemmas.Bool.{and_parts, leb-true}
 use Rattle.plan.proofs.LimitLemmas.{limited, step_limited}

@@ -1,5 +1,5 @@
 -- The row of a journey and the rows of its steps give its record. For Readings, and for reads of journeys.
-use Rattle.std.proofs.Common.{◌≡◌, ℕ, ◌+◌, List, [], ◌∷◌, ◌++◌, map, filter, Bool, true, false, Some, IsTrue, refl, sym, ap, ap₂, ◌∙◌, arith, eqb-true, nat_eq, ◌&&◌, ◌||◌, rules}
+use Rattle.std.proofs.Common.{◌≡◌, ℕ, List, [], ◌∷◌, ◌++◌, map, filter, Bool, true, false, Some, IsTrue, refl, sym, ap, ap₂, ◌∙◌, arith, eqb-true, nat_eq, ◌&&◌, ◌||◌, rules}
 use Rattle.std.specs.FinSet as set
 use Rattle.std.specs.Ordering.{nat_cmp}
 use Rattle.std.proofs.lemmas.Bool.{and_parts, or_left, or_right, leb-true, eqb-false}

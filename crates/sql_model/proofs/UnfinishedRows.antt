@@ -4,7 +4,7 @@ use Rattle.std.specs.List.Sorted.{IsPermutation}
 use Rattle.ledger.specs.Ledger.{Event, numbers}
 use Rattle.saga_core.specs.Views.{brief_of, first_unfinished, is_unfinished_above}
 use Rattle.desk_sql.specs.Rows.{JourneyRow}
-use Rattle.sql_model.specs.ExpectedRows.{counted_from, Begun, begun, journeys_called}
+use Rattle.sql_model.specs.ExpectedRows.{counted_from, begun, journeys_called}
 use Rattle.desk_sql.specs.FoundRows.{is_unfinished_after}
 use Rattle.desk_sql.specs.Lists.{IsLeastOf}
 use Rattle.sql_model.specs.Reading.{Tells, IsBriefOf}
