@@ -2,6 +2,7 @@ pub mod Lists
 pub mod Orders
 pub mod Finding
 pub mod Events
+pub mod EventRows
 pub mod Answering
 pub mod Beginning
 pub mod Answered
