@@ -18,11 +18,8 @@ use Rattle.desk_sql.specs.Rows.{Tables}
 use Rattle.sql_model.specs.Beginning.{with_answer}
 use Rattle.sql_model.specs.Standing.{IsDesk, StandsFor}
 use Rattle.sql_model.proofs.Conditions.{items_below, nights_have_free, nights_have_room}
-use Rattle.sql_model.proofs.GivingBack.{compensation_stands}
+use Rattle.sql_model.proofs.Moves.{transaction_stands, compensation_stands, turn_stands, save_stands}
 use Rattle.sql_model.proofs.Plans.{wanted_nights, wanted_count}
-use Rattle.sql_model.proofs.Saving.{save_stands}
-use Rattle.sql_model.proofs.Taking.{transaction_stands}
-use Rattle.sql_model.proofs.Turning.{turn_stands}
 use Rattle.sql_writes.specs.Kinds.{Fits, LeadsTo, rows_after}
 use Rattle.sql_writes.specs.declared.events.Numbers.{Numbers}
 use Rattle.sql_writes.specs.declared.events.Event.{Event}

@@ -49,7 +49,7 @@ use Rattle.sql_reads.proofs.GoodStock.{good_row}
 use Rattle.sql_model.proofs.Conditions.{items_below, nights_have_free}
 use Rattle.sql_model.proofs.Plans.{wanted_nights}
 use Rattle.sql_model.proofs.Ranges.{range_row}
-use Rattle.sql_model.proofs.Saving.{save-new}
+use Rattle.sql_model.proofs.Moves.{save-new, cursor_next}
 use Rattle.sql_model.proofs.Wants.{wanted_row}
 use Rattle.sql_commands.specs.Moving.{Says, IsDue, IsEventOf, asked_for}
 use Rattle.sql_commands.proofs.LeadLemmas.{IsMade}
@@ -60,7 +60,6 @@ use Rattle.ledger.specs.Cursors.{cursor_of}
 use Rattle.saga_core.specs.declared.records.Record.{Record}
 use Rattle.desk_sql.specs.declared.meta.Meta.{Meta}
 use Rattle.sql_model.proofs.Accepting.{moved-good}
-use Rattle.sql_model.proofs.Moves.{cursor_next}
 use Rattle.sql_commands.specs.Placing.{begun_as}
 use Rattle.sql_commands.specs.declared.moves.Motion.{Motion}
 use Rattle.sql_commands.proofs.Possible.{item_allowed}

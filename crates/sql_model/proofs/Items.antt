@@ -1,5 +1,5 @@
 -- What an item of a journey changes in the rows that are expected of a ledger. For the lemmas of each item.
-use Rattle.std.proofs.Common.{◌≡◌, ℕ, ◌+◌, ◌==◌, List, [], ◌∷◌, ◌++◌, length, map, Bool, true, false, if◌then◌else◌, Some, refl, sym, ap, ap₂, ◌∙◌, arith, append-nil, length-append, eqb-true, inl, inr, flat_map, ◌&&◌, IsPermutation, rules}
+use Rattle.std.proofs.Common.{◌≡◌, ℕ, ◌==◌, List, [], ◌∷◌, ◌++◌, map, Bool, true, false, if◌then◌else◌, Some, refl, sym, ap, ap₂, ◌∙◌, arith, append-nil, eqb-true, inl, inr, flat_map, ◌&&◌, IsPermutation, rules}
 use Rattle.std.proofs.lemmas.List.Sorted.{IsPermutation-map}
 use Rattle.sqlite_trees.proofs.ListLemmas.{map-map, map-flat_map}
 use Rattle.sqlite_rules.specs.Lists.{Has}
@@ -10,16 +10,15 @@ use Rattle.ledger.specs.Ledger.{Event, Did, Journey, journeys, journey_at, histo
 use Rattle.ledger.proofs.Growing.{journeys-did, history-did_same, history-did_other}
 use Rattle.saga_core.specs.Views.{cursor_of}
 use Rattle.desk_sql.specs.Lists.{changed}
-use Rattle.desk_sql.specs.FoundRows.{is_numbered, item_of}
+use Rattle.desk_sql.specs.FoundRows.{is_numbered}
 use Rattle.desk_sql.specs.Rows.{JourneyRow, StepRow}
 use Rattle.desk_sql.specs.Changes.{with_cursor, is_option, with_taken}
-use Rattle.sql_model.specs.ExpectedRows.{counted_from, meta_called, batches_called, Begun, begun, journey_row_of, journeys_called, is_standing, flag, option_row, step_rows, steps_called, entry_row_of, entries_called}
-use Rattle.sql_model.specs.Beginning.{meta_row_at}
+use Rattle.sql_model.specs.ExpectedRows.{counted_from, Begun, begun, journey_row_of, journeys_called, is_standing, flag, option_row, step_rows, steps_called}
 use Rattle.sql_model.proofs.Lists.{map-same, flat_map-same}
-use Rattle.sql_model.proofs.Events.{batches_called-more, entries_called-more, begun-more}
+use Rattle.sql_model.proofs.Events.{begun-more}
 use Rattle.sql_model.proofs.Numbering.{counted_stands}
 use Rattle.sql_model.proofs.JourneyRows.{row_in, begun_there}
-use Rattle.sql_model.specs.Moving.{cursor_written, item_written}
+use Rattle.sql_model.specs.Moving.{cursor_written}
 
 -- two functions that agree on the elements of a list map it alike
 map-same_on : {X Y : Type 0} (f g : X → Y) (xs : List X) → ((x : X) → Has xs x → f x ≡ g x)
@@ -33,16 +32,6 @@ pub changed-permutation : {X : Type 0} (passes : X → Bool) (change : X → X) 
     → IsPermutation xs ys → IsPermutation (changed passes change xs) (changed passes change ys)
 changed-permutation passes change xs ys same =
     IsPermutation-map (λ x. if passes x then change x else x) xs ys same
-
--- the stored item is the expected row
-pub written_row : (num j : ℕ) (item : Item) → item_of j (item_written num item) ≡ entry_row_of num j item
-written_row num j item = search (rules, arith)
-
--- two rules that agree on which options are taken give the same rows of a plan
-step_rows-same : (taken after : ℕ → ℕ → Bool) (id : ℕ) (plan : Planned)
-    → ((step option : ℕ) → after step option ≡ taken step option)
-    → step_rows after id plan ≡ step_rows taken id plan
-step_rows-same taken after id plan same = search (rules, arith, flat_map-same, map-same)
 
 -- rows of a plan of which one option of one journey was marked
 module _ (j i c : ℕ) (v : Bool) where
@@ -68,18 +57,6 @@ module _ (l : List Event) (j : ℕ) (item : Item) where
   -- the ledger with the item
   abbrev next : List Event
   next = l ++ Did j item ∷ []
-
-  -- one more event, and the same journeys
-  pub meta-did : meta_called next ≡ meta_row_at (length l + 1) (length (journeys l))
-  meta-did = search (rules, arith, length-append, journeys-did)
-
-  -- the same batches
-  pub batches-did : batches_called next ≡ batches_called l
-  batches-did = batches_called-more l (Did j item) ∙ append-nil (batches_called l)
-
-  -- the row of the item is appended
-  pub entries-did : entries_called next ≡ entries_called l ++ item_of j (item_written (length l + 1) item) ∷ []
-  entries-did = search (rules, arith, entries_called-more, written_row)
 
   -- Journeys.
 
@@ -108,11 +85,8 @@ module _ (l : List Event) (j : ℕ) (item : Item) where
           (cursor_of a.plan (history l j ++ item ∷ []))) (row_in l b) else row_in l b)
       go true e =
           let is = the_journey a at b h e in
-          ap (λ i. journey_row_of i b.0 b.1)
-          (history-did_same l j item b.0 e ∙ ap (λ k. history l k ++ item ∷ []) is.0)
-          ∙ ap
-          (λ (x : Journey). with_cursor (cursor_written (cursor_of x.plan (history l j ++ item ∷ []))) (row_in l b))
-          is.1
+          let now = history-did_same l j item b.0 e ∙ ap (λ k. history l k ++ item ∷ []) is.0 in
+          λ i. with_cursor (cursor_written (cursor_of (is.1 i).plan (now i))) (row_in l b)
       go false e = ap (λ i. journey_row_of i b.0 b.1) (history-did_other l j item b.0 e)
 
   -- the journey stands at its new cursor, and each other journey stands where it stood
@@ -133,32 +107,22 @@ module _ (l : List Event) (j : ℕ) (item : Item) where
       ∙ map-same_on (row_in next) (row_in l) (counted_from 1 (begun l)) each
     where
       each : (b : ℕ × Begun) → Has (counted_from 1 (begun l)) b → row_in next b ≡ row_in l b
-      each b h = go (b.0 == j) refl
+      each b h = moved_row a at b h ∙ go (b.0 == j) refl
         where
-          go : (v : Bool) → (b.0 == j) ≡ v → row_in next b ≡ row_in l b
-          go false e = ap (λ i. journey_row_of i b.0 b.1) (history-did_other l j item b.0 e)
+          go : (v : Bool) → (b.0 == j) ≡ v
+              → (if v then with_cursor (cursor_written (cursor_of a.plan (history l j ++ item ∷ []))) (row_in l b)
+              else row_in l b) ≡ row_in l b
+          go false e = refl
           go true e =
               let is = the_journey a at b h e in
-              let cursor : cursor_of b.1.journey.plan (history l j ++ item ∷ [])
-              ≡ cursor_of b.1.journey.plan (history l j) =
-              ap (λ (x : Journey). cursor_of x.plan (history l j ++ item ∷ [])) is.1 ∙ same
-              ∙ ap (λ (x : Journey). cursor_of x.plan (history l j)) (sym is.1) in
-              ap (λ i. journey_row_of i b.0 b.1)
-              (history-did_same l j item b.0 e ∙ ap (λ k. history l k ++ item ∷ []) is.0)
-              ∙ ap (λ c. with_cursor (cursor_written c) (row_in l b)) cursor
-              ∙ ap (λ k. journey_row_of (history l k) b.0 b.1) (sym is.0)
+              ap (λ c. with_cursor (cursor_written c) (row_in l b))
+              (same ∙ (λ i. cursor_of (sym is.1 i).plan (history l (sym is.0 i))))
 
   -- Steps.
 
   -- the rows of the plan of a journey of this ledger
   abbrev rows_in : List Event → ℕ × Journey → List StepRow
   rows_in m a = step_rows (is_standing (history m a.0)) a.0 a.1.plan
-
-  -- an item that leaves what stands leaves the rows of all steps
-  pub steps_called-stays :
-      ((k step option : ℕ) → is_standing (history next k) step option ≡ is_standing (history l k) step option)
-      → steps_called next ≡ steps_called l
-  steps_called-stays same = search (rules, arith, journeys-did, flat_map-same, step_rows-same)
 
   -- an item that takes one option, or gives it up, changes the row of that option alone
   pub steps_called-marked : (i c : ℕ) (v : Bool)

@@ -34,15 +34,11 @@ pub mod Quieting
 pub mod Items
 pub mod Marks
 pub mod Moves
-pub mod Turning
-pub mod Saving
 pub mod Alike
 pub mod Changing
 pub mod Wants
 pub mod Plans
 pub mod Options
-pub mod Taking
-pub mod GivingBack
 pub mod Puts
 pub mod Loading
 pub mod Keeping

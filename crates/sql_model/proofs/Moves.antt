@@ -1,79 +1,40 @@
--- What an item leaves unchanged, and the rows that each item writes. For the lemmas of each item.
-use Rattle.std.proofs.Common.{◌≡◌, ℕ, ◌+◌, ◌-◌, ◌==◌, List, [], ◌∷◌, ◌++◌, length, map, Bool, true, false, eqb-true, Option, Some, None, IsTrue, refl, sym, ap, subst, ◌∙◌, option_map, ◌&&◌, IsPermutation, arith, rules}
+-- The rows that each item of a journey writes represent the ledger with it. For the functions that write an item.
+use Rattle.std.proofs.Common.{◌≡◌, ℕ, ◌+◌, ◌-◌, ◌==◌, List, [], ◌∷◌, ◌++◌, length, Bool, true, false, eqb-true, Option, Some, None, IsTrue, refl, sym, ap, ◌∙◌, option_map, ◌&&◌, IsPermutation, arith, rules}
 use Rattle.std.specs.List.{list_any}
-use Rattle.std.proofs.lemmas.List.Sorted.{IsPermutation-append_left}
+use Rattle.std.proofs.lemmas.Bool.{and_parts}
+use Rattle.allotment.specs.declared.cells.Cell.{Cell}
+use Rattle.allotment.specs.Want.{Wanted}
+use Rattle.plan.specs.PlanModel.{want_at, Planned}
 use Rattle.commands.specs.Asks.{Asked}
-use Rattle.commands.specs.declared.items.Cursor.{Cursor}
 use Rattle.commands.specs.declared.items.Item.{Item}
 use Rattle.commands.specs.declared.replies.Reply.{Reply}
-use Rattle.allotment.specs.declared.cells.Cell.{Cell}
+use Rattle.commands.specs.declared.items.Item.TheVariants.{Transaction, Compensation, Turn, Save}
+use Rattle.commands.specs.declared.items.Cause.{Cause}
 use Rattle.ledger.specs.Answer.{State, state_with, kept_for}
-use Rattle.ledger.specs.History.{net, is_taken}
-use Rattle.ledger.specs.Ledger.{Event, Did, Journey, journeys, journey_at, history, held, allotment, is_allowed, IsLegal}
-use Rattle.ledger.proofs.Allotted.{allotment-same}
-use Rattle.ledger.proofs.Growing.{history-did_same, history-did_other}
+use Rattle.ledger.specs.History.{net, is_taken, next_want, may_come}
+use Rattle.ledger.specs.Ledger.{Event, Did, Journey, journeys, journey_at, history, held, is_allowed, IsLegal, places_in, fits}
+use Rattle.ledger.proofs.Growing.{history-did_same, history-did_other, journeys-did}
 use Rattle.ledger.specs.JourneyChanges.{cursor_after}
 use Rattle.ledger.proofs.Histories.{follows, may_come-allowed}
 use Rattle.ledger.proofs.Items.{cursor_of-more}
+use Rattle.ledger.proofs.PlacesMoved.{held-transaction, allotment-did, held-compensation, held_within, held-turn, held-save}
+use Rattle.ledger.proofs.Taking.{is_taken-more}
+use Rattle.ledger.proofs.Standing.{net-turn, net-save}
 use Rattle.saga_core.specs.Views.{cursor_of}
 use Rattle.desk_sql.specs.Lists.{changed}
-use Rattle.desk_sql.specs.FoundRows.{is_numbered, item_of}
-use Rattle.desk_sql.specs.Rows.{Tables, MetaRow, StockRow, JourneyRow, StepRow, MarkRow}
-use Rattle.desk_sql.specs.Changes.{with_cursor}
-use Rattle.sql_model.specs.ExpectedRows.{batches_called, journeys_called, is_standing, steps_called, entries_called}
-use Rattle.sql_model.specs.Standing.{StockStands, MarksStand, AnswersStand, StandsFor}
-use Rattle.sql_model.specs.Beginning.{meta_row_at, with_answer}
-use Rattle.sql_model.proofs.Answering.{answer_stands}
-use Rattle.sql_model.specs.Moving.{cursor_written, item_written, with_item}
-use Rattle.sql_model.proofs.Items.{changed-permutation, meta-did, batches-did, entries-did, journeys_called-did, steps_called-stays}
-
--- rows that represent a ledger, with those that one item changed, represent the ledger with the item
-pub record ItemStands (t u : Tables) (l : List Event) (j : ℕ) (item : Item) : Type 0 where
-  pub meta : u.meta ≡ t.meta
-  pub stock : StockStands (l ++ Did j item ∷ []) u.stock
-  pub batch : u.batch ≡ t.batch
-  pub journey : IsPermutation (journeys_called (l ++ Did j item ∷ [])) u.journey
-  pub step : IsPermutation (steps_called (l ++ Did j item ∷ [])) u.step
-  pub answer : u.answer ≡ t.answer
-  pub entries : u.entries ≡ t.entries
-  pub mark : MarksStand (l ++ Did j item ∷ []) u.mark
-
-module _ (t u : Tables) (s : State) (j : ℕ) (item : Item) (st : StandsFor t s)
-    (now : ItemStands t u s.ledger j item) where
-  abbrev l : List Event
-  l = s.ledger
-
-  -- the row of the item is appended, and its number is in meta
-  item_stands : StandsFor (with_item (length l + 1) (length (journeys l)) j item u)
-      (record { ledger = l ++ Did j item ∷ []; kept = s.kept })
-  item_stands = record {
-    meta =
-        ap (map (λ (m : MetaRow). meta_row_at (length l + 1) (length (journeys l))))
-        (now.meta ∙ st.meta)
-        ∙ ap (λ m. m ∷ []) (sym (meta-did l j item));
-    stock = now.stock;
-    batch =
-        subst (λ rows. IsPermutation rows u.batch) (sym (batches-did l j item))
-        (subst (IsPermutation (batches_called l)) (sym now.batch) st.batch);
-    journey = now.journey;
-    step = now.step;
-    answer = subst (AnswersStand s.kept) (sym now.answer) st.answer;
-    entries =
-        subst
-        (λ rows. IsPermutation rows (u.entries ++ item_of j (item_written (length l + 1) item) ∷ []))
-        (sym (entries-did l j item))
-        (IsPermutation-append_left (item_of j (item_written (length l + 1) item) ∷ []) (entries_called l) u.entries
-        (subst (IsPermutation (entries_called l)) (sym now.entries) st.entries));
-    mark = now.mark;
-  }
-
-  -- the reply is kept if there is an ask
-  pub item_stands_answered : (ask : Option Asked) (reply : Reply) → kept_for s ask ≡ None
-      → StandsFor (with_answer ask reply (with_item (length l + 1) (length (journeys l)) j item u))
-      (state_with s ask reply (Some (Did j item)))
-  item_stands_answered ask reply new =
-      answer_stands (with_item (length l + 1) (length (journeys l)) j item u)
-      (record { ledger = l ++ Did j item ∷ []; kept = s.kept }) ask reply item_stands new
+use Rattle.desk_sql.specs.FoundRows.{is_numbered}
+use Rattle.desk_sql.specs.Rows.{Tables, StockRow, JourneyRow, StepRow, MarkRow}
+use Rattle.desk_sql.specs.Changes.{with_cursor, moves_journey, marks_step, drops_mark, adds_mark}
+use Rattle.sql_model.specs.ExpectedRows.{journeys_called, is_standing, steps_called}
+use Rattle.sql_model.specs.Standing.{StockStands, MarksStand, StandsFor, IsDesk}
+use Rattle.sql_model.specs.Beginning.{with_answer}
+use Rattle.sql_model.specs.Moving.{cursor_written, takes_want, with_transaction, gives_want, with_compensation, with_turn, with_save}
+use Rattle.sql_model.proofs.Items.{changed-permutation, journeys_called-did, journeys_called-stays}
+use Rattle.sql_model.proofs.Options.{standing-transaction, steps-mark, standing-compensation}
+use Rattle.sql_model.proofs.Plans.{wanted_nights}
+use Rattle.sql_model.proofs.Wants.{stock-taken, stock-given}
+use Rattle.sql_model.proofs.Marks.{marks-drop, marks-add}
+use Rattle.sql_model.proofs.EventRows.{event_stands, stock-stays, marks-stay, steps-stay}
 
 module _ (l : List Event) (j : ℕ) (item : Item) where
   -- what an item leaves unchanged for its own journey's history, it leaves unchanged for all journeys
@@ -89,48 +50,142 @@ module _ (l : List Event) (j : ℕ) (item : Item) where
       go false e = ap f (history-did_other l j item k e)
 
   -- if the same places are held, the rows of stock stay
-  pub stock-stays : (rows : List StockRow) → ((x : Cell) → held (l ++ Did j item ∷ []) x ≡ held l x)
+  held-stays : (rows : List StockRow) → ((x : Cell) → held (l ++ Did j item ∷ []) x ≡ held l x)
       → StockStands l rows → StockStands (l ++ Did j item ∷ []) rows
-  stock-stays rows same stand = record {
-    each =
-        λ x. stand.each x
-        ∙ ap (λ n. option_map (λ (m : ℕ). record { allot = m; free = m - n }) (allotment l x)) (sym (same x))
-        ∙ ap (option_map (λ (m : ℕ). record { allot = m; free = m - held (l ++ Did j item ∷ []) x }))
-        (sym (allotment-same l (Did j item) x refl));
-    once = stand.once;
-    known = stand.known;
-  }
+  held-stays rows same stand =
+      stock-stays l (l ++ Did j item ∷ []) rows
+      (λ x i. option_map (λ (n : ℕ). record { allot = n; free = n - same x i }) (allotment-did l j item x i)) stand
 
   -- if the same save-points stand, their rows stay
-  pub marks-stay : (rows : List MarkRow)
+  taken-stays : (rows : List MarkRow)
       → ((p : ℕ) → is_taken (history l j ++ item ∷ []) p ≡ is_taken (history l j) p)
       → MarksStand l rows → MarksStand (l ++ Did j item ∷ []) rows
-  marks-stay rows same stand = record {
-    each = λ k p. stand.each k p ∙ sym (histories_same (λ h. is_taken h p) (same p) k);
-    once = stand.once;
-  }
+  taken-stays rows same stand =
+      marks-stay l (l ++ Did j item ∷ []) rows (λ k p. histories_same (λ h. is_taken h p) (same p) k) stand
 
   -- if the same transactions stand, the rows of steps stay
-  pub steps-stay : (rows : List StepRow) → net (history l j ++ item ∷ []) ≡ net (history l j)
-      → IsPermutation (steps_called l) rows
-      → IsPermutation (steps_called (l ++ Did j item ∷ [])) rows
-  steps-stay rows same stand =
-      subst (λ called. IsPermutation called rows)
-      (sym (steps_called-stays l j item
+  net-stays : (rows : List StepRow) → net (history l j ++ item ∷ []) ≡ net (history l j)
+      → IsPermutation (steps_called l) rows → IsPermutation (steps_called (l ++ Did j item ∷ [])) rows
+  net-stays rows same stand =
+      rw (steps-stay l (l ++ Did j item ∷ []) (journeys-did l j item)
       (λ k step option. histories_same (λ h. is_standing h step option)
-      (ap (λ ts. list_any (λ (t : ℕ × ℕ). (t.0 == step) && (t.1 == option)) ts) same) k)))
-      stand
-
-  -- the row of the journey moves to its new cursor
-  pub journeys-move : (rows : List JourneyRow) (a : Journey) (cursor : Cursor)
-      → journey_at l j ≡ Some a → cursor_of a.plan (history l j ++ item ∷ []) ≡ cursor
-      → IsPermutation (journeys_called l) rows
-      → IsPermutation (journeys_called (l ++ Did j item ∷ []))
-      (changed (is_numbered j) (with_cursor (cursor_written cursor)) rows)
-  journeys-move rows a cursor at is stand = search (rules, arith, journeys_called-did, changed-permutation)
+      (ap (list_any (λ (t : ℕ × ℕ). (t.0 == step) && (t.1 == option))) same) k)) stand
 
 -- the cursor that the desk computes is that of the longer history
 pub cursor_next : (l : List Event) (j : ℕ) (a : Journey) (item : Item) → IsLegal l
     → journey_at l j ≡ Some a → IsTrue (is_allowed l (Did j item))
     → cursor_of a.plan (history l j ++ item ∷ []) ≡ cursor_after a.plan (cursor_of a.plan (history l j)) item
 cursor_next l j a item legal at may = search (rules, arith, cursor_of-more, follows, may_come-allowed)
+
+-- the row of the journey moves to its new cursor
+journeys-move : (l : List Event) (j : ℕ) (item : Item) (rows : List JourneyRow) (a : Journey) → IsLegal l
+    → journey_at l j ≡ Some a → IsTrue (is_allowed l (Did j item)) → IsPermutation (journeys_called l) rows
+    → IsPermutation (journeys_called (l ++ Did j item ∷ []))
+    (changed (is_numbered j) (with_cursor (cursor_written (cursor_after a.plan (cursor_of a.plan (history l j)) item))) rows)
+journeys-move l j item rows a legal at may stand =
+    search (rules, arith, journeys_called-did, changed-permutation, cursor_next)
+
+-- a transaction changes the nights of its want, the row of its option and the journey's row, and leaves
+-- the save-points
+pub transaction_stands : (t : Tables) (s : State) (ask : Option Asked) (reply : Reply) (j i c : ℕ) (w : Wanted)
+    (a : Journey) → StandsFor t s → IsDesk s → journey_at s.ledger j ≡ Some a
+    → want_at a.plan i c ≡ Some w → IsTrue (is_allowed s.ledger (Did j (Transaction i c)))
+    → kept_for s ask ≡ None
+    → StandsFor (with_answer ask reply
+    (with_transaction (length s.ledger + 1) (length (journeys s.ledger)) j w i c
+    (cursor_after a.plan (cursor_of a.plan (history s.ledger j)) (Transaction i c)) t))
+    (state_with s ask reply (Some (Did j (Transaction i c))))
+transaction_stands t s ask reply j i c w a st desk at want may new =
+    let l = s.ledger in
+    let it : Item = Transaction i c in
+    let cursor = cursor_after a.plan (cursor_of a.plan (history l j)) it in
+    event_stands t (moves_journey j (cursor_written cursor) (marks_step j i c 1 (takes_want w t))) s ask reply (Did j it)
+    (length (journeys l)) st new (ap length (journeys-did l j it))
+    (record {
+      stock =
+          stock-taken l (l ++ Did j it ∷ []) w t.stock (wanted_nights l j i c a w desk.legal at want) st.stock
+          (allotment-did l j it) (λ x. held-transaction l j i c a x at ∙ ap (λ o. held l x + places_in x o) want);
+      journey = journeys-move l j it t.journey a desk.legal at may st.journey;
+      step = steps-mark l j it i c true (standing-transaction (history l j) i c) t.step st.step;
+      mark = taken-stays l j it t.mark (is_taken-more (history l j) it) st.mark;
+    })
+
+-- a compensation changes the nights of its want, the row of its option and the journey's row, and
+-- deletes the save-point of the step
+pub compensation_stands : (t : Tables) (s : State) (ask : Option Asked) (reply : Reply) (j i c : ℕ) (w : Wanted)
+    (a : Journey) → StandsFor t s → IsDesk s → journey_at s.ledger j ≡ Some a
+    → want_at a.plan i c ≡ Some w → IsTrue (is_allowed s.ledger (Did j (Compensation i c)))
+    → kept_for s ask ≡ None
+    → StandsFor (with_answer ask reply
+    (with_compensation (length s.ledger + 1) (length (journeys s.ledger)) j w i c
+    (cursor_after a.plan (cursor_of a.plan (history s.ledger j)) (Compensation i c)) t))
+    (state_with s ask reply (Some (Did j (Compensation i c))))
+compensation_stands t s ask reply j i c w a st desk at want may new =
+    let l = s.ledger in
+    let it : Item = Compensation i c in
+    let cursor = cursor_after a.plan (cursor_of a.plan (history l j)) it in
+    event_stands t (moves_journey j (cursor_written cursor) (drops_mark j i (marks_step j i c 0 (gives_want w t)))) s ask
+    reply (Did j it) (length (journeys l)) st new (ap length (journeys-did l j it))
+    (record {
+      stock =
+          stock-given l (l ++ Did j it ∷ []) w t.stock (wanted_nights l j i c a w desk.legal at want) st.stock
+          (allotment-did l j it)
+          (λ x. held-compensation l j i c a x desk.legal at may
+          ∙ ap (λ o. held (l ++ Did j it ∷ []) x + places_in x o) want)
+          (λ x n e. held_within l x n desk.legal e);
+      journey = journeys-move l j it t.journey a desk.legal at may st.journey;
+      step =
+          steps-mark l j it i c false
+          (standing-compensation a.plan (history l j) (fits l (next_want a.plan (history l j))) i c
+          (follows l desk.legal j a at) (may_come-allowed l j a it at may))
+          t.step st.step;
+      mark = marks-drop l j it t.mark st.mark i (is_taken-more (history l j) it);
+    })
+
+-- a turn changes the journey's row alone: the same places are held, and the same transactions and
+-- save-points stand
+pub turn_stands : (t : Tables) (s : State) (ask : Option Asked) (reply : Reply) (j p : ℕ) (cause : Cause)
+    (a : Journey) → StandsFor t s → IsDesk s → journey_at s.ledger j ≡ Some a
+    → IsTrue (is_allowed s.ledger (Did j (Turn p cause))) → kept_for s ask ≡ None
+    → StandsFor (with_answer ask reply
+    (with_turn (length s.ledger + 1) (length (journeys s.ledger)) j p cause
+    (cursor_after a.plan (cursor_of a.plan (history s.ledger j)) (Turn p cause)) t))
+    (state_with s ask reply (Some (Did j (Turn p cause))))
+turn_stands t s ask reply j p cause a st desk at may new =
+    let l = s.ledger in
+    let it : Item = Turn p cause in
+    let cursor = cursor_after a.plan (cursor_of a.plan (history l j)) it in
+    event_stands t (moves_journey j (cursor_written cursor) t) s ask reply (Did j it) (length (journeys l)) st new
+    (ap length (journeys-did l j it))
+    (record {
+      stock = held-stays l j it t.stock (λ x. held-turn l j p cause a x at) st.stock;
+      journey = journeys-move l j it t.journey a desk.legal at may st.journey;
+      step = net-stays l j it t.step (net-turn (history l j) p cause) st.step;
+      mark = taken-stays l j it t.mark (is_taken-more (history l j) it) st.mark;
+    })
+
+-- a save-point may be taken only where none stands that was taken
+pub save-new : (plan : Planned) (h : List Item) (may_fit : Bool) (p : ℕ)
+    → may_come plan h may_fit (Save p) ≡ true → is_taken h p ≡ false
+save-new plan h may_fit p may = search (rules, arith, and_parts)
+
+-- a save-point adds its row, and leaves all other rows
+pub save_stands : (t : Tables) (s : State) (ask : Option Asked) (reply : Reply) (j p : ℕ) (a : Journey)
+    → StandsFor t s → IsDesk s → journey_at s.ledger j ≡ Some a
+    → IsTrue (is_allowed s.ledger (Did j (Save p))) → kept_for s ask ≡ None
+    → StandsFor (with_answer ask reply (with_save (length s.ledger + 1) (length (journeys s.ledger)) j p t))
+    (state_with s ask reply (Some (Did j (Save p))))
+save_stands t s ask reply j p a st desk at may new =
+    let l = s.ledger in
+    let it : Item = Save p in
+    event_stands t (adds_mark j p t) s ask reply (Did j it) (length (journeys l)) st new (ap length (journeys-did l j it))
+    (record {
+      stock = held-stays l j it t.stock (λ x. held-save l j p a x at) st.stock;
+      journey =
+          rw (journeys_called-stays l j it a at (cursor_next l j a it desk.legal at may)) st.journey;
+      step = net-stays l j it t.step (net-save (history l j) p) st.step;
+      mark =
+          marks-add l j it t.mark st.mark p
+          (save-new a.plan (history l j) (fits l (next_want a.plan (history l j))) p (may_come-allowed l j a it at may))
+          (is_taken-more (history l j) it);
+    })
