@@ -1,6 +1,6 @@
 -- Each reply to an event accepts, and its parts keep the limits; so each request within the limits
 -- takes a desk's state to a desk's state. For Worlds, and for books over tables.
-use Rattle.std.proofs.Common.{◌≡◌, inl, inr, ℕ, zero, suc, ◌+◌, ◌<◌, ◌≤◌, ◌==◌, List, [], ◌∷◌, ◌++◌, length, Bool, true, false, if◌then◌else◌, Option, Some, None, IsTrue, refl, ap, subst, ◌∙◌, arith, eqb-true, add-one, slice_get, option_map, nat_lt, nat_le, ◌&&◌, not, rules}
+use Rattle.std.proofs.Common.{◌≡◌, inl, inr, ℕ, ◌+◌, ◌<◌, ◌≤◌, ◌==◌, List, [], ◌∷◌, ◌++◌, length, Bool, true, false, if◌then◌else◌, Option, Some, None, IsTrue, ap, subst, ◌∙◌, arith, eqb-true, add-one, option_map, nat_lt, nat_le, ◌&&◌, not, rules}
 use Rattle.std.specs.Prelude.{unwrap_or}
 use Rattle.std.specs.List.{AllByRecursion, list_any}
 use Rattle.std.proofs.lemmas.Bool.{and_parts, and_from, or_cases, leb-true, le-leb, ltb-true, eqb-false}
@@ -33,6 +33,7 @@ use Rattle.ledger.proofs.Outcomes.{outcome-legal}
 use Rattle.sql_model.specs.Standing.{IsKeepable, IsDesk}
 use Rattle.sql_model.proofs.Answering.{keepable-more}
 use Rattle.sql_model.proofs.Beginning.{journeys-few}
+use Rattle.sql_model.proofs.Numbering.{there_is}
 use Rattle.sql_model.proofs.PlanRows.{have_options}
 
 -- Numbers.
@@ -86,11 +87,6 @@ last-all P [] x all e = cc
 last-all {X} P (y ∷ []) x all e = let same : y ≡ x = cc in subst P same all.0
 last-all P (y ∷ z ∷ xs) x all e = last-all P (z ∷ xs) x all.1 e
 
-got : {X : Type 0} (xs : List X) (i : ℕ) → i < length xs → (x : X) × (slice_get xs i ≡ Some x)
-got [] i low = absurd (omega arith)
-got (x ∷ xs) zero low = (x, refl)
-got (x ∷ xs) (suc i) low = got xs i (omega arith)
-
 module _ (plan : Planned) (h : List Item) (good : IsTrue (is_plan plan)) (goes : Goes plan h)
     (items : AreGood h) where
   -- a target keeps the limits
@@ -102,7 +98,7 @@ module _ (plan : Planned) (h : List Item) (good : IsTrue (is_plan plan)) (goes :
 
   option-good : position_of h < step_count plan → is_between 1 most_options (next_option plan h) ≡ true
   option-good short =
-      let s = got plan.steps (position_of h) short in
+      let s = there_is plan.steps (position_of h) short in
       let counts : option_count plan (position_of h + 1) ≡ length s.0.options =
       ap (option_count plan) (add-one (position_of h))
       ∙ ap (λ o. unwrap_or (option_map (λ (x : StepPlan). length x.options) o) 0) s.1 in

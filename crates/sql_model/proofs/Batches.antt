@@ -5,16 +5,13 @@ use Rattle.std.proofs.lemmas.Bool.{and_parts}
 use Rattle.std.proofs.lemmas.List.{length-map}
 use Rattle.std.proofs.lemmas.List.Sorted.{length_permutation}
 use Rattle.std.proofs.lemmas.Slice.Eq.{bytes_eq-Decides}
-use Rattle.commands.specs.Limits.{most_rows}
 use Rattle.sqlite_trees.proofs.ListLemmas.{IsPermutation-filter}
 use Rattle.sqlite_rules.specs.Lists.{Has}
 use Rattle.sqlite_rules.proofs.ListLemmas.{has_either}
 use Rattle.sqlite_rules.proofs.ProbeLemmas.{has_mapped, mapped_has}
-use Rattle.allotment.specs.Limits.{is_between}
 use Rattle.allotment.specs.declared.cells.Row.{Row}
-use Rattle.commands.specs.Names.{is_batch_name}
 use Rattle.ledger.specs.Answer.{State}
-use Rattle.ledger.specs.Ledger.{Event, Loaded, Began, Did, batches_named, is_allowed, is_batch, is_good_row, are_distinct, is_not_below_held, IsLegal}
+use Rattle.ledger.specs.Ledger.{Event, Loaded, Began, Did, batches_named, is_allowed, is_batch, is_good_row, is_not_below_held, IsLegal}
 use Rattle.ledger.proofs.Growing.{induct}
 use Rattle.ledger.proofs.Events.{batches_named-loaded, batches_named-began, batches_named-did}
 use Rattle.desk_sql.specs.Lists.{IsOneOf}
@@ -24,6 +21,7 @@ use Rattle.desk_sql.specs.declared.batches.BatchFound.{BatchFound}
 use Rattle.desk_sql.proofs.Members.{permutation_from}
 use Rattle.sql_model.specs.ExpectedRows.{counted_from, batch_text, batch_row_of, batches_called}
 use Rattle.sql_model.specs.Standing.{StandsFor, IsDesk}
+use Rattle.sql_model.proofs.Conditions.{loaded_good}
 use Rattle.sql_model.proofs.Wants.{same_test}
 
 -- equality of bytes is symmetric
@@ -107,19 +105,8 @@ good_more l (Loaded other new) legal may good =
     λ name rows h. go name rows (bytes_eq name other)
     (subst (λ bs. Has bs rows) (batches_named-loaded l other new name) h)
   where
-    new_good : list_all is_good_row new ≡ true
-    new_good =
-        let unused =
-        (and_parts (is_batch other new && list_all (is_not_below_held l) new)
-        (length (batches_named l other) == 0) may).0 in
-        let batch = (and_parts (is_batch other new) (list_all (is_not_below_held l) new) unused).0 in
-        let limits =
-        (and_parts (is_batch_name other && is_between 1 most_rows (length new) && list_all is_good_row new)
-        (are_distinct new) batch).0 in
-        (and_parts (is_batch_name other && is_between 1 most_rows (length new)) (list_all is_good_row new) limits).1
-
     last : (rows : List Row) → Has (new ∷ []) rows → list_all is_good_row rows ≡ true
-    last rows (inl e) = ap (list_all is_good_row) e ∙ new_good
+    last rows (inl e) = ap (list_all is_good_row) e ∙ loaded_good l other new may
     last rows (inr h) = absurd h
 
     go : (name : List ℕ) (rows : List Row) (v : Bool)

@@ -1,20 +1,18 @@
 -- The preconditions of the statements on the rows that they change: no number falls below 0 or passes the store's
 -- integers, and a new number is above all others. For the functions that write an item.
-use Rattle.std.proofs.Common.{◌≡◌, ℕ, suc, ◌+◌, ◌-◌, ◌<◌, ◌≤◌, ◌^◌, ◌==◌, List, [], ◌∷◌, ◌++◌, length, find, true, false, Option, Some, None, IsTrue, refl, sym, ap, subst, ◌∙◌, arith, filter_map, option_map, nat_le, ◌&&◌, unwrap_or, IsPermutation, rules}
+use Rattle.std.proofs.Common.{◌≡◌, ℕ, suc, ◌+◌, ◌-◌, ◌<◌, ◌≤◌, ◌^◌, List, [], ◌∷◌, ◌++◌, length, find, true, false, Option, Some, None, IsTrue, refl, sym, ap, subst, ◌∙◌, arith, filter_map, option_map, nat_le, unwrap_or, IsPermutation, rules}
 use Rattle.std.specs.List.{AllByRecursion, list_all}
 use Rattle.std.proofs.lemmas.Bool.{and_parts, leb-true}
-use Rattle.commands.specs.Limits.{most_rows}
 use Rattle.sqlite_trees.proofs.ListLemmas.{all-permutation}
 use Rattle.sqlite_rules.specs.Lists.{Has}
 use Rattle.sqlite_rules.proofs.ListLemmas.{all_has, all_from, has_found, test_has}
 use Rattle.allotment.specs.Want.{Wanted}
-use Rattle.allotment.specs.Limits.{is_between, is_good_cell, most_count, most_places}
+use Rattle.allotment.specs.Limits.{is_good_cell, most_count, most_places}
 use Rattle.allotment.specs.Cells.{is_cell, cells_of, wants_cell}
 use Rattle.allotment.specs.declared.cells.Cell.{Cell}
 use Rattle.allotment.specs.declared.cells.Row.{Row}
-use Rattle.commands.specs.Names.{is_batch_name}
 use Rattle.commands.specs.declared.items.Item.{Item}
-use Rattle.ledger.specs.Ledger.{Event, Loaded, Began, Did, held, allotment, has_free, fits, is_allowed, is_batch, is_good_row, are_distinct, is_not_below_held, batches_named, IsLegal}
+use Rattle.ledger.specs.Ledger.{Event, Loaded, Began, Did, held, allotment, has_free, fits, is_allowed, is_good_row, IsLegal}
 use Rattle.ledger.proofs.Cells.{is_cell-same}
 use Rattle.ledger.proofs.Growing.{induct}
 use Rattle.ledger.proofs.Lists.{list_any-and_all}
@@ -69,6 +67,11 @@ items_below l t same =
 FewPlaces : List Event → Type 0
 FewPlaces l = (x : Cell) (n : ℕ) → allotment l x ≡ Some n → n ≤ most_places
 
+-- the rows of a batch that is allowed keep the limits
+pub loaded_good : (l : List Event) (name : List ℕ) (rows : List Row) → IsTrue (is_allowed l (Loaded name rows))
+    → list_all is_good_row rows ≡ true
+loaded_good l name rows may = grind (arith, and_parts)
+
 -- a load keeps the limit of places, since its rows do
 few_loaded : (l : List Event) (name : List ℕ) (rows : List Row)
     → IsTrue (is_allowed l (Loaded name rows)) → FewPlaces l → FewPlaces (l ++ Loaded name rows ∷ [])
@@ -77,24 +80,13 @@ few_loaded l name rows may few x n at =
     go (find (λ (r : Row). is_cell x r.cell) rows) refl
     (sym (allotment-loaded l name rows x (loaded_distinct l name rows may)) ∙ at)
   where
-    good : list_all is_good_row rows ≡ true
-    good =
-        let new =
-        (and_parts (is_batch name rows && list_all (is_not_below_held l) rows)
-        (length (batches_named l name) == 0) may).0 in
-        let batch = (and_parts (is_batch name rows) (list_all (is_not_below_held l) rows) new).0 in
-        let limits =
-        (and_parts (is_batch_name name && is_between 1 most_rows (length rows) && list_all is_good_row rows)
-        (are_distinct rows) batch).0 in
-        (and_parts (is_batch_name name && is_between 1 most_rows (length rows)) (list_all is_good_row rows) limits).1
-
     go : (o : Option Row) → find (λ (r : Row). is_cell x r.cell) rows ≡ o
         → newer (option_map (λ (r : Row). r.places) o) (allotment l x) ≡ Some n → n ≤ most_places
     go None e f = few x n f
     go (Some r) e f =
         let there = has_found (λ (q : Row). is_cell x q.cell) rows r e in
         let places =
-        (and_parts (is_good_cell r.cell) (nat_le r.places most_places) (test_has is_good_row rows r good there.0)).1 in
+        (and_parts (is_good_cell r.cell) (nat_le r.places most_places) (test_has is_good_row rows r (loaded_good l name rows may) there.0)).1 in
         let low = leb-true r.places most_places places in
         let same : r.places ≡ n = cc in
         subst (λ k. k ≤ most_places) same low

@@ -1,5 +1,5 @@
 -- The elements of a list with their numbers, and the place of each. For the lemmas on numbered rows.
-use Rattle.std.proofs.Common.{◌≡◌, ◌≢◌, inl, inr, ℕ, zero, suc, ◌+◌, ◌<◌, ◌==◌, List, [], ◌∷◌, map, filter, flat_map, true, false, Option, Some, None, refl, sym, ap, ◌∙◌, arith, eq-eqb, append-nil, slice_get, option_map, rules}
+use Rattle.std.proofs.Common.{◌≡◌, ◌≢◌, inl, inr, ℕ, zero, suc, ◌+◌, ◌<◌, ◌==◌, List, [], ◌∷◌, length, map, filter, flat_map, true, false, Option, Some, None, refl, sym, ap, ◌∙◌, arith, eq-eqb, append-nil, slice_get, option_map, rules}
 use Rattle.std.specs.List.{AllByRecursion}
 use Rattle.std.proofs.lemmas.Bool.Decides.{nat_tests}
 use Rattle.std.proofs.lemmas.List.Elements.{filter-append}
@@ -51,6 +51,12 @@ pub slice_get-map : {X Y : Type 0} (f : X → Y) (xs : List X) (i : ℕ)
     → slice_get (map f xs) i ≡ option_map f (slice_get xs i)
 slice_get-map f (x ∷ xs) (suc i) = slice_get-map f xs i
 slice_get-map f xs i = refl
+
+-- there is an element at each place below the length
+pub there_is : {X : Type 0} (xs : List X) (i : ℕ) → i < length xs → (x : X) × (slice_get xs i ≡ Some x)
+there_is [] i low = absurd (omega arith)
+there_is (x ∷ xs) zero low = (x, refl)
+there_is (x ∷ xs) (suc i) low = there_is xs i (omega arith)
 
 -- two lists with the same element at each place are equal
 pub same_places : {X : Type 0} (xs ys : List X) → ((i : ℕ) → slice_get xs i ≡ slice_get ys i) → xs ≡ ys

@@ -1,6 +1,5 @@
 -- Rows in another order: they still differ from each other, and just one of their orders rises. For Readings.
 use Rattle.std.proofs.Common.{◌≡◌, ◌≢◌, ◌⊎◌, inl, inr, ℕ, ◌<◌, ◌≤◌, List, [], ◌∷◌, Bool, true, false, filter, find, cond, Option, Some, None, refl, sym, ap, subst, ◌∙◌, arith, rules}
-use Rattle.std.specs.List.{AllByRecursion}
 use Rattle.std.specs.List.Sorted.{IsPermutation}
 use Rattle.std.proofs.lemmas.List.Sorted.{IsPermutation-refl, IsPermutation-cons, IsPermutation-middle, IsPermutation-trans}
 use Rattle.sqlite_trees.specs.Tree.{IsAscending}
@@ -92,36 +91,35 @@ found_in_order key R xs ys same up sorted falls_not =
 
 -- One of a kind.
 
--- of elements that are apart at most one passes, if those that pass are the same
+-- of elements that are apart, two that are the same are one
+pub one_alike : {X : Type 0} (same : X → X → Bool) (xs : List X) (a b : X) → AreApart same xs → Has xs a → Has xs b
+    → same a b ≡ true → same b a ≡ true → a ≡ b
+one_alike same [] a b up h k p q = absurd h
+one_alike same (x ∷ xs) a b up (inl d) (inl e) p q = d ∙ sym e
+one_alike same (x ∷ xs) a b up (inl d) (inr k) p q = let off = all_has _ xs b up.0 k in cc
+one_alike same (x ∷ xs) a b up (inr h) (inl e) p q = let off = all_has _ xs a up.0 h in cc
+one_alike same (x ∷ xs) a b up (inr h) (inr k) p q = one_alike same xs a b up.1 h k p q
+
+-- so at most one passes, if those that pass are the same
 pub found_is_first : {X : Type 0} (same : X → X → Bool) (test : X → Bool) (xs : List X) (found : Option X)
     → AreApart same xs
     → ((a b : X) → test a ≡ true → test b ≡ true → same a b ≡ true) → IsOneOf (filter test xs) found
     → find test xs ≡ found
-found_is_first {X} same test xs found apart alike one = go xs apart found one
+found_is_first {X} same test xs found apart alike one = go (find test xs) refl found one
   where
-    none_else : (x : X) (ls : List X) → test x ≡ true → AllByRecursion (λ y. same x y ≡ false) ls
-        → (y : X) → Has (filter test ls) y → ⊥
-    none_else x ls passes others y h =
-        let there = has_filtered test ls y h in
-        let on = alike x y passes there.1 in
-        let off = all_has _ ls y others there.0 in
-        let bad : true ≡ false = sym on ∙ off in cc
-
-    first : (a : X) (ls : List X) (v : Bool) → test a ≡ v
-        → AllByRecursion (λ y. same a y ≡ false) ls → (o : Option X)
-        → IsOneOf (cond v (a ∷ filter test ls) (filter test ls)) o
-        → ((p : Option X) → IsOneOf (filter test ls) p → find test ls ≡ p)
-        → cond v (Some a) (find test ls) ≡ o
-    first a ls true t others None is rest = cc
-    first a ls true t others (Some b) (inl e) rest = ap Some (sym e)
-    first a ls true t others (Some b) (inr later) rest = absurd (none_else a ls t others b later)
-    first a ls false t others o is rest = rest o is
-
-    go : (ls : List X) → AreApart same ls → (o : Option X) → IsOneOf (filter test ls) o
-        → find test ls ≡ o
-    go [] up None is = refl
-    go [] up (Some b) is = absurd is
-    go (a ∷ ls) up o is = first a ls (test a) refl up.0 o is (go ls up.1)
+    go : (o : Option X) → find test xs ≡ o → (p : Option X) → IsOneOf (filter test xs) p → o ≡ p
+    go None e None is = refl
+    go None e (Some b) is =
+        let there = has_filtered test xs b is in
+        let off = all_has _ xs b (find-none test xs e) there.0 in
+        let on = there.1 in cc
+    go (Some a) e None is =
+        let there = has_found test xs a e in
+        absurd (subst (λ ls. Has ls a) is (has_kept test xs a there.0 there.1))
+    go (Some a) e (Some b) is =
+        let here = has_found test xs a e in
+        let there = has_filtered test xs b is in
+        ap Some (one_alike same xs a b apart here.0 there.0 (alike a b here.1 there.1) (alike b a there.1 here.1))
 
 -- The least.
 

@@ -1,19 +1,18 @@
 -- The rows of a plan, step by step and option by option, and their number. For readers and writers of plans.
-use Rattle.std.proofs.Common.{◌≡◌, ℕ, zero, suc, ◌+◌, ◌<◌, List, [], ◌∷◌, ◌++◌, length, false, refl, sym, ap, ◌∙◌, arith, add-one, Option, Some, None, option_map, option_and_then, slice_get, rules}
+use Rattle.std.proofs.Common.{◌≡◌, ℕ, ◌+◌, ◌<◌, List, [], ◌∷◌, ◌++◌, length, false, refl, sym, ap, ◌∙◌, arith, add-one, Option, Some, None, option_map, option_and_then, slice_get, rules}
 use Rattle.std.specs.Prelude.{unwrap_or}
 use Rattle.allotment.specs.Want.{Wanted}
 use Rattle.plan.specs.PlanModel.{Planned, StepPlan, numbered, option_count, step_count}
 use Rattle.sql_model.specs.ExpectedRows.{option_row, option_rows, step_rows_of, none_taken}
 use Rattle.sql_model.specs.Beginning.{first_options, first_steps, rows_of_step, rows_of_option, first_rows_of_step}
+use Rattle.sql_model.proofs.Numbering.{there_is}
 use Rattle.sql_model.proofs.PlanWriting.{option_rows-more, option_rows-all, step_rows-more}
 
 -- The options of a step.
 
 -- below its length a list has an element
 none_within : {X : Type 0} (xs : List X) (n : ℕ) → slice_get xs n ≡ None → n < length xs → ⊥
-none_within [] n e within = omega arith
-none_within (x ∷ xs) zero e within = cc
-none_within (x ∷ xs) (suc n) e within = none_within xs n e (omega arith)
+none_within xs n e within = let it = there_is xs n within in let some = it.1 in cc
 
 more_of : (id i n : ℕ) (o : Option StepPlan) → n < unwrap_or (option_map (λ (s : StepPlan). length s.options) o) 0
     → unwrap_or (option_map (λ (s : StepPlan). option_rows none_taken id i (first_options (n + 1) s)) o) []

@@ -1,26 +1,21 @@
 -- The wants of a plan that keeps the limits keep the limits of wants. For Taking and GivingBack.
-use Rattle.std.proofs.Common.{◌≡◌, ℕ, zero, suc, ◌≤◌, List, [], ◌∷◌, length, Bool, true, Option, Some, None, IsTrue, refl, sym, ap, ◌∙◌, ◌<◌, arith, slice_get, nat_le, option_and_then, option_map, unwrap_or, rules}
+use Rattle.std.proofs.Common.{◌≡◌, ℕ, zero, suc, ◌≤◌, List, length, Bool, true, Option, Some, None, IsTrue, refl, ap, ◌∙◌, arith, nat_le, option_and_then, option_map, unwrap_or, rules}
 use Rattle.std.specs.List.{list_all}
 use Rattle.std.proofs.lemmas.Bool.{and_parts, leb-true}
+use Rattle.sqlite_rules.proofs.ListLemmas.{test_has, has_got}
 use Rattle.plan.proofs.LimitLemmas.{limited, step_limited}
 use Rattle.allotment.specs.Want.{Wanted}
 use Rattle.allotment.specs.Limits.{is_between, is_want, most_count}
 use Rattle.plan.specs.PlanModel.{Planned, StepPlan, numbered, want_at, is_step, is_plan, option_count}
 use Rattle.ledger.specs.Ledger.{Event, Journey, journey_at, IsLegal}
+use Rattle.sql_model.proofs.Numbering.{there_is}
 use Rattle.sql_model.proofs.RecordRows.{plan_good}
 
 -- if each element passes, the one with a number passes
 numbered-passes : {X : Type 0} (p : X → Bool) (xs : List X) (n : ℕ) (x : X) → numbered xs n ≡ Some x
     → list_all p xs ≡ true → p x ≡ true
 numbered-passes p xs zero x e all = cc
-numbered-passes p xs (suc i) x e all = at p xs i x e all
-  where
-    at : {X : Type 0} (p : X → Bool) (xs : List X) (i : ℕ) (x : X) → slice_get xs i ≡ Some x
-        → list_all p xs ≡ true → p x ≡ true
-    at p [] i x e all = cc
-    at {X} p (y ∷ xs) zero x e all =
-        let same : y ≡ x = cc in ap p (sym same) ∙ (and_parts (p y) (list_all p xs) all).0
-    at p (y ∷ xs) (suc i) x e all = at p xs i x e (and_parts (p y) (list_all p xs) all).1
+numbered-passes p xs (suc i) x e all = test_has p xs x all (has_got xs i x e)
 
 -- a want of a good plan keeps its limits
 pub want_good : (plan : Planned) (i c : ℕ) (w : Wanted) → IsTrue (is_plan plan)
@@ -58,15 +53,10 @@ pub option_wanted : (plan : Planned) (i c : ℕ) → is_between 1 (option_count 
     → (w : Wanted) × (want_at plan i c ≡ Some w)
 option_wanted plan i c within = go (numbered plan.steps i) refl within
   where
-    got : {X : Type 0} (xs : List X) (k : ℕ) → k < length xs → (x : X) × (slice_get xs k ≡ Some x)
-    got [] k low = absurd (omega arith)
-    got (x ∷ xs) zero low = (x, refl)
-    got (x ∷ xs) (suc k) low = got xs k (omega arith)
-
     of_number : {X : Type 0} (xs : List X) (n : ℕ) → 1 ≤ n → n ≤ length xs
         → (x : X) × (numbered xs n ≡ Some x)
     of_number xs zero low high = absurd (omega arith)
-    of_number xs (suc k) low high = got xs k (omega arith)
+    of_number xs (suc k) low high = there_is xs k (omega arith)
 
     go : (o : Option StepPlan) → numbered plan.steps i ≡ o
         → is_between 1 (unwrap_or (option_map (λ (s : StepPlan). length s.options) o) 0) c ≡ true

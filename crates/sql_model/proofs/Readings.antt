@@ -1,10 +1,9 @@
 -- What each read of the tables says of the state that they represent. For the functions that read.
-use Rattle.std.proofs.Common.{◌≡◌, ℕ, ◌+◌, ◌≤◌, ◌==◌, List, [], ◌∷◌, map, filter, length, take, Option, Some, IsTrue, refl, sym, ap, subst, ◌∙◌, option_map, bytes_eq, nat_le, ◌&&◌, arith, rules}
+use Rattle.std.proofs.Common.{◌≡◌, ℕ, ◌+◌, ◌≤◌, ◌==◌, List, [], map, filter, length, take, Option, Some, IsTrue, sym, ap, subst, ◌∙◌, option_map, arith, rules}
 use Rattle.std.specs.List.{list_any}
 use Rattle.std.specs.List.Sorted.{IsPermutation}
-use Rattle.sqlite_trees.proofs.ListLemmas.{filter_same, all_of}
+use Rattle.sqlite_trees.proofs.ListLemmas.{map-map, filter_same, all_of}
 use Rattle.allotment.specs.Want.{Wanted}
-use Rattle.allotment.specs.Cells.{kind_number}
 use Rattle.plan.specs.PlanModel.{Planned, StepPlan, numbered, is_plan}
 use Rattle.ledger.specs.History.{is_taken}
 use Rattle.ledger.specs.Ledger.{Journey, journeys, journey_at, history}
@@ -36,6 +35,7 @@ use Rattle.sql_model.proofs.OptionRows.{is_at, step_rows_at, options_found_in_or
 use Rattle.sql_model.proofs.ItemRows.{items_found, marks_found}
 use Rattle.sql_model.proofs.NextItems.{TellsIfNext, next_found}
 use Rattle.sql_model.proofs.StockRows.{nights_found}
+use Rattle.sql_model.proofs.Ranges.{range_row}
 use Rattle.sql_model.proofs.RecordRows.{plan_good, plan_told}
 
 module _ {v : Version} (t : Tables) (s : State) (st : StandsIn v t s) (desk : IsDesk s) where
@@ -78,13 +78,8 @@ module _ {v : Version} (t : Tables) (s : State) (st : StandsIn v t s) (desk : Is
       → Rises (λ (e : EntryRow). e.num) t.entries → FindsItems id after t found
       → map (λ (i : ItemFound). item_in (item_of id i)) found ≡ map Some (history s.ledger id)
   items_read id after found none up finds =
-      sym (map-map (item_of id) item_in found) ∙ ap (map item_in) finds
+      sym (map-map item_in (item_of id) found) ∙ ap (map item_in) finds
       ∙ items_found s.ledger t.entries id after none st.entries up
-    where
-      map-map : {X Y Z : Type 0} (f : X → Y) (g : Y → Z) (xs : List X)
-          → map g (map f xs) ≡ map (λ x. g (f x)) xs
-      map-map f g [] = refl
-      map-map f g (x ∷ xs) = ap (λ ys. g (f x) ∷ ys) (map-map f g xs)
 
   -- the row found after so many events is that of the journey's next item
   pub next_read : (id after : ℕ) (found : Option ItemFound) → FindsNextItem id after t found
@@ -129,22 +124,5 @@ module _ {v : Version} (t : Tables) (s : State) (st : StandsIn v t s) (desk : Is
   pub nights_read : (r : NightRange) (w : Wanted) (found : List NightFound) → IsRangeOf r w
       → 1 ≤ w.nights → FindsNights r t found → map night_seen found ≡ places_shown s.ledger w
   nights_read r w found is some finds =
-      sym (seen found) ∙ nights_found s.ledger t.stock (map (night_of r) found) w some st.stock
-      (subst (λ rows. IsPermutation rows (map (night_of r) found)) (filter_same (is_within r) (is_wanted_row w) t.stock (all_of (λ (x : StockRow). is_within r x ≡ is_wanted_row w x) within t.stock)) finds.same) finds.rising
-    where
-      seen : (ns : List NightFound) → map night_told (map (night_of r) ns) ≡ map night_seen ns
-      seen [] = refl
-      seen (n ∷ ns) = ap (λ ys. night_seen n ∷ ys) (seen ns)
-
-      within : (x : StockRow) → is_within r x ≡ is_wanted_row w x
-      within x =
-          ap
-          (λ k. (x.kind == k) && (bytes_eq x.supplier r.supplier.now && (bytes_eq x.product r.product.now && (nat_le r.first x.night && nat_le x.night r.last)))) is.kind
-          ∙ ap
-          (λ b. (x.kind == kind_number w.kind) && (bytes_eq x.supplier b && (bytes_eq x.product r.product.now && (nat_le r.first x.night && nat_le x.night r.last)))) is.supplier
-          ∙ ap
-          (λ b. (x.kind == kind_number w.kind) && (bytes_eq x.supplier w.supplier && (bytes_eq x.product b && (nat_le r.first x.night && nat_le x.night r.last)))) is.product
-          ∙ ap
-          (λ n. (x.kind == kind_number w.kind) && (bytes_eq x.supplier w.supplier && (bytes_eq x.product w.product && (nat_le n x.night && nat_le x.night r.last)))) is.first
-          ∙ ap
-          (λ n. (x.kind == kind_number w.kind) && (bytes_eq x.supplier w.supplier && (bytes_eq x.product w.product && (nat_le w.first x.night && nat_le x.night n)))) is.last
+      sym (map-map night_told (night_of r) found) ∙ nights_found s.ledger t.stock (map (night_of r) found) w some st.stock
+      (subst (λ rows. IsPermutation rows (map (night_of r) found)) (filter_same (is_within r) (is_wanted_row w) t.stock (all_of (λ (x : StockRow). is_within r x ≡ is_wanted_row w x) (range_row r w is) t.stock)) finds.same) finds.rising

@@ -1,6 +1,6 @@
 -- Each row of the list of objects is that of one table or index, so the list is that of one schema. For `schemas`.
-use Rattle.std.proofs.Common.{◌≡◌, inl, inr, ℕ, ◌+◌, ◌<◌, true, false, List, [], ◌∷◌, ◌++◌, refl, sym, ap, subst, ◌∙◌, arith, Some, Ok, codes, filter, slice_get, ℤ, pos}
-use Rattle.std.specs.List.{AllZip, AllByRecursion}
+use Rattle.std.proofs.Common.{◌≡◌, ℕ, ◌+◌, ◌<◌, false, List, [], ◌∷◌, ◌++◌, refl, sym, ap, subst, ◌∙◌, arith, Some, Ok, codes, filter, slice_get, ℤ, pos}
+use Rattle.std.specs.List.{AllZip}
 use Rattle.std.specs.Fmt.{decimal}
 use Rattle.std.specs.Str.Parse.{digits_value}
 use Rattle.std.proofs.lemmas.Fmt.{decimal_is_IsNumeral}
@@ -20,6 +20,7 @@ use Rattle.sqlite_resolve.specs.Compile.{table_defined_by}
 use Rattle.sqlite_catalog.specs.Listing.{IsTableRow, IsIndexRow, IsViewRow, IsDefined, automatic, is_table_row, is_index_row, is_view_row}
 use Rattle.sqlite_catalog.proofs.StepLemmas.{same_itself}
 use Rattle.sql_model.specs.Schemas.{OneSchema}
+use Rattle.sql_model.proofs.Orders.{one_alike}
 
 -- if each element determines its partner, a list determines the other list
 zip_unique : {A B : Type 0} (R S : A → B → Type 0) → ((x : A) (y z : B) → R x y → S x z → z ≡ y)
@@ -64,27 +65,12 @@ one_table row s t first second =
     ∙ ap (λ n. record first.defined.0 { tree = n }) tree
     ∙ sym first.defined.2
 
--- Two tables of a list with one name are one.
-apart : (s t : Table) → same_name s.name t.name ≡ false → t.name ≡ s.name → ⊥
-apart s t other same =
-    let e : true ≡ false = sym (same_itself s.name) ∙ ap (same_name s.name) (sym same) ∙ other in cc
-
-later_apart : (s t : Table) (tables : List Table) → AllByRecursion (λ (u : Table). same_name s.name u.name ≡ false) tables
-    → Has tables t → t.name ≡ s.name → ⊥
-later_apart s t [] all has same = has
-later_apart s t (u ∷ tables) all (inl is) same =
-    apart s u all.0 (ap (λ (x : Table). x.name) (sym is) ∙ same)
-later_apart s t (u ∷ tables) all (inr has) same = later_apart s t tables all.1 has same
-
+-- two tables of a list with one name are one
 one_named : (tables : List Table) (s t : Table) → IsAscending (λ (a b : Table). same_name a.name b.name ≡ false) tables
     → Has tables s → Has tables t → t.name ≡ s.name → t ≡ s
-one_named [] s t rising first second same = absurd first
-one_named (u ∷ tables) s t rising (inl a) (inl b) same = b ∙ sym a
-one_named (u ∷ tables) s t rising (inl a) (inr b) same =
-    absurd (later_apart u t tables rising.0 b (same ∙ ap (λ (x : Table). x.name) a))
-one_named (u ∷ tables) s t rising (inr a) (inl b) same =
-    absurd (later_apart u s tables rising.0 a (sym same ∙ ap (λ (x : Table). x.name) b))
-one_named (u ∷ tables) s t rising (inr a) (inr b) same = one_named tables s t rising.1 a b same
+one_named tables s t rising first second same =
+    one_alike (λ (a b : Table). same_name a.name b.name) tables t s rising second first
+    (ap (same_name t.name) (sym same) ∙ same_itself t.name) (ap (same_name s.name) same ∙ same_itself s.name)
 
 -- Indexes.
 
