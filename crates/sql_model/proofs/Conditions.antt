@@ -1,9 +1,8 @@
 -- The preconditions of the statements on the rows that they change: no number falls below 0 or passes the store's
 -- integers, and a new number is above all others. For the functions that write an item.
-use Rattle.std.proofs.Common.{◌≡◌, ℕ, suc, ◌+◌, ◌-◌, ◌<◌, ◌≤◌, ◌^◌, List, [], ◌∷◌, ◌++◌, length, find, true, false, Option, Some, None, IsTrue, refl, sym, ap, subst, ◌∙◌, arith, filter_map, option_map, nat_le, unwrap_or, IsPermutation, rules}
-use Rattle.std.specs.List.{AllByRecursion, list_all}
+use Rattle.std.proofs.Common.{◌≡◌, ℕ, ◌+◌, ◌-◌, ◌<◌, ◌≤◌, ◌^◌, List, [], ◌∷◌, ◌++◌, length, find, true, false, Option, Some, None, IsTrue, refl, sym, ap, subst, ◌∙◌, arith, option_map, nat_le, unwrap_or, IsPermutation, rules}
+use Rattle.std.specs.List.{list_all}
 use Rattle.std.proofs.lemmas.Bool.{and_parts, leb-true}
-use Rattle.sqlite_trees.proofs.ListLemmas.{all-permutation}
 use Rattle.sqlite_rules.specs.Lists.{Has}
 use Rattle.sqlite_rules.proofs.ListLemmas.{all_has, all_from, has_found, test_has}
 use Rattle.allotment.specs.Want.{Wanted}
@@ -11,8 +10,7 @@ use Rattle.allotment.specs.Limits.{is_good_cell, most_count, most_places}
 use Rattle.allotment.specs.Cells.{is_cell, cells_of, wants_cell}
 use Rattle.allotment.specs.declared.cells.Cell.{Cell}
 use Rattle.allotment.specs.declared.cells.Row.{Row}
-use Rattle.commands.specs.declared.items.Item.{Item}
-use Rattle.ledger.specs.Ledger.{Event, Loaded, Began, Did, held, allotment, has_free, fits, is_allowed, is_good_row, IsLegal}
+use Rattle.ledger.specs.Ledger.{Event, Loaded, held, allotment, has_free, fits, is_allowed, is_good_row, IsLegal}
 use Rattle.ledger.proofs.Cells.{is_cell-same}
 use Rattle.ledger.proofs.Growing.{induct}
 use Rattle.ledger.proofs.Lists.{list_any-and_all}
@@ -20,46 +18,26 @@ use Rattle.ledger.specs.JourneyChanges.{newer}
 use Rattle.ledger.proofs.Allotments.{loaded_distinct, allotment-began, allotment-did, allotment-loaded}
 use Rattle.saga_core.specs.Views.{places_of}
 use Rattle.desk_sql.specs.Changes.{AreItemsBelow}
-use Rattle.desk_sql.specs.Rows.{Tables, StockRow, EntryRow}
+use Rattle.desk_sql.proofs.Members.{permutation_from}
+use Rattle.desk_sql.specs.Rows.{Tables, StockRow}
 use Rattle.desk_sql.specs.Stock.{is_within, HaveFree, HaveRoom}
 use Rattle.desk_sql.specs.declared.stock.NightRange.{NightRange}
-use Rattle.sql_model.specs.ExpectedRows.{counted_from, entry_row_of, entry_row_if, entries_called}
+use Rattle.sql_model.specs.ExpectedRows.{entries_called}
 use Rattle.sql_model.specs.Standing.{is_stock_of, places_told, StockStands}
 use Rattle.sql_model.specs.Reading.{IsRangeOf}
+use Rattle.sql_model.proofs.ItemRows.{entries_from-within}
 use Rattle.sql_model.proofs.StockRows.{stock_at-row}
 use Rattle.sql_model.proofs.Ranges.{range_row}
 use Rattle.sql_model.proofs.Wants.{wanted_row}
 
 -- Items.
 
--- the row of an item has the number of its event
-entry_num : (num journey : ℕ) (item : Item) → (entry_row_of num journey item).num ≡ num
-entry_num num journey item = search (rules, arith)
-
--- numbers below the end of the suffix are below the end of the list
-later : (n m : ℕ) (rows : List EntryRow) → AllByRecursion (λ (e : EntryRow). e.num < suc n + m) rows
-    → AllByRecursion (λ (e : EntryRow). e.num < n + suc m) rows
-later n m rows below =
-    subst (λ k. AllByRecursion (λ (e : EntryRow). e.num < k) rows)
-    (let same : suc n + m ≡ n + suc m = omega arith in same) below
-
--- the rows of items from an event on have the numbers of those events
-entries_from-below : (n : ℕ) (l : List Event)
-    → AllByRecursion (λ (e : EntryRow). e.num < n + length l)
-    (filter_map (λ (e : ℕ × Event). entry_row_if e.0 e.1) (counted_from n l))
-entries_from-below n [] = tt
-entries_from-below n (Loaded name rows ∷ l) = later n (length l) _ (entries_from-below (suc n) l)
-entries_from-below n (Began agent plan ∷ l) = later n (length l) _ (entries_from-below (suc n) l)
-entries_from-below n (Did j item ∷ l) =
-    (let e = entry_num n j item in omega arith, later n (length l) _ (entries_from-below (suc n) l))
-
 -- the next event's number is above the number of each item
 pub items_below : (l : List Event) (t : Tables) → IsPermutation (entries_called l) t.entries
     → AreItemsBelow (length l + 1) t
 items_below l t same =
-    subst (λ n. AllByRecursion (λ (e : EntryRow). e.num < n) t.entries)
-    (let e : 1 + length l ≡ length l + 1 = omega arith in e)
-    (all-permutation (λ (e : EntryRow). e.num < 1 + length l) (entries_called l) t.entries same (entries_from-below 1 l))
+    all_from _ t.entries (λ r h.
+    let high = (entries_from-within 1 l r (permutation_from (entries_called l) t.entries r same h)).1 in omega arith)
 
 -- Allotments.
 

@@ -14,7 +14,8 @@ use Rattle.ledger.proofs.PlacesMoved.{held_within, held_none}
 use Rattle.saga_core.specs.Views.{Places, places_of, places_shown, night_said}
 use Rattle.sql_model.proofs.ItemRows.{any-map}
 use Rattle.sql_model.proofs.StockRows.{shown_has, has_shown}
-use Rattle.sql_model.proofs.Wants.{same_test, numbers_within}
+use Rattle.sql_model.proofs.Numbering.{numbers_within}
+use Rattle.sql_model.proofs.Wants.{same_test}
 
 module _ (l : List Event) (legal : IsLegal l) where
   -- the places shown of a cell with an allotment

@@ -1,12 +1,14 @@
 -- The rows of items give the histories of journeys, and the rows of save-points give which of them
 -- stand. For Readings and NextItems.
-use Rattle.std.proofs.Common.{◌≡◌, ℕ, zero, suc, ◌+◌, ◌<◌, ◌==◌, List, [], ◌∷◌, map, filter, take, cond, Bool, true, false, if◌then◌else◌, Some, None, refl, sym, ap, ap₂, ◌∙◌, arith, filter_map, ◌&&◌, ◌||◌, rules}
+use Rattle.std.proofs.Common.{◌≡◌, ℕ, zero, suc, ◌+◌, ◌<◌, ◌≤◌, length, ◌==◌, List, [], ◌∷◌, map, filter, take, cond, Bool, true, false, if◌then◌else◌, Some, None, refl, sym, ap, ap₂, ◌∙◌, arith, filter_map, ◌&&◌, ◌||◌, rules}
 use Rattle.std.proofs.lemmas.Bool.{lt-ltb}
-use Rattle.std.specs.List.{AllByRecursion, list_any, cons_option}
+use Rattle.std.specs.List.{list_any, cons_option}
 use Rattle.std.specs.List.Sorted.{IsPermutation}
 use Rattle.std.proofs.lemmas.Bool.Decides.{nat_tests}
 use Rattle.std.proofs.lemmas.List.Sorted.{list_any-IsPermutation}
-use Rattle.sqlite_trees.proofs.ListLemmas.{all_weaker, filter_same}
+use Rattle.sqlite_trees.proofs.ListLemmas.{filter_same}
+use Rattle.sqlite_rules.specs.Lists.{Has}
+use Rattle.sqlite_rules.proofs.ListLemmas.{all_from}
 use Rattle.commands.specs.declared.items.Item.{Item}
 use Rattle.ledger.specs.History.{is_taken}
 use Rattle.ledger.specs.Ledger.{Event, Loaded, Began, Did, item_of, history}
@@ -15,6 +17,8 @@ use Rattle.sql_model.specs.ExpectedRows.{counted_from, entry_row_of, entry_row_i
 use Rattle.sql_model.specs.Standing.{MarksStand}
 use Rattle.desk_sql.specs.FoundRows.{is_item_of, is_item_after, is_mark_of, mark_at_pos}
 use Rattle.sql_model.specs.Reading.{item_in}
+use Rattle.sql_model.proofs.Lists.{has_chosen, ascending-chosen}
+use Rattle.sql_model.proofs.Numbering.{counted_stands, counted_rises, there_low}
 use Rattle.sql_model.proofs.Orders.{Rises, one_order}
 
 -- the item is read back from its row
@@ -32,24 +36,25 @@ entry_journey num journey item = search (rules, arith)
 abbrev pub entries_from : ℕ → List Event → List EntryRow
 entries_from n l = filter_map (λ (e : ℕ × Event). entry_row_if e.0 e.1) (counted_from n l)
 
-entries_from-above : (m n : ℕ) (l : List Event) → m < n
-    → AllByRecursion (λ (e : EntryRow). m < e.num) (entries_from n l)
-entries_from-above m n [] low = tt
-entries_from-above m n (Loaded name rows ∷ l) low = entries_from-above m (suc n) l (omega arith)
-entries_from-above m n (Began agent plan ∷ l) low = entries_from-above m (suc n) l (omega arith)
-entries_from-above m n (Did j item ∷ l) low =
-    (let e = entry_num n j item in omega arith, entries_from-above m (suc n) l (omega arith))
+-- the row of an item has the number of its event
+entry_told : (n : ℕ) (e : Event) (r : EntryRow) → entry_row_if n e ≡ Some r → r.num ≡ n
+entry_told n e r is = search (rules, arith, entry_num)
+
+-- the rows of items have the numbers of the events
+pub entries_from-within : (n : ℕ) (l : List Event) (r : EntryRow) → Has (entries_from n l) r
+    → (n ≤ r.num) × (r.num < n + length l)
+entries_from-within n l r h =
+    let it = has_chosen (λ (e : ℕ × Event). entry_row_if e.0 e.1) (counted_from n l) r h in
+    let num = entry_told it.0.0 it.0.1 r it.2 in
+    let at = counted_stands n l it.0 it.1 in
+    let low = there_low l at.place it.0.1 at.there in
+    (omega arith, omega arith)
 
 pub entries_from-rise : (n : ℕ) (l : List Event) → Rises (λ (e : EntryRow). e.num) (entries_from n l)
-entries_from-rise n [] = tt
-entries_from-rise n (Loaded name rows ∷ l) = entries_from-rise (suc n) l
-entries_from-rise n (Began agent plan ∷ l) = entries_from-rise (suc n) l
-entries_from-rise n (Did j item ∷ l) = (
-  all_weaker (λ (e : EntryRow). n < e.num) (λ (e : EntryRow). (entry_row_of n j item).num < e.num)
-      (λ e low. let same = entry_num n j item in omega arith) (entries_from (suc n) l)
-      (entries_from-above n (suc n) l (omega arith)),
-  entries_from-rise (suc n) l,
-)
+entries_from-rise n l =
+    ascending-chosen (λ (e : ℕ × Event). entry_row_if e.0 e.1) (λ d e. d.num < e.num) (λ p q. p.0 < q.0)
+    (λ p q d e low is also. let a = entry_told p.0 p.1 d is in let b = entry_told q.0 q.1 e also in omega arith)
+    (counted_from n l) (counted_rises n l)
 
 -- rows whose numbers rise are the expected rows, in their order
 pub entries_in_order : (l : List Event) (rows : List EntryRow)
@@ -95,8 +100,8 @@ module _ (j after : ℕ) where
       → filter (is_item_after j after) (entries_from n l) ≡ filter (is_item_of j) (entries_from n l)
   found_above n zero l up none =
       filter_same (is_item_after j after) (is_item_of j) (entries_from n l)
-      (all_weaker (λ (e : EntryRow). after < e.num) (λ (e : EntryRow). is_item_after j after e ≡ is_item_of j e) found_later (entries_from n l)
-      (entries_from-above after n l (omega arith)))
+      (all_from _ (entries_from n l)
+      (λ e h. let low = (entries_from-within n l e h).0 in found_later e (omega arith)))
   found_above n (suc m) [] up none = refl
   found_above n (suc m) (Loaded name rows ∷ l) up none = found_above (suc n) m l (omega arith) none
   found_above n (suc m) (Began agent plan ∷ l) up none = found_above (suc n) m l (omega arith) none

@@ -1,5 +1,5 @@
 -- The rows of journeys represent the journeys. For Readings, and for reads of unfinished journeys.
-use Rattle.std.proofs.Common.{◌≡◌, ℕ, zero, suc, ◌+◌, ◌<◌, List, [], ◌∷◌, filter, length, Option, Some, None, refl, sym, ap, subst, ◌∙◌, arith, eqb-true, eq-eqb, slice_get, option_map, rules}
+use Rattle.std.proofs.Common.{◌≡◌, ℕ, zero, suc, ◌+◌, ◌<◌, List, filter, length, Option, Some, None, refl, sym, ap, subst, ◌∙◌, arith, eqb-true, eq-eqb, slice_get, option_map, rules}
 use Rattle.std.specs.List.{AllByRecursion}
 use Rattle.std.specs.List.Sorted.{IsPermutation}
 use Rattle.sqlite_trees.proofs.ListLemmas.{ascending-map}
@@ -15,7 +15,7 @@ use Rattle.sql_model.specs.ExpectedRows.{counted_from, Begun, begun, journey_row
 use Rattle.desk_sql.specs.FoundRows.{is_numbered}
 use Rattle.sql_model.specs.Reading.{Tells, IsJourneyOf}
 use Rattle.sql_model.proofs.Events.{begun-journeys}
-use Rattle.sql_model.proofs.Numbering.{counted_stands, counted_has, counted_rises, slice_get-map}
+use Rattle.sql_model.proofs.Numbering.{counted_stands, counted_has, counted_rises, slice_get-map, there_low}
 use Rattle.sql_model.proofs.Orders.{Rises}
 
 -- the row of a journey that was begun
@@ -109,11 +109,6 @@ journey_begins l rows id r same one =
 pub called_rises : (l : List Event) → Rises (λ (r : JourneyRow). r.id) (journeys_called l)
 called_rises l = search (rules, arith, ascending-map, counted_rises)
 
-slice_get-low : {X : Type 0} (xs : List X) (i : ℕ) (x : X) → slice_get xs i ≡ Some x → i < length xs
-slice_get-low [] i x e = cc
-slice_get-low (y ∷ xs) zero x e = omega arith
-slice_get-low (y ∷ xs) (suc i) x e = let low = slice_get-low xs i x e in omega arith
-
 -- the next number is above the number of each row
 pub next_above : (l : List Event) (rows : List JourneyRow) → IsPermutation (journeys_called l) rows
     → AllByRecursion (λ (r : JourneyRow). r.id < length (journeys l) + 1) rows
@@ -123,7 +118,7 @@ next_above l rows same =
   where
     numbered-low : (n : ℕ) (a : Journey) → numbered (journeys l) n ≡ Some a
         → n < length (journeys l) + 1
-    numbered-low n a e = search (rules, arith, slice_get-low)
+    numbered-low n a e = search (rules, arith, there_low)
 
     low : (r : JourneyRow) → (a : Journey) × (journey_at l r.id ≡ Some a) × IsJourneyOf l r a
         → r.id < length (journeys l) + 1

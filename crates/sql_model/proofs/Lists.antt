@@ -1,7 +1,11 @@
 -- Lists whose elements have numbers, and maps of functions that agree. For the lemmas on plans and events.
-use Rattle.std.proofs.Common.{◌≡◌, ℕ, suc, ◌+◌, List, [], ◌∷◌, ◌++◌, length, map, ap, arith, flat_map, append-nil, rules}
+use Rattle.std.proofs.Common.{◌≡◌, inl, inr, refl, sym, ◌∙◌, Option, Some, None, filter_map, ℕ, suc, ◌+◌, List, [], ◌∷◌, ◌++◌, length, map, ap, arith, flat_map, append-nil, rules}
 use Rattle.std.proofs.lemmas.List.{map-append}
 use Rattle.std.proofs.lemmas.Grind.{flat_map-append}
+use Rattle.std.specs.List.{cons_option}
+use Rattle.sqlite_trees.specs.Tree.{IsAscending}
+use Rattle.sqlite_rules.specs.Lists.{Has}
+use Rattle.sqlite_rules.proofs.ListLemmas.{all_has, all_from}
 use Rattle.sql_model.specs.ExpectedRows.{counted_from}
 
 -- the suffix has the numbers after those of the prefix
@@ -34,3 +38,39 @@ map-same f g xs same = search (rules, arith)
 pub flat_map-same : {X Y : Type 0} (f g : X → List Y) (xs : List X) → ((x : X) → f x ≡ g x)
     → flat_map f xs ≡ flat_map g xs
 flat_map-same f g xs same = search (rules, arith)
+
+-- The elements that a function makes of those of a list, where it makes one.
+module _ {X Y : Type 0} (f : X → Option Y) where
+  -- each is made of an element
+  pub has_chosen : (xs : List X) (y : Y) → Has (filter_map f xs) y → (x : X) × Has xs x × (f x ≡ Some y)
+  has_chosen [] y h = absurd h
+  has_chosen (x ∷ xs) y h = go (f x) refl h (has_chosen xs y)
+    where
+      go : (o : Option Y) → f x ≡ o → Has (cons_option o (filter_map f xs)) y
+          → (Has (filter_map f xs) y → (z : X) × Has xs z × (f z ≡ Some y))
+          → (z : X) × Has (x ∷ xs) z × (f z ≡ Some y)
+      go None e h rest = let it = rest h in (it.0, inr it.1, it.2)
+      go (Some z) e (inl same) rest = (x, inl refl, e ∙ ap Some (sym same))
+      go (Some z) e (inr h) rest = let it = rest h in (it.0, inr it.1, it.2)
+
+  -- each element of which one is made has its own
+  pub chosen_has : (xs : List X) (x : X) (y : Y) → Has xs x → f x ≡ Some y → Has (filter_map f xs) y
+  chosen_has [] x y h e = absurd h
+  chosen_has (z ∷ xs) x y (inl same) e = rw (sym (ap f same) ∙ e) (inl refl)
+  chosen_has (z ∷ xs) x y (inr h) e =
+      elim (f z) as (λ o. Has (cons_option o (filter_map f xs)) y) [
+        | None ↦ chosen_has xs x y h e
+        | Some w ↦ inr (chosen_has xs x y h e)
+      ]
+
+  -- they keep an order of the elements
+  pub ascending-chosen : (R : Y → Y → Type 0) (S : X → X → Type 0)
+      → ((a b : X) (p q : Y) → S a b → f a ≡ Some p → f b ≡ Some q → R p q)
+      → (xs : List X) → IsAscending S xs → IsAscending R (filter_map f xs)
+  ascending-chosen R S follows [] up = tt
+  ascending-chosen R S follows (x ∷ xs) up = go (f x) refl (ascending-chosen R S follows xs up.1)
+    where
+      go : (o : Option Y) → f x ≡ o → IsAscending R (filter_map f xs) → IsAscending R (cons_option o (filter_map f xs))
+      go None e rest = rest
+      go (Some p) e rest =
+          (all_from (R p) (filter_map f xs) (λ q h. let it = has_chosen xs q h in follows x it.0 p q (all_has (S x) xs it.0 up.0 it.1) e it.2), rest)

@@ -1,10 +1,14 @@
 -- The elements of a list with their numbers, and the place of each. For the lemmas on numbered rows.
-use Rattle.std.proofs.Common.{◌≡◌, ◌≢◌, inl, inr, ℕ, zero, suc, ◌+◌, ◌<◌, ◌==◌, List, [], ◌∷◌, length, map, filter, flat_map, true, false, Option, Some, None, refl, sym, ap, ◌∙◌, arith, eq-eqb, append-nil, slice_get, option_map, rules}
+use Rattle.std.proofs.Common.{◌≡◌, ◌≢◌, ◌≤◌, Bool, eqb-true, inl, inr, ℕ, zero, suc, ◌+◌, ◌<◌, ◌==◌, List, [], ◌∷◌, length, map, filter, flat_map, true, false, Option, Some, None, refl, sym, ap, ◌∙◌, arith, eq-eqb, append-nil, slice_get, option_map, rules}
 use Rattle.std.specs.List.{AllByRecursion}
+use Rattle.std.proofs.lemmas.Bool.{eqb-false}
 use Rattle.std.proofs.lemmas.Bool.Decides.{nat_tests}
 use Rattle.std.proofs.lemmas.List.Elements.{filter-append}
 use Rattle.sqlite_trees.proofs.ListLemmas.{all_weaker, filter_all, filter_none}
+use Rattle.sqlite_trees.specs.Tree.{IsAscending}
 use Rattle.sqlite_rules.specs.Lists.{Has}
+use Rattle.sqlite_rules.proofs.ListLemmas.{all_from}
+use Rattle.allotment.specs.Cells.{numbers_from}
 use Rattle.sql_model.specs.ExpectedRows.{counted_from}
 use Rattle.sql_model.proofs.Orders.{Rises}
 
@@ -39,12 +43,17 @@ counted_has {X} n (y ∷ xs) (suc i) x e = search (rules, arith, counted_has (su
 pub counted_rises : {X : Type 0} (n : ℕ) (xs : List X)
     → Rises (λ (p : ℕ × X). p.0) (counted_from n xs)
 counted_rises n [] = tt
-counted_rises {X} n (x ∷ xs) = (above n (suc n) xs (omega arith), counted_rises (suc n) xs)
-  where
-    above : (m k : ℕ) (ys : List X) → m < k
-        → AllByRecursion (λ (p : ℕ × X). m < p.0) (counted_from k ys)
-    above m k [] low = tt
-    above m k (y ∷ ys) low = (low, above m (suc k) ys (omega arith))
+counted_rises {X} n (x ∷ xs) = (
+  all_from _ (counted_from (suc n) xs)
+      (λ p h. let at = (counted_stands (suc n) xs p h).number in omega arith),
+  counted_rises (suc n) xs,
+)
+
+-- an element at a place is below the length
+pub there_low : {X : Type 0} (xs : List X) (i : ℕ) (x : X) → slice_get xs i ≡ Some x → i < length xs
+there_low [] i x e = cc
+there_low (y ∷ xs) zero x e = omega arith
+there_low (y ∷ xs) (suc i) x e = let low = there_low xs i x e in omega arith
 
 -- the element of a mapped list at a place
 pub slice_get-map : {X Y : Type 0} (f : X → Y) (xs : List X) (i : ℕ)
@@ -66,6 +75,28 @@ same_places (x ∷ xs) [] same = let none = same 0 in cc
 same_places (x ∷ xs) (y ∷ ys) same =
     let first = same 0 in
     let later = same_places xs ys (λ i. same (suc i)) in cc
+
+-- consecutive numbers are between the first and the last
+pub numbers_within : (first count n : ℕ) → Has (numbers_from first count) n → (first ≤ n) × (n < first + count)
+numbers_within first zero n h = absurd h
+numbers_within first (suc k) n (inl e) = (omega arith, omega arith)
+numbers_within first (suc k) n (inr h) = search (rules, arith, numbers_within (suc first) k n h)
+
+-- each number between the first and the last is one of the consecutive numbers
+pub within_numbers : (first count n : ℕ) → first ≤ n → n < first + count → Has (numbers_from first count) n
+within_numbers first zero n low high = absurd (omega arith)
+within_numbers first (suc k) n low high =
+    go (n == first) refl (λ above. within_numbers (suc first) k n above (omega arith))
+  where
+    go : (v : Bool) → (n == first) ≡ v → (suc first ≤ n → Has (numbers_from (suc first) k) n)
+        → Has (numbers_from first (suc k)) n
+    go v e rest = search (rules, arith, eqb-true, eqb-false)
+
+-- consecutive numbers rise
+pub numbers_rise : (first count : ℕ) → IsAscending (λ m n. m < n) (numbers_from first count)
+numbers_rise first zero = tt
+numbers_rise first (suc k) =
+    (all_from _ (numbers_from (suc first) k) (λ n h. (numbers_within (suc first) k n h).0), numbers_rise (suc first) k)
 
 -- Rows of the elements of a list, each of which has the number of its element.
 module _ {X R : Type 0} (key : R → ℕ) (rows : ℕ → X → List R)

@@ -1,8 +1,7 @@
 -- The rows of stock give the places of cells. For Readings, and for the lemmas on stock.
-use Rattle.std.proofs.Common.{◌≡◌, ◌≢◌, inl, inr, ℕ, zero, suc, ◌+◌, ◌<◌, ◌≤◌, ◌==◌, List, [], ◌∷◌, map, filter, find, cond, Bool, true, false, Option, Some, None, refl, sym, ap, subst, ◌∙◌, arith, eqb-true, eq-eqb, filter_map, option_map, bytes_eq, rules}
-use Rattle.std.specs.List.{cons_option}
+use Rattle.std.proofs.Common.{◌≡◌, ◌≢◌, ℕ, ◌+◌, ◌<◌, ◌≤◌, ◌==◌, List, [], ◌∷◌, map, filter, find, cond, Bool, true, false, Option, Some, None, refl, sym, ap, subst, ◌∙◌, arith, eqb-true, eq-eqb, filter_map, option_map, bytes_eq, rules}
 use Rattle.std.specs.List.Sorted.{IsPermutation}
-use Rattle.std.proofs.lemmas.Bool.{and_parts, and_from, leb-true, le-leb, eqb-false, false_from_ne_true}
+use Rattle.std.proofs.lemmas.Bool.{and_parts, and_from, leb-true, le-leb, false_from_ne_true}
 use Rattle.std.proofs.lemmas.Slice.Eq.{bytes_eq-Decides}
 use Rattle.std.proofs.lemmas.Bool.Decides.{nat_tests}
 use Rattle.std.proofs.lemmas.Cmp.{on_total, then_total, nat_cmp_total, nat_list_cmp_total}
@@ -15,7 +14,7 @@ use Rattle.std.specs.declared.cmp.Ordering.TheVariants.{Less, Equal, Greater}
 use Rattle.sqlite_trees.specs.Tree.{IsAscending}
 use Rattle.sqlite_trees.proofs.ListLemmas.{ascending-filter, ascending-map}
 use Rattle.sqlite_rules.specs.Lists.{Has}
-use Rattle.sqlite_rules.proofs.ListLemmas.{all_has, all_from, test_from, has_filtered, has_kept, has_found}
+use Rattle.sqlite_rules.proofs.ListLemmas.{all_has, test_from, has_filtered, has_kept, has_found}
 use Rattle.sqlite_rules.proofs.ProbeLemmas.{has_mapped, mapped_has}
 use Rattle.allotment.specs.Want.{Wanted}
 use Rattle.allotment.specs.Cells.{cell_at, numbers_from}
@@ -28,6 +27,8 @@ use Rattle.desk_sql.proofs.Members.{permutation_from, permutation_to}
 use Rattle.sql_model.specs.Standing.{AreApart, is_stock_of, is_same_stock, places_told, stock_at, StockStands}
 use Rattle.sql_model.specs.Reading.{is_wanted_row, night_told, stock_row_of}
 use Rattle.desk_sql.specs.Stock.{IsByNight, IsByCell, cell_cmp as stock_cmp}
+use Rattle.sql_model.proofs.Lists.{has_chosen, chosen_has, ascending-chosen}
+use Rattle.sql_model.proofs.Numbering.{numbers_within, within_numbers, numbers_rise}
 use Rattle.sql_model.proofs.Orders.{Rises, pairs-permutation, ascending_where, climbs, one_rising, found_is_first}
 
 -- two rows that match one cell are of the same cell
@@ -74,56 +75,36 @@ shown_from l w n k =
 
 -- whether a night is shown
 module _ (l : List Event) (w : Wanted) where
+  -- what is shown of a cell: its night, with its places
+  shown_at : (x : Cell) (p : ℕ × Places) → option_map (at_night x) (places_of l x) ≡ Some p
+      → (p.0 ≡ x.night) × (places_of l x ≡ Some p.1)
+  shown_at x p e = search (rules, arith)
+
   pub shown_has : (n k : ℕ) (p : ℕ × Places) → Has (shown_from l w n k) p
       → (n ≤ p.0) × (p.0 < n + k) × (places_of l (cell_at w p.0) ≡ Some p.1)
-  shown_has n zero p h = absurd h
-  shown_has n (suc k) p h = go (places_of l (cell_at w n)) refl h (shown_has (suc n) k p)
-    where
-      go : (o : Option Places) → places_of l (cell_at w n) ≡ o
-          → Has (cons_option (option_map (at_night (cell_at w n)) o) (shown_from l w (suc n) k)) p
-          → (Has (shown_from l w (suc n) k) p → (suc n ≤ p.0) × (p.0 < suc n + k) × (places_of l (cell_at w p.0) ≡ Some p.1))
-          → (n ≤ p.0) × (p.0 < n + suc k) × (places_of l (cell_at w p.0) ≡ Some p.1)
-      go None e h rest =
-          let r = rest h in let low = r.0 in let high = r.1 in (omega arith, omega arith, r.2)
-      go (Some places) e (inl same) rest =
-          let night : p.0 ≡ n = ap (λ (q : ℕ × Places). q.0) same in
-          (omega arith, omega arith, ap (λ m. places_of l (cell_at w m)) night ∙ e ∙ ap (λ (q : ℕ × Places). Some q.1) (sym same))
-      go (Some places) e (inr later) rest =
-          let r = rest later in let low = r.0 in let high = r.1 in (omega arith, omega arith, r.2)
+  shown_has n k p h =
+      let x = has_chosen (λ (y : Cell). option_map (at_night y) (places_of l y)) (map (cell_at w) (numbers_from n k)) p h in
+      let m = has_mapped (cell_at w) (numbers_from n k) x.0 x.1 in
+      let at = shown_at x.0 p x.2 in
+      let night : p.0 ≡ m.0 = at.0 ∙ ap (λ (y : Cell). y.night) m.2 in
+      let within = numbers_within n k m.0 m.1 in
+      let low = within.0 in
+      let high = within.1 in
+      (omega arith, omega arith, ap (λ q. places_of l (cell_at w q)) night ∙ ap (places_of l) (sym m.2) ∙ at.1)
 
   pub has_shown : (n k : ℕ) (p : ℕ × Places) → n ≤ p.0 → p.0 < n + k
       → places_of l (cell_at w p.0) ≡ Some p.1 → Has (shown_from l w n k) p
-  has_shown n zero p low high e = absurd (omega arith)
-  has_shown n (suc k) p low high e = go (p.0 == n) refl (has_shown (suc n) k p)
-    where
-      later : (o : Option Places) → Has (shown_from l w (suc n) k) p
-          → Has (cons_option (option_map (at_night (cell_at w n)) o) (shown_from l w (suc n) k)) p
-      later None h = h
-      later (Some places) h = inr h
-
-      go : (v : Bool) → (p.0 == n) ≡ v
-          → (suc n ≤ p.0 → p.0 < suc n + k → places_of l (cell_at w p.0) ≡ Some p.1 → Has (shown_from l w (suc n) k) p)
-          → Has (shown_from l w n (suc k)) p
-      go true t rest =
-          let night : p.0 ≡ n = eqb-true _ _ t in
-          let here : places_of l (cell_at w n) ≡ Some p.1 =
-          ap (λ m. places_of l (cell_at w m)) (sym night) ∙ e in
-          subst
-          (λ o. Has (cons_option (option_map (at_night (cell_at w n)) o) (shown_from l w (suc n) k)) p)
-          (sym here) (inl (ap (λ m. (m, p.1)) night))
-      go false t rest =
-          let off = eqb-false _ _ t in
-          later (places_of l (cell_at w n)) (rest (omega arith) (omega arith) e)
+  has_shown n k p low high e =
+      chosen_has (λ (y : Cell). option_map (at_night y) (places_of l y)) (map (cell_at w) (numbers_from n k)) (cell_at w p.0) p
+      (mapped_has (cell_at w) (numbers_from n k) p.0 (within_numbers n k p.0 low high))
+      (ap (option_map (at_night (cell_at w p.0))) e)
 
   shown_rises : (n k : ℕ) → Rises (λ (p : ℕ × Places). p.0) (shown_from l w n k)
-  shown_rises n zero = tt
-  shown_rises n (suc k) = go (places_of l (cell_at w n)) (shown_rises (suc n) k)
-    where
-      go : (o : Option Places) → Rises (λ (p : ℕ × Places). p.0) (shown_from l w (suc n) k)
-          → Rises (λ (p : ℕ × Places). p.0) (cons_option (option_map (at_night (cell_at w n)) o) (shown_from l w (suc n) k))
-      go None rest = rest
-      go (Some places) rest =
-          (all_from _ (shown_from l w (suc n) k) (λ q h. let low = (shown_has (suc n) k q h).0 in omega arith), rest)
+  shown_rises n k =
+      ascending-chosen (λ (y : Cell). option_map (at_night y) (places_of l y)) (λ p q. p.0 < q.0) (λ x y. x.night < y.night)
+      (λ x y p q low e f. let a = (shown_at x p e).0 in let b = (shown_at y q f).0 in omega arith)
+      (map (cell_at w) (numbers_from n k))
+      (ascending-map (λ (x y : Cell). x.night < y.night) (cell_at w) (numbers_from n k) (numbers_rise n k))
 
 -- wanted rows of different cells are of different nights
 apart_nights : (w : Wanted) (rows : List StockRow) → 1 ≤ w.nights → AreApart is_same_stock rows

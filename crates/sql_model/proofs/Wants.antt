@@ -1,7 +1,5 @@
 -- The rows of stock after the nights of a want got fewer free places, or more. For Taking and GivingBack.
-use Rattle.std.proofs.Common.{◌≡◌, ℕ, zero, suc, ◌+◌, ◌-◌, ◌<◌, ◌≤◌, ◌==◌, List, find, Bool, true, false, if◌then◌else◌, Option, Some, None, inl, inr, refl, sym, ap, ◌∙◌, arith, eqb-true, option_map, rules}
-use Rattle.std.proofs.lemmas.Bool.{eqb-false}
-use Rattle.sqlite_rules.specs.Lists.{Has}
+use Rattle.std.proofs.Common.{◌≡◌, ℕ, ◌+◌, ◌-◌, ◌≤◌, List, find, Bool, true, false, if◌then◌else◌, Option, Some, None, refl, sym, ap, ◌∙◌, arith, option_map, rules}
 use Rattle.sqlite_rules.proofs.ListLemmas.{some_has, some_from, has_found}
 use Rattle.sqlite_rules.proofs.ProbeLemmas.{has_mapped, mapped_has}
 use Rattle.allotment.specs.Want.{Wanted}
@@ -15,6 +13,7 @@ use Rattle.desk_sql.specs.Rows.{StockRow}
 use Rattle.desk_sql.specs.Stock.{with_fewer, with_more}
 use Rattle.sql_model.specs.Standing.{is_stock_of, places_told, stock_at, StockStands}
 use Rattle.sql_model.specs.Reading.{is_wanted_row}
+use Rattle.sql_model.proofs.Numbering.{numbers_within, within_numbers}
 use Rattle.sql_model.proofs.StockRows.{wanted_cell, cell_wanted}
 use Rattle.sql_model.proofs.Changing.{find-changed, once-changed, known-changed}
 use Rattle.sql_model.proofs.Alike.{same-turned, same-same, row_of_cell}
@@ -22,22 +21,6 @@ use Rattle.sql_model.proofs.Alike.{same-turned, same-same, row_of_cell}
 -- two tests that imply each other are equal
 pub same_test : (a b : Bool) → (a ≡ true → b ≡ true) → (b ≡ true → a ≡ true) → a ≡ b
 same_test a b forth back = search (rules, arith)
-
--- consecutive numbers are between the first and the last
-pub numbers_within : (first count n : ℕ) → Has (numbers_from first count) n → (first ≤ n) × (n < first + count)
-numbers_within first zero n h = absurd h
-numbers_within first (suc k) n (inl e) = (omega arith, omega arith)
-numbers_within first (suc k) n (inr h) = search (rules, arith, numbers_within (suc first) k n h)
-
--- each number between the first and the last is one of the consecutive numbers
-pub within_numbers : (first count n : ℕ) → first ≤ n → n < first + count → Has (numbers_from first count) n
-within_numbers first zero n low high = absurd (omega arith)
-within_numbers first (suc k) n low high =
-    go (n == first) refl (λ above. within_numbers (suc first) k n above (omega arith))
-  where
-    go : (v : Bool) → (n == first) ≡ v → (suc first ≤ n → Has (numbers_from (suc first) k) n)
-        → Has (numbers_from first (suc k)) n
-    go v e rest = search (rules, arith, eqb-true, eqb-false)
 
 -- two cells with one row are equal
 one_row : (x y : Cell) (r : StockRow) → is_stock_of x r ≡ true → is_stock_of y r ≡ true
