@@ -21,13 +21,7 @@ find-last_fails test (z ∷ xs) y fails =
 pub find-none : {X : Type 0} (test : X → Bool) (xs : List X) → find test xs ≡ None
     → AllByRecursion (λ x. test x ≡ false) xs
 find-none test [] e = tt
-find-none test (z ∷ xs) e = go (test z) refl e (find-none test xs)
-  where
-    go : (v : Bool) → test z ≡ v → cond v (Some z) (find test xs) ≡ None
-        → (find test xs ≡ None → AllByRecursion (λ x. test x ≡ false) xs)
-        → AllByRecursion (λ x. test x ≡ false) (z ∷ xs)
-    go true t is later = cc
-    go false t is later = (t, later is)
+find-none test (z ∷ xs) e = search (rules, arith, find-none test xs)
 
 -- an appended element that is the same as none of them
 pub apart-last : {X : Type 0} (same : X → X → Bool) (xs : List X) (y : X) → AreApart same xs

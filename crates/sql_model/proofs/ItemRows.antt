@@ -43,12 +43,7 @@ entry_told n e r is = search (rules, arith, entry_num)
 -- the rows of items have the numbers of the events
 pub entries_from-within : (n : ℕ) (l : List Event) (r : EntryRow) → Has (entries_from n l) r
     → (n ≤ r.num) × (r.num < n + length l)
-entries_from-within n l r h =
-    let it = has_chosen (λ (e : ℕ × Event). entry_row_if e.0 e.1) (counted_from n l) r h in
-    let num = entry_told it.0.0 it.0.1 r it.2 in
-    let at = counted_stands n l it.0 it.1 in
-    let low = there_low l at.place it.0.1 at.there in
-    (omega arith, omega arith)
+entries_from-within n l r h = search (rules, arith, has_chosen, entry_told, counted_stands, there_low)
 
 pub entries_from-rise : (n : ℕ) (l : List Event) → Rises (λ (e : EntryRow). e.num) (entries_from n l)
 entries_from-rise n l =
@@ -69,20 +64,7 @@ turned a b = grind (arith, nat_tests)
 items_from : (j n : ℕ) (l : List Event)
     → map item_in (filter (is_item_of j) (entries_from n l)) ≡ map Some (filter_map (item_of j) l)
 items_from j n [] = refl
-items_from j n (Loaded name rows ∷ l) = items_from j (suc n) l
-items_from j n (Began agent plan ∷ l) = items_from j (suc n) l
-items_from j n (Did k item ∷ l) =
-    ap
-    (λ v. map item_in (cond v (entry_row_of n k item ∷ filter (is_item_of j) (entries_from (suc n) l)) (filter (is_item_of j) (entries_from (suc n) l))))
-    (ap (λ i. i == j) (entry_journey n k item) ∙ turned k j)
-    ∙ go (j == k) (items_from j (suc n) l)
-  where
-    go : (v : Bool)
-        → map item_in (filter (is_item_of j) (entries_from (suc n) l)) ≡ map Some (filter_map (item_of j) l)
-        → map item_in (cond v (entry_row_of n k item ∷ filter (is_item_of j) (entries_from (suc n) l)) (filter (is_item_of j) (entries_from (suc n) l)))
-        ≡ map Some (cons_option (if v then Some item else None) (filter_map (item_of j) l))
-    go true rest = ap₂ ◌∷◌ (item_back n k item) rest
-    go false rest = rest
+items_from j n (e ∷ l) = search (rules, arith, entry_journey, turned, item_back, items_from j (suc n) l)
 
 module _ (j after : ℕ) where
   -- a row above the number is found exactly if it is of the journey
@@ -134,12 +116,7 @@ items_found l rows j after none same up =
 pub any-filter : {X : Type 0} (p q : X → Bool) (xs : List X)
     → list_any q (filter p xs) ≡ list_any (λ x. p x && q x) xs
 any-filter p q [] = refl
-any-filter p q (x ∷ xs) = go (p x) (any-filter p q xs)
-  where
-    go : (v : Bool) → list_any q (filter p xs) ≡ list_any (λ y. p y && q y) xs
-        → list_any q (cond v (x ∷ filter p xs) (filter p xs)) ≡ ((v && q x) || list_any (λ y. p y && q y) xs)
-    go true rest = ap (λ v. q x || v) rest
-    go false rest = rest
+any-filter p q (x ∷ xs) = search (rules, arith, any-filter p q xs)
 
 pub any-map : {X Y : Type 0} (f : X → Y) (q : Y → Bool) (xs : List X)
     → list_any q (map f xs) ≡ list_any (λ x. q (f x)) xs

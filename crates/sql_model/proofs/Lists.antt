@@ -44,24 +44,12 @@ module _ {X Y : Type 0} (f : X → Option Y) where
   -- each is made of an element
   pub has_chosen : (xs : List X) (y : Y) → Has (filter_map f xs) y → (x : X) × Has xs x × (f x ≡ Some y)
   has_chosen [] y h = absurd h
-  has_chosen (x ∷ xs) y h = go (f x) refl h (has_chosen xs y)
-    where
-      go : (o : Option Y) → f x ≡ o → Has (cons_option o (filter_map f xs)) y
-          → (Has (filter_map f xs) y → (z : X) × Has xs z × (f z ≡ Some y))
-          → (z : X) × Has (x ∷ xs) z × (f z ≡ Some y)
-      go None e h rest = let it = rest h in (it.0, inr it.1, it.2)
-      go (Some z) e (inl same) rest = (x, inl refl, e ∙ ap Some (sym same))
-      go (Some z) e (inr h) rest = let it = rest h in (it.0, inr it.1, it.2)
+  has_chosen (x ∷ xs) y h = search (rules, arith, has_chosen xs y)
 
   -- each element of which one is made has its own
   pub chosen_has : (xs : List X) (x : X) (y : Y) → Has xs x → f x ≡ Some y → Has (filter_map f xs) y
   chosen_has [] x y h e = absurd h
-  chosen_has (z ∷ xs) x y (inl same) e = rw (sym (ap f same) ∙ e) (inl refl)
-  chosen_has (z ∷ xs) x y (inr h) e =
-      elim (f z) as (λ o. Has (cons_option o (filter_map f xs)) y) [
-        | None ↦ chosen_has xs x y h e
-        | Some w ↦ inr (chosen_has xs x y h e)
-      ]
+  chosen_has (z ∷ xs) x y h e = search (rules, arith, chosen_has xs x y)
 
   -- they keep an order of the elements
   pub ascending-chosen : (R : Y → Y → Type 0) (S : X → X → Type 0)

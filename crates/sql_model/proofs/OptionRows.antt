@@ -40,13 +40,7 @@ step_rows_at taken id plan (suc i) p e =
 -- a filter of a filter tests both
 filter_both : {X : Type 0} (p q : X → Bool) (xs : List X) → filter q (filter p xs) ≡ filter (λ x. p x && q x) xs
 filter_both p q [] = refl
-filter_both {X} p q (x ∷ xs) = go (p x) refl (q x) refl (filter_both p q xs)
-  where
-    go : (a : Bool) → p x ≡ a → (b : Bool) → q x ≡ b → filter q (filter p xs) ≡ filter (λ y. p y && q y) xs
-        → filter q (filter p (x ∷ xs)) ≡ filter (λ y. p y && q y) (x ∷ xs)
-    go true e true f rest = simp (e, f, rest)
-    go true e false f rest = simp (e, f, rest)
-    go false e b f rest = simp (e, f, rest)
+filter_both p q (x ∷ xs) = search (rules, arith, filter_both p q xs)
 
 -- the rows found of a step, in order, are those of that step of the plan
 pub options_found_in_order : (l : List Event) (rows found : List StepRow) (id place : ℕ) (a : Journey)

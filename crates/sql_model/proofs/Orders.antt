@@ -126,17 +126,7 @@ found_is_first {X} same test xs found apart alike one = go (find test xs) refl f
 first_least : {X : Type 0} (key : X → ℕ) (test : X → Bool) (xs : List X) (y x : X) → Rises key xs
     → find test xs ≡ Some y → Has xs x → test x ≡ true → (x ≡ y) ⊎ (key y < key x)
 first_least key test [] y x up found h passes = absurd h
-first_least {X} key test (z ∷ xs) y x up found h passes =
-    go (test z) refl found h (λ e k. first_least key test xs y x up.1 e k passes)
-  where
-    go : (v : Bool) → test z ≡ v → cond v (Some z) (find test xs) ≡ Some y → Has (z ∷ xs) x
-        → (find test xs ≡ Some y → Has xs x → (x ≡ y) ⊎ (key y < key x)) → (x ≡ y) ⊎ (key y < key x)
-    go true t is (inl same) rest = inl (same ∙ (let here : z ≡ y = cc in here))
-    go true t is (inr later) rest =
-        let here : z ≡ y =
-        cc in inr (subst (λ (w : X). key w < key x) here (all_has _ xs x up.0 later))
-    go false t is (inl same) rest = let bad : true ≡ false = sym passes ∙ ap test same ∙ t in cc
-    go false t is (inr later) rest = rest is later
+first_least key test (z ∷ xs) y x up found h passes = search (rules, arith, all_has, first_least key test xs y x)
 
 -- the row with the least number that passes is the first one that passes, in the order of numbers
 pub least_is_first : {X : Type 0} (key : X → ℕ) (test : X → Bool) (xs rows : List X) (found : Option X)

@@ -82,15 +82,7 @@ module _ (l : List Event) (w : Wanted) where
 
   pub shown_has : (n k : ℕ) (p : ℕ × Places) → Has (shown_from l w n k) p
       → (n ≤ p.0) × (p.0 < n + k) × (places_of l (cell_at w p.0) ≡ Some p.1)
-  shown_has n k p h =
-      let x = has_chosen (λ (y : Cell). option_map (at_night y) (places_of l y)) (map (cell_at w) (numbers_from n k)) p h in
-      let m = has_mapped (cell_at w) (numbers_from n k) x.0 x.1 in
-      let at = shown_at x.0 p x.2 in
-      let night : p.0 ≡ m.0 = at.0 ∙ ap (λ (y : Cell). y.night) m.2 in
-      let within = numbers_within n k m.0 m.1 in
-      let low = within.0 in
-      let high = within.1 in
-      (omega arith, omega arith, ap (λ q. places_of l (cell_at w q)) night ∙ ap (places_of l) (sym m.2) ∙ at.1)
+  shown_has n k p h = search (rules, arith, has_chosen, has_mapped, shown_at, numbers_within)
 
   pub has_shown : (n k : ℕ) (p : ℕ × Places) → n ≤ p.0 → p.0 < n + k
       → places_of l (cell_at w p.0) ≡ Some p.1 → Has (shown_from l w n k) p
@@ -222,12 +214,7 @@ before r s up off = go (stock_cmp s r) refl up
 find-map : {X Y : Type 0} (f : X → Y) (p : Y → Bool) (xs : List X)
     → find p (map f xs) ≡ option_map f (find (λ x. p (f x)) xs)
 find-map f p [] = refl
-find-map {X} {Y} f p (x ∷ xs) = go (p (f x)) (find-map f p xs)
-  where
-    go : (v : Bool) → find p (map f xs) ≡ option_map f (find (λ y. p (f y)) xs)
-        → cond v (Some (f x)) (find p (map f xs)) ≡ option_map f (cond v (Some x) (find (λ y. p (f y)) xs))
-    go true rest = refl
-    go false rest = rest
+find-map f p (x ∷ xs) = search (rules, arith, find-map f p xs)
 
 told_said : (o : Option (Cell × Held))
     → option_map places_told (option_map stock_row_of o) ≡ option_map (λ (c : Cell × Held). places_said c.1) o
