@@ -1,8 +1,8 @@
 -- Each reply to an event accepts, and its parts keep the limits; so each request within the limits
 -- takes a desk's state to a desk's state. For Worlds, and for books over tables.
-use Rattle.std.proofs.Common.{◌≡◌, inl, inr, ℕ, ◌+◌, ◌<◌, ◌≤◌, ◌==◌, List, [], ◌∷◌, ◌++◌, length, Bool, true, false, if◌then◌else◌, Option, Some, None, IsTrue, ap, subst, ◌∙◌, arith, eqb-true, add-one, option_map, nat_lt, nat_le, ◌&&◌, not, rules}
+use Rattle.std.proofs.Common.{◌≡◌, ℕ, ◌+◌, ◌<◌, ◌≤◌, ◌==◌, List, [], ◌∷◌, ◌++◌, length, Bool, true, Option, Some, None, IsTrue, ap, ◌∙◌, arith, eqb-true, add-one, option_map, nat_lt, nat_le, ◌&&◌, rules}
 use Rattle.std.specs.Prelude.{unwrap_or}
-use Rattle.std.specs.List.{AllByRecursion, list_any}
+use Rattle.std.specs.List.{AllByRecursion}
 use Rattle.std.proofs.lemmas.Bool.{and_parts, and_from, or_cases, leb-true, le-leb, ltb-true, eqb-false}
 use Rattle.plan.specs.Limits.{most_options, most_steps}
 use Rattle.plan.proofs.LimitLemmas.{few_steps}
@@ -18,7 +18,7 @@ use Rattle.commands.specs.declared.items.Item.TheVariants as item
 use Rattle.commands.specs.declared.items.Phase.{Phase}
 use Rattle.commands.specs.declared.items.Phase.TheVariants as phases
 use Rattle.commands.specs.declared.replies.Reply.{Reply}
-use Rattle.ledger.specs.History.{net, position_of, is_taken, is_compensation_of, phase_at, phase, is_running, has_turned_to_start, going_to, next_option, last_of, may_turn, may_come}
+use Rattle.ledger.specs.History.{net, position_of, is_taken, phase_at, phase, is_running, has_turned_to_start, going_to, next_option, last_of, may_turn, may_come}
 use Rattle.ledger.specs.Ledger.{Event, Journey, journeys, journey_at, history, may_do, fits, IsLegal}
 use Rattle.ledger.specs.History.{next_want}
 use Rattle.ledger.specs.Answer.{moved, most_events, answer, is_request, KeptReply, State, state_with, asker, kept_for, outcome_for, outcome}
@@ -56,35 +56,17 @@ AreGood h = AllByRecursion (λ (x : Item). is_item x ≡ true) h
 net-good : (h : List Item) → AreGood h
     → AllByRecursion (λ (t : ℕ × ℕ). is_option t.0 t.1 ≡ true) (net h)
 net-good [] good = tt
-net-good (item.Transaction i c ∷ h) good =
-    go (list_any (is_compensation_of i) h) (net-good h good.1)
-  where
-    go : (v : Bool) → AllByRecursion (λ (t : ℕ × ℕ). is_option t.0 t.1 ≡ true) (net h)
-        → AllByRecursion (λ (t : ℕ × ℕ). is_option t.0 t.1 ≡ true) (if v then net h else (i, c) ∷ net h)
-    go true rest = rest
-    go false rest = (good.0, rest)
-net-good (item.Compensation i c ∷ h) good = net-good h good.1
-net-good (item.Turn p why ∷ h) good = net-good h good.1
-net-good (item.Save p ∷ h) good = net-good h good.1
+net-good (x ∷ h) good = search (rules, arith, net-good h)
 
 -- the positions of save-points keep the limits
 taken-good : (h : List Item) (p : ℕ) → AreGood h → is_taken h p ≡ true → is_position p ≡ true
 taken-good [] p good e = cc
-taken-good (item.Transaction i c ∷ h) p good e = taken-good h p good.1 e
-taken-good (item.Compensation i c ∷ h) p good e = taken-good h p good.1 e
-taken-good (item.Turn q why ∷ h) p good e = taken-good h p good.1 e
-taken-good (item.Save q ∷ h) p good e =
-    elim (or_cases (p == q && not (list_any (is_compensation_of p) h)) (is_taken h p) e) [
-      | inl here ↦ ap is_position
-          (eqb-true p q (and_parts (p == q) (not (list_any (is_compensation_of p) h)) here).0)
-          ∙ good.0
-      | inr later ↦ taken-good h p good.1 later
-    ]
+taken-good (x ∷ h) p good e = search (rules, arith, or_cases, eqb-true, and_parts, taken-good h p)
 
 last-all : {X : Type 0} (P : X → Type 0) (xs : List X) (x : X) → AllByRecursion P xs
     → last_of xs ≡ Some x → P x
 last-all P [] x all e = cc
-last-all {X} P (y ∷ []) x all e = let same : y ≡ x = cc in subst P same all.0
+last-all P (y ∷ []) x all e = search (rules, arith, arith)
 last-all P (y ∷ z ∷ xs) x all e = last-all P (z ∷ xs) x all.1 e
 
 module _ (plan : Planned) (h : List Item) (good : IsTrue (is_plan plan)) (goes : Goes plan h)

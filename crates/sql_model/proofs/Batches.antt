@@ -1,6 +1,6 @@
 -- The row found with a batch's name is that of the only batch that was loaded under it. For loads.
-use Rattle.std.proofs.Common.{◌≡◌, ℕ, suc, ◌≤◌, ◌==◌, List, [], ◌∷◌, ◌++◌, length, map, filter, cond, Bool, true, false, if◌then◌else◌, Option, Some, None, IsTrue, inl, inr, refl, sym, ap, subst, ◌∙◌, arith, eqb-true, append-nil, length-append, filter_map, option_map, bytes_eq, ◌&&◌, IsPermutation, rules}
-use Rattle.std.specs.List.{list_all, cons_option}
+use Rattle.std.proofs.Common.{◌≡◌, ℕ, suc, ◌≤◌, ◌==◌, List, [], ◌∷◌, ◌++◌, length, map, filter, Bool, true, false, if◌then◌else◌, Option, Some, None, IsTrue, inl, inr, refl, sym, ap, subst, ◌∙◌, arith, eqb-true, append-nil, length-append, filter_map, option_map, bytes_eq, ◌&&◌, IsPermutation, rules}
+use Rattle.std.specs.List.{list_all}
 use Rattle.std.proofs.lemmas.Bool.{and_parts}
 use Rattle.std.proofs.lemmas.List.{length-map}
 use Rattle.std.proofs.lemmas.List.Sorted.{length_permutation}
@@ -34,24 +34,7 @@ named_from : (name : List ℕ) (n : ℕ) (l : List Event)
     (filter (is_named name) (filter_map (λ (e : ℕ × Event). batch_row_of e.0 e.1) (counted_from n l)))
     ≡ map batch_text (batches_named l name)
 named_from name n [] = refl
-named_from name n (Began agent plan ∷ l) = named_from name (suc n) l
-named_from name n (Did j item ∷ l) = named_from name (suc n) l
-named_from name n (Loaded other rows ∷ l) =
-    ap
-    (λ v. map (λ (b : BatchRow). b.content)
-    (cond v (record { name = other; num = n; content = batch_text rows } ∷ later) later))
-    (bytes_back other name)
-    ∙ go (bytes_eq name other) (named_from name (suc n) l)
-  where
-    later : List BatchRow
-    later =
-        filter (is_named name) (filter_map (λ (e : ℕ × Event). batch_row_of e.0 e.1) (counted_from (suc n) l))
-
-    go : (v : Bool) → map (λ (b : BatchRow). b.content) later ≡ map batch_text (batches_named l name)
-        → map (λ (b : BatchRow). b.content)
-        (cond v (record { name = other; num = n; content = batch_text rows } ∷ later) later)
-        ≡ map batch_text (cons_option (if v then Some rows else None) (batches_named l name))
-    go v rest = search (rules, arith)
+named_from name n (e ∷ l) = search (rules, arith, bytes_back, named_from name (suc n) l)
 
 -- each name has at most one batch
 abbrev NamedOnce : List Event → Type 0

@@ -1,5 +1,5 @@
 -- Rows of stock after a change of some of them that leaves each row to its cell. For Puts and Wants.
-use Rattle.std.proofs.Common.{◌≡◌, List, [], ◌∷◌, find, cond, Bool, true, false, if◌then◌else◌, Some, refl, ap₂, ◌∙◌, option_map, arith, rules}
+use Rattle.std.proofs.Common.{◌≡◌, List, [], ◌∷◌, find, Bool, if◌then◌else◌, refl, option_map, arith, rules}
 use Rattle.std.specs.List.{AllByRecursion}
 use Rattle.sqlite_trees.proofs.ListLemmas.{ascending-map, all-map, all_weaker}
 use Rattle.allotment.specs.declared.cells.Cell.{Cell}
@@ -18,11 +18,7 @@ module _ (passes : StockRow → Bool) (change : StockRow → StockRow)
 
   -- a changed row is of the same cell
   row_now-cell : (x : Cell) (r : StockRow) → is_stock_of x (row_now r) ≡ is_stock_of x r
-  row_now-cell x r = go (passes r)
-    where
-      go : (v : Bool) → is_stock_of x (if v then change r else r) ≡ is_stock_of x r
-      go true = second (row_of_cell x) r
-      go false = refl
+  row_now-cell x r = search (rules, arith, second (row_of_cell x) r)
 
   -- two changed rows are of one cell exactly if they were before
   row_now-same : (r s : StockRow) → is_same_stock (row_now r) (row_now s) ≡ is_same_stock r s
@@ -32,14 +28,7 @@ module _ (passes : StockRow → Bool) (change : StockRow → StockRow)
   pub find-changed : (x : Cell) (rows : List StockRow)
       → find (is_stock_of x) (changed passes change rows) ≡ option_map row_now (find (is_stock_of x) rows)
   find-changed x [] = refl
-  find-changed x (r ∷ rows) =
-      ap₂ (λ v o. cond v (Some (row_now r)) o) (row_now-cell x r) (find-changed x rows)
-      ∙ go (is_stock_of x r)
-    where
-      go : (v : Bool)
-          → cond v (Some (row_now r)) (option_map row_now (find (is_stock_of x) rows))
-          ≡ option_map row_now (cond v (Some r) (find (is_stock_of x) rows))
-      go v = search (rules, arith)
+  find-changed x (r ∷ rows) = search (rules, arith, row_now-cell, find-changed x rows)
 
   -- no two changed rows are of one cell
   pub once-changed : (rows : List StockRow) → AreApart is_same_stock rows

@@ -1,5 +1,5 @@
 -- The first element that passes a test, and lists without two elements that are the same. For Orders and Answering.
-use Rattle.std.proofs.Common.{◌≡◌, List, [], ◌∷◌, ◌++◌, Bool, true, false, cond, Some, None, find, refl, ap, arith, rules}
+use Rattle.std.proofs.Common.{◌≡◌, List, [], ◌∷◌, ◌++◌, Bool, false, cond, Some, None, find, refl, ap, arith, rules}
 use Rattle.std.specs.List.{AllByRecursion}
 use Rattle.sqlite_trees.proofs.ListLemmas.{ascending-append, all_weaker}
 use Rattle.sql_model.specs.Standing.{AreApart}

@@ -1,8 +1,8 @@
 -- The rows of items give the histories of journeys, and the rows of save-points give which of them
 -- stand. For Readings and NextItems.
-use Rattle.std.proofs.Common.{◌≡◌, ℕ, zero, suc, ◌+◌, ◌<◌, ◌≤◌, length, ◌==◌, List, [], ◌∷◌, map, filter, take, cond, Bool, true, false, if◌then◌else◌, Some, None, refl, sym, ap, ap₂, ◌∙◌, arith, filter_map, ◌&&◌, ◌||◌, rules}
+use Rattle.std.proofs.Common.{◌≡◌, ℕ, zero, suc, ◌+◌, ◌<◌, ◌≤◌, length, ◌==◌, List, [], ◌∷◌, map, filter, take, Bool, false, Some, refl, sym, ap, ◌∙◌, arith, filter_map, ◌&&◌, ◌||◌, rules}
 use Rattle.std.proofs.lemmas.Bool.{lt-ltb}
-use Rattle.std.specs.List.{list_any, cons_option}
+use Rattle.std.specs.List.{list_any}
 use Rattle.std.specs.List.Sorted.{IsPermutation}
 use Rattle.std.proofs.lemmas.Bool.Decides.{nat_tests}
 use Rattle.std.proofs.lemmas.List.Sorted.{list_any-IsPermutation}
@@ -11,7 +11,7 @@ use Rattle.sqlite_rules.specs.Lists.{Has}
 use Rattle.sqlite_rules.proofs.ListLemmas.{all_from}
 use Rattle.commands.specs.declared.items.Item.{Item}
 use Rattle.ledger.specs.History.{is_taken}
-use Rattle.ledger.specs.Ledger.{Event, Loaded, Began, Did, item_of, history}
+use Rattle.ledger.specs.Ledger.{Event, item_of, history}
 use Rattle.desk_sql.specs.Rows.{EntryRow, MarkRow}
 use Rattle.sql_model.specs.ExpectedRows.{counted_from, entry_row_of, entry_row_if, entries_called}
 use Rattle.sql_model.specs.Standing.{MarksStand}
@@ -85,19 +85,8 @@ module _ (j after : ℕ) where
       (all_from _ (entries_from n l)
       (λ e h. let low = (entries_from-within n l e h).0 in found_later e (omega arith)))
   found_above n (suc m) [] up none = refl
-  found_above n (suc m) (Loaded name rows ∷ l) up none = found_above (suc n) m l (omega arith) none
-  found_above n (suc m) (Began agent plan ∷ l) up none = found_above (suc n) m l (omega arith) none
-  found_above n (suc m) (Did k item ∷ l) up none = go (j == k) refl none (λ is. found_above (suc n) m l (omega arith) is)
-    where
-      go : (v : Bool) → (j == k) ≡ v
-          → cons_option (if v then Some item else None) (history (take m l) j) ≡ []
-          → (history (take m l) j ≡ [] → filter (is_item_after j after) (entries_from (suc n) l) ≡ filter (is_item_of j) (entries_from (suc n) l))
-          → filter (is_item_after j after) (entries_from n (Did k item ∷ l)) ≡ filter (is_item_of j) (entries_from n (Did k item ∷ l))
-      go true e is rest = cc
-      go false e is rest =
-          found_other (entry_row_of n k item) (entries_from (suc n) l)
-          (ap (λ i. i == j) (entry_journey n k item) ∙ turned k j ∙ e)
-          (rest is)
+  found_above n (suc m) (e ∷ l) up none =
+      search (rules, arith, entry_journey, turned, found_other, found_above (suc n) m l)
 
 -- the rows found with a journey's number, in order of event, give its history, if the search starts
 -- after events that are no items of the journey

@@ -1,5 +1,5 @@
 -- What an item of a journey changes in the rows that are expected of a ledger. For the lemmas of each item.
-use Rattle.std.proofs.Common.{◌≡◌, ℕ, ◌==◌, List, [], ◌∷◌, ◌++◌, map, Bool, true, false, if◌then◌else◌, Some, refl, sym, ap, ap₂, ◌∙◌, arith, append-nil, eqb-true, inl, inr, flat_map, ◌&&◌, IsPermutation, rules}
+use Rattle.std.proofs.Common.{◌≡◌, ℕ, ◌==◌, List, [], ◌∷◌, ◌++◌, map, Bool, true, false, if◌then◌else◌, Some, refl, sym, ap, ◌∙◌, arith, append-nil, eqb-true, flat_map, ◌&&◌, IsPermutation, rules}
 use Rattle.std.proofs.lemmas.List.Sorted.{IsPermutation-map}
 use Rattle.sqlite_trees.proofs.ListLemmas.{map-map, map-flat_map}
 use Rattle.sqlite_rules.specs.Lists.{Has}
@@ -24,8 +24,7 @@ use Rattle.sql_model.specs.Moving.{cursor_written}
 map-same_on : {X Y : Type 0} (f g : X → Y) (xs : List X) → ((x : X) → Has xs x → f x ≡ g x)
     → map f xs ≡ map g xs
 map-same_on f g [] same = refl
-map-same_on f g (x ∷ xs) same =
-    ap₂ ◌∷◌ (same x (inl refl)) (map-same_on f g xs (λ y h. same y (inr h)))
+map-same_on f g (x ∷ xs) same = search (rules, arith, map-same_on f g xs)
 
 -- a change of rows commutes with a change of their order
 pub changed-permutation : {X : Type 0} (passes : X → Bool) (change : X → X) (xs ys : List X)

@@ -1,5 +1,5 @@
 -- Lists whose elements have numbers, and maps of functions that agree. For the lemmas on plans and events.
-use Rattle.std.proofs.Common.{◌≡◌, inl, inr, refl, sym, ◌∙◌, Option, Some, None, filter_map, ℕ, suc, ◌+◌, List, [], ◌∷◌, ◌++◌, length, map, ap, arith, flat_map, append-nil, rules}
+use Rattle.std.proofs.Common.{◌≡◌, refl, Option, Some, None, filter_map, ℕ, suc, ◌+◌, List, [], ◌∷◌, ◌++◌, length, map, ap, arith, flat_map, append-nil, rules}
 use Rattle.std.proofs.lemmas.List.{map-append}
 use Rattle.std.proofs.lemmas.Grind.{flat_map-append}
 use Rattle.std.specs.List.{cons_option}

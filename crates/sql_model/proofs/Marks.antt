@@ -70,9 +70,4 @@ module _ (l : List Event) (j : ℕ) (item : Item) (rows : List MarkRow) (stand :
 
       go : (k q : ℕ) (v : Bool) → (k == j) ≡ v
           → (not (v && (q == p)) && is_taken (history l k) q) ≡ is_taken (history (l ++ Did j item ∷ []) k) q
-      go k q true e =
-          let is = eqb-true k j e in
-          ap (λ i. not (q == p) && is_taken (history l i) q) is ∙ sym (taken q)
-          ∙ ap (λ i. is_taken (history l i ++ item ∷ []) q) (sym is)
-          ∙ ap (λ h. is_taken h q) (sym (history-did_same l j item k e))
-      go k q false e = ap (λ h. is_taken h q) (sym (history-did_other l j item k e))
+      go k q v e = search (rules, arith, eqb-true, history-did_same, history-did_other)

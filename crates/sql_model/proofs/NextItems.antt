@@ -71,11 +71,7 @@ module _ (j after : ℕ) where
       → TellsIfNext j n m l (find (is_item_after j after) (entries_from n l))
   behind_all n zero l up = above n l (omega arith)
   behind_all n (suc m) [] up = refl
-  behind_all n (suc m) (Loaded name rows ∷ l) up =
-      skipped j n m (Loaded name rows) l _ (behind_all (suc n) m l (omega arith))
-  behind_all n (suc m) (Began agent plan ∷ l) up =
-      skipped j n m (Began agent plan) l _ (behind_all (suc n) m l (omega arith))
-  behind_all n (suc m) (Did k item ∷ l) up =
+  behind_all n (suc m) (e ∷ l) up =
       search (rules, arith, entry_num, entries_from, and_right, le-ltb, skipped, behind_all (suc n) m l)
 
 -- the row with the least number found after so many events is that of the journey's next item

@@ -1,5 +1,5 @@
 -- The rows of one step of a journey's plan. For Readings, and for the choice of an option.
-use Rattle.std.proofs.Common.{◌≡◌, ℕ, zero, suc, ◌+◌, ◌==◌, List, [], ◌∷◌, map, filter, length, Bool, true, false, Some, IsTrue, refl, sym, ap, subst, ◌∙◌, arith, slice_get, ◌&&◌, rules}
+use Rattle.std.proofs.Common.{◌≡◌, ℕ, zero, suc, ◌+◌, ◌==◌, List, [], ◌∷◌, map, filter, length, Bool, Some, IsTrue, refl, sym, ap, subst, ◌∙◌, arith, slice_get, ◌&&◌, rules}
 use Rattle.std.specs.List.{AllByRecursion}
 use Rattle.std.specs.List.Sorted.{IsPermutation}
 use Rattle.std.proofs.lemmas.List.Sorted.{IsPermutation-trans}
@@ -74,10 +74,8 @@ module _ (id place : ℕ) (taken : ℕ → ℕ → Bool) (m : Bool) where
   many : (n : ℕ) (ws : List Wanted) (found : List StepFound) → map (step_of id) found ≡ map row_at (counted_from n ws)
       → length found ≡ length ws
   many n [] [] e = refl
-  many n [] (f ∷ fs) e = cc
-  many n (w ∷ ws) [] e = cc
-  many n (w ∷ ws) (f ∷ fs) e =
-      let rest : map (step_of id) fs ≡ map row_at (counted_from (suc n) ws) = cc in ap suc (many (suc n) ws fs rest)
+  many n (w ∷ ws) (f ∷ fs) e = search (rules, arith, many (suc n) ws fs)
+  many n _ _ e = cc
 
   told : (n : ℕ) (ws : List Wanted) (found : List StepFound) → map (step_of id) found ≡ map row_at (counted_from n ws)
       → (i : ℕ) (row : StepFound) → slice_get found i ≡ Some row → IsRowAt (n + i) ws row i

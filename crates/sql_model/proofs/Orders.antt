@@ -1,5 +1,5 @@
 -- Rows in another order: they still differ from each other, and just one of their orders rises. For Readings.
-use Rattle.std.proofs.Common.{◌≡◌, ◌≢◌, ◌⊎◌, inl, inr, ℕ, ◌<◌, ◌≤◌, List, [], ◌∷◌, Bool, true, false, filter, find, cond, Option, Some, None, refl, sym, ap, subst, ◌∙◌, arith, rules}
+use Rattle.std.proofs.Common.{◌≡◌, ◌≢◌, ◌⊎◌, inl, inr, ℕ, ◌<◌, ◌≤◌, List, [], ◌∷◌, Bool, true, false, filter, find, Option, Some, None, refl, sym, ap, subst, ◌∙◌, arith, rules}
 use Rattle.std.specs.List.Sorted.{IsPermutation}
 use Rattle.std.proofs.lemmas.List.Sorted.{IsPermutation-refl, IsPermutation-cons, IsPermutation-middle, IsPermutation-trans}
 use Rattle.sqlite_trees.specs.Tree.{IsAscending}
@@ -57,8 +57,7 @@ one_order key xs ys same p q = search (rules, arith, one_rising, permutation_fro
 pub ascending_where : {X : Type 0} (R S : X → X → Type 0) (xs : List X)
     → ((a b : X) → Has xs a → Has xs b → R a b → S a b) → IsAscending R xs → IsAscending S xs
 ascending_where R S [] follows up = tt
-ascending_where R S (x ∷ xs) follows up =
-    (all_from _ xs (λ b h. follows x b (inl refl) (inr h) (all_has _ xs b up.0 h)), ascending_where R S xs (λ a b h k. follows a b (inr h) (inr k)) up.1)
+ascending_where R S (x ∷ xs) follows up = search (rules, arith, all_from, all_has, ascending_where R S xs)
 
 -- elements whose keys differ rise, if their keys do not fall
 pub climbs : {X : Type 0} (key : X → ℕ) (R : X → X → Type 0) (xs : List X)
@@ -95,10 +94,7 @@ found_in_order key R xs ys same up sorted falls_not =
 pub one_alike : {X : Type 0} (same : X → X → Bool) (xs : List X) (a b : X) → AreApart same xs → Has xs a → Has xs b
     → same a b ≡ true → same b a ≡ true → a ≡ b
 one_alike same [] a b up h k p q = absurd h
-one_alike same (x ∷ xs) a b up (inl d) (inl e) p q = d ∙ sym e
-one_alike same (x ∷ xs) a b up (inl d) (inr k) p q = let off = all_has _ xs b up.0 k in cc
-one_alike same (x ∷ xs) a b up (inr h) (inl e) p q = let off = all_has _ xs a up.0 h in cc
-one_alike same (x ∷ xs) a b up (inr h) (inr k) p q = one_alike same xs a b up.1 h k p q
+one_alike same (x ∷ xs) a b up h k p q = search (rules, arith, all_has, one_alike same xs a b)
 
 -- so at most one passes, if those that pass are the same
 pub found_is_first : {X : Type 0} (same : X → X → Bool) (test : X → Bool) (xs : List X) (found : Option X)

@@ -35,10 +35,7 @@ have_options plan good = each plan.steps (limited plan good).each_step
   where
     each : (steps : List StepPlan) → list_all is_step steps ≡ true → HaveOptions steps
     each [] e = tt
-    each (s ∷ steps) e =
-        let both = and_parts (is_step s) (list_all is_step steps) e in
-        let here = step_limited s both.0 in
-        ((here.some_options, here.few_options), each steps both.1)
+    each (s ∷ steps) e = search (rules, arith, and_parts, step_limited, each steps)
 
 module _ (taken : ℕ → ℕ → Bool) (id : ℕ) where
   -- the row of an option with its number

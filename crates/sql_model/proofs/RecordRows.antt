@@ -1,5 +1,5 @@
 -- The row of a journey and the rows of its steps give its record. For Readings, and for reads of journeys.
-use Rattle.std.proofs.Common.{◌≡◌, ℕ, List, [], ◌∷◌, ◌++◌, map, filter, Bool, true, false, Some, IsTrue, refl, sym, ap, ap₂, ◌∙◌, arith, eqb-true, nat_eq, ◌&&◌, ◌||◌, rules}
+use Rattle.std.proofs.Common.{◌≡◌, ℕ, List, [], ◌∷◌, ◌++◌, map, filter, Bool, true, false, Some, IsTrue, refl, sym, ap, ◌∙◌, arith, eqb-true, nat_eq, ◌&&◌, rules}
 use Rattle.std.specs.FinSet as set
 use Rattle.std.specs.Ordering.{nat_cmp}
 use Rattle.std.proofs.lemmas.Bool.{and_parts, or_left, or_right, leb-true, eqb-false}
@@ -77,26 +77,12 @@ marks_told h marks says low =
     (λ p. says p ∙ sym (set.contains-from_list_nat (filter (is_taken h) (numbers_from 1 last_mark)) p ∙ any-filter (is_taken h) (λ y. nat_eq y p) (numbers_from 1 last_mark) ∙ at p))
   where
     one_of : (p y : ℕ) → (is_taken h y && nat_eq y p) ≡ (is_taken h p && nat_eq y p)
-    one_of p y = go (nat_eq y p) refl
-      where
-        none : (b : Bool) → (b && false) ≡ false
-        none true = refl
-        none false = refl
-
-        go : (v : Bool) → nat_eq y p ≡ v → (is_taken h y && v) ≡ (is_taken h p && v)
-        go true e = ap (λ n. is_taken h n && true) (eqb-true y p e)
-        go false e = none (is_taken h y) ∙ sym (none (is_taken h p))
+    one_of p y = search (rules, arith, eqb-true)
 
     each : (p : ℕ) (ys : List ℕ)
         → list_any (λ y. is_taken h y && nat_eq y p) ys ≡ (is_taken h p && list_any (λ y. nat_eq y p) ys)
-    each p [] = elim (is_taken h p) as (λ b. false ≡ (b && false)) [ true ↦ refl | false ↦ refl ]
-    each p (y ∷ ys) =
-        ap₂ (λ a b. a || b) (one_of p y) (each p ys)
-        ∙ spread (is_taken h p) (nat_eq y p) (list_any (λ z. nat_eq z p) ys)
-      where
-        spread : (a b c : Bool) → ((a && b) || (a && c)) ≡ (a && (b || c))
-        spread true b c = refl
-        spread false b c = refl
+    each p [] = search (rules, arith, arith)
+    each p (y ∷ ys) = search (rules, arith, one_of, each p ys)
 
     at : (p : ℕ) → list_any (λ y. is_taken h y && nat_eq y p) (numbers_from 1 last_mark) ≡ is_taken h p
     at p = each p (numbers_from 1 last_mark) ∙ go (is_taken h p) refl

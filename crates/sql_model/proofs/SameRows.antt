@@ -1,6 +1,6 @@
 -- Two batches with one text have the same rows, if the text of each row is one line, and different rows have
 -- different texts. For Lines.
-use Rattle.std.proofs.Common.{◌≡◌, ℕ, ◌==◌, List, [], ◌∷◌, ◌++◌, Bool, true, false, refl, sym, ap, ap₂, ◌∙◌, arith, append_assoc, length-append, eqb-true, eq-eqb, bytes_eq, decimal, ◌&&◌, not, rules}
+use Rattle.std.proofs.Common.{◌≡◌, ℕ, ◌==◌, List, [], ◌∷◌, ◌++◌, Bool, true, refl, sym, ap, ap₂, ◌∙◌, arith, append_assoc, length-append, eqb-true, eq-eqb, bytes_eq, decimal, ◌&&◌, not, rules}
 use Rattle.std.specs.List.{list_all}
 use Rattle.std.proofs.lemmas.Bool.{and_parts, and_from}
 use Rattle.std.proofs.lemmas.Slice.Eq.{bytes_eq-Decides}
@@ -26,23 +26,9 @@ ends_no_line byte = is_not line_feed byte
 pub cut_at : (sep : ℕ) (a b xs ys : List ℕ) → list_all (is_not sep) a ≡ true → list_all (is_not sep) b ≡ true
     → a ++ sep ∷ xs ≡ b ++ sep ∷ ys → (a ≡ b) × (xs ≡ ys)
 cut_at sep [] [] xs ys p q e = (refl, cc)
-cut_at sep [] (y ∷ b) xs ys p q e =
-    let is : y ≡ sep = cc in
-    let bad : false ≡ true =
-    sym (ap not (eq-eqb y sep is)) ∙ (and_parts (is_not sep y) (list_all (is_not sep) b) q).0 in
-    cc
-cut_at sep (x ∷ a) [] xs ys p q e =
-    let is : x ≡ sep = cc in
-    let bad : false ≡ true =
-    sym (ap not (eq-eqb x sep is)) ∙ (and_parts (is_not sep x) (list_all (is_not sep) a) p).0 in
-    cc
-cut_at sep (x ∷ a) (y ∷ b) xs ys p q e =
-    let is : x ≡ y = cc in
-    let rest : a ++ sep ∷ xs ≡ b ++ sep ∷ ys = cc in
-    let cut =
-    cut_at sep a b xs ys (and_parts (is_not sep x) (list_all (is_not sep) a) p).1
-    (and_parts (is_not sep y) (list_all (is_not sep) b) q).1 rest in
-    (ap₂ ◌∷◌ is cut.0, cut.1)
+cut_at sep [] (y ∷ b) xs ys p q e = search (rules, arith, and_parts, eq-eqb)
+cut_at sep (x ∷ a) [] xs ys p q e = search (rules, arith, and_parts, eq-eqb)
+cut_at sep (x ∷ a) (y ∷ b) xs ys p q e = search (rules, arith, and_parts, cut_at sep a b xs ys)
 
 -- the text of a batch starts with the line of its first row
 first_line : (r : Row) (rows : List Row) → batch_text (r ∷ rows) ≡ row_text r ++ line_feed ∷ batch_text rows

@@ -1,5 +1,5 @@
 -- The rows of stock give the places of cells. For Readings, and for the lemmas on stock.
-use Rattle.std.proofs.Common.{◌≡◌, ◌≢◌, ℕ, ◌+◌, ◌<◌, ◌≤◌, ◌==◌, List, [], ◌∷◌, map, filter, find, cond, Bool, true, false, Option, Some, None, refl, sym, ap, subst, ◌∙◌, arith, eqb-true, eq-eqb, filter_map, option_map, bytes_eq, rules}
+use Rattle.std.proofs.Common.{◌≡◌, ◌≢◌, ℕ, ◌+◌, ◌<◌, ◌≤◌, ◌==◌, List, [], ◌∷◌, map, filter, find, Bool, true, false, Option, Some, None, refl, sym, ap, subst, ◌∙◌, arith, eqb-true, eq-eqb, filter_map, option_map, bytes_eq, rules}
 use Rattle.std.specs.List.Sorted.{IsPermutation}
 use Rattle.std.proofs.lemmas.Bool.{and_parts, and_from, leb-true, le-leb, false_from_ne_true}
 use Rattle.std.proofs.lemmas.Slice.Eq.{bytes_eq-Decides}
@@ -8,9 +8,9 @@ use Rattle.std.proofs.lemmas.Cmp.{on_total, then_total, nat_cmp_total, nat_list_
 use Rattle.std.proofs.lemmas.Map.Text.{is_eq-slice_cmp}
 use Rattle.std.specs.Cmp.{IsTotalOrder}
 use Rattle.std.specs.Cmp.Lexicographic.{slice_cmp}
-use Rattle.std.specs.Ordering.{is_lt, is_eq, ordering_then, ordering_reverse, nat_cmp}
+use Rattle.std.specs.Ordering.{is_lt, is_eq, ordering_then, nat_cmp}
 use Rattle.std.specs.declared.cmp.Ordering.{Ordering}
-use Rattle.std.specs.declared.cmp.Ordering.TheVariants.{Less, Equal, Greater}
+use Rattle.std.specs.declared.cmp.Ordering.TheVariants.{Equal}
 use Rattle.sqlite_trees.specs.Tree.{IsAscending}
 use Rattle.sqlite_trees.proofs.ListLemmas.{ascending-filter, ascending-map}
 use Rattle.sqlite_rules.specs.Lists.{Has}
@@ -205,11 +205,7 @@ before : (r s : StockRow) → is_lt (stock_cmp s r) ≡ false → is_same_stock 
 before r s up off = go (stock_cmp s r) refl up
   where
     go : (o : Ordering) → stock_cmp s r ≡ o → is_lt o ≡ false → is_lt (stock_cmp r s) ≡ true
-    go Less e f = cc
-    go Equal e f =
-        let tied : stock_cmp r s ≡ Equal = stock_total.antisymm r s ∙ ap ordering_reverse e in
-        let bad : true ≡ false = sym (tied_same r s tied) ∙ off in cc
-    go Greater e f = ap is_lt (stock_total.antisymm r s ∙ ap ordering_reverse e)
+    go o e f = search (rules, arith, stock_total, tied_same)
 
 find-map : {X Y : Type 0} (f : X → Y) (p : Y → Bool) (xs : List X)
     → find p (map f xs) ≡ option_map f (find (λ x. p (f x)) xs)

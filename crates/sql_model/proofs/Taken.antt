@@ -1,5 +1,5 @@
 -- The rows found of a journey's steps give the wants of its plan, and the taken options. For the choice of an option.
-use Rattle.std.proofs.Common.{◌≡◌, inl, inr, ℕ, zero, suc, ◌+◌, ◌≤◌, ◌==◌, List, [], ◌∷◌, length, map, Bool, true, false, Option, Some, None, refl, sym, ap, subst, ◌∙◌, arith, eqb-true, eq-eqb, flat_map, slice_get, option_map, option_and_then, ◌&&◌, unwrap_or, rules}
+use Rattle.std.proofs.Common.{◌≡◌, inl, ℕ, zero, suc, ◌+◌, ◌≤◌, ◌==◌, List, [], ◌∷◌, length, map, Bool, true, false, Option, Some, None, refl, sym, ap, subst, ◌∙◌, arith, eqb-true, eq-eqb, flat_map, slice_get, option_map, option_and_then, ◌&&◌, unwrap_or, rules}
 use Rattle.std.proofs.lemmas.Bool.{and_parts, and_from}
 use Rattle.sqlite_rules.specs.Lists.{Has}
 use Rattle.sqlite_rules.proofs.ListLemmas.{has_left, has_right, has_either, some_has, some_from, test_has}
@@ -20,19 +20,13 @@ use Rattle.sql_model.proofs.Plans.{option_wanted}
 has_flat_map : {X Y : Type 0} (f : X → List Y) (xs : List X) (x : X) (y : Y) → Has xs x → Has (f x) y
     → Has (flat_map f xs) y
 has_flat_map f [] x y h k = absurd h
-has_flat_map f (z ∷ xs) x y (inl same) k =
-    has_left (f z) (flat_map f xs) y (subst (λ w. Has (f w) y) same k)
-has_flat_map f (z ∷ xs) x y (inr h) k = has_right (f z) (flat_map f xs) y (has_flat_map f xs x y h k)
+has_flat_map f (z ∷ xs) x y h k = search (rules, arith, has_left, has_right, has_flat_map f xs x y)
 
 -- an element of the concatenation is in one of the lists
 flat_map_has : {X Y : Type 0} (f : X → List Y) (xs : List X) (y : Y) → Has (flat_map f xs) y
     → (x : X) × Has xs x × Has (f x) y
 flat_map_has f [] y h = absurd h
-flat_map_has f (z ∷ xs) y h =
-    elim (has_either (f z) (flat_map f xs) y h) [
-      | inl here ↦ (z, inl refl, here)
-      | inr later ↦ let rest = flat_map_has f xs y later in (rest.0, inr rest.1, rest.2)
-    ]
+flat_map_has f (z ∷ xs) y h = search (rules, arith, has_either, flat_map_has f xs y)
 
 -- the row is that of a want of the plan, with the mark of its step, and taken as `taken` says
 pub record IsRowOf (taken : ℕ → ℕ → Bool) (id : ℕ) (plan : Planned) (r : StepRow) : Type 0 where
@@ -105,32 +99,17 @@ module _ (taken : ℕ → ℕ → Bool) (id : ℕ) (plan : Planned) where
 last_above : (ts : List (ℕ × ℕ)) (first : ℕ) (last : ℕ × ℕ)
     → map (λ s. s.0) ts ≡ numbers_from first (length ts) → last_of ts ≡ Some last → first ≤ last.0
 last_above [] first last stands is = cc
-last_above (x ∷ []) first last stands is =
-    let one : x ≡ last = cc in
-    let number : x.0 ≡ first = cc in
-    let same : last.0 ≡ first = ap (λ (s : ℕ × ℕ). s.0) (sym one) ∙ number in
-    omega arith
-last_above (x ∷ y ∷ ts) first last stands is =
-    let rest : map (λ (s : ℕ × ℕ). s.0) (y ∷ ts) ≡ numbers_from (suc first) (length (y ∷ ts)) = cc in
-    let above = last_above (y ∷ ts) (suc first) last rest is in
-    omega arith
+last_above (x ∷ []) first last stands is = search (rules, arith, arith)
+last_above (x ∷ y ∷ ts) first last stands is = search (rules, arith, last_above (y ∷ ts) (suc first) last)
 
 -- the last transaction is the only one of its step
 last_of_step : (ts : List (ℕ × ℕ)) (first : ℕ) (last : ℕ × ℕ) (t : ℕ × ℕ)
     → map (λ s. s.0) ts ≡ numbers_from first (length ts) → last_of ts ≡ Some last → Has ts t
     → t.0 ≡ last.0 → t.1 ≡ last.1
 last_of_step [] first last t stands is h same = absurd h
-last_of_step (x ∷ []) first last t stands is (inl e) same = let one : x ≡ last = cc in ap (λ (s : ℕ × ℕ). s.1) (e ∙ one)
-last_of_step (x ∷ []) first last t stands is (inr h) same = absurd h
-last_of_step (x ∷ y ∷ ts) first last t stands is (inr h) same =
-    let rest : map (λ (s : ℕ × ℕ). s.0) (y ∷ ts) ≡ numbers_from (suc first) (length (y ∷ ts)) = cc in
-    last_of_step (y ∷ ts) (suc first) last t rest is h same
-last_of_step (x ∷ y ∷ ts) first last t stands is (inl e) same =
-    let rest : map (λ (s : ℕ × ℕ). s.0) (y ∷ ts) ≡ numbers_from (suc first) (length (y ∷ ts)) = cc in
-    let number : x.0 ≡ first = cc in
-    let above = last_above (y ∷ ts) (suc first) last rest is in
-    let here : t.0 ≡ x.0 = ap (λ (s : ℕ × ℕ). s.0) e in
-    absurd (omega arith)
+last_of_step (x ∷ []) first last t stands is h same = search (rules, arith, arith)
+last_of_step (x ∷ y ∷ ts) first last t stands is h same =
+    search (rules, arith, last_above, last_of_step (y ∷ ts) (suc first) last t)
 
 -- of the last step that stands, no option but its own is taken
 pub taken_option : (plan : Planned) (h : List Item) (i c option : ℕ) → Follows plan h
