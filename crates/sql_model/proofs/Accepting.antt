@@ -1,6 +1,6 @@
 -- Each reply to an event accepts, and its parts keep the limits; so each request within the limits
 -- takes a desk's state to a desk's state. For Worlds, and for books over tables.
-use Rattle.std.proofs.Common.{◌≡◌, ℕ, ◌+◌, ◌<◌, ◌≤◌, ◌==◌, List, [], ◌∷◌, ◌++◌, length, Bool, true, Option, Some, None, IsTrue, ap, ◌∙◌, arith, eqb-true, add-one, option_map, nat_lt, nat_le, ◌&&◌, rules}
+use Rattle.std.proofs.Common.{◌≡◌, ℕ, ◌+◌, ◌<◌, ◌≤◌, List, [], ◌∷◌, ◌++◌, length, Bool, true, Option, Some, None, IsTrue, ap, ◌∙◌, arith, eqb-true, add-one, option_map, nat_le, ◌&&◌, rules}
 use Rattle.std.specs.Prelude.{unwrap_or}
 use Rattle.std.specs.List.{AllByRecursion}
 use Rattle.std.proofs.lemmas.Bool.{and_parts, and_from, or_cases, leb-true, le-leb, ltb-true, eqb-false}
@@ -118,14 +118,7 @@ module _ (plan : Planned) (h : List Item) (good : IsTrue (is_plan plan)) (goes :
       go phases.Ended e = cc
       go phases.Undone e = cc
   item-good may_fit (item.Save p) may =
-      let all = and_parts (is_running (phase plan h) && (p == position_of h) && nat_lt 0 p) _ may in
-      let most = and_parts (is_running (phase plan h) && (p == position_of h)) (nat_lt 0 p) all.0 in
-      let same =
-      eqb-true p (position_of h)
-      (and_parts (is_running (phase plan h)) (p == position_of h) most.0).1 in
-      let within = position_of-most plan h goes.mode in
-      let few = few_steps plan good in
-      between 0 most_steps p (omega arith) (omega arith)
+      search (rules, arith, and_parts, eqb-true, position_of-most, few_steps, between)
 
 -- the plan is good, the journey follows its word, and each of its items keeps the limits
 record Good (plan : Planned) (h : List Item) : Type 0 where

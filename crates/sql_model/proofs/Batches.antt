@@ -43,10 +43,8 @@ NamedOnce l = (name : List ℕ) → length (batches_named l name) ≤ 1
 -- a load has a new name, and no other event has one
 named_more : (l : List Event) (e : Event) → IsLegal l → IsTrue (is_allowed l e) → NamedOnce l
     → NamedOnce (l ++ e ∷ [])
-named_more l (Began agent plan) legal may once =
-    λ name. subst (λ bs. length bs ≤ 1) (sym (batches_named-began l agent plan name)) (once name)
-named_more l (Did j item) legal may once =
-    λ name. subst (λ bs. length bs ≤ 1) (sym (batches_named-did l j item name)) (once name)
+named_more l (Began agent plan) legal may once = search (rules, arith, batches_named-began)
+named_more l (Did j item) legal may once = search (rules, arith, batches_named-did)
 named_more l (Loaded other rows) legal may once =
     λ name. subst (λ bs. length bs ≤ 1) (sym (batches_named-loaded l other rows name))
     (go name (bytes_eq name other) refl)

@@ -1,5 +1,5 @@
 -- The nights found of a want determine whether it fits, and the places of a cell those that are held. For steps and loads.
-use Rattle.std.proofs.Common.{◌≡◌, ℕ, ◌+◌, ◌-◌, ◌<◌, ◌≤◌, ◌==◌, List, [], ◌∷◌, map, Bool, true, false, Option, Some, None, refl, sym, ap, ap₂, ◌∙◌, arith, eqb-true, eq-eqb, inl, inr, option_map, nat_le, ◌&&◌, unwrap_or, rules}
+use Rattle.std.proofs.Common.{◌≡◌, ℕ, ◌+◌, ◌-◌, ◌<◌, ◌≤◌, ◌==◌, List, [], ◌∷◌, map, Bool, true, false, Option, Some, None, refl, sym, ap, ◌∙◌, arith, eqb-true, eq-eqb, option_map, nat_le, ◌&&◌, unwrap_or, rules}
 use Rattle.std.specs.List.{list_any, list_all}
 use Rattle.std.proofs.lemmas.Bool.{and_parts, and_from, leb-true, le-leb}
 use Rattle.sqlite_rules.specs.Lists.{Has}
@@ -45,20 +45,7 @@ module _ (l : List Event) (legal : IsLegal l) where
       where
         forth : list_any (is_free_night n) (places_shown l w) ≡ true
             → has_free l w.count (cell_at w n) ≡ true
-        forth some =
-            let found = some_has (is_free_night n) (places_shown l w) some in
-            let both = and_parts (found.0.0 == n) (nat_le w.count found.0.1.free) found.2 in
-            let there = shown_has l w w.first w.nights found.0 found.1 in
-            let here =
-            ap (λ m. places_of l (cell_at w m)) (sym (eqb-true found.0.0 n both.0)) ∙ there.2 in
-            let is = shown (cell_at w n) found.0.1 here in
-            let within = held_within l (cell_at w n) found.0.1.allot legal is.0 in
-            let free = is.1 in
-            let enough = leb-true w.count found.0.1.free both.1 in
-            ap
-            (λ o. unwrap_or (option_map (λ places. nat_le (held l (cell_at w n) + w.count) places) o) false)
-            is.0
-            ∙ le-leb (held l (cell_at w n) + w.count) found.0.1.allot (omega arith)
+        forth some = search (rules, arith, some_has, and_parts, shown_has, eqb-true, shown, held_within, leb-true, le-leb)
 
         back : (o : Option ℕ) → allotment l (cell_at w n) ≡ o
             → unwrap_or (option_map (λ places. nat_le (held l (cell_at w n) + w.count) places) o) false ≡ true
@@ -83,8 +70,7 @@ module _ (l : List Event) (legal : IsLegal l) where
         each : (ns : List ℕ) → ((n : ℕ) → Has ns n → p n ≡ q (cell_at w n))
             → list_all p ns ≡ list_all q (map (cell_at w) ns)
         each [] same = refl
-        each (n ∷ ns) same =
-            ap₂ (λ a b. a && b) (same n (inl refl)) (each ns (λ m h. same m (inr h)))
+        each (n ∷ ns) same = search (rules, arith, each ns)
 
     -- the want fits the listed nights exactly if it fits the ledger
     pub fits_told : (cells : List (ℕ × Held)) → map night_said cells ≡ places_shown l w

@@ -1,8 +1,7 @@
--- Lists whose elements have numbers, and maps of functions that agree. For the lemmas on plans and events.
-use Rattle.std.proofs.Common.{◌≡◌, refl, Option, Some, None, filter_map, ℕ, suc, ◌+◌, List, [], ◌∷◌, ◌++◌, length, map, ap, arith, flat_map, append-nil, rules}
+-- Lists whose elements have numbers, maps of functions that agree, and what is made of some elements. For plans and events.
+use Rattle.std.proofs.Common.{◌≡◌, Option, Some, filter_map, ℕ, suc, ◌+◌, List, [], ◌∷◌, ◌++◌, length, map, ap, arith, flat_map, append-nil, rules}
 use Rattle.std.proofs.lemmas.List.{map-append}
 use Rattle.std.proofs.lemmas.Grind.{flat_map-append}
-use Rattle.std.specs.List.{cons_option}
 use Rattle.sqlite_trees.specs.Tree.{IsAscending}
 use Rattle.sqlite_rules.specs.Lists.{Has}
 use Rattle.sqlite_rules.proofs.ListLemmas.{all_has, all_from}
@@ -56,9 +55,5 @@ module _ {X Y : Type 0} (f : X → Option Y) where
       → ((a b : X) (p q : Y) → S a b → f a ≡ Some p → f b ≡ Some q → R p q)
       → (xs : List X) → IsAscending S xs → IsAscending R (filter_map f xs)
   ascending-chosen R S follows [] up = tt
-  ascending-chosen R S follows (x ∷ xs) up = go (f x) refl (ascending-chosen R S follows xs up.1)
-    where
-      go : (o : Option Y) → f x ≡ o → IsAscending R (filter_map f xs) → IsAscending R (cons_option o (filter_map f xs))
-      go None e rest = rest
-      go (Some p) e rest =
-          (all_from (R p) (filter_map f xs) (λ q h. let it = has_chosen xs q h in follows x it.0 p q (all_has (S x) xs it.0 up.0 it.1) e it.2), rest)
+  ascending-chosen R S follows (x ∷ xs) up =
+      search (rules, arith, all_from, has_chosen, all_has, follows, ascending-chosen R S follows xs)

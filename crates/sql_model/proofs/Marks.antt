@@ -1,4 +1,4 @@
--- The save-points that stand, after one more row of a save-point or one less. For Saving and GivingBack.
+-- The save-points that stand, after one more row of a save-point or one less. For Moves.
 use Rattle.std.proofs.Common.{◌≡◌, ℕ, ◌==◌, List, [], ◌∷◌, ◌++◌, Bool, true, false, filter, eqb-true, refl, sym, ap, ap₂, ◌∙◌, arith, ◌&&◌, ◌||◌, not, rules}
 use Rattle.std.specs.List.{list_any}
 use Rattle.std.proofs.lemmas.Bool.{and_parts, false_from_ne_true}
@@ -64,9 +64,7 @@ module _ (l : List Event) (j : ℕ) (item : Item) (rows : List MarkRow) (stand :
     where
       at : (k q : ℕ) (m : MarkRow) → is_mark_at k q m ≡ true
           → not (is_mark_at j p m) ≡ not ((k == j) && (q == p))
-      at k q m on =
-          let both = and_parts _ _ on in
-          ap₂ (λ a b. not ((a == j) && (b == p))) (eqb-true _ _ both.0) (eqb-true _ _ both.1)
+      at k q m on = search (rules, arith, and_parts, eqb-true)
 
       go : (k q : ℕ) (v : Bool) → (k == j) ≡ v
           → (not (v && (q == p)) && is_taken (history l k) q) ≡ is_taken (history (l ++ Did j item ∷ []) k) q

@@ -95,8 +95,7 @@ within_numbers first (suc k) n low high =
 -- consecutive numbers rise
 pub numbers_rise : (first count : ℕ) → IsAscending (λ m n. m < n) (numbers_from first count)
 numbers_rise first zero = tt
-numbers_rise first (suc k) =
-    (all_from _ (numbers_from (suc first) k) (λ n h. (numbers_within (suc first) k n h).0), numbers_rise (suc first) k)
+numbers_rise first (suc k) = search (rules, arith, all_from, numbers_within, numbers_rise (suc first) k)
 
 -- Rows of the elements of a list, each of which has the number of its element.
 module _ {X R : Type 0} (key : R → ℕ) (rows : ℕ → X → List R)

@@ -1,17 +1,12 @@
 -- A connection opened over a desk's trees represents their state. For `openings`.
-use Rattle.std.proofs.Common.{◌≡◌, List, [], refl, arith, rules}
+use Rattle.std.proofs.Common.{refl, arith, rules}
 use Rattle.sqlite.specs.State.{State as Connected}
 use Rattle.desk_sql.specs.declared.versions.Version.{Version}
-use Rattle.sqlite_schema.specs.declared.schema.Index.{Index}
-use Rattle.desk_sql.specs.Schema.{no_schema, schema_with}
+use Rattle.desk_sql.specs.Schema.{no_schema}
 use Rattle.ledger.specs.Answer.{State}
 use Rattle.sql_model.specs.Schemas.{OneSchema}
 use Rattle.sql_model.specs.Keeping.{MeansIn, MeansNew, MeansOf, SeesOf, SeesNew, Sees, IsFound}
 use Rattle.sql_model.specs.Openings.{IsOpenedOver}
-
--- the desk has no views
-no_views : (v : Version) (extra : List Index) → (schema_with v extra).views ≡ []
-no_views v extra = search (rules, arith)
 
 module _ (one : OneSchema) (v : Version) (c : Connected) (s : State) (it : IsOpenedOver v c s) where
   -- trees that list the desk's schema show the desk

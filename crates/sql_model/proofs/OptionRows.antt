@@ -81,15 +81,8 @@ module _ (id place : ℕ) (taken : ℕ → ℕ → Bool) (m : Bool) where
       → (i : ℕ) (row : StepFound) → slice_get found i ≡ Some row → IsRowAt (n + i) ws row i
   told n ws [] e i row there = cc
   told n [] (f ∷ fs) e i row there = cc
-  told n (w ∷ ws) (f ∷ fs) e zero row there =
-      let head : step_of id f ≡ row_at (n, w) = cc in
-      let here : f ≡ row = cc in
-      let number : n + 0 ≡ n = omega arith in
-      (w, refl, ap (step_of id) (sym here) ∙ head ∙ ap (λ k. row_at (k, w)) (sym number))
-  told n (w ∷ ws) (f ∷ fs) e (suc i) row there =
-      let rest : map (step_of id) fs ≡ map row_at (counted_from (suc n) ws) = cc in
-      let number : suc n + i ≡ n + suc i = omega arith in
-      subst (λ k. IsRowAt k (w ∷ ws) row (suc i)) number (told (suc n) ws fs rest i row there)
+  told n (w ∷ ws) (f ∷ fs) e zero row there = search (rules, arith, arith)
+  told n (w ∷ ws) (f ∷ fs) e (suc i) row there = search (rules, arith, told (suc n) ws fs)
 
 -- there is a row for each option of a step, by its number
 pub option_row_at : (id place : ℕ) (taken : ℕ → ℕ → Bool) (p : StepPlan) (found : List StepFound)

@@ -1,4 +1,4 @@
--- The rows of steps after one more option is taken, or one is given up. For Taking and GivingBack.
+-- The rows of steps after one more option is taken, or one is given up. For Moves.
 use Rattle.std.proofs.Common.{◌≡◌, ℕ, ◌==◌, List, [], ◌∷◌, ◌++◌, Bool, true, false, if◌then◌else◌, IsTrue, eqb-true, refl, sym, ap, ap₂, subst, ◌∙◌, ◌&&◌, ◌||◌, not, IsPermutation, arith, rules}
 use Rattle.std.specs.List.{list_any}
 use Rattle.std.proofs.lemmas.Bool.{and_parts}
@@ -38,11 +38,7 @@ standing-transaction h i c step option = search (rules, arith, net-transaction, 
 none_of_step : (i option : ℕ) (ts : List (ℕ × ℕ))
     → list_any (λ t. not (t.0 == i) && is_of i option t) ts ≡ false
 none_of_step i option [] = refl
-none_of_step i option (t ∷ ts) =
-    ap₂ (λ a b. a || b) (none (t.0 == i) (t.1 == option)) (none_of_step i option ts)
-  where
-    none : (a b : Bool) → (not a && (a && b)) ≡ false
-    none a b = search (rules, arith)
+none_of_step i option (t ∷ ts) = search (rules, arith, none_of_step i option ts)
 
 -- after a compensation its option is no longer taken, and of the others those that were
 pub standing-compensation : (plan : Planned) (h : List Item) (may_fit : Bool) (i c : ℕ) → Follows plan h

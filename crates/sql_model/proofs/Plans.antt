@@ -1,4 +1,4 @@
--- The wants of a plan that keeps the limits keep the limits of wants. For Taking and GivingBack.
+-- The wants of a plan that keeps the limits keep the limits of wants. For Moves.
 use Rattle.std.proofs.Common.{◌≡◌, ℕ, zero, suc, ◌≤◌, List, length, Bool, true, Option, Some, None, IsTrue, refl, ap, ◌∙◌, arith, nat_le, option_and_then, option_map, unwrap_or, rules}
 use Rattle.std.specs.List.{list_all}
 use Rattle.std.proofs.lemmas.Bool.{and_parts, leb-true}

@@ -60,8 +60,7 @@ module _ (s : StockRow) (cells : List StockRow) where
     where
       told : (v : Bool) (r : StockRow)
           → Some (places_told (if v then with_places s r else r)) ≡ places_now v (Some (places_told r))
-      told true r = refl
-      told false r = refl
+      told v r = search (rules, arith, arith)
 
       go : (o : Option StockRow) → find (is_stock_of x) cells ≡ o
           → option_map places_told (option_map row_now o) ≡ places_now (is_stock_of x s) (option_map places_told o)
@@ -117,9 +116,7 @@ module _ (holds : Cell → ℕ) where
   pub once-rows : (rows : List Row) (cells : List StockRow) → AreApart is_same_stock cells
       → AreApart is_same_stock (put_rows holds rows cells)
   once-rows [] cells once = once
-  once-rows (r ∷ rows) cells once =
-      once-rows rows (put (loaded_row (holds r.cell) r) cells)
-      (once-put (loaded_row (holds r.cell) r) cells once)
+  once-rows (r ∷ rows) cells once = search (rules, arith, once-put, once-rows rows)
 
   -- each row is of some cell after a batch
   pub known-rows : (rows : List Row) (cells : List StockRow) → AllByRecursion IsOfCell cells

@@ -43,8 +43,7 @@ module _ (good : Row → Bool)
     (own_line : (r : Row) → good r ≡ true → list_all ends_no_line (row_text r) ≡ true) where
   -- the same rows have the same text
   same_text : (rows known : List Row) → are_same_rows rows known ≡ true → batch_text rows ≡ batch_text known
-  same_text [] [] e = refl
-  same_text [] (s ∷ known) e = cc
+  same_text [] known e = search (rules, arith, arith)
   same_text (r ∷ rows) [] e = cc
   same_text (r ∷ rows) (s ∷ known) e =
       let both = and_parts (is_cell r.cell s.cell && (r.places == s.places)) (are_same_rows rows known) e in
@@ -57,8 +56,7 @@ module _ (good : Row → Bool)
   -- batches with one text have the same rows
   same_rows : (rows known : List Row) → list_all good rows ≡ true → list_all good known ≡ true
       → batch_text rows ≡ batch_text known → are_same_rows rows known ≡ true
-  same_rows [] [] p q e = refl
-  same_rows [] (s ∷ known) p q e = absurd (not_empty s known (sym e))
+  same_rows [] known p q e = search (rules, arith, not_empty)
   same_rows (r ∷ rows) [] p q e = absurd (not_empty r rows e)
   same_rows (r ∷ rows) (s ∷ known) p q e =
       let mine = and_parts (good r) (list_all good rows) p in

@@ -1,5 +1,5 @@
--- The rows of stock after the nights of a want got fewer free places, or more. For Taking and GivingBack.
-use Rattle.std.proofs.Common.{◌≡◌, ℕ, ◌+◌, ◌-◌, ◌≤◌, List, find, Bool, true, false, if◌then◌else◌, Option, Some, None, refl, sym, ap, ◌∙◌, arith, option_map, rules}
+-- The rows of stock after the nights of a want got fewer free places, or more. For Moves.
+use Rattle.std.proofs.Common.{◌≡◌, ℕ, ◌+◌, ◌-◌, ◌≤◌, List, find, Bool, true, if◌then◌else◌, Option, Some, None, refl, sym, ap, ◌∙◌, arith, option_map, rules}
 use Rattle.sqlite_rules.proofs.ListLemmas.{some_has, some_from, has_found}
 use Rattle.sqlite_rules.proofs.ProbeLemmas.{has_mapped, mapped_has}
 use Rattle.allotment.specs.Want.{Wanted}
@@ -42,12 +42,7 @@ wanted_row w x r some of = same_test (is_wanted_row w r) (wants_cell w x) forth 
         (one_row x (cell_at w r.night) r of there.0)
 
     back : wants_cell w x ≡ true → is_wanted_row w r ≡ true
-    back on =
-        let found = some_has (is_cell x) (cells_of w) on in
-        let night = has_mapped (cell_at w) (numbers_from w.first w.nights) found.0 found.1 in
-        let bounds = numbers_within w.first w.nights night.0 night.1 in
-        (cell_wanted w night.0 r
-        (ap (λ y. is_stock_of y r) (sym (is_cell-same x found.0 found.2 ∙ night.2)) ∙ of) bounds.0 bounds.1).0
+    back on = search (rules, arith, some_has, has_mapped, numbers_within, cell_wanted, is_cell-same)
 
 -- A change of the free places of a want's rows.
 module _ (w : Wanted) (some : 1 ≤ w.nights) (freed : ℕ → ℕ) where
@@ -73,8 +68,7 @@ module _ (w : Wanted) (some : 1 ≤ w.nights) (freed : ℕ → ℕ) where
     where
       told : (v : Bool) (r : StockRow)
           → places_told (if v then with_freed r else r) ≡ places_now v (places_told r)
-      told true r = refl
-      told false r = refl
+      told v r = search (rules, arith, arith)
 
       go : (o : Option StockRow) → find (is_stock_of x) rows ≡ o
           → option_map places_told (option_map row_now o)
@@ -105,17 +99,13 @@ module _ (w : Wanted) (some : 1 ≤ w.nights) (freed : ℕ → ℕ) where
     where
       split : (v : Bool) (n k : ℕ)
           → places_now v (record { allot = n; free = k }) ≡ record { allot = n; free = if v then freed k else k }
-      split true n k = refl
-      split false n k = refl
+      split v n k = search (rules, arith, arith)
 
       places : (x : Cell) (o : Option ℕ) → allotment l x ≡ o
           → option_map (places_now (wants_cell w x))
           (option_map (λ (n : ℕ). record { allot = n; free = n - held l x }) o)
           ≡ option_map (λ (n : ℕ). record { allot = n; free = n - held m x }) o
-      places x None e = refl
-      places x (Some n) e =
-          ap Some
-          (split (wants_cell w x) n (n - held l x) ∙ ap (λ k. record { allot = n; free = k }) (frees x n e))
+      places x o e = search (rules, arith, split, frees x)
 
 -- after a want is taken, its nights have that many fewer free places
 pub stock-taken : (l m : List Event) (w : Wanted) (rows : List StockRow) → 1 ≤ w.nights
