@@ -74,8 +74,11 @@ module _ (l : List Event) (legal : IsLegal l) (agent : List ℕ) (plan : Planned
   -- the rows of the new plan are appended
   steps-begun : steps_called next ≡ steps_called l ++ step_rows_of id plan
   steps-begun =
-      (λ i. flat_map (λ (a : ℕ × Journey). step_rows (is_standing (histories a.0 i)) a.0 a.1.plan) (counted_from 1 (journeys-began l agent plan i)))
-      ∙ flat_map_counted-last (λ (a : ℕ × Journey). step_rows (is_standing (history l a.0)) a.0 a.1.plan) (journeys l) one.journey id (omega arith)
+      let rows = λ (m : List Event) (a : ℕ × Journey). step_rows (is_standing (history m a.0)) a.0 a.1.plan in
+      ap (λ js. flat_map (rows next) (counted_from 1 js)) (journeys-began l agent plan)
+      ∙ (λ i. flat_map (λ (a : ℕ × Journey). step_rows (is_standing (histories a.0 i)) a.0 a.1.plan)
+      (counted_from 1 (journeys l ++ one.journey ∷ [])))
+      ∙ flat_map_counted-last (rows l) (journeys l) one.journey id (omega arith)
       ∙ ap (λ h. steps_called l ++ step_rows (is_standing h) id plan) none_yet
 
   -- no places change

@@ -11,7 +11,7 @@ use Rattle.ledger.specs.Answer.{State}
 use Rattle.saga_core.specs.Views.{first_unfinished, places_shown}
 use Rattle.desk_sql.specs.declared.versions.Version.{Version}
 use Rattle.desk_sql.specs.Versions.{number_of}
-use Rattle.desk_sql.specs.Rows.{Tables, StockRow, JourneyRow, EntryRow}
+use Rattle.desk_sql.specs.Rows.{Tables, JourneyRow, EntryRow}
 use Rattle.desk_sql.specs.Changes.{AreJourneysBelow}
 use Rattle.desk_sql.specs.FoundRows.{IsMeta, answer_of, FindsAnswer, journey_of, FindsJourney, FindsUnfinished, step_of, FindsSteps, FindsOptions, item_of, FindsItems, FindsNextItem, FindsMarks}
 use Rattle.desk_sql.specs.Stock.{is_within, night_of, FindsNights}
@@ -125,4 +125,5 @@ module _ {v : Version} (t : Tables) (s : State) (st : StandsIn v t s) (desk : Is
       → 1 ≤ w.nights → FindsNights r t found → map night_seen found ≡ places_shown s.ledger w
   nights_read r w found is some finds =
       sym (map-map night_told (night_of r) found) ∙ nights_found s.ledger t.stock (map (night_of r) found) w some st.stock
-      (subst (λ rows. IsPermutation rows (map (night_of r) found)) (filter_same (is_within r) (is_wanted_row w) t.stock (all_of (λ (x : StockRow). is_within r x ≡ is_wanted_row w x) (range_row r w is) t.stock)) finds.same) finds.rising
+      (subst (λ rows. IsPermutation rows (map (night_of r) found))
+      (filter_same (is_within r) (is_wanted_row w) t.stock (all_of _ (range_row r w is) t.stock)) finds.same) finds.rising
