@@ -1,7 +1,7 @@
 -- Words that are looked through one after another, for the functions of `asking` and `timing`.
-use Rattle.std.proofs.Common.{◌≡◌, ◌∙◌, ◌<◌, ◌≤◌, ◌+◌, ℕ, Bool, Global, String, List, [], ◌∷◌, ◌++◌, suc, true, false, not, cond, nat_lt, Option, Some, None, map, take, drop, get_or, length, string_bytes, ap, sym, refl, arith, append_assoc}
+use Rattle.std.proofs.Common.{◌≡◌, ◌∙◌, ◌<◌, ◌≤◌, ◌+◌, ℕ, Bool, Global, String, List, [], ◌∷◌, ◌++◌, suc, true, false, not, cond, nat_lt, Some, None, map, take, drop, get_or, length, string_bytes, ap, sym, refl, arith, append_assoc}
 use Rattle.std.proofs.Math.Seq.{drop-cons}
-use Rattle.std.proofs.lemmas.List.{length-map, map-append, map_more}
+use Rattle.std.proofs.lemmas.List.{map-append, map_more}
 use Rattle.std.proofs.lemmas.Bool.Decides.{nat_tests}
 use Rattle.std.specs.List.{position, position_or_len}
 use Rattle.clap.specs.Words.{Text}

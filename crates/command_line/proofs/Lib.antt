@@ -1,4 +1,3 @@
 pub mod AskingLemmas
 pub mod SubcommandLemmas
 pub mod TimingLemmas
-pub mod ValueLemmas

@@ -2,17 +2,14 @@
 use Rattle.std.proofs.Common.{◌≡◌, ◌∙◌, ◌<◌, ◌≤◌, ◌⊎◌, ℕ, Bor, Some, zero, suc, Bool, true, false, not, List, [], ◌∷◌, map, length, codes, sym, ap, ap₂, refl, inl, inr, arith, subst, ◌||◌, ◌&&◌, bytes_eq, if◌then◌else◌}
 use Rattle.std.proofs.lemmas.Bool.{or_parts, and_parts, not-true}
 use Rattle.std.specs.List.{All, list_all, list_any, slice_index_or}
-use Rattle.clap.specs.Words.{App, Rule, Text, first_of, matches_of, rows_of, AddsArg, AddsInTurn, app_of, args_of, groups_of, first_value, found_of, rule_of}
+use Rattle.clap.specs.Words.{Rule, Text, AddsArg, AddsInTurn, app_of, args_of, groups_of, rule_of}
 use Rattle.clap.specs.Built.{BuildsTo, FitsChain, HasDistinctIds, IsAuto, IsPlainArg, KeepsGroups, SameCore, SameRules}
 use Rattle.clap.proofs.CallerLemmas.{required_in_chain}
 use Rattle.clap.proofs.OnLiterals.{clap_on_literals}
-use Rattle.clap.proofs.WalkLemmas.{first_value-rows}
 use Rattle.clap.specs.declared.builder.Arg.{Arg}
 use Rattle.clap.specs.declared.builder.Command.{Command}
-use Rattle.clap.specs.declared.builder.command.Command.TheViews.{out-Command}
-use Rattle.clap.specs.declared.parser.ArgMatches.{ArgMatches}
-use Rattle.command_line.specs.Jobs.{value_in}
-use Rattle.command_line.specs.Subcommands.{bare_app, has_any, has_globals, ids_in, needed_in, rules_for, with_rules, AddsRules, IsFlag, IsValue, IsWord, Requires}
+use Rattle.command_line.specs.Help.{ReadsAs}
+use Rattle.command_line.specs.Subcommands.{bare_app, has_any, has_globals, ids_in, name_of, needed_in, rules_for, with_rules, AddsRules, IsBare, IsFlag, IsValue, IsWord, ReadsWords, Requires}
 use Rattle.command_line.specs.declared.subcommands.Subcommand.{Subcommand}
 use Rattle.command_line.specs.declared.subcommands.Subcommand.TheVariants.{Run, Serve, Recover, Load, Stock, Summary, Holders, Unfinished, Journeys, History, Why, Migrate, Index}
 
@@ -57,10 +54,14 @@ builds_same old new built same builds = record {
       (kept.0, kept.1 ∙ same.1);
 }
 
--- so it requires what that one requires
-pub requires_same : (old new : Command) (ids : List Text) → SameCore old new → All (Requires old) ids → All (Requires new) ids
-requires_same old new ids same each = λ k id lt m parsed.
-    each k id lt m (record { built = parsed.built; from = builds_same old new parsed.built same parsed.from; parsed = parsed.parsed })
+-- so it reads the words that that one reads
+pub reads_same : (s : Subcommand) (old new : Command) → ReadsAs old new → ReadsWords s old → ReadsWords s new
+reads_same s old new same reads = record {
+  app = same.app ∙ reads.app;
+  each = λ k id lt m parsed.
+      reads.each k id lt m (record { built = parsed.built; from = builds_same old new parsed.built same.core parsed.from; parsed = parsed.parsed });
+  globals = same.core.2 ∙ reads.globals;
+}
 
 -- the two names are the same
 abbrev is_same : Text → Text → Bool
@@ -156,33 +157,19 @@ needed_have P (x ∷ xs) each = from x.required refl (needed_have P xs (λ k d l
     from false is later = later
 
 -- each parse by a command with such values has those that are required
-all_required : (start cmd : Command) (xs : List Arg) → AddsInTurn AddsArg start xs cmd
-    → args_of start ≡ [] → groups_of start ≡ [] → (out-Command start).has_globals ≡ false → (out-Command start).subcommand_negates_reqs ≡ false
+all_required : (name : Text) (start cmd : Command) (xs : List Arg) → AddsInTurn AddsArg start xs cmd → IsBare name start
     → All IsWord xs → fit_together (ids_in (map rule_of xs)) ≡ true → All (Requires cmd) (needed_in (map rule_of xs))
-all_required start cmd xs chain args groups globals negates values good =
+all_required name start cmd xs chain bare values good =
     let ids = ids_in (map rule_of xs) in
     let tests = and_parts (list_all is_own ids) (differ ids) good in
     needed_have (Requires cmd) xs (λ k d lt is m parsed.
     let word = values k d lt in
     let here = word.needed is in
-    required_in_chain start cmd xs k d m chain args groups globals negates
+    required_in_chain start cmd xs k d m chain bare.args bare.groups bare.globals bare.negates
     (fits_chain xs values tests.0) (differ_by_id xs tests.1) lt (is, here.action, here.whole, here.least) parsed)
 
--- a command to which these values were added is read by their rules, and each parse has those that are required
-with_values : (name : Text) (start cmd : Command) (xs : List Arg) (wanted : List Rule) → AddsInTurn AddsArg start xs cmd
-    → app_of start ≡ bare_app name
-    → args_of start ≡ [] → groups_of start ≡ [] → (out-Command start).has_globals ≡ false → (out-Command start).subcommand_negates_reqs ≡ false
-    → All IsWord xs → map rule_of xs ≡ wanted → fit_together (ids_in wanted) ≡ true
-    → (app_of cmd ≡ with_rules (bare_app name) wanted) × (has_globals cmd ≡ false) × All (Requires cmd) (needed_in wanted)
-with_values name start cmd xs wanted chain app args groups globals negates values rules good =
-    let fit : fit_together (ids_in (map rule_of xs)) ≡ true = subst (λ rs. fit_together (ids_in rs) ≡ true) (sym rules) good in (
-      app_of-chain start cmd xs chain values ∙ ap (λ a. with_rules a (map rule_of xs)) app ∙ ap (with_rules (bare_app name)) rules,
-      no_globals start cmd xs chain values globals,
-      subst (λ rs. All (Requires cmd) (needed_in rs)) rules (all_required start cmd xs chain args groups globals negates values fit),
-    )
-
 -- the names of the values of each subcommand fit together
-pub ids_fit : (s : Subcommand) → fit_together (ids_in (rules_for s)) ≡ true
+ids_fit : (s : Subcommand) → fit_together (ids_in (rules_for s)) ≡ true
 unfolding clap_on_literals
 ids_fit Run = refl
 ids_fit Serve = refl
@@ -197,6 +184,16 @@ ids_fit History = refl
 ids_fit Why = refl
 ids_fit Migrate = refl
 ids_fit Index = refl
+
+-- a command to which the values of a subcommand were added reads its words
+with_values : (s : Subcommand) (start cmd : Command) (xs : List Arg) → AddsInTurn AddsArg start xs cmd → IsBare (name_of s) start
+    → All IsWord xs → map rule_of xs ≡ rules_for s → ReadsWords s cmd
+with_values s start cmd xs chain bare values rules =
+    let fit = subst (λ rs. fit_together (ids_in rs) ≡ true) (sym rules) (ids_fit s) in record {
+      app = app_of-chain start cmd xs chain values ∙ ap (λ a. with_rules a (map rule_of xs)) bare.app ∙ ap (with_rules (bare_app (name_of s))) rules;
+      each = subst (λ rs. All (Requires cmd) (needed_in rs)) rules (all_required (name_of s) start cmd xs chain bare values fit);
+      globals = no_globals start cmd xs chain values bare.globals;
+    }
 
 -- one more argument, before the others
 and_word : (x : Arg) (xs : List Arg) → IsWord x → All IsWord xs → All IsWord (x ∷ xs)
@@ -222,15 +219,11 @@ no_value : All IsWord []
 no_value = λ k d lt. absurd (omega arith)
 
 -- the same, where the first is a file and the others were added by their rules
-pub with_file : (name : Text) (start over cmd : Command) (file : Arg) (rules wanted : List Rule)
-    → AddsArg start file over → AddsRules over rules cmd
-    → app_of start ≡ bare_app name
-    → args_of start ≡ [] → groups_of start ≡ [] → (out-Command start).has_globals ≡ false → (out-Command start).subcommand_negates_reqs ≡ false
-    → IsValue file → rule_of file ∷ rules ≡ wanted → fit_together (ids_in wanted) ≡ true
-    → (app_of cmd ≡ with_rules (bare_app name) wanted) × (has_globals cmd ≡ false) × All (Requires cmd) (needed_in wanted)
-with_file name start over cmd file rules wanted added later app args groups globals negates value listed good =
-    with_values name start cmd (file ∷ later.0) wanted (over, added, later.1) app args groups globals negates
-    (and_word file later.0 (value_word file value) later.2) (ap (λ rs. rule_of file ∷ rs) later.3 ∙ listed) good
+pub with_file : (s : Subcommand) (start over cmd : Command) (file : Arg) (rules : List Rule) → AddsArg start file over
+    → AddsRules over rules cmd → IsBare (name_of s) start → IsValue file → rule_of file ∷ rules ≡ rules_for s → ReadsWords s cmd
+with_file s start over cmd file rules added later bare value listed =
+    with_values s start cmd (file ∷ later.0) (over, added, later.1) bare
+    (and_word file later.0 (value_word file value) later.2) (ap (λ rs. rule_of file ∷ rs) later.3 ∙ listed)
 
 -- one more argument, before those that were added by their rules
 pub one_more : (start over cmd : Command) (x : Arg) (rule : Rule) (rules : List Rule) → AddsArg start x over
@@ -255,8 +248,3 @@ long_flag a b name e is = subst IsFlag (sym e) (record { plain = is.plain; globa
 pub long_rule : (a b : Arg) (name : Bor Text) (rule : Rule) → b ≡ record a { long = Some name } → rule_of a ≡ rule
     → rule_of b ≡ record rule { long = Some name.now }
 long_rule a b name rule e is = ap rule_of e ∙ ap (λ (r : Rule). record r { long = Some name.now }) is
-
--- the value that clap reads under a name is the one of the matches
-pub value_in-matches : (app : App) (words : List Text) (m : ArgMatches) (id : Text) → rows_of (found_of m) ≡ matches_of app words
-    → value_in app words id ≡ first_value (found_of m) id
-value_in-matches app words m id rows = ap (first_of id) (sym rows) ∙ sym (first_value-rows (found_of m) id)

@@ -1,5 +1,5 @@
 -- Words of which one more was made plain. For `plain_words`.
-use Rattle.std.proofs.Common.{◌≡◌, ◌∙◌, ◌<◌, ◌||◌, ℕ, Bool, Global, String, List, [], ◌∷◌, ◌++◌, zero, suc, false, map, take, drop, get_or, set, length, string_bytes, ap, refl, sym, arith}
+use Rattle.std.proofs.Common.{◌≡◌, ◌∙◌, ◌<◌, ◌||◌, ℕ, Bool, Global, String, List, [], ◌∷◌, ◌++◌, zero, suc, map, take, drop, get_or, set, length, string_bytes, ap, refl, sym, arith}
 use Rattle.std.proofs.Math.Bool.{or-false, or_assoc}
 use Rattle.std.specs.List.{list_any}
 use Rattle.clap.specs.Words.{Text}

@@ -12,7 +12,7 @@ use Rattle.saga_core.specs.JourneyFilters.{state_named}
 use Rattle.saga_core.specs.declared.cell_filters.CellFilter.{CellFilter}
 use Rattle.saga_core.specs.declared.journey_filters.JourneyFilter.{JourneyFilter}
 use Rattle.saga_core.specs.declared.journey_filters.JourneyState.{JourneyState}
-use Rattle.saga_core.specs.declared.journey_filters.JourneyState.TheVariants.{Run, Back, Ended, Undone}
+use Rattle.saga_core.specs.declared.journey_filters.JourneyState.TheVariants.{Run, Back}
 use Rattle.saga_core.specs.declared.journey_filters.Phases.{Phases}
 use Rattle.saga_core.specs.declared.journey_filters.Phases.TheVariants.{All, Unfinished, Only}
 
@@ -60,15 +60,10 @@ abbrev pub phases_in : Option Text → Option Phases
 phases_in word = option_map only (spelled state_named word)
 
 -- the same of unfinished journeys, which have two states
-abbrev pub unfinished_state : JourneyState → Option Phases
-unfinished_state Run = Some (Only Run)
-unfinished_state Back = Some (Only Back)
-unfinished_state Ended = None
-unfinished_state Undone = None
-
 abbrev pub unfinished_named : Option JourneyState → Option Phases
-unfinished_named None = None
-unfinished_named (Some state) = unfinished_state state
+unfinished_named (Some Run) = Some (Only Run)
+unfinished_named (Some Back) = Some (Only Back)
+unfinished_named _ = None
 
 abbrev pub unfinished_in : Option Text → Option Phases
 unfinished_in None = Some Unfinished

@@ -157,3 +157,20 @@ IsText Memory = ⊥
 abbrev pub IsUsage : {T : Type 0} → Result T JobFault → Type 0
 IsUsage (Err fault) = IsText fault
 IsUsage (Ok _) = ⊥
+
+-- the result is a value that fits, and nothing was bad; or a usage, since something was; or out of memory
+abbrev pub Reads : {T : Type 0} → (T → Type 0) → Bool → Result T JobFault → Type 0
+Reads Fits is_bad (Ok value) = Fits value × (is_bad ≡ false)
+Reads Fits is_bad (Err fault) = IsText fault → is_bad ≡ true
+
+-- the same, of what was asked for: nothing, where that was bad
+abbrev pub ReadsOne : {T : Type 0} → Option T → Result T JobFault → Type 0
+ReadsOne asked = Reads (λ value. asked ≡ Some value) (is_none asked)
+
+-- the same, of the job of this subcommand with these values
+abbrev pub ReadsJob : Subcommand → (Text → Option Text) → Result Job JobFault → Type 0
+ReadsJob s value = Reads (IsJobWith s value) (has_bad_value s value)
+
+-- the same, of the job of these words
+abbrev pub ReadsWordsOf : List Text → Result Job JobFault → Type 0
+ReadsWordsOf words = Reads (IsJob words) (are_refused words)

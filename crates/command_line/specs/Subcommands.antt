@@ -1,6 +1,6 @@
 -- The subcommands: the word that names each, and how clap reads the words after it.
 use Rattle.std.specs.Prelude.{◌≡◌, ◌≤◌, Bool, true, false, List, [], ◌∷◌, map, All, codes, bytes_eq, if◌then◌else◌, Option, Some, None, is_some}
-use Rattle.clap.specs.Words.{App, Rule, Text, first_value, found_of, fault_of, new_app, new_rule, with_rule, with_subcommand, rule_of, AddsArg, AddsInTurn, IsParsedFrom, IsPlainArg}
+use Rattle.clap.specs.Words.{App, Rule, Text, app_of, args_of, groups_of, first_value, found_of, fault_of, new_app, new_rule, with_rule, with_subcommand, rule_of, AddsArg, AddsInTurn, IsParsedFrom, IsPlainArg}
 use Rattle.clap.specs.Facts.{least_values}
 use Rattle.clap.specs.Simple.{on_top}
 use Rattle.clap.specs.declared.builder.ArgAction.TheVariants.{Set, SetTrue}
@@ -239,3 +239,17 @@ AddsRules start rules command =
 abbrev pub Requires : Command → Text → Type 0
 Requires command id =
     (m : ArgMatches) → IsParsedFrom command m → is_some (first_value (found_of m) id) ≡ true
+
+-- a command of a subcommand of this name, to which nothing was added yet
+pub record IsBare (name : Text) (command : Command) : Type 0 where
+  pub app : app_of command ≡ bare_app name
+  pub args : args_of command ≡ []
+  pub groups : groups_of command ≡ []
+  pub globals : has_globals command ≡ false
+  pub negates : negates_needs command ≡ false
+
+-- the command reads the words after a subcommand, by its rules, and each parse has the values that are required
+pub record ReadsWords (s : Subcommand) (command : Command) : Type 0 where
+  pub app : app_of command ≡ app_for s
+  pub each : All (Requires command) (needed_for s)
+  pub globals : has_globals command ≡ false

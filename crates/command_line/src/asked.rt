@@ -1,11 +1,10 @@
 //! The values that ask for cells and journeys: for those of a filter, or for one.
 ghost use Rattle.command_line.specs.Values.{values_read};
-ghost use Rattle.std.specs.Prelude.{◌≡◌, None, false, true, IfOk, IsOk, Some, codes, is_some};
+ghost use Rattle.std.specs.Prelude.{◌≡◌, true, ⊤, codes, is_some};
 ghost use Rattle.allotment.specs.Nights.{night_in};
 ghost use Rattle.allotment.specs.Texts.{kind_of_word};
-ghost use Rattle.saga_core.specs.JourneyFilters.{state_named};
-ghost use Rattle.command_line.specs.Filters.{agent_named, asks_for_cells, cell_asked, code_named, has_bad_cells, has_bad_journeys, journey_asked, phases_in, spelled, unfinished_in, unfinished_named, unfinished_state, HasCells, HasJourneys};
-ghost use Rattle.command_line.specs.Jobs.{has_socket, IsUsage};
+ghost use Rattle.command_line.specs.Filters.{agent_named, asks_for_cells, cell_asked, code_named, has_bad_cells, has_bad_journeys, journey_asked, phases_in, spelled, unfinished_in, HasCells, HasJourneys};
+ghost use Rattle.command_line.specs.Jobs.{has_socket, Reads, ReadsOne};
 
 use crate::errors::{no_option, no_value, no_value_of};
 use crate::jobs::JobFault;
@@ -18,9 +17,8 @@ use std::alloc::Global;
 
 /// The cells that are asked for.
 pub(crate) fn cells_in(alloc: Global, matches: &ArgMatches) -> Result<CellFilter, JobFault>
-    ensures cells { IfOk result (HasCells (values_read matches.now)) }
-    ensures taken { IsOk result → has_bad_cells (values_read matches.now) ≡ false }
-    ensures usage { IsUsage result → has_bad_cells (values_read matches.now) ≡ true }
+    ensures reads { Reads (HasCells (values_read matches.now)) (has_bad_cells (values_read matches.now))
+        result }
 {
     let kind = kind_in(alloc, matches)?;
     let supplier = code_in(alloc, matches, "SUPPLIER", "--supplier")?;
@@ -38,9 +36,8 @@ pub(crate) fn cells_in(alloc: Global, matches: &ArgMatches) -> Result<CellFilter
 
 /// The journeys that are asked for, ended ones too.
 pub(crate) fn journeys_in(alloc: Global, matches: &ArgMatches) -> Result<JourneyFilter, JobFault>
-    ensures journeys { IfOk result (HasJourneys phases_in (values_read matches.now)) }
-    ensures taken { IsOk result → has_bad_journeys phases_in (values_read matches.now) ≡ false }
-    ensures usage { IsUsage result → has_bad_journeys phases_in (values_read matches.now) ≡ true }
+    ensures reads { Reads (HasJourneys phases_in (values_read matches.now))
+        (has_bad_journeys phases_in (values_read matches.now)) result }
 {
     let agent = agent_in(alloc, matches)?;
     let phases = phases_in(alloc, matches)?;
@@ -49,10 +46,8 @@ pub(crate) fn journeys_in(alloc: Global, matches: &ArgMatches) -> Result<Journey
 
 /// The unfinished journeys that are asked for.
 pub(crate) fn unfinished_in(alloc: Global, matches: &ArgMatches) -> Result<JourneyFilter, JobFault>
-    ensures journeys { IfOk result (HasJourneys unfinished_in (values_read matches.now)) }
-    ensures taken { IsOk result → has_bad_journeys unfinished_in (values_read matches.now) ≡ false }
-    ensures usage { IsUsage result →
-        has_bad_journeys unfinished_in (values_read matches.now) ≡ true }
+    ensures reads { Reads (HasJourneys unfinished_in (values_read matches.now))
+        (has_bad_journeys unfinished_in (values_read matches.now)) result }
 {
     let agent = agent_in(alloc, matches)?;
     let phases = unfinished_phases_in(alloc, matches)?;
@@ -62,8 +57,7 @@ pub(crate) fn unfinished_in(alloc: Global, matches: &ArgMatches) -> Result<Journ
 /// The one cell that is asked for. The precondition says that there is a value.
 pub(crate) fn cell_in(alloc: Global, matches: &ArgMatches) -> Result<Cell, JobFault>
     requires { is_some (values_read matches.now (codes "CELL")) ≡ true }
-    ensures cell { IfOk result (λ cell. cell_asked (values_read matches.now) ≡ Some cell) }
-    ensures usage { IsUsage result → cell_asked (values_read matches.now) ≡ None }
+    ensures reads { ReadsOne (cell_asked (values_read matches.now)) result }
 {
     let word = matches.get_str("CELL").unwrap();
     match Cell::parse(word) {
@@ -103,8 +97,7 @@ fn cells_option<'a>(matches: &ArgMatches) -> Option<&'a str>
 
 /// Refuses options that ask for cells, beside one cell.
 pub(crate) fn no_cells_in(alloc: Global, matches: &ArgMatches) -> Result<(), JobFault>
-    ensures taken { IsOk result → asks_for_cells (values_read matches.now) ≡ false }
-    ensures usage { IsUsage result → asks_for_cells (values_read matches.now) ≡ true }
+    ensures reads { Reads (λ _. ⊤) (asks_for_cells (values_read matches.now)) result }
 {
     match cells_option(matches) {
         Some(option) => Err(no_option(alloc, option, "[CELL]")),
@@ -118,8 +111,7 @@ pub(crate) fn no_socket_in(
     subcommand: Subcommand,
     matches: &ArgMatches,
 ) -> Result<(), JobFault>
-    ensures taken { IsOk result → has_socket subcommand (values_read matches.now) ≡ false }
-    ensures usage { IsUsage result → has_socket subcommand (values_read matches.now) ≡ true }
+    ensures reads { Reads (λ _. ⊤) (has_socket subcommand (values_read matches.now)) result }
 {
     if subcommand.is_report() && has_value(matches, "PATH") {
         return Err(no_option(alloc, "--at <PATH>", "<FILE>"));
@@ -130,8 +122,7 @@ pub(crate) fn no_socket_in(
 /// The number of the one journey that is asked for. The precondition says that there is a value.
 pub(crate) fn journey_in(alloc: Global, matches: &ArgMatches) -> Result<u64, JobFault>
     requires { is_some (values_read matches.now (codes "ID")) ≡ true }
-    ensures journey { IfOk result (λ id. journey_asked (values_read matches.now) ≡ Some id) }
-    ensures usage { IsUsage result → journey_asked (values_read matches.now) ≡ None }
+    ensures reads { ReadsOne (journey_asked (values_read matches.now)) result }
 {
     let word = matches.get_str("ID").unwrap();
     match number_between(word, 1, MOST_EVENTS as usize) {
@@ -142,10 +133,7 @@ pub(crate) fn journey_in(alloc: Global, matches: &ArgMatches) -> Result<u64, Job
 
 /// The kind that is asked for, if one is.
 fn kind_in(alloc: Global, matches: &ArgMatches) -> Result<Option<Kind>, JobFault>
-    ensures kind { IfOk result (λ kind.
-        spelled kind_of_word (values_read matches.now (codes "KIND")) ≡ Some kind) }
-    ensures usage { IsUsage result →
-        spelled kind_of_word (values_read matches.now (codes "KIND")) ≡ None }
+    ensures reads { ReadsOne (spelled kind_of_word (values_read matches.now (codes "KIND"))) result }
 {
     let Some(word) = matches.get_str("KIND") else {
         return Ok(None);
@@ -168,9 +156,7 @@ fn code_in(
     id: &str,
     option: &str,
 ) -> Result<Option<Code>, JobFault>
-    ensures code { IfOk result
-        (λ code. spelled code_named (values_read matches.now id.now) ≡ Some code) }
-    ensures usage { IsUsage result → spelled code_named (values_read matches.now id.now) ≡ None }
+    ensures reads { ReadsOne (spelled code_named (values_read matches.now id.now)) result }
 {
     let Some(word) = matches.get_str(id) else {
         return Ok(None);
@@ -188,9 +174,7 @@ fn night_in(
     id: &str,
     option: &str,
 ) -> Result<Option<Night>, JobFault>
-    ensures night { IfOk result
-        (λ night. spelled night_in (values_read matches.now id.now) ≡ Some night) }
-    ensures usage { IsUsage result → spelled night_in (values_read matches.now id.now) ≡ None }
+    ensures reads { ReadsOne (spelled night_in (values_read matches.now id.now)) result }
 {
     let Some(word) = matches.get_str(id) else {
         return Ok(None);
@@ -209,10 +193,7 @@ fn night_in(
 
 /// The agent who is asked for, if one is.
 fn agent_in(alloc: Global, matches: &ArgMatches) -> Result<Option<Agent>, JobFault>
-    ensures agent { IfOk result (λ agent.
-        spelled agent_named (values_read matches.now (codes "AGENT")) ≡ Some agent) }
-    ensures usage { IsUsage result →
-        spelled agent_named (values_read matches.now (codes "AGENT")) ≡ None }
+    ensures reads { ReadsOne (spelled agent_named (values_read matches.now (codes "AGENT"))) result }
 {
     let Some(word) = matches.get_str("AGENT") else {
         return Ok(None);
@@ -225,9 +206,7 @@ fn agent_in(alloc: Global, matches: &ArgMatches) -> Result<Option<Agent>, JobFau
 
 /// The phases of the state that is asked for; all phases if none is.
 fn phases_in(alloc: Global, matches: &ArgMatches) -> Result<Phases, JobFault>
-    ensures phases { IfOk result
-        (λ phases. phases_in (values_read matches.now (codes "STATE")) ≡ Some phases) }
-    ensures usage { IsUsage result → phases_in (values_read matches.now (codes "STATE")) ≡ None }
+    ensures reads { ReadsOne (phases_in (values_read matches.now (codes "STATE"))) result }
 {
     let Some(word) = matches.get_str("STATE") else {
         return Ok(Phases::All);
@@ -238,38 +217,16 @@ fn phases_in(alloc: Global, matches: &ArgMatches) -> Result<Phases, JobFault>
     }
 }
 
-/// The same of unfinished journeys.
+/// The same of unfinished journeys, which have two states.
 fn unfinished_phases_in(alloc: Global, matches: &ArgMatches) -> Result<Phases, JobFault>
-    ensures phases { IfOk result
-        (λ phases. unfinished_in (values_read matches.now (codes "STATE")) ≡ Some phases) }
-    ensures usage { IsUsage result →
-        unfinished_in (values_read matches.now (codes "STATE")) ≡ None }
+    ensures reads { ReadsOne (unfinished_in (values_read matches.now (codes "STATE"))) result }
 {
     let Some(word) = matches.get_str("STATE") else {
         return Ok(Phases::Unfinished);
     };
-    match unfinished_named(word) {
-        Some(phases) => Ok(phases),
-        None => Err(no_value(alloc, word, "--state <STATE>", "run or back")),
-    }
-}
-
-/// The phases of a state of unfinished journeys, by its word.
-fn unfinished_named(word: &str) -> Option<Phases>
-    ensures phases { result ≡ unfinished_named (state_named word.now) }
-{
-    let state = JourneyState::from_word(word)?;
-    unfinished_state(state)
-}
-
-/// The phases of a state, if it is one of unfinished journeys.
-fn unfinished_state(state: JourneyState) -> Option<Phases>
-    ensures phases { result ≡ unfinished_state state }
-{
-    match state {
-        JourneyState::Run => Some(Phases::Only(JourneyState::Run)),
-        JourneyState::Back => Some(Phases::Only(JourneyState::Back)),
-        JourneyState::Ended => None,
-        JourneyState::Undone => None,
+    match JourneyState::from_word(word) {
+        Some(JourneyState::Run) => Ok(Phases::Only(JourneyState::Run)),
+        Some(JourneyState::Back) => Ok(Phases::Only(JourneyState::Back)),
+        _ => Err(no_value(alloc, word, "--state <STATE>", "run or back")),
     }
 }

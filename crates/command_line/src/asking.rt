@@ -5,7 +5,7 @@
 ghost use Rattle.std.specs.Prelude.{◌≡◌, ◌++◌, ◌≤◌, false, length, map, option_map, position, true, IfOk, IsOk, OnOk};
 ghost use Rattle.std.specs.String.{string_bytes};
 ghost use Rattle.command_line.specs.Asking.{before_mark, is_mark, name_report, over_file, socket_after, socket_at, socket_in, socket_said};
-ghost use Rattle.command_line.specs.Jobs.{are_refused, IsJob, IsText, IsUsage};
+ghost use Rattle.command_line.specs.Jobs.{are_refused, IsJob, IsText, IsUsage, ReadsWordsOf};
 
 use crate::jobs::{Job, JobFault};
 use crate::subcommands::Subcommand;
@@ -150,11 +150,7 @@ fn push_all(list: &mut Vec<String>, words: &[String]) -> Result<(), AllocError>
 
 /// The job of the words of a report at a socket, over a file in its place.
 pub(crate) fn asked_job(alloc: Global, socket: &Socket) -> Result<Job, JobFault>
-    ensures job { IfOk result (IsJob (over_file (map string_bytes socket.now.words.items))) }
-    ensures taken { IsOk result →
-        are_refused (over_file (map string_bytes socket.now.words.items)) ≡ false }
-    ensures usage { IsUsage result →
-        are_refused (over_file (map string_bytes socket.now.words.items)) ≡ true }
+    ensures reads { ReadsWordsOf (over_file (map string_bytes socket.now.words.items)) result }
 {
     match report_job(alloc, socket.words.as_slice()) {
         Ok(job) => Ok(job),

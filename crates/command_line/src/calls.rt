@@ -4,7 +4,7 @@ ghost use Rattle.std.specs.String.{string_bytes};
 ghost use Rattle.command_line.specs.Asking.{socket_said, words_over};
 ghost use Rattle.command_line.specs.Calls.{refuses_call, IsCall};
 ghost use Rattle.command_line.specs.Explaining.{asks_to_explain, job_words};
-ghost use Rattle.command_line.specs.Jobs.{are_refused, IsJob, IsUsage};
+ghost use Rattle.command_line.specs.Jobs.{IsUsage, ReadsWordsOf};
 
 use crate::asking::{Socket, asked_job, socket_in};
 use crate::jobs::{Job, JobFault};
@@ -65,12 +65,8 @@ fn take_explain(words: &mut Vec<String>) -> bool
 
 /// The job of these words over a file; or of those of a report at a socket, with a file in its place.
 fn job_over(alloc: Global, socket: &Option<Socket>, words: Vec<String>) -> Result<Job, JobFault>
-    ensures job { IfOk result
-        (IsJob (words_over (option_map socket_said socket.now) (map string_bytes words.items))) }
-    ensures taken { IsOk result → are_refused
-        (words_over (option_map socket_said socket.now) (map string_bytes words.items)) ≡ false }
-    ensures usage { IsUsage result → are_refused
-        (words_over (option_map socket_said socket.now) (map string_bytes words.items)) ≡ true }
+    ensures reads { ReadsWordsOf
+        (words_over (option_map socket_said socket.now) (map string_bytes words.items)) result }
 {
     match socket {
         Some(socket) => asked_job(alloc, socket),

@@ -1,7 +1,7 @@
 //! The job of each subcommand, with its values among the matches of `clap`.
-ghost use Rattle.std.specs.Prelude.{◌≡◌, false, true, All, IfOk, IsOk, codes, is_some};
+ghost use Rattle.std.specs.Prelude.{◌≡◌, true, All, codes, is_some};
 ghost use Rattle.std.specs.String.{string_bytes};
-ghost use Rattle.command_line.specs.Jobs.{has_bad_value, IsJobWith, IsUsage};
+ghost use Rattle.command_line.specs.Jobs.{ReadsJob};
 ghost use Rattle.command_line.specs.Values.{NamesFile, values_read};
 ghost use Rattle.command_line.specs.Subcommands.{needed_for};
 ghost use Rattle.command_line.specs.declared.subcommands.Subcommand.TheVariants as sub;
@@ -12,7 +12,7 @@ use crate::asked::{
 use crate::jobs::{Job, JobFault};
 use crate::subcommands::Subcommand;
 use crate::values::{
-    format_in, is_given, log_in, number_if_given, number_of, text_in, value_if_given, value_of,
+    format_in, is_given, log_in, number_if_given, number_in, text_in, value_if_given, value_of,
 };
 use clap::ArgMatches;
 use std::alloc::Global;
@@ -30,10 +30,7 @@ pub(crate) fn job_in(
     matches: &ArgMatches,
 ) -> Result<Job, JobFault>
     requires { All (λ id. is_some (values_read matches.now id) ≡ true) (needed_for subcommand) }
-
-    ensures job { IfOk result (IsJobWith subcommand (values_read matches.now)) }
-    ensures taken { IsOk result → has_bad_value subcommand (values_read matches.now) ≡ false }
-    ensures usage { IsUsage result → has_bad_value subcommand (values_read matches.now) ≡ true }
+    ensures reads { ReadsJob subcommand (values_read matches.now) result }
 {
     let file = value_of(alloc, matches, "FILE")?;
     match subcommand {
@@ -46,12 +43,44 @@ pub(crate) fn job_in(
             Ok(Job::Load { file, csv, batch })
         }
         Subcommand::Stock => stock_in(alloc, file, matches),
-        Subcommand::Summary => summary_in(alloc, file, matches),
+        Subcommand::Summary => {
+            let filter = cells_in(alloc, matches)?;
+            let format = format_in(alloc, matches)?;
+            Ok(Job::Summary {
+                file,
+                filter,
+                format,
+            })
+        }
         Subcommand::Holders => holders_in(alloc, file, matches),
-        Subcommand::Unfinished => unfinished_of(alloc, file, matches),
-        Subcommand::Journeys => journeys_of(alloc, file, matches),
-        Subcommand::History => history_in(alloc, file, matches),
-        Subcommand::Why => why_in(alloc, file, matches),
+        Subcommand::Unfinished => {
+            let filter = unfinished_in(alloc, matches)?;
+            let format = format_in(alloc, matches)?;
+            Ok(Job::Unfinished {
+                file,
+                filter,
+                format,
+            })
+        }
+        Subcommand::Journeys => {
+            let filter = journeys_in(alloc, matches)?;
+            let format = format_in(alloc, matches)?;
+            Ok(Job::Journeys {
+                file,
+                filter,
+                format,
+            })
+        }
+        Subcommand::History => {
+            let id = value_of(alloc, matches, "ID")?;
+            let format = format_in(alloc, matches)?;
+            Ok(Job::History { file, id, format })
+        }
+        Subcommand::Why => {
+            let id = journey_in(alloc, matches)?;
+            let format = format_in(alloc, matches)?;
+            Ok(Job::Why { file, id, format })
+        }
         Subcommand::Migrate => Ok(Job::Migrate { file }),
         Subcommand::Index => Ok(Job::Index { file }),
     }
@@ -61,12 +90,10 @@ pub(crate) fn job_in(
 fn serve_in(alloc: Global, file: String, matches: &ArgMatches) -> Result<Job, JobFault>
     requires file { NamesFile (values_read matches.now) (string_bytes file) }
     requires port { is_some (values_read matches.now (codes "PORT")) ≡ true }
-
-    ensures job { IfOk result (IsJobWith sub.Serve (values_read matches.now)) }
-    ensures taken { IsOk result → has_bad_value sub.Serve (values_read matches.now) ≡ false }
-    ensures usage { IsUsage result → has_bad_value sub.Serve (values_read matches.now) ≡ true }
+    ensures reads { ReadsJob sub.Serve (values_read matches.now) result }
 {
-    let port = number_of(alloc, matches, "PORT", "--port", MOST_PORT)?;
+    let word = matches.get_str("PORT").unwrap();
+    let port = number_in(alloc, word, "PORT", "--port", MOST_PORT)?;
     let connections = number_if_given(alloc, matches, "N", "--connections", MOST_CONNECTIONS)?;
     let house = value_if_given(alloc, matches, "PATH")?;
     let page = is_given(matches, "PAGE");
@@ -86,10 +113,7 @@ fn serve_in(alloc: Global, file: String, matches: &ArgMatches) -> Result<Job, Jo
 /// The stock, or its calendar, which is a text alone.
 fn stock_in(alloc: Global, file: String, matches: &ArgMatches) -> Result<Job, JobFault>
     requires file { NamesFile (values_read matches.now) (string_bytes file) }
-
-    ensures job { IfOk result (IsJobWith sub.Stock (values_read matches.now)) }
-    ensures taken { IsOk result → has_bad_value sub.Stock (values_read matches.now) ≡ false }
-    ensures usage { IsUsage result → has_bad_value sub.Stock (values_read matches.now) ≡ true }
+    ensures reads { ReadsJob sub.Stock (values_read matches.now) result }
 {
     let filter = cells_in(alloc, matches)?;
     if is_given(matches, "CALENDAR") {
@@ -104,33 +128,16 @@ fn stock_in(alloc: Global, file: String, matches: &ArgMatches) -> Result<Job, Jo
     })
 }
 
-/// The months of cells.
-fn summary_in(alloc: Global, file: String, matches: &ArgMatches) -> Result<Job, JobFault>
-    requires file { NamesFile (values_read matches.now) (string_bytes file) }
-
-    ensures job { IfOk result (IsJobWith sub.Summary (values_read matches.now)) }
-    ensures taken { IsOk result → has_bad_value sub.Summary (values_read matches.now) ≡ false }
-    ensures usage { IsUsage result → has_bad_value sub.Summary (values_read matches.now) ≡ true }
-{
-    let filter = cells_in(alloc, matches)?;
-    let format = format_in(alloc, matches)?;
-    Ok(Job::Summary {
-        file,
-        filter,
-        format,
-    })
-}
-
 /// The journeys that hold places of a cell, or of the cells that are asked for.
 fn holders_in(alloc: Global, file: String, matches: &ArgMatches) -> Result<Job, JobFault>
     requires file { NamesFile (values_read matches.now) (string_bytes file) }
-
-    ensures job { IfOk result (IsJobWith sub.Holders (values_read matches.now)) }
-    ensures taken { IsOk result → has_bad_value sub.Holders (values_read matches.now) ≡ false }
-    ensures usage { IsUsage result → has_bad_value sub.Holders (values_read matches.now) ≡ true }
+    ensures reads { ReadsJob sub.Holders (values_read matches.now) result }
 {
     if has_value(matches, "CELL") {
-        return holders_of(alloc, file, matches);
+        let cell = cell_in(alloc, matches)?;
+        no_cells_in(alloc, matches)?;
+        let format = format_in(alloc, matches)?;
+        return Ok(Job::Holders { file, cell, format });
     }
     let filter = cells_in(alloc, matches)?;
     let format = format_in(alloc, matches)?;
@@ -139,81 +146,4 @@ fn holders_in(alloc: Global, file: String, matches: &ArgMatches) -> Result<Job, 
         filter,
         format,
     })
-}
-
-/// The journeys that hold places of a cell.
-fn holders_of(alloc: Global, file: String, matches: &ArgMatches) -> Result<Job, JobFault>
-    requires file { NamesFile (values_read matches.now) (string_bytes file) }
-    requires cell { is_some (values_read matches.now (codes "CELL")) ≡ true }
-
-    ensures job { IfOk result (IsJobWith sub.Holders (values_read matches.now)) }
-    ensures taken { IsOk result → has_bad_value sub.Holders (values_read matches.now) ≡ false }
-    ensures usage { IsUsage result → has_bad_value sub.Holders (values_read matches.now) ≡ true }
-{
-    let cell = cell_in(alloc, matches)?;
-    no_cells_in(alloc, matches)?;
-    let format = format_in(alloc, matches)?;
-    Ok(Job::Holders { file, cell, format })
-}
-
-/// Unfinished journeys.
-fn unfinished_of(alloc: Global, file: String, matches: &ArgMatches) -> Result<Job, JobFault>
-    requires file { NamesFile (values_read matches.now) (string_bytes file) }
-
-    ensures job { IfOk result (IsJobWith sub.Unfinished (values_read matches.now)) }
-    ensures taken { IsOk result → has_bad_value sub.Unfinished (values_read matches.now) ≡ false }
-    ensures usage { IsUsage result → has_bad_value sub.Unfinished (values_read matches.now) ≡ true }
-{
-    let filter = unfinished_in(alloc, matches)?;
-    let format = format_in(alloc, matches)?;
-    Ok(Job::Unfinished {
-        file,
-        filter,
-        format,
-    })
-}
-
-/// Journeys, ended ones too.
-fn journeys_of(alloc: Global, file: String, matches: &ArgMatches) -> Result<Job, JobFault>
-    requires file { NamesFile (values_read matches.now) (string_bytes file) }
-
-    ensures job { IfOk result (IsJobWith sub.Journeys (values_read matches.now)) }
-    ensures taken { IsOk result → has_bad_value sub.Journeys (values_read matches.now) ≡ false }
-    ensures usage { IsUsage result → has_bad_value sub.Journeys (values_read matches.now) ≡ true }
-{
-    let filter = journeys_in(alloc, matches)?;
-    let format = format_in(alloc, matches)?;
-    Ok(Job::Journeys {
-        file,
-        filter,
-        format,
-    })
-}
-
-/// The history of a journey.
-fn history_in(alloc: Global, file: String, matches: &ArgMatches) -> Result<Job, JobFault>
-    requires file { NamesFile (values_read matches.now) (string_bytes file) }
-    requires id { is_some (values_read matches.now (codes "ID")) ≡ true }
-
-    ensures job { IfOk result (IsJobWith sub.History (values_read matches.now)) }
-    ensures taken { IsOk result → has_bad_value sub.History (values_read matches.now) ≡ false }
-    ensures usage { IsUsage result → has_bad_value sub.History (values_read matches.now) ≡ true }
-{
-    let id = value_of(alloc, matches, "ID")?;
-    let format = format_in(alloc, matches)?;
-    Ok(Job::History { file, id, format })
-}
-
-/// Why a journey stands where it does.
-fn why_in(alloc: Global, file: String, matches: &ArgMatches) -> Result<Job, JobFault>
-    requires file { NamesFile (values_read matches.now) (string_bytes file) }
-    requires id { is_some (values_read matches.now (codes "ID")) ≡ true }
-
-    ensures job { IfOk result (IsJobWith sub.Why (values_read matches.now)) }
-    ensures taken { IsOk result → has_bad_value sub.Why (values_read matches.now) ≡ false }
-    ensures usage { IsUsage result → has_bad_value sub.Why (values_read matches.now) ≡ true }
-{
-    let id = journey_in(alloc, matches)?;
-    let format = format_in(alloc, matches)?;
-    Ok(Job::Why { file, id, format })
 }

@@ -1,8 +1,8 @@
 //! The subcommands of the program: their words, and the values that each of them reads.
-ghost use Rattle.std.specs.Prelude.{◌≡◌, [], ◌∷◌, ◌++◌, false, map, codes, All, IfOk, IfSome};
-ghost use Rattle.clap.specs.Words.{app_of, args_of, groups_of};
+ghost use Rattle.std.specs.Prelude.{◌≡◌, ◌∷◌, ◌++◌, map, codes, IfOk, IfSome};
+ghost use Rattle.clap.specs.Words.{app_of};
 ghost use Rattle.command_line.specs.Help.{HasHelp};
-ghost use Rattle.command_line.specs.Subcommands.{app_for, bare_app, has_globals, is_report, name_of, needed, needed_for, negates_needs, rule_said, rules_for, subcommand_in, with_subcommands, Requires};
+ghost use Rattle.command_line.specs.Subcommands.{app_for, is_report, name_of, needed, rule_said, rules_for, subcommand_in, with_subcommands, IsBare, ReadsWords};
 
 use crate::subcommand_words::{
     HOLDERS, JOURNEY, JOURNEYS, LOAD, SERVE, STOCK, SUMMARY, UNFINISHED, Word, value, with_words,
@@ -134,11 +134,7 @@ impl Subcommand {
 
     /// The `clap` command of the subcommand, without its values and its help.
     fn bare<'a>(self, alloc: Global) -> Command<'a>
-        ensures app { app_of result ≡ bare_app (name_of self) }
-        ensures args { args_of result ≡ [] }
-        ensures groups { groups_of result ≡ [] }
-        ensures globals { has_globals result ≡ false }
-        ensures negates { negates_needs result ≡ false }
+        ensures bare { IsBare (name_of self) result }
     {
         Command::new(alloc, self.name()).no_binary_name(true)
     }
@@ -162,9 +158,7 @@ impl Subcommand {
 
     /// The `clap` command that reads the words after the subcommand, with its help.
     pub(crate) fn command<'a>(self, alloc: Global) -> Result<Command<'a>, AllocError>
-        ensures app { IfOk result (λ command. app_of command ≡ app_for self) }
-        ensures each { IfOk result (λ command. All (Requires command) (needed_for self)) }
-        ensures globals { IfOk result (λ command. has_globals command ≡ false) }
+        ensures reads { IfOk result (ReadsWords self) }
         ensures help { IfOk result (HasHelp self) }
     {
         let over_file = self.bare(alloc).arg(value(alloc, "FILE", self.file()))?;

@@ -1,9 +1,9 @@
 //! Single values among the matches of `clap`: words, flags, numbers and formats.
-ghost use Rattle.std.specs.Prelude.{◌≡◌, ◌≤◌, None, false, true, option_map, IfOk, IsOk, Some, codes, is_some};
+ghost use Rattle.std.specs.Prelude.{◌≡◌, ◌≤◌, true, option_map, IfOk, Some, is_none, is_some};
 ghost use Rattle.std.specs.String.{string_bytes};
 ghost use Rattle.allotment.specs.Texts.{number_from};
-ghost use Rattle.command_line.specs.Jobs.{IsUsage};
-ghost use Rattle.command_line.specs.Values.{format_named, format_of, is_malformed, is_set, log_in, number_named, text_format_in, values_read};
+ghost use Rattle.command_line.specs.Jobs.{Reads, ReadsOne};
+ghost use Rattle.command_line.specs.Values.{format_in, is_malformed, is_set, log_in, number_named, text_format_in, values_read};
 
 use crate::errors::{no_number, no_value};
 use crate::jobs::{JobFault, LogForm};
@@ -63,25 +63,7 @@ pub(crate) fn log_in(matches: &ArgMatches) -> Option<LogForm>
     }
 }
 
-/// The number under this name, from 1 to `most`. An error names its option.
-pub(crate) fn number_of(
-    alloc: Global,
-    matches: &ArgMatches,
-    id: &str,
-    option: &str,
-    most: u16,
-) -> Result<u16, JobFault>
-    requires { is_some (values_read matches.now id.now) ≡ true }
-    ensures number { IfOk result (λ number.
-        number_named most (values_read matches.now id.now) ≡ Some number) }
-    ensures usage { IsUsage result →
-        number_named most (values_read matches.now id.now) ≡ None }
-{
-    let word = matches.get_str(id).unwrap();
-    number_in(alloc, word, id, option, most)
-}
-
-/// The same, if there is a value of this name.
+/// The number under this name, from 1 to `most`, if there is a value of this name. An error names its option.
 pub(crate) fn number_if_given(
     alloc: Global,
     matches: &ArgMatches,
@@ -89,12 +71,8 @@ pub(crate) fn number_if_given(
     option: &str,
     most: u16,
 ) -> Result<Option<u16>, JobFault>
-    ensures number { IfOk result (λ number.
-        number_named most (values_read matches.now id.now) ≡ number) }
-    ensures taken { IsOk result →
-        is_malformed most (values_read matches.now id.now) ≡ false }
-    ensures usage { IsUsage result →
-        is_malformed most (values_read matches.now id.now) ≡ true }
+    ensures reads { Reads (λ number. number_named most (values_read matches.now id.now) ≡ number)
+        (is_malformed most (values_read matches.now id.now)) result }
 {
     let Some(word) = matches.get_str(id) else {
         return Ok(None);
@@ -106,9 +84,14 @@ pub(crate) fn number_if_given(
 }
 
 /// The number that a word spells, from 1 to `most`. An error names its option.
-fn number_in(alloc: Global, word: &str, id: &str, option: &str, most: u16) -> Result<u16, JobFault>
-    ensures number { IfOk result (λ number. number_from 1 most word.now ≡ Some number) }
-    ensures usage { IsUsage result → number_from 1 most word.now ≡ None }
+pub(crate) fn number_in(
+    alloc: Global,
+    word: &str,
+    id: &str,
+    option: &str,
+    most: u16,
+) -> Result<u16, JobFault>
+    ensures reads { ReadsOne (number_from 1 most word.now) result }
 {
     match number_between(word, 1, usize::from(most)) {
         Some(number) => Ok(number as u16),
@@ -118,38 +101,25 @@ fn number_in(alloc: Global, word: &str, id: &str, option: &str, most: u16) -> Re
 
 /// The format of a report: a text if none is given.
 pub(crate) fn format_in(alloc: Global, matches: &ArgMatches) -> Result<Format, JobFault>
-    ensures format { IfOk result (λ format.
-        format_of (values_read matches.now (codes "FORMAT")) ≡ Some format) }
-    ensures usage { IsUsage result →
-        format_of (values_read matches.now (codes "FORMAT")) ≡ None }
+    ensures reads { ReadsOne (format_in (values_read matches.now)) result }
 {
     match matches.get_str("FORMAT") {
         None => Ok(Format::Text),
-        Some(word) => format_named(alloc, word),
+        Some("text") => Ok(Format::Text),
+        Some("json") => Ok(Format::Json),
+        Some("csv") => Ok(Format::Csv),
+        Some(word) => Err(no_value(alloc, word, FORMAT, "text, json or csv")),
     }
 }
 
 /// Refuses a format of the calendar that is not a text.
 pub(crate) fn text_in(alloc: Global, matches: &ArgMatches) -> Result<(), JobFault>
-    ensures format { IsOk result → text_format_in (values_read matches.now) ≡ Some Format.Text }
-    ensures usage { IsUsage result → text_format_in (values_read matches.now) ≡ None }
+    ensures reads { Reads (λ _. text_format_in (values_read matches.now) ≡ Some Format.Text)
+        (is_none (text_format_in (values_read matches.now))) result }
 {
     match format_in(alloc, matches)? {
         Format::Text => Ok(()),
         Format::Json => Err(no_value(alloc, "json", FORMAT, CALENDAR)),
         Format::Csv => Err(no_value(alloc, "csv", FORMAT, CALENDAR)),
-    }
-}
-
-/// The format that a word names.
-fn format_named(alloc: Global, word: &str) -> Result<Format, JobFault>
-    ensures format { IfOk result (λ format. format_named word.now ≡ Some format) }
-    ensures usage { IsUsage result → format_named word.now ≡ None }
-{
-    match word {
-        "text" => Ok(Format::Text),
-        "json" => Ok(Format::Json),
-        "csv" => Ok(Format::Csv),
-        _ => Err(no_value(alloc, word, FORMAT, "text, json or csv")),
     }
 }

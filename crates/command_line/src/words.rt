@@ -2,12 +2,13 @@
 //!
 //! The first word names the subcommand, or asks for the version. `clap` reads the others, by its rules for that
 //! subcommand alone. If the first word does neither, the usage of all subcommands is returned.
-ghost use Rattle.std.specs.Prelude.{◌≡◌, ◌≢◌, false, true, map, All, IfOk, IsOk, is_some};
+ghost use Rattle.std.specs.Prelude.{◌≡◌, ◌≢◌, true, map, All, IfOk, is_some};
 ghost use Rattle.std.specs.String.{string_bytes};
-ghost use Rattle.clap.specs.Words.{first_value, found_of, kind_of, matches_of, rows_of};
+ghost use Rattle.clap.specs.Words.{kind_of};
 ghost use Rattle.command_line.specs.Explaining.{ShowsText, usage_with_place};
-ghost use Rattle.command_line.specs.Jobs.{are_refused, names_version, refuses, IsJob, IsJobOf, IsText, IsUsage};
+ghost use Rattle.command_line.specs.Jobs.{names_version, refuses, value_in, IsJobOf, IsText, Reads, ReadsWordsOf};
 ghost use Rattle.command_line.specs.Subcommands.{app_for, helped_in, is_refused_by, needed_for};
+ghost use Rattle.command_line.specs.Values.{values_read};
 
 use crate::asked::no_socket_in;
 use crate::help::program_command;
@@ -23,10 +24,7 @@ const MISPLACED: &str = "error: unexpected argument '--explain' found\n";
 
 /// The job of these words, which follow the program's name, over a file. Errors are the text of a usage, and out of memory.
 pub(crate) fn job(alloc: Global, words: Vec<String>) -> Result<Job, JobFault>
-    ensures job { IfOk result (IsJob (map string_bytes words.items)) }
-
-    ensures taken { IsOk result → are_refused (map string_bytes words.items) ≡ false }
-    ensures usage { IsUsage result → are_refused (map string_bytes words.items) ≡ true }
+    ensures reads { ReadsWordsOf (map string_bytes words.items) result }
 {
     let Some((name, others)) = words.split_first() else {
         return Err(usage_of_all(alloc, words.as_slice())?);
@@ -49,9 +47,8 @@ fn is_version(word: &str) -> bool
 
 /// The job of a subcommand, with the values of the words that follow it.
 fn job_of(alloc: Global, subcommand: Subcommand, words: &[String]) -> Result<Job, JobFault>
-    ensures job { IfOk result (IsJobOf subcommand (map string_bytes words.now)) }
-    ensures taken { IsOk result → refuses subcommand (map string_bytes words.now) ≡ false }
-    ensures usage { IsUsage result → refuses subcommand (map string_bytes words.now) ≡ true }
+    ensures reads { Reads (IsJobOf subcommand (map string_bytes words.now))
+        (refuses subcommand (map string_bytes words.now)) result }
 {
     let matches = matches_in(alloc, subcommand, words)?;
     no_socket_in(alloc, subcommand, &matches)?;
@@ -64,14 +61,11 @@ fn matches_in<'a>(
     subcommand: Subcommand,
     words: &'a [String],
 ) -> Result<ArgMatches<'a>, JobFault>
-    ensures rows { IfOk result (λ matches. rows_of (found_of matches)
-        ≡ matches_of (app_for subcommand) (map string_bytes words.entry.now)) }
+    ensures reads { Reads
+        (λ matches. values_read matches ≡ value_in (app_for subcommand) (map string_bytes words.entry.now))
+        (is_refused_by (app_for subcommand) (map string_bytes words.entry.now)) result }
     ensures each { IfOk result (λ matches.
-        All (λ id. is_some (first_value (found_of matches) id) ≡ true) (needed_for subcommand)) }
-    ensures taken { IsOk result →
-        is_refused_by (app_for subcommand) (map string_bytes words.entry.now) ≡ false }
-    ensures usage { IsUsage result →
-        is_refused_by (app_for subcommand) (map string_bytes words.entry.now) ≡ true }
+        All (λ id. is_some (values_read matches id) ≡ true) (needed_for subcommand)) }
 {
     let command = subcommand.command(alloc)?;
     match command.try_get_matches_from(words) {

@@ -14,7 +14,8 @@ loop-subcommand-preserved c =
     let old = app_of c.loop-subcommand.command in
     let next : i + 1 ≡ suc i = omega arith in
     let added : app_of c.in_ok-command.command ≡ with_subcommand old (app_for (get_or all i Run)).top =
-    c.in_ok-command.ensures.shape c.in_ok-one.ensures.globals ∙ ap (λ (one : App). with_subcommand old one.top) c.in_ok-one.ensures.app in
+    c.in_ok-command.ensures.shape c.in_ok-one.ensures.reads.globals
+    ∙ ap (λ (one : App). with_subcommand old one.top) c.in_ok-one.ensures.reads.app in
     ap (λ n. with_subcommands (app_of c.in_ok-command.command) (map app_for (drop n all))) next
     ∙ ap (λ app. with_subcommands app (map app_for (drop (suc i) all))) added
     ∙ sym (ap (λ left. with_subcommands old (map app_for left)) (drop-cons all i Run (omega (arith, c.loop-subcommand-test.true))))

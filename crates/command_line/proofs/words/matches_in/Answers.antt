@@ -1,8 +1,10 @@
 -- The values that a subcommand reads from the words are those of clap's rules.
 use Rattle.std.proofs.Common.{◌≡◌, ◌∙◌, true, sym, ap, [], ◌∷◌, map, refl, inl, inr, ◌≢◌}
+use Rattle.std.proofs.Math.Path.{fun_ext}
 use Rattle.std.specs.String.{string_bytes}
-use Rattle.clap.specs.Words.{HasKind, Kinds, IsAmong, app_of, fault_of, matches_of, is_simple, is_simple_and_free, kind_of}
+use Rattle.clap.specs.Words.{HasKind, Kinds, IsAmong, app_of, fault_of, first_of, found_of, matches_of, is_simple, is_simple_and_free, kind_of}
 use Rattle.clap.proofs.OnLiterals.{clap_on_literals}
+use Rattle.clap.proofs.WalkLemmas.{first_value-rows}
 use Rattle.clap.specs.declared.error.Error.{Error}
 use Rattle.clap.specs.declared.error.kind.ErrorKind.{ErrorKind}
 use Rattle.clap.specs.declared.error.kind.ErrorKind.TheVariants.{OutOfMemory}
@@ -53,24 +55,21 @@ kinds_of_error : (e : Error) (kinds : Kinds) → HasKind kinds e → kind_of e �
 kinds_of_error e kinds (inl memory) other = absurd (other memory)
 kinds_of_error e kinds (inr among) other = kinds_there (kind_of e) kinds among
 
--- the rows are those of the command that was built
-pub returns-in-Ok-clause-rows : goal.returns-in-Ok-clause-rows
-returns-in-Ok-clause-rows c =
-    let is_app = c.in_ok-command.ensures.app in
-    (c.in-Ok.ensures.matches (ap is_simple is_app ∙ is_exact c.args.subcommand)).0
-    ∙ ap (λ app. matches_of app (map string_bytes c.args.words.now)) is_app
-
--- where clap returns matches, it refuses nothing
-pub returns-in-Ok-clause-taken : goal.returns-in-Ok-clause-taken
-returns-in-Ok-clause-taken c = λ _.
-    let is_app = c.in_ok-command.ensures.app in
+-- the values are those of the command that was built, and where clap returns matches, it refuses nothing
+pub returns-in-Ok-clause-reads : goal.returns-in-Ok-clause-reads
+returns-in-Ok-clause-reads c =
+    let is_app = c.in_ok-command.ensures.reads.app in
     let words = map string_bytes c.args.words.now in
-    ap (λ kinds. has_any kinds) (ap (λ app. fault_of app words) (sym is_app) ∙ c.in-Ok.ensures.kinds (ap is_simple_and_free is_app ∙ is_free c.args.subcommand))
+    let rows = (c.in-Ok.ensures.matches (ap is_simple is_app ∙ is_exact c.args.subcommand)).0 ∙ ap (λ app. matches_of app words) is_app in (
+      fun_ext (λ id. first_value-rows (found_of c.in-Ok.matches) id ∙ ap (first_of id) rows),
+      ap (λ kinds. has_any kinds) (ap (λ app. fault_of app words) (sym is_app)
+          ∙ c.in-Ok.ensures.kinds (ap is_simple_and_free is_app ∙ is_free c.args.subcommand)),
+    )
 
 -- an error other than out of memory is a refusal
-pub returns-in-Err-clause-usage : goal.returns-in-Err-clause-usage
-returns-in-Err-clause-usage c = λ text.
-    let is_app = c.in_ok-command.ensures.app in
+pub returns-in-Err-clause-reads : goal.returns-in-Err-clause-reads
+returns-in-Err-clause-reads c = λ text.
+    let is_app = c.in_ok-command.ensures.reads.app in
     let words = map string_bytes c.args.words.now in
     let failed = c.in-Err.ensures.kinds (ap is_simple_and_free is_app ∙ is_free c.args.subcommand) in
     ap (λ app. has_any (fault_of app words)) (sym is_app) ∙ kinds_of_error c.in-Err.error (fault_of (app_of c.in_ok-command.command) words) failed (c.fault_after.ensures.usage text)
