@@ -37,50 +37,38 @@ pub(crate) fn job_in(
         Subcommand::Run => Ok(Job::Run { file }),
         Subcommand::Serve => serve_in(alloc, file, matches),
         Subcommand::Recover => Ok(Job::Recover { file }),
-        Subcommand::Load => {
-            let csv = value_of(alloc, matches, "CSV")?;
-            let batch = value_of(alloc, matches, "NAME")?;
-            Ok(Job::Load { file, csv, batch })
-        }
+        Subcommand::Load => Ok(Job::Load {
+            file,
+            csv: value_of(alloc, matches, "CSV")?,
+            batch: value_of(alloc, matches, "NAME")?,
+        }),
         Subcommand::Stock => stock_in(alloc, file, matches),
-        Subcommand::Summary => {
-            let filter = cells_in(alloc, matches)?;
-            let format = format_in(alloc, matches)?;
-            Ok(Job::Summary {
-                file,
-                filter,
-                format,
-            })
-        }
+        Subcommand::Summary => Ok(Job::Summary {
+            file,
+            filter: cells_in(alloc, matches)?,
+            format: format_in(alloc, matches)?,
+        }),
         Subcommand::Holders => holders_in(alloc, file, matches),
-        Subcommand::Unfinished => {
-            let filter = unfinished_in(alloc, matches)?;
-            let format = format_in(alloc, matches)?;
-            Ok(Job::Unfinished {
-                file,
-                filter,
-                format,
-            })
-        }
-        Subcommand::Journeys => {
-            let filter = journeys_in(alloc, matches)?;
-            let format = format_in(alloc, matches)?;
-            Ok(Job::Journeys {
-                file,
-                filter,
-                format,
-            })
-        }
-        Subcommand::History => {
-            let id = value_of(alloc, matches, "ID")?;
-            let format = format_in(alloc, matches)?;
-            Ok(Job::History { file, id, format })
-        }
-        Subcommand::Why => {
-            let id = journey_in(alloc, matches)?;
-            let format = format_in(alloc, matches)?;
-            Ok(Job::Why { file, id, format })
-        }
+        Subcommand::Unfinished => Ok(Job::Unfinished {
+            file,
+            filter: unfinished_in(alloc, matches)?,
+            format: format_in(alloc, matches)?,
+        }),
+        Subcommand::Journeys => Ok(Job::Journeys {
+            file,
+            filter: journeys_in(alloc, matches)?,
+            format: format_in(alloc, matches)?,
+        }),
+        Subcommand::History => Ok(Job::History {
+            file,
+            id: value_of(alloc, matches, "ID")?,
+            format: format_in(alloc, matches)?,
+        }),
+        Subcommand::Why => Ok(Job::Why {
+            file,
+            id: journey_in(alloc, matches)?,
+            format: format_in(alloc, matches)?,
+        }),
         Subcommand::Migrate => Ok(Job::Migrate { file }),
         Subcommand::Index => Ok(Job::Index { file }),
     }
@@ -92,21 +80,15 @@ fn serve_in(alloc: Global, file: String, matches: &ArgMatches) -> Result<Job, Jo
     requires port { is_some (values_read matches.now (codes "PORT")) ≡ true }
     ensures reads { ReadsJob sub.Serve (values_read matches.now) result }
 {
-    let word = matches.get_str("PORT").unwrap();
-    let port = number_in(alloc, word, "PORT", "--port", MOST_PORT)?;
-    let connections = number_if_given(alloc, matches, "N", "--connections", MOST_CONNECTIONS)?;
-    let house = value_if_given(alloc, matches, "PATH")?;
-    let page = is_given(matches, "PAGE");
-    let log = log_in(matches);
-    let wide = is_given(matches, "WIDE");
+    let port = matches.get_str("PORT").unwrap();
     Ok(Job::Serve {
         file,
-        port,
-        connections,
-        house,
-        page,
-        log,
-        wide,
+        port: number_in(alloc, port, "PORT", "--port", MOST_PORT)?,
+        connections: number_if_given(alloc, matches, "N", "--connections", MOST_CONNECTIONS)?,
+        house: value_if_given(alloc, matches, "PATH")?,
+        page: is_given(matches, "PAGE"),
+        log: log_in(matches),
+        wide: is_given(matches, "WIDE"),
     })
 }
 
@@ -120,11 +102,10 @@ fn stock_in(alloc: Global, file: String, matches: &ArgMatches) -> Result<Job, Jo
         text_in(alloc, matches)?;
         return Ok(Job::Calendar { file, filter });
     }
-    let format = format_in(alloc, matches)?;
     Ok(Job::Stock {
         file,
         filter,
-        format,
+        format: format_in(alloc, matches)?,
     })
 }
 
@@ -139,11 +120,9 @@ fn holders_in(alloc: Global, file: String, matches: &ArgMatches) -> Result<Job, 
         let format = format_in(alloc, matches)?;
         return Ok(Job::Holders { file, cell, format });
     }
-    let filter = cells_in(alloc, matches)?;
-    let format = format_in(alloc, matches)?;
     Ok(Job::Holdings {
         file,
-        filter,
-        format,
+        filter: cells_in(alloc, matches)?,
+        format: format_in(alloc, matches)?,
     })
 }
