@@ -66,59 +66,28 @@ helped_in words = None
 abbrev pub needed : Text → Rule
 needed id = record (new_rule id) { action = Some Set; required = true }
 
--- the name of a batch follows `--batch`
-abbrev pub batch_name : Rule
-batch_name = record (needed (codes "NAME")) { long = Some (codes "batch") }
-
 -- a value that may be left out
 abbrev pub optional : Text → Rule
 optional id = record (new_rule id) { action = Some Set }
-
--- the port follows `--port`, the number of connections `--connections`, and the path of the administrator's socket `--house`
-abbrev pub port_number : Rule
-port_number = record (needed (codes "PORT")) { long = Some (codes "port") }
-
-abbrev pub connections_number : Rule
-connections_number = record (optional (codes "N")) { long = Some (codes "connections") }
-
-abbrev pub house_path : Rule
-house_path = record (optional (codes "PATH")) { long = Some (codes "house") }
 
 -- a flag, which is given or not
 abbrev pub flagged : Text → Rule
 flagged id = record (new_rule id) { action = Some SetTrue }
 
--- the word that asks for an explanation of faults, before the subcommand
-abbrev pub explain_flag : Rule
-explain_flag = record (flagged (codes "explain")) { long = Some (codes "explain") }
-
--- the page for browsers is asked for by `--page`
-abbrev pub page_flag : Rule
-page_flag = record (flagged (codes "PAGE")) { long = Some (codes "page") }
-
--- the log is asked for by `--log`
-abbrev pub log_flag : Rule
-log_flag = record (flagged (codes "LOG")) { long = Some (codes "log") }
-
--- HTTP as libraries and proxies speak it is asked for by `--wide`
-abbrev pub wide_flag : Rule
-wide_flag = record (flagged (codes "WIDE")) { long = Some (codes "wide") }
-
--- the calendar of the stock is asked for by `--calendar`
-abbrev pub calendar_flag : Rule
-calendar_flag = record (flagged (codes "CALENDAR")) { long = Some (codes "calendar") }
-
--- the path of the socket of a desk that serves follows `--at`
-abbrev pub at_path : Rule
-at_path = record (optional (codes "PATH")) { long = Some (codes "at") }
-
--- the format of a report follows `--format`
-abbrev pub report_format : Rule
-report_format = record (optional (codes "FORMAT")) { long = Some (codes "format") }
-
 -- a value follows an option of this name
 abbrev pub named_by : Text → Rule → Rule
 named_by name rule = record rule { long = Some name }
+
+-- the word that asks for an explanation of faults, before the subcommand
+abbrev pub explain_flag : Rule
+explain_flag = named_by (codes "explain") (flagged (codes "explain"))
+
+-- the path of the socket of a desk that serves follows `--at`, and the format of a report `--format`
+abbrev pub at_path : Rule
+at_path = named_by (codes "at") (optional (codes "PATH"))
+
+abbrev pub report_format : Rule
+report_format = named_by (codes "format") (optional (codes "FORMAT"))
 
 -- how clap reads a value
 abbrev pub rule_said : Word → Rule
@@ -149,10 +118,13 @@ one_rules id = needed id ∷ report_format ∷ at_path ∷ []
 abbrev pub rules_for : Subcommand → List Rule
 rules_for Run = needed (codes "FILE") ∷ []
 rules_for Serve =
-    needed (codes "FILE") ∷ port_number ∷ connections_number ∷ house_path ∷ page_flag ∷ log_flag ∷ wide_flag ∷ []
+    needed (codes "FILE") ∷ named_by (codes "port") (needed (codes "PORT"))
+    ∷ named_by (codes "connections") (optional (codes "N")) ∷ named_by (codes "house") (optional (codes "PATH"))
+    ∷ named_by (codes "page") (flagged (codes "PAGE")) ∷ named_by (codes "log") (flagged (codes "LOG"))
+    ∷ named_by (codes "wide") (flagged (codes "WIDE")) ∷ []
 rules_for Recover = needed (codes "FILE") ∷ []
-rules_for Load = needed (codes "FILE") ∷ needed (codes "CSV") ∷ batch_name ∷ []
-rules_for Stock = needed (codes "FILE") ∷ calendar_flag ∷ cell_rules
+rules_for Load = needed (codes "FILE") ∷ needed (codes "CSV") ∷ named_by (codes "batch") (needed (codes "NAME")) ∷ []
+rules_for Stock = needed (codes "FILE") ∷ named_by (codes "calendar") (flagged (codes "CALENDAR")) ∷ cell_rules
 rules_for Summary = needed (codes "FILE") ∷ cell_rules
 rules_for Holders = needed (codes "FILE") ∷ optional (codes "CELL") ∷ cell_rules
 rules_for Unfinished = needed (codes "FILE") ∷ journey_rules

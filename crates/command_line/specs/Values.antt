@@ -60,18 +60,14 @@ log_in value = if is_set (value (codes "LOG")) then Some Plain else None
 abbrev pub wide_in : (Text → Option Text) → Bool
 wide_in value = is_set (value (codes "WIDE"))
 
--- the format that a word names
-abbrev pub format_named : Text → Option Format
-format_named word =
+-- the format of a report that a word names; a text if none is given
+abbrev pub format_of : Option Text → Option Format
+format_of None = Some format.Text
+format_of (Some word) =
     if bytes_eq word (codes "text") then Some format.Text
     else if bytes_eq word (codes "json") then Some format.Json
     else if bytes_eq word (codes "csv") then Some format.Csv
     else None
-
--- the format of a report: a text if none is given
-abbrev pub format_of : Option Text → Option Format
-format_of None = Some format.Text
-format_of (Some word) = format_named word
 
 -- the format, by its name
 abbrev pub format_in : (Text → Option Text) → Option Format
@@ -91,9 +87,5 @@ abbrev pub text_format_in : (Text → Option Text) → Option Format
 text_format_in value = option_and_then text_alone (format_in value)
 
 -- the format of the stock: the calendar is a text alone
-abbrev pub stock_format_of : Bool → Option Format → Option Format
-stock_format_of true found = option_and_then text_alone found
-stock_format_of false found = found
-
 abbrev pub stock_format_in : (Text → Option Text) → Option Format
-stock_format_in value = stock_format_of (calendar_in value) (format_in value)
+stock_format_in value = if calendar_in value then text_format_in value else format_in value

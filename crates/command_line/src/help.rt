@@ -18,8 +18,7 @@ use std::alloc::{AllocError, Global};
 impl Subcommand {
     /// What the subcommand reads and prints, and the notes after that: forms, exit statuses, and an example.
     fn help<'a>(self) -> (&'a str, &'a str)
-        ensures about { result.0.now ≡ (help_of self).0 }
-        ensures notes { result.1.now ≡ (help_of self).1 }
+        ensures help { (result.0.now, result.1.now) ≡ help_of self }
     {
         match self {
             Subcommand::Run => (RUN, RUN_NOTES),
