@@ -9,7 +9,7 @@ use Rattle.clap.proofs.OnLiterals.{clap_on_literals}
 use Rattle.clap.specs.declared.builder.Arg.{Arg}
 use Rattle.clap.specs.declared.builder.Command.{Command}
 use Rattle.command_line.specs.Help.{ReadsAs}
-use Rattle.command_line.specs.Subcommands.{bare_app, has_any, has_globals, ids_in, name_of, needed_in, rules_for, with_rules, AddsRules, IsBare, IsFlag, IsValue, IsWord, ReadsWords, Requires}
+use Rattle.command_line.specs.Subcommands.{has_any, has_globals, ids_in, name_of, named_by, needed_in, rules_for, with_rules, AddsRules, IsBare, IsWord, IsWordOf, ReadsWords, Requires}
 use Rattle.command_line.specs.declared.subcommands.Subcommand.{Subcommand}
 use Rattle.command_line.specs.declared.subcommands.Subcommand.TheVariants.{Run, Serve, Recover, Load, Stock, Summary, Holders, Unfinished, Journeys, History, Why, Migrate, Index}
 
@@ -186,13 +186,13 @@ ids_fit Migrate = refl
 ids_fit Index = refl
 
 -- a command to which the values of a subcommand were added reads its words
-with_values : (s : Subcommand) (start cmd : Command) (xs : List Arg) → AddsInTurn AddsArg start xs cmd → IsBare (name_of s) start
-    → All IsWord xs → map rule_of xs ≡ rules_for s → ReadsWords s cmd
-with_values s start cmd xs chain bare values rules =
-    let fit = subst (λ rs. fit_together (ids_in rs) ≡ true) (sym rules) (ids_fit s) in record {
-      app = app_of-chain start cmd xs chain values ∙ ap (λ a. with_rules a (map rule_of xs)) bare.app ∙ ap (with_rules (bare_app (name_of s))) rules;
-      each = subst (λ rs. All (Requires cmd) (needed_in rs)) rules (all_required (name_of s) start cmd xs chain bare values fit);
-      globals = no_globals start cmd xs chain values bare.globals;
+pub with_values : (s : Subcommand) (start cmd : Command) → IsBare (name_of s) start → AddsRules start (rules_for s) cmd → ReadsWords s cmd
+with_values s start cmd bare added =
+    let xs = added.0 in
+    let fit = subst (λ rs. fit_together (ids_in rs) ≡ true) (sym added.3) (ids_fit s) in record {
+      app = app_of-rules start cmd (rules_for s) added ∙ ap (λ app. with_rules app (rules_for s)) bare.app;
+      each = subst (λ rs. All (Requires cmd) (needed_in rs)) added.3 (all_required (name_of s) start cmd xs added.1 bare added.2 fit);
+      globals = no_globals start cmd xs added.1 added.2 bare.globals;
     }
 
 -- one more argument, before the others
@@ -203,48 +203,28 @@ and_word x xs here rest = λ k d lt. at k d lt
     at zero d lt = here
     at (suc k) d lt = rest k d (omega arith)
 
--- a value is such an argument
-pub value_word : (x : Arg) → IsValue x → IsWord x
-value_word x here = record { plain = here.plain; global = here.global; needed = λ _. here }
-
--- and so is a flag
-pub flag_word : (x : Arg) → IsFlag x → IsWord x
-flag_word x here = record { plain = here.plain; global = here.global; needed = λ is. absurd (not_required is) }
-  where
-    not_required : x.required ≡ true → ⊥
-    not_required is = let and_parts : true ≡ false = sym is ∙ here.required in cc
-
 -- no value
 no_value : All IsWord []
 no_value = λ k d lt. absurd (omega arith)
 
--- the same, where the first is a file and the others were added by their rules
-pub with_file : (s : Subcommand) (start over cmd : Command) (file : Arg) (rules : List Rule) → AddsArg start file over
-    → AddsRules over rules cmd → IsBare (name_of s) start → IsValue file → rule_of file ∷ rules ≡ rules_for s → ReadsWords s cmd
-with_file s start over cmd file rules added later bare value listed =
-    with_values s start cmd (file ∷ later.0) (over, added, later.1) bare
-    (and_word file later.0 (value_word file value) later.2) (ap (λ rs. rule_of file ∷ rs) later.3 ∙ listed)
-
 -- one more argument, before those that were added by their rules
 pub one_more : (start over cmd : Command) (x : Arg) (rule : Rule) (rules : List Rule) → AddsArg start x over
-    → IsWord x → rule_of x ≡ rule → AddsRules over rules cmd → AddsRules start (rule ∷ rules) cmd
-one_more start over cmd x rule rules added is named later =
-    (x ∷ later.0, (over, added, later.1), and_word x later.0 is later.2, ap (λ r. r ∷ map rule_of later.0) named ∙ ap (λ rs. rule ∷ rs) later.3)
+    → IsWordOf rule x → AddsRules over rules cmd → AddsRules start (rule ∷ rules) cmd
+one_more start over cmd x rule rules added is later =
+    (x ∷ later.0, (over, added, later.1), and_word x later.0 is.word later.2, ap (λ r. r ∷ map rule_of later.0) is.read ∙ ap (λ rs. rule ∷ rs) later.3)
 
 -- none was added
 pub none_more : (start : Command) → AddsRules start [] start
 none_more start = ([], refl, no_value, refl)
 
--- a value that follows an option is one as before
-pub long_value : (a b : Arg) (name : Bor Text) → b ≡ record a { long = Some name } → IsValue a → IsValue b
-long_value a b name e is =
-    subst IsValue (sym e) (record { plain = is.plain; global = is.global; action = is.action; whole = is.whole; least = is.least })
-
--- a flag is named by an option in the same way
-pub long_flag : (a b : Arg) (name : Bor Text) → b ≡ record a { long = Some name } → IsFlag a → IsFlag b
-long_flag a b name e is = subst IsFlag (sym e) (record { plain = is.plain; global = is.global; required = is.required })
-
--- the rule of such an argument has the option
-pub long_rule : (a b : Arg) (name : Bor Text) (rule : Rule) → b ≡ record a { long = Some name } → rule_of a ≡ rule
-    → rule_of b ≡ record rule { long = Some name.now }
-long_rule a b name rule e is = ap rule_of e ∙ ap (λ (r : Rule). record r { long = Some name.now }) is
+-- what follows an option is as it was, but for the option
+pub long_word : (a b : Arg) (name : Bor Text) (rule : Rule) → b ≡ record a { long = Some name } → IsWordOf rule a
+    → IsWordOf (named_by name.now rule) b
+long_word a b name rule e is = record {
+  read = ap rule_of e ∙ ap (named_by name.now) is.read;
+  word = subst IsWord (sym e) (record {
+    plain = is.word.plain;
+    global = is.word.global;
+    needed = λ required. let value = is.word.needed required in record { action = value.action; whole = value.whole; least = value.least };
+  });
+}

@@ -182,25 +182,22 @@ has_globals command = (out-Command command).has_globals
 abbrev pub negates_needs : Command → Bool
 negates_needs command = (out-Command command).subcommand_negates_reqs
 
--- an argument is one value, required or not, whatever the other arguments are
+-- an argument is one value
 pub record IsValue (arg : Arg) : Type 0 where
-  pub plain : IsPlainArg arg
-  pub global : arg.global ≡ false
   pub action : arg.action ≡ Some Set
   pub whole : arg.val_delim ≡ None
   pub least : 1 ≤ least_values arg
 
--- an argument is a flag, which nothing requires, whatever the other arguments are
-pub record IsFlag (arg : Arg) : Type 0 where
-  pub plain : IsPlainArg arg
-  pub global : arg.global ≡ false
-  pub required : arg.required ≡ false
-
--- an argument is a value, or one that nothing requires
+-- an argument is a value, or one that nothing requires, whatever the other arguments are
 pub record IsWord (arg : Arg) : Type 0 where
   pub plain : IsPlainArg arg
   pub global : arg.global ≡ false
   pub needed : arg.required ≡ true → IsValue arg
+
+-- the same, which clap reads by this rule
+pub record IsWordOf (rule : Rule) (arg : Arg) : Type 0 where
+  pub read : rule_of arg ≡ rule
+  pub word : IsWord arg
 
 -- arguments of these rules were added to a command, one after another
 abbrev pub AddsRules : Command → List Rule → Command → Type 0

@@ -1,5 +1,5 @@
 -- The values of a command line, by their names, and what their words spell.
-use Rattle.std.specs.Prelude.{◌≡◌, ℕ, Bool, true, false, is_none, bytes_eq, if◌then◌else◌, codes, Option, None, Some}
+use Rattle.std.specs.Prelude.{◌≡◌, ℕ, Bool, false, is_none, bytes_eq, if◌then◌else◌, codes, Option, None, Some}
 use Rattle.std.specs.Option.{option_and_then, option_map_or}
 use Rattle.allotment.specs.Texts.{number_from}
 use Rattle.clap.specs.Words.{Text, first_value, found_of}

@@ -1,7 +1,6 @@
 //! The values that each subcommand reads from the words after it, and how `clap` reads them.
-ghost use Rattle.std.specs.Prelude.{◌≡◌, map, IfOk};
-ghost use Rattle.clap.specs.Words.{rule_of};
-ghost use Rattle.command_line.specs.Subcommands.{flagged, needed, optional, rule_said, AddsRules, IsFlag, IsValue, IsWord};
+ghost use Rattle.std.specs.Prelude.{map, IfOk};
+ghost use Rattle.command_line.specs.Subcommands.{flagged, needed, optional, rule_said, AddsRules, IsWordOf};
 
 use clap::{Arg, ArgAction, Command};
 use std::alloc::{AllocError, Global};
@@ -144,8 +143,7 @@ const FORMAT: Word<'static> = Word::After("FORMAT", "format", "text (the default
 impl<'a> Word<'a> {
     /// The argument by which `clap` reads the value.
     fn arg(self, alloc: Global) -> Arg<'a>
-        ensures rule { rule_of result ≡ rule_said self.entry }
-        ensures word { IsWord result }
+        ensures word { IsWordOf (rule_said self.entry) result }
     {
         match self {
             Word::Needed(id, help) => value(alloc, id, help),
@@ -159,8 +157,7 @@ impl<'a> Word<'a> {
 
 /// A required value.
 pub(crate) fn value<'a>(alloc: Global, id: &'a str, help: &'a str) -> Arg<'a>
-    ensures rule { rule_of result ≡ needed id.entry.now }
-    ensures value { IsValue result }
+    ensures word { IsWordOf (needed id.entry.now) result }
 {
     Arg::new(alloc, id)
         .help(help)
@@ -170,16 +167,14 @@ pub(crate) fn value<'a>(alloc: Global, id: &'a str, help: &'a str) -> Arg<'a>
 
 /// A value that may be left out.
 fn extra<'a>(alloc: Global, id: &'a str, help: &'a str) -> Arg<'a>
-    ensures rule { rule_of result ≡ optional id.entry.now }
-    ensures value { IsValue result }
+    ensures word { IsWordOf (optional id.entry.now) result }
 {
     Arg::new(alloc, id).help(help).action(ArgAction::Set)
 }
 
 /// A flag: it is given or not, and no value follows it.
 fn flag<'a>(alloc: Global, id: &'a str, help: &'a str) -> Arg<'a>
-    ensures rule { rule_of result ≡ flagged id.entry.now }
-    ensures flag { IsFlag result }
+    ensures word { IsWordOf (flagged id.entry.now) result }
 {
     Arg::new(alloc, id).help(help).action(ArgAction::SetTrue)
 }

@@ -15,7 +15,7 @@ loop-word-preserved c = λ done left.
     c.loop-word.invariant done
     (subst (λ ws. AddsRules c.loop-word.command (map rule_said ws) done) (sym (drop-cons words i _ (omega (arith, c.loop-word-test.true))))
     (one_more c.loop-word.command now done c.arg.result _ (map rule_said (drop (suc i) words)) c.in_ok-command.ensures
-    c.arg.ensures.word c.arg.ensures.rule (subst (λ n. AddsRules now (map rule_said (drop n words)) done) next left)))
+    c.arg.ensures.word (subst (λ n. AddsRules now (map rule_said (drop n words)) done) next left)))
 
 pub returns : goal.returns
 returns c =

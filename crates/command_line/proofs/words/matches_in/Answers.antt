@@ -1,6 +1,7 @@
 -- The values that a subcommand reads from the words are those of clap's rules.
 use Rattle.std.proofs.Common.{◌≡◌, ◌∙◌, true, sym, ap, [], ◌∷◌, map, refl, inl, inr, ◌≢◌}
 use Rattle.std.proofs.Math.Path.{fun_ext}
+use Rattle.std.proofs.lemmas.Bool.{and_parts}
 use Rattle.std.specs.String.{string_bytes}
 use Rattle.clap.specs.Words.{HasKind, Kinds, IsAmong, app_of, fault_of, first_of, found_of, matches_of, is_simple, is_simple_and_free, kind_of}
 use Rattle.clap.proofs.OnLiterals.{clap_on_literals}
@@ -12,22 +13,6 @@ use Rattle.command_line.specs.Subcommands.{app_for, has_any}
 use Rattle.command_line.specs.declared.subcommands.Subcommand.{Subcommand}
 use Rattle.command_line.specs.declared.subcommands.Subcommand.TheVariants.{Run, Serve, Recover, Load, Stock, Summary, Holders, Unfinished, Journeys, History, Why, Migrate, Index}
 use Rattle.command_line.proofs.words.matches_in.Goals as goal
-
-is_exact : (s : Subcommand) → is_simple (app_for s) ≡ true
-unfolding clap_on_literals
-is_exact Run = refl
-is_exact Serve = refl
-is_exact Recover = refl
-is_exact Load = refl
-is_exact Stock = refl
-is_exact Summary = refl
-is_exact Holders = refl
-is_exact Unfinished = refl
-is_exact Journeys = refl
-is_exact History = refl
-is_exact Why = refl
-is_exact Migrate = refl
-is_exact Index = refl
 
 is_free : (s : Subcommand) → is_simple_and_free (app_for s) ≡ true
 unfolding clap_on_literals
@@ -44,6 +29,9 @@ is_free History = refl
 is_free Why = refl
 is_free Migrate = refl
 is_free Index = refl
+
+is_exact : (s : Subcommand) → is_simple (app_for s) ≡ true
+is_exact s = (and_parts (is_simple (app_for s)) _ (is_free s)).0
 
 -- a list that has a kind is not empty
 kinds_there : (kind : ErrorKind) (kinds : Kinds) → IsAmong kind kinds → has_any kinds ≡ true
