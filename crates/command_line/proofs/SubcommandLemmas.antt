@@ -210,8 +210,12 @@ no_value = λ k d lt. absurd (omega arith)
 -- one more argument, before those that were added by their rules
 pub one_more : (start over cmd : Command) (x : Arg) (rule : Rule) (rules : List Rule) → AddsArg start x over
     → IsWordOf rule x → AddsRules over rules cmd → AddsRules start (rule ∷ rules) cmd
-one_more start over cmd x rule rules added is later =
-    (x ∷ later.0, (over, added, later.1), and_word x later.0 is.word later.2, ap (λ r. r ∷ map rule_of later.0) is.read ∙ ap (λ rs. rule ∷ rs) later.3)
+one_more start over cmd x rule rules added is later = (
+  x ∷ later.0,
+  (over, added, later.1),
+  and_word x later.0 is.word later.2,
+  ap (λ r. r ∷ map rule_of later.0) is.read ∙ ap (λ rs. rule ∷ rs) later.3,
+)
 
 -- none was added
 pub none_more : (start : Command) → AddsRules start [] start

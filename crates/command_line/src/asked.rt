@@ -3,7 +3,7 @@ ghost use Rattle.command_line.specs.Values.{values_read};
 ghost use Rattle.std.specs.Prelude.{◌≡◌, true, ⊤, codes, is_some};
 ghost use Rattle.allotment.specs.Nights.{night_in};
 ghost use Rattle.allotment.specs.Texts.{kind_of_word};
-ghost use Rattle.command_line.specs.Filters.{agent_named, asks_for_cells, cell_asked, code_named, has_bad_cells, has_bad_journeys, journey_asked, phases_in, spelled, unfinished_in, HasCells, HasJourneys};
+ghost use Rattle.command_line.specs.Filters.{agent_named, asks_for_cells, cell_asked, code_named, has_bad_cells, journey_asked, phases_in, spelled, unfinished_in, HasCells};
 ghost use Rattle.command_line.specs.Jobs.{has_socket, Reads, ReadsOne};
 
 use crate::errors::{no_option, no_value, no_value_of};
@@ -12,13 +12,13 @@ use crate::subcommands::Subcommand;
 use allotment::{Cell, Code, Kind, Night};
 use clap::ArgMatches;
 use commands::{Agent, MOST_EVENTS, number_between};
-use saga_core::{CellFilter, JourneyFilter, JourneyState, Phases};
+use saga_core::{CellFilter, JourneyState, Phases};
 use std::alloc::Global;
 
 /// The cells that are asked for.
 pub(crate) fn cells_in(alloc: Global, matches: &ArgMatches) -> Result<CellFilter, JobFault>
-    ensures reads { Reads (HasCells (values_read matches.now)) (has_bad_cells (values_read matches.now))
-        result }
+    ensures reads { Reads (HasCells (values_read matches.now))
+        (has_bad_cells (values_read matches.now)) result }
 {
     let kind = kind_in(alloc, matches)?;
     let supplier = code_in(alloc, matches, "SUPPLIER", "--supplier")?;
@@ -32,26 +32,6 @@ pub(crate) fn cells_in(alloc: Global, matches: &ArgMatches) -> Result<CellFilter
         from,
         to,
     })
-}
-
-/// The journeys that are asked for, ended ones too.
-pub(crate) fn journeys_in(alloc: Global, matches: &ArgMatches) -> Result<JourneyFilter, JobFault>
-    ensures reads { Reads (HasJourneys phases_in (values_read matches.now))
-        (has_bad_journeys phases_in (values_read matches.now)) result }
-{
-    let agent = agent_in(alloc, matches)?;
-    let phases = phases_in(alloc, matches)?;
-    Ok(JourneyFilter { agent, phases })
-}
-
-/// The unfinished journeys that are asked for.
-pub(crate) fn unfinished_in(alloc: Global, matches: &ArgMatches) -> Result<JourneyFilter, JobFault>
-    ensures reads { Reads (HasJourneys unfinished_in (values_read matches.now))
-        (has_bad_journeys unfinished_in (values_read matches.now)) result }
-{
-    let agent = agent_in(alloc, matches)?;
-    let phases = unfinished_phases_in(alloc, matches)?;
-    Ok(JourneyFilter { agent, phases })
 }
 
 /// The one cell that is asked for. The precondition says that there is a value.
@@ -133,7 +113,8 @@ pub(crate) fn journey_in(alloc: Global, matches: &ArgMatches) -> Result<u64, Job
 
 /// The kind that is asked for, if one is.
 fn kind_in(alloc: Global, matches: &ArgMatches) -> Result<Option<Kind>, JobFault>
-    ensures reads { ReadsOne (spelled kind_of_word (values_read matches.now (codes "KIND"))) result }
+    ensures reads { ReadsOne (spelled kind_of_word (values_read matches.now (codes "KIND")))
+        result }
 {
     let Some(word) = matches.get_str("KIND") else {
         return Ok(None);
@@ -192,8 +173,9 @@ fn night_in(
 }
 
 /// The agent who is asked for, if one is.
-fn agent_in(alloc: Global, matches: &ArgMatches) -> Result<Option<Agent>, JobFault>
-    ensures reads { ReadsOne (spelled agent_named (values_read matches.now (codes "AGENT"))) result }
+pub(crate) fn agent_in(alloc: Global, matches: &ArgMatches) -> Result<Option<Agent>, JobFault>
+    ensures reads { ReadsOne (spelled agent_named (values_read matches.now (codes "AGENT")))
+        result }
 {
     let Some(word) = matches.get_str("AGENT") else {
         return Ok(None);
@@ -205,7 +187,7 @@ fn agent_in(alloc: Global, matches: &ArgMatches) -> Result<Option<Agent>, JobFau
 }
 
 /// The phases of the state that is asked for; all phases if none is.
-fn phases_in(alloc: Global, matches: &ArgMatches) -> Result<Phases, JobFault>
+pub(crate) fn phases_in(alloc: Global, matches: &ArgMatches) -> Result<Phases, JobFault>
     ensures reads { ReadsOne (phases_in (values_read matches.now (codes "STATE"))) result }
 {
     let Some(word) = matches.get_str("STATE") else {
@@ -218,7 +200,7 @@ fn phases_in(alloc: Global, matches: &ArgMatches) -> Result<Phases, JobFault>
 }
 
 /// The same of unfinished journeys, which have two states.
-fn unfinished_phases_in(alloc: Global, matches: &ArgMatches) -> Result<Phases, JobFault>
+pub(crate) fn unfinished_phases_in(alloc: Global, matches: &ArgMatches) -> Result<Phases, JobFault>
     ensures reads { ReadsOne (unfinished_in (values_read matches.now (codes "STATE"))) result }
 {
     let Some(word) = matches.get_str("STATE") else {

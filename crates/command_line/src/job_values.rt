@@ -7,7 +7,8 @@ ghost use Rattle.command_line.specs.Subcommands.{needed_for};
 ghost use Rattle.command_line.specs.declared.subcommands.Subcommand.TheVariants as sub;
 
 use crate::asked::{
-    cell_in, cells_in, has_value, journey_in, journeys_in, no_cells_in, unfinished_in,
+    agent_in, cell_in, cells_in, has_value, journey_in, no_cells_in, phases_in,
+    unfinished_phases_in,
 };
 use crate::jobs::{Job, JobFault};
 use crate::subcommands::Subcommand;
@@ -15,6 +16,7 @@ use crate::values::{
     format_in, is_given, log_in, number_if_given, number_in, text_in, value_if_given, value_of,
 };
 use clap::ArgMatches;
+use saga_core::JourneyFilter;
 use std::alloc::Global;
 
 /// The highest port.
@@ -51,12 +53,18 @@ pub(crate) fn job_in(
         Subcommand::Holders => holders_in(alloc, file, matches),
         Subcommand::Unfinished => Ok(Job::Unfinished {
             file,
-            filter: unfinished_in(alloc, matches)?,
+            filter: JourneyFilter {
+                agent: agent_in(alloc, matches)?,
+                phases: unfinished_phases_in(alloc, matches)?,
+            },
             format: format_in(alloc, matches)?,
         }),
         Subcommand::Journeys => Ok(Job::Journeys {
             file,
-            filter: journeys_in(alloc, matches)?,
+            filter: JourneyFilter {
+                agent: agent_in(alloc, matches)?,
+                phases: phases_in(alloc, matches)?,
+            },
             format: format_in(alloc, matches)?,
         }),
         Subcommand::History => Ok(Job::History {

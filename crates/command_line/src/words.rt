@@ -61,8 +61,8 @@ fn matches_in<'a>(
     subcommand: Subcommand,
     words: &'a [String],
 ) -> Result<ArgMatches<'a>, JobFault>
-    ensures reads { Reads
-        (λ matches. values_read matches ≡ value_in (app_for subcommand) (map string_bytes words.entry.now))
+    ensures reads { Reads (λ matches. values_read matches
+        ≡ value_in (app_for subcommand) (map string_bytes words.entry.now))
         (is_refused_by (app_for subcommand) (map string_bytes words.entry.now)) result }
     ensures each { IfOk result (λ matches.
         All (λ id. is_some (values_read matches id) ≡ true) (needed_for subcommand)) }

@@ -7,4 +7,5 @@ use Rattle.command_line.proofs.asked.night_in.Goals as goal
 
 pub returns-in-Ok : goal.returns-in-Ok
 returns-in-Ok c =
-    let is = sym (ap (spelled night_in) c.in-Some.ensures) ∙ ap (option_map Some) (night_read _ _ c.in-Ok.ensures) in record { reads = (is, ap is_none is) }
+    let is = sym (ap (spelled night_in) c.in-Some.ensures) ∙ ap (option_map Some) (night_read _ _ c.in-Ok.ensures) in
+    record { reads = (is, ap is_none is) }
