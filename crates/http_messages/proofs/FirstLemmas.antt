@@ -7,12 +7,11 @@ use Rattle.httparse.specs.Grammar.{RequestHead}
 use Rattle.httparse.proofs.GrammarLemmas.{request_unique}
 use Rattle.http_messages.specs.Messages as sent
 use Rattle.http_messages.specs.Messages.{AreEach, BeginsWith, BeginsWithAll, HasNoMessage, first_told, fronts, is_told}
-use Rattle.http_messages.specs.Heads.{IsHead, IsNoHead, body_length, parts_of}
+use Rattle.http_messages.specs.Heads.{IsHead, IsNoHead, Parts, body_length, parts_of}
 use Rattle.http_messages.specs.Places.{IsToldAt, WentThrough}
 use Rattle.http_messages.specs.Requests.{IsRequest}
-use Rattle.http_messages.specs.Fields.{IsSomeHeadAt, parts_in}
+use Rattle.http_messages.specs.Fields.{IsHeadWith}
 use Rattle.http_messages.specs.Reading.{IsFirstOf}
-use Rattle.http_messages.specs.declared.heads.Head.{Head}
 use Rattle.http_messages.specs.declared.places.Search.{Search}
 use Rattle.http_messages.specs.declared.requests.Request.{Request}
 use Rattle.http_messages.specs.declared.requests.Message.TheVariants as taken
@@ -112,11 +111,11 @@ no_head_first bytes end at none =
           (subst IsNoHead (sym (take-take end end bytes (omega arith))) none);
     }
 
-module _ (bytes : List ℕ) (end count : ℕ) (head : Head) (at : IsToldAt bytes end) (is : IsSomeHeadAt (take end bytes) head)
-    (long : count ≡ body_length (parts_in (take end bytes) head)) where
+module _ (bytes : List ℕ) (end count : ℕ) (parts : Parts) (at : IsToldAt bytes end) (is : IsHeadWith (take end bytes) parts)
+    (long : count ≡ body_length parts) where
   -- the head gives this length
   long_as : count ≡ body_length (parts_of is.0)
-  long_as = long ∙ ap body_length is.1.parts
+  long_as = long ∙ ap body_length is.2
 
   -- fewer bytes have no whole message
   pub none_whole : length bytes < end + count → HasNoMessage bytes
@@ -124,7 +123,7 @@ module _ (bytes : List ℕ) (end count : ℕ) (head : Head) (at : IsToldAt bytes
 
   -- as many bytes have
   pub request_first : (r : Request) → end + count ≤ length bytes
-      → IsRequest r (parts_in (take end bytes) head) (take count (drop end bytes))
+      → IsRequest r parts (take count (drop end bytes))
       → IsFirstOf bytes (taken.Asks r) (end + count)
   request_first r enough asks =
       let body = take count (drop end bytes) in
@@ -135,10 +134,10 @@ module _ (bytes : List ℕ) (end count : ℕ) (head : Head) (at : IsToldAt bytes
       length-take-le count (drop end bytes) (omega (arith, enough, length-drop end bytes)) ∙ long_as in
       record {
         message = sent.Asks is.0 body;
-        is_taken = subst (λ parts. IsRequest r parts body) is.1.parts asks;
+        is_taken = subst (λ z. IsRequest r z body) is.2 asks;
         within = enough;
         is_message = λ rest. begins_with_request (all ++ rest) rest all end refl (told_within bytes end (end + count) (omega arith) at) is.0
-            (subst (λ text. IsHead text is.0) (sym same) is.1.is_head) body [] full left;
+            (subst (λ text. IsHead text is.0) (sym same) is.1) body [] full left;
       }
 
 -- messages one after another are the first of what they begin

@@ -5,11 +5,11 @@ use Rattle.std.proofs.lemmas.List.{length-take-le, take_all, take-take, length-t
 use Rattle.httparse.specs.declared.spans.HeaderSpan.{HeaderSpan}
 use Rattle.httparse.specs.declared.spans.RequestSpans.{RequestSpans}
 use Rattle.httparse.specs.Grammar.{RequestHead, print_request}
-use Rattle.httparse.specs.Spans.{IsRequestAt, IsRequestWithin}
-use Rattle.http_messages.specs.Heads.{IsHead, Named, Parts, most_fields, most_head_bytes, parts_of}
+use Rattle.httparse.specs.Spans.{IsRequestAt}
+use Rattle.http_messages.specs.Heads.{IsHead, most_fields, most_head_bytes}
 use Rattle.http_messages.specs.Messages.{ends_in_empty_line, first_told, is_told}
 use Rattle.http_messages.specs.Places.{IsToldAt}
-use Rattle.http_messages.specs.Fields.{IsHeadAt, parts_in}
+use Rattle.http_messages.specs.Fields.{IsHeadWith, parts_at}
 use Rattle.http_messages.proofs.ToldLemmas.{find_front, head_is_told}
 
 -- the shortest decided prefix is the first one, whatever follows
@@ -24,6 +24,10 @@ first_of_told bytes more end at =
     ∙ find_front is_told (take end bytes) (drop end bytes ++ more) at.told
     (λ k less. ap is_told (take-take k end bytes (omega arith)) ∙ at.first k (omega arith))
 
+-- so it is of the bytes themselves
+pub told_here : (bytes : List ℕ) (end : ℕ) → IsToldAt bytes end → first_told bytes ≡ Some (take end bytes)
+told_here bytes end at = rw (append-nil bytes) at (first_of_told bytes [] end at)
+
 -- a prefix that is as long as a head may be is decided
 told_at_most : (bytes : List ℕ) → length bytes ≡ most_head_bytes → is_told bytes ≡ true
 told_at_most bytes full = or_right (ends_in_empty_line bytes) _ (ap (λ n. n == most_head_bytes) full)
@@ -37,19 +41,6 @@ told_is_short bytes end at = elim (cases_lt most_head_bytes end) [
       cc
   | inr inside ↦ inside
 ]
-
--- the parts of a head, from four values
-abbrev the_parts : List ℕ → List ℕ → ℕ → List Named → Parts
-the_parts m t v f = record { method = m; target = t; minor = v; fields = f }
-
--- heads with the same parts are the same
-parts_same : {m p : List ℕ} {t u : List ℕ} {v w : ℕ} {f g : List Named}
-    → m ≡ p
-    → t ≡ u
-    → v ≡ w
-    → f ≡ g
-    → the_parts m t v f ≡ the_parts p u w g
-parts_same {m} {p} {t} {u} {v} {w} {f} {g} a b c d = cc
 
 module _ (front : List ℕ) (fields : List HeaderSpan) (line : RequestSpans) (told : IsToldAt front (length front))
     (room : length fields ≡ most_fields) (h : RequestHead) (at : IsRequestAt front fields line h) where
@@ -66,14 +57,9 @@ module _ (front : List ℕ) (fields : List HeaderSpan) (line : RequestSpans) (to
   whole_front =
       cc (
         ap first_told at.reads.1 ∙ head_is_told (print_request h) (drop line.len front) h read_head,
-        ap first_told (sym (append-nil front)) ∙ first_of_told front [] (length front) told
-            ∙ ap Some (take_all (length front) front (omega arith)),
+        told_here front (length front) told ∙ ap Some (take_all (length front) front (omega arith)),
       )
 
-  -- the parts of the head stand where they were found
-  same_parts : parts_in front (record { line = line; fields = fields }) ≡ parts_of h
-  same_parts = parts_same at.method at.path at.version at.fields
-
-  -- the prefix is that head
-  pub is_head_at : IsRequestWithin front fields line → IsHeadAt front (record { line = line; fields = fields }) h
-  is_head_at lies = grind (arith, whole_front, read_head, same_parts)
+  -- the prefix is that head, and its parts stand where they were found
+  pub is_head_with : IsHeadWith front (parts_at front fields line)
+  is_head_with = (h, grind (arith, whole_front, read_head), cc (at.method, at.path, at.version, at.fields))

@@ -1,16 +1,16 @@
 -- The message that each answer is. For first_wide_message and go_on_is_due.
 use Rattle.std.proofs.Common.{◌≡◌, ◌∙◌, ap, sym, subst, refl, ℕ, ◌+◌, ◌-◌, ◌≤◌, inl, inr, true, false, List, [], ◌∷◌, ◌++◌, length, take, drop, replicate, take-append-drop, append-nil, append_assoc, arith, Some, None, Result, Ok, Err, length-append, IsSome, ◌<◌, Bool, ◌||◌, ◌==◌, not}
 use Rattle.std.proofs.lemmas.List.{drop-drop, length-drop, length-replicate, length-take-le, take_all, take-append-le}
-use Rattle.httparse.specs.Grammar.{RequestHead}
 use Rattle.http1.specs.ChunkedDecoder.{run, run_on, skips, start, step, stops, use_of, yields, Use}
 use Rattle.http1.specs.declared.chunked.ChunkedDecoder.{ChunkedDecoder}
 use Rattle.commands.specs.Limits.{most_bytes}
-use Rattle.http_messages.specs.Heads.{IsHead, IsNoHead, most_head_bytes, parts_of}
+use Rattle.http_messages.specs.Heads.{Parts, most_head_bytes}
 use Rattle.http_messages.specs.Messages.{first_told, ends_in_empty_line, is_newline}
 use Rattle.http_messages.specs.Places.{IsToldAt}
-use Rattle.http_messages.specs.Bodies.{Ends, Exceeds, Goes, IsBody, NeverEnds, Reading, first_reading}
-use Rattle.http_messages.specs.Framing.{IsWithinLimit, denial_of, head_kind}
-use Rattle.http_messages.specs.Wide.{Asks, BadBody, BeginsWith, BeginsWithFront, BeginsWithHead, HasNoBody, IsLarge, NoHead, NoMethod, Unread, has_no_method, begins_no_method}
+use Rattle.http_messages.specs.Bodies.{Ends, Exceeds, Goes, NeverEnds, Reading, first_reading}
+use Rattle.http_messages.specs.Fields.{IsHeadWith}
+use Rattle.http_messages.specs.Framing.{IsWithinLimit, asked_kind, denial_of, head_kind}
+use Rattle.http_messages.specs.Wide.{Asks, BadBody, BeginsWithFront, BeginsWithHead, HasNoBody, IsLarge, NoHead, NoMethod, Unread, has_no_method, begins_no_method}
 use Rattle.http_messages.specs.declared.denials.Denial.{Denial}
 use Rattle.http_messages.specs.declared.denials.Denial.TheVariants.{BadHead, TooLarge}
 use Rattle.http_messages.specs.declared.framing.BodyKind.{BodyKind}
@@ -20,14 +20,14 @@ use Rattle.http_messages.proofs.BodyLemmas.{begins}
 use Rattle.http_messages.proofs.WideLemmas.{fronts, head_or_none, kind_same, not_both, not_framed_both}
 use Rattle.http_messages.proofs.LawLemmas.{reach, same_kind}
 use Rattle.http_messages.specs.WideHeads.{IsDeniedFront}
-use Rattle.http_messages.specs.Fields.{parts_in}
-use Rattle.http_messages.specs.declared.heads.Head.{Head}
-use Rattle.http_messages.specs.WideReading.{AsksAt, IsFirstOf, IsOpen, IsWideRequest}
+use Rattle.http_messages.specs.Plain.{SaysPlainly}
+use Rattle.http_messages.specs.WideReading.{IsFirstOf, IsOpen, IsWideMessage}
 use Rattle.http_messages.specs.declared.wide_messages.WideMessage.TheVariants as taken
 use Rattle.http_messages.specs.declared.wide_messages.WideRequest.{WideRequest}
 use Rattle.std.specs.List.{list_any}
 use Rattle.std.proofs.lemmas.Bool.{cases_lt, and_parts}
-use Rattle.http_messages.proofs.HeadLemmas.{first_of_told}
+use Rattle.http_messages.proofs.HeadLemmas.{first_of_told, told_here}
+use Rattle.http_messages.proofs.PlainLemmas.{as_request}
 use Rattle.http_messages.proofs.ToldLemmas.{not_long}
 
 -- a byte that begins no method stays the first one
@@ -139,15 +139,8 @@ large_never stream large more body rest is =
       ((begins Chunked (stream ++ more) body rest).0 is).short,
     )
 
--- what a reader at the beginning finds too large
-pub exceeds_large : (input : List ℕ) → Exceeds (first_reading Chunked) input → IsLarge input
-exceeds_large input past = omega (arith, past)
-
--- a sized body is never too large, and ends where enough bytes come
-pub sized_fits : (count : ℕ) (input : List ℕ) → Exceeds (first_reading (Sized count)) input → ⊥
-sized_fits count input past = past
-
-pub sized_ends : (count : ℕ) (input : List ℕ) → count ≤ most_bytes → NeverEnds (first_reading (Sized count)) input → ⊥
+-- a sized body ends where enough bytes come
+sized_ends : (count : ℕ) (input : List ℕ) → count ≤ most_bytes → NeverEnds (first_reading (Sized count)) input → ⊥
 sized_ends count input short never =
     let filler : ℕ = 0 in
     let more : List ℕ = replicate count filler in
@@ -162,145 +155,104 @@ sized_ends count input short never =
       short = omega (arith, whole, short);
     })
 
--- a body that never ends is no body
-pub never_no_body : (input : List ℕ) → NeverEnds (first_reading Chunked) input → HasNoBody Chunked input
-never_no_body input never more body rest is = never more body rest ((begins Chunked (input ++ more) body rest).0 is)
-
--- After a head.
-
-module _ {bytes : List ℕ} {end : ℕ} (at : IsToldAt bytes end) (some : has_no_method bytes ≡ false) where
-  abbrev pub front : List ℕ
-  front = take end bytes
-
-  abbrev pub after : List ℕ
-  after = drop end bytes
-
-  -- a prefix that is no head
-  pub begins_no_head : IsNoHead front → (more : List ℕ) → BeginsWith (bytes ++ more) NoHead []
-  begins_no_head none more = (front, after ++ more, front_stays bytes more end at some, none, refl)
-
-  pub front_here : BeginsWithFront bytes front after
-  front_here = rw (append-nil bytes, append-nil after) at (front_stays bytes [] end at some)
-
-  module _ {h : RequestHead} (is : IsHead front h) {kind : Result BodyKind Unframed} (framed : head_kind (parts_of h) ≡ kind) where
-    pub begins_head : (more : List ℕ) → BeginsWithHead (bytes ++ more) h kind (after ++ more)
-    begins_head more = record { front = front; begins = front_stays bytes more end at some; is_head = is; framed = framed }
-
-    pub head_here : BeginsWithHead bytes h kind after
-    head_here = record { front = front; begins = front_here; is_head = is; framed = framed }
-
-  -- a head whose body is not read
-  pub begins_unread : {h : RequestHead} → IsHead front h → {why : Unframed} → head_kind (parts_of h) ≡ Err why
-      → (more : List ℕ) → BeginsWith (bytes ++ more) (Unread h why) []
-  begins_unread is framed more = (after ++ more, begins_head is framed more, refl)
-
-  -- a head with chunks that are no body
-  pub begins_bad : {h : RequestHead} → IsHead front h → head_kind (parts_of h) ≡ Ok Chunked → HasNoBody Chunked after
-      → (more : List ℕ) → BeginsWith (bytes ++ more) (BadBody h) []
-  begins_bad is framed none more = (
-    after ++ more,
-    begins_head is framed more,
-    λ later body rest is_body. none (more ++ later) body rest (rw append_assoc at is_body),
-    refl,
-  )
-
-  -- a head with its body
-  pub begins_asks : {h : RequestHead} → IsHead front h → {kind : BodyKind} → head_kind (parts_of h) ≡ Ok kind
-      → (body rest : List ℕ) → ((more : List ℕ) → IsBody kind (after ++ more) body (rest ++ more))
-      → (more : List ℕ) → BeginsWith (bytes ++ more) (Asks h body) (rest ++ more)
-  begins_asks {h} is {kind} framed body rest is_body more = (kind, after ++ more, begins_head is framed more, is_body more)
-
-  -- a head whose body is not whole
-  pub open_with_head : {h : RequestHead} → IsHead front h → {kind : BodyKind} → head_kind (parts_of h) ≡ Ok kind
-      → ((body rest : List ℕ) → ¬ (IsBody kind after body rest)) → IsOpen bytes
-  open_with_head is framed none NoMethod rest begins = absurd (not_both begins.0 some)
-  open_with_head is framed none NoHead rest begins = absurd (head_or_none begins.2 begins.3 (head_here is framed))
-  open_with_head is framed none (Unread k why) rest begins = absurd (not_framed_both framed (kind_same (head_here is framed) begins.1))
-  open_with_head is framed none (BadBody k) rest begins = refl
-  open_with_head {h} is {kind} framed none (Asks k body) rest begins =
-      let kinds : begins.0 ≡ kind = same_kind (kind_same (head_here is framed) begins.2) framed in
-      absurd (none body rest (rw (kinds, ← (fronts (head_here is framed) begins.2).1) at begins.3))
-
 -- What is taken.
 
 pub takes_no_method : (bytes : List ℕ) → has_no_method bytes ≡ true → IsFirstOf bytes taken.NoMethod (length bytes)
 takes_no_method bytes none = grind (arith, begins, no_method_stays)
 
 module _ {bytes : List ℕ} {end : ℕ} (at : IsToldAt bytes end) (some : has_no_method bytes ≡ false) where
+  abbrev front : List ℕ
+  front = take end bytes
+
+  abbrev after : List ℕ
+  after = drop end bytes
+
   -- a prefix that is no head
-  pub takes_no_head : (why : Denial) → IsDeniedFront (take end bytes) why → IsFirstOf bytes (taken.Denied why) (length bytes)
+  pub takes_no_head : (why : Denial) → IsDeniedFront front why → IsFirstOf bytes (taken.Denied why) (length bytes)
   takes_no_head why denied = record {
     sent = NoHead;
-    is_taken = record { front = take end bytes; first = (front_here at some).first; why = denied.why };
+    is_taken = record { front = front; first = told_here bytes end at; why = denied.why };
     within = omega arith;
-    begins = begins_no_head at some denied.is_none;
+    begins = λ more. (front, after ++ more, front_stays bytes more end at some, denied.is_none, refl);
   }
 
-  module _ {h : RequestHead} (is : IsHead (take end bytes) h) where
-    -- a head whose body is not read
-    pub takes_unread : {reason : Unframed} → head_kind (parts_of h) ≡ Err reason
-        → IsFirstOf bytes (taken.Denied (denial_of reason)) (length bytes)
-    takes_unread {reason} framed = record {
-      sent = Unread h reason;
-      is_taken = refl;
-      within = omega arith;
-      begins = begins_unread at some is framed;
+  module _ {parts : Parts} (head : IsHeadWith front parts) where
+    begins_head : {kind : Result BodyKind Unframed} → kind ≡ head_kind parts → (more : List ℕ)
+        → BeginsWithHead (bytes ++ more) head.0 kind (after ++ more)
+    begins_head framed more = record {
+      front = front;
+      begins = front_stays bytes more end at some;
+      is_head = head.1;
+      framed = ap head_kind (sym head.2) ∙ sym framed;
     }
 
-    module _ {kind : BodyKind} (framed : head_kind (parts_of h) ≡ Ok kind) (fits : IsWithinLimit kind) where
-      -- chunks that are no body
-      pub takes_bad : NeverEnds (first_reading kind) (drop end bytes) → IsFirstOf bytes (taken.Denied BadHead) (length bytes)
-      takes_bad never = bad_by kind framed fits never
-        where
-          bad_by : (k : BodyKind) → head_kind (parts_of h) ≡ Ok k → IsWithinLimit k → NeverEnds (first_reading k) (drop end bytes)
-              → IsFirstOf bytes (taken.Denied BadHead) (length bytes)
-          bad_by (Sized count) framed fits never = absurd (sized_ends count (drop end bytes) fits never)
-          bad_by Chunked framed fits never = record {
-            sent = BadBody h;
-            is_taken = inl refl;
-            within = omega arith;
-            begins = begins_bad at some is framed (never_no_body (drop end bytes) never);
-          }
+    head_here : {kind : Result BodyKind Unframed} → kind ≡ head_kind parts → BeginsWithHead bytes head.0 kind after
+    head_here framed = rw (append-nil bytes, append-nil after) at (begins_head framed [])
 
-      -- chunks with too much data
-      pub takes_large : Exceeds (first_reading kind) (drop end bytes) → IsFirstOf bytes (taken.Denied TooLarge) (length bytes)
-      takes_large past = large_by kind framed past
-        where
-          large_by : (k : BodyKind) → head_kind (parts_of h) ≡ Ok k → Exceeds (first_reading k) (drop end bytes)
-              → IsFirstOf bytes (taken.Denied TooLarge) (length bytes)
-          large_by (Sized count) framed past = absurd (sized_fits count (drop end bytes) past)
-          large_by Chunked framed past =
-              let large = exceeds_large (drop end bytes) past in
-              record {
-                sent = BadBody h;
-                is_taken = inr (refl, record { after = drop end bytes; begins = head_here at some is framed; large = large });
-                within = omega arith;
-                begins = begins_bad at some is framed (large_never (drop end bytes) large);
-              }
+    -- a head whose body is not read
+    pub takes_unread : {reason : Unframed} → Err reason ≡ head_kind parts → IsFirstOf bytes (taken.Denied (denial_of reason)) (length bytes)
+    takes_unread {reason} framed = record {
+      sent = Unread head.0 reason;
+      is_taken = refl;
+      within = omega arith;
+      begins = λ more. (after ++ more, begins_head framed more, refl);
+    }
 
-      -- a request, whole
-      pub takes_asks : {r : WideRequest} {new : Reading} {count : ℕ} → Ends (first_reading kind) (drop end bytes) new count
-          → IsWideRequest r h new.body → IsFirstOf bytes (taken.Asks r) (end + count)
-      takes_asks {r} {new} {count} ends asks = record {
-        sent = Asks h new.body;
-        is_taken = asks;
-        within = omega (arith, ends.within, at.within, length-drop end bytes);
-        begins = λ more. rw (drop-drop count end bytes) at (begins_asks at some is framed new.body (drop count (drop end bytes))
-            (λ later. (begins kind (drop end bytes ++ later) new.body _).1 (ends.whole later)) more);
-      }
+    -- a head with chunks that are no body
+    takes_chunks : (why : Denial) → Ok Chunked ≡ head_kind parts → IsWideMessage bytes (taken.Denied why) (BadBody head.0)
+        → HasNoBody Chunked after → IsFirstOf bytes (taken.Denied why) (length bytes)
+    takes_chunks why framed is none = record {
+      sent = BadBody head.0;
+      is_taken = is;
+      within = omega arith;
+      begins = λ more. (
+        after ++ more,
+        begins_head framed more,
+        λ later body rest is_body. none (more ++ later) body rest (rw append_assoc at is_body),
+        refl,
+      );
+    }
 
-      -- a body that is not whole
-      pub is_open : {new : Reading} {count : ℕ} → Goes (first_reading kind) (drop end bytes) new count → IsOpen bytes
-      is_open goes =
-          open_with_head at some is framed
-          (λ body rest is_body. goes.unfinished body rest ((begins kind (drop end bytes) body rest).0 is_body))
+    pub takes_bad : (kind : BodyKind) → Ok kind ≡ head_kind parts → IsWithinLimit kind → NeverEnds (first_reading kind) after
+        → IsFirstOf bytes (taken.Denied BadHead) (length bytes)
+    takes_bad (Sized count) framed fits never = absurd (sized_ends count after fits never)
+    takes_bad Chunked framed fits never = takes_chunks BadHead framed (inl refl)
+        (λ more body rest is. never more body rest ((begins Chunked (after ++ more) body rest).0 is))
 
--- what is asked by the places of a head is what the head asks
-pub asks_of : {front : List ℕ} {head : Head} {h : RequestHead} {body : List ℕ} {r : WideRequest} → parts_in front head ≡ parts_of h
-    → AsksAt front head body r → IsWideRequest r h body
-asks_of {front} {head} {h} {body} {r} same asks = grind arith
+    pub takes_large : (kind : BodyKind) → Ok kind ≡ head_kind parts → Exceeds (first_reading kind) after
+        → IsFirstOf bytes (taken.Denied TooLarge) (length bytes)
+    takes_large (Sized count) framed past = absurd past
+    takes_large Chunked framed past =
+        let large : IsLarge after = omega (arith, past) in
+        takes_chunks TooLarge framed (inr (refl, record { after = after; begins = head_here framed; large = large })) (large_never after large)
 
--- a body that ends is short
-pub ends_short : (kind : BodyKind) {input : List ℕ} {new : Reading} {count : ℕ} → Ends (first_reading kind) input new count
-    → length new.body ≤ most_bytes
-ends_short kind ends = (ends.whole []).short
+    -- a request, whole
+    pub takes_asks : {kind : BodyKind} → Ok kind ≡ head_kind parts → {r : WideRequest} {new : Reading} {count : ℕ}
+        → Ends (first_reading kind) after new count → r.kind ≡ asked_kind parts.method → SaysPlainly r.request parts new.body
+        → IsFirstOf bytes (taken.Asks r) (end + count)
+    takes_asks {kind} framed {r} {new} {count} ends asked says = record {
+      sent = Asks head.0 new.body;
+      is_taken = record {
+        kind = asked ∙ ap (λ p. asked_kind p.method) head.2;
+        request = rw head.2 at (as_request r.request parts new.body (ends.whole []).short says);
+      };
+      within = omega (arith, ends.within, at.within, length-drop end bytes);
+      begins = λ more. (
+        kind,
+        after ++ more,
+        begins_head framed more,
+        rw (drop-drop count end bytes) at ((begins kind (after ++ more) new.body _).1 (ends.whole more)),
+      );
+    }
+
+    -- a body that is not whole
+    pub is_open : {kind : BodyKind} → Ok kind ≡ head_kind parts → {new : Reading} {count : ℕ} → Goes (first_reading kind) after new count
+        → IsOpen bytes
+    is_open framed goes NoMethod rest is = absurd (not_both is.0 some)
+    is_open framed goes NoHead rest is = absurd (head_or_none is.2 is.3 (head_here framed))
+    is_open framed goes (Unread k why) rest is = absurd (not_framed_both (head_here framed).framed (kind_same (head_here framed) is.1))
+    is_open framed goes (BadBody k) rest is = refl
+    is_open {kind} framed goes (Asks k body) rest is =
+        let here = head_here framed in
+        let kinds : is.0 ≡ kind = same_kind (kind_same here is.2) here.framed in
+        absurd (goes.unfinished body rest ((begins kind after body rest).0 (rw (kinds, ← (fronts here is.2).1) at is.3)))

@@ -1,33 +1,39 @@
 -- What the places of a head's parts in its bytes mean.
 use Rattle.std.specs.Prelude.{◌≡◌, ℕ, ◌<◌, true, false, List, [], ◌∷◌, map, length, take, if◌then◌else◌, Option, Some, None}
-use Rattle.httparse.specs.declared.spans.Span.{Span}
 use Rattle.httparse.specs.declared.spans.HeaderSpan.{HeaderSpan}
+use Rattle.httparse.specs.declared.spans.RequestSpans.{RequestSpans}
 use Rattle.httparse.specs.Grammar.{ReadsRequest, RequestHead}
-use Rattle.httparse.specs.Spans.{IsRequestWithin, IsWithin, RequestExceeds, header_bytes, span_bytes}
-use Rattle.http_messages.specs.Heads.{IsHead, IsNoHead, Named, Parts, are_lengths, is_length, length_in, most_fields, parts_of}
+use Rattle.httparse.specs.Spans.{RequestExceeds, header_bytes, span_bytes}
+use Rattle.http_messages.specs.Heads.{IsHead, IsNoHead, Parts, are_lengths, is_length, length_in, most_fields, parts_of}
 use Rattle.http_messages.specs.declared.heads.Found.{Found}
 use Rattle.http_messages.specs.declared.heads.Found.TheVariants.{Absent, Once, Again}
 use Rattle.http_messages.specs.declared.requests.Length.{Length}
 use Rattle.http_messages.specs.declared.requests.Length.TheVariants.{Untold, Bytes, Bad}
-use Rattle.http_messages.specs.declared.heads.Head.{Head}
 use Rattle.http_messages.specs.declared.heads.NotHead.{NotHead}
 use Rattle.http_messages.specs.declared.heads.NotHead.TheVariants.{TooManyFields, Other}
 
--- the names and values at these places
-abbrev pub named_in : List ℕ → List HeaderSpan → List Named
-named_in front fields = map (header_bytes front) fields
+-- the parts at the places of a head
+abbrev pub parts_at : List ℕ → List HeaderSpan → RequestSpans → Parts
+parts_at front fields line = record {
+  method = span_bytes front line.method;
+  target = span_bytes front line.path;
+  minor = line.version;
+  fields = map (header_bytes front) (take line.headers fields);
+}
+
+-- the prefix is some head, with these parts
+abbrev pub IsHeadWith : List ℕ → Parts → Type 0
+IsHeadWith front parts = (h : RequestHead) × IsHead front h × (parts ≡ parts_of h)
+
+-- with the values that are left, the values are just those, or this one and those, or more than one
+abbrev pub IsFoundBefore : List (List ℕ) → Found → List (List ℕ) → Type 0
+IsFoundBefore left Absent values = values ≡ left
+IsFoundBefore left (Once value) values = values ≡ value.now ∷ left
+IsFoundBefore left Again values = 1 < length values
 
 -- the values are none, or this one, or more than one
-abbrev pub IsFound : List ℕ → Found → List (List ℕ) → Type 0
-IsFound front Absent values = values ≡ []
-IsFound front (Once span) values = IsWithin (length front) span × (values ≡ span_bytes front span ∷ [])
-IsFound front Again values = 1 < length values
-
--- what is found with one more value
-abbrev pub found_and : Found → Span → Found
-found_and Absent span = Once span
-found_and (Once other) span = Again
-found_and Again span = Again
+abbrev pub IsFound : Found → List (List ℕ) → Type 0
+IsFound found values = IsFoundBefore [] found values
 
 -- the length that a text spells, if it spells one
 abbrev pub length_of : List ℕ → Option ℕ
@@ -39,29 +45,6 @@ Tells Untold values = values ≡ []
 Tells (Bytes n) values =
     (are_lengths values ≡ true) × (length values ≡ 1) × (length_in values ≡ n)
 Tells Bad values = are_lengths values ≡ false
-
--- the parts at the places of a head
-abbrev pub parts_in : List ℕ → Head → Parts
-parts_in front head = record {
-  method = span_bytes front head.line.method;
-  target = span_bytes front head.line.path;
-  minor = head.line.version;
-  fields = named_in front (take head.line.headers head.fields);
-}
-
--- the places of a head lie in its bytes
-abbrev pub LiesIn : List ℕ → Head → Type 0
-LiesIn front head = IsRequestWithin front head.fields head.line
-
--- the prefix is a head, and its parts are at these places
-pub record IsHeadAt (front : List ℕ) (head : Head) (h : RequestHead) : Type 0 where
-  pub is_head : IsHead front h
-  pub lies : LiesIn front head
-  pub parts : parts_in front head ≡ parts_of h
-
--- the prefix is some head, with its parts at these places
-abbrev pub IsSomeHeadAt : List ℕ → Head → Type 0
-IsSomeHeadAt front head = (h : RequestHead) × IsHeadAt front head h
 
 -- no head of any number of fields
 abbrev pub IsNoHeadAtAll : List ℕ → Type 0

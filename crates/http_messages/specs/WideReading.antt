@@ -13,9 +13,7 @@ use Rattle.http_messages.specs.declared.framing.BodyKind.{BodyKind}
 use Rattle.http_messages.specs.declared.framing.BodyKind.TheVariants.{Sized, Chunked}
 use Rattle.http_messages.specs.declared.framing.Unframed.{Unframed}
 use Rattle.http_messages.specs.WideHeads.{IsWhy, asks_to_go_on}
-use Rattle.http_messages.specs.Fields.{parts_in}
 use Rattle.http_messages.specs.Plain.{plain_parts}
-use Rattle.http_messages.specs.declared.heads.Head.{Head}
 use Rattle.http_messages.specs.declared.wide_messages.WideMessage.{WideMessage}
 use Rattle.http_messages.specs.declared.wide_messages.WideMessage.TheVariants as taken
 use Rattle.http_messages.specs.declared.wide_messages.WideRequest.{WideRequest}
@@ -24,11 +22,6 @@ use Rattle.http_messages.specs.declared.wide_messages.WideRequest.{WideRequest}
 pub record IsWideRequest (r : WideRequest) (h : RequestHead) (body : List ℕ) : Type 0 where
   pub kind : r.kind ≡ asked_kind h.method
   pub request : IsRequest r.request (plain_parts (parts_of h) body) body
-
--- the same, by the places of the head
-pub record AsksAt (front : List ℕ) (head : Head) (body : List ℕ) (r : WideRequest) : Type 0 where
-  pub kind : r.kind ≡ asked_kind (parts_in front head).method
-  pub request : IsRequest r.request (plain_parts (parts_in front head) body) body
 
 -- the bytes begin with no head, for this reason
 pub record IsDeniedHead (bytes : List ℕ) (denial : Denial) : Type 0 where

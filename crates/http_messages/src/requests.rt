@@ -83,12 +83,12 @@ pub fn first_message(alloc: Global, bytes: &[u8]) -> Result<Option<(Message, usi
     let Ok(head) = Head::read(front) else {
         return Ok(Some((Message::NoHead, end)));
     };
-    let count = head.body_length(front);
+    let count = head.body_length();
     if bytes.len() - end < count {
         return Ok(None);
     }
     let whole = end + count;
     let body = bytes[end..whole].to_vec(alloc)?;
-    let request = head.request(alloc, front, body)?;
+    let request = head.request(alloc, body)?;
     Ok(Some((Message::Asks(request), whole)))
 }

@@ -2,7 +2,6 @@
 ghost use Rattle.http_messages.specs.Fields.{IsNoHeadFor};
 ghost use Rattle.http_messages.specs.WideHeads.{IsDeniedFront};
 
-use crate::asked::{AskedKind, asked_kind};
 use crate::denials::Denial;
 use crate::framing::{BodyKind, Unframed, body_kind};
 use crate::heads::{Found, Head, NotHead};
@@ -28,97 +27,56 @@ pub(crate) fn denial_for(front: &[u8], why: NotHead) -> Denial
     }
 }
 
-impl Head {
-    ghost use Rattle.std.specs.Prelude.{◌≡◌, ◌≤◌, length, IfOk};
+impl<'a> Head<'a> {
+    ghost use Rattle.std.specs.Prelude.{◌≡◌, IfOk};
     ghost use Rattle.http1.specs.Fields.{known_fields};
-    ghost use Rattle.commands.specs.Limits.{most_bytes};
-    ghost use Rattle.http_messages.specs.Fields.{LiesIn, parts_in};
-    ghost use Rattle.http_messages.specs.Requests.{IsRequest};
-    ghost use Rattle.http_messages.specs.Framing.{IsWithinLimit, asked_kind, has_host, head_kind};
+    ghost use Rattle.http_messages.specs.Framing.{IsWithinLimit, has_host, head_kind};
     ghost use Rattle.http_messages.specs.Wide.{ends_after};
     ghost use Rattle.http_messages.specs.WideHeads.{asks_to_go_on};
-    ghost use Rattle.http_messages.specs.Plain.{SaysPlainly, plain_key_of, plain_parts};
-
-    /// What it asks for.
-    pub(crate) fn asked_kind(&self, front: &[u8]) -> AskedKind
-        requires { LiesIn front.now self.now }
-        ensures kind { result ≡ asked_kind (parts_in front.now self.now).method }
-    {
-        asked_kind(self.line.method.of(front))
-    }
+    ghost use Rattle.http_messages.specs.Plain.{SaysPlainly, plain_key_of};
 
     /// How its body is framed.
-    pub(crate) fn kind(&self, front: &[u8]) -> Result<BodyKind, Unframed>
-        requires { LiesIn front.now self.now }
-        ensures kind { result ≡ head_kind (parts_in front.now self.now) }
+    pub(crate) fn kind(&self) -> Result<BodyKind, Unframed>
+        ensures kind { result ≡ head_kind self.now }
         ensures within { IfOk result IsWithinLimit }
     {
-        if !self.has_host(front) {
+        if !self.has_host() {
             return Err(Unframed::BadHead);
         }
-        body_kind(
-            self.line.method.of(front),
-            self.line.version,
-            &self.known(front),
-        )
+        body_kind(self.method(), self.line.version, &self.known())
     }
 
     /// Whether it is of HTTP/1.1 and asks for `100 Continue`.
-    pub(crate) fn expects(&self, front: &[u8]) -> bool
-        requires { LiesIn front.now self.now }
-        ensures expects { result ≡ asks_to_go_on (parts_in front.now self.now) }
+    pub(crate) fn expects(&self) -> bool
+        ensures expects { result ≡ asks_to_go_on self.now }
     {
-        self.line.version == 1 && self.known(front).expect_continue
+        self.line.version == 1 && self.known().expect_continue
     }
 
     /// The request of the profile that stands for this head with this body.
-    pub(crate) fn wide_request(
-        &self,
-        alloc: Global,
-        front: &[u8],
-        body: Vec<u8>,
-    ) -> Result<Request, AllocError>
-        requires lies { LiesIn front.now self.now }
-        requires short { length body.items ≤ most_bytes }
-        ensures request { IfOk result (λ request. IsRequest request
-            (plain_parts (parts_in front.now self.now) body.items) body.items) }
+    pub(crate) fn plain_request(&self, alloc: Global, body: Vec<u8>) -> Result<Request, AllocError>
+        ensures says { IfOk result (λ request. SaysPlainly request self.now body.items) }
     {
-        self.plain_request(alloc, front, body)
-    }
-
-    /// The same, as it is said.
-    fn plain_request(
-        &self,
-        alloc: Global,
-        front: &[u8],
-        body: Vec<u8>,
-    ) -> Result<Request, AllocError>
-        requires { LiesIn front.now self.now }
-        ensures says { IfOk result
-            (λ request. SaysPlainly request (parts_in front.now self.now) body.items) }
-    {
-        let target = self.line.path.of(front);
-        let host = host_for(target, self.host(front));
+        let host = host_for(self.target(), self.host());
         Ok(Request {
-            method: plain_method(self.line.method.of(front)).to_vec(alloc)?,
-            target: plain_target(target).to_vec(alloc)?,
+            method: plain_method(self.method()).to_vec(alloc)?,
+            target: plain_target(self.target()).to_vec(alloc)?,
             host: host.to_vec(alloc)?,
-            agent: self.agent(front),
-            is_unnamed: self.is_unnamed(front),
-            key: self.wide_key(alloc, front)?,
+            agent: self.agent(),
+            is_unnamed: self.is_unnamed(),
+            key: self.wide_key(alloc)?,
             body,
-            closes: self.ends(front),
+            closes: self.ends(),
             complaint: None,
             is_head: false,
         })
     }
 
     /// Whether it names a host as it must.
-    fn has_host(&self, front: &[u8]) -> bool
-        requires { LiesIn front.now self.now }
-        ensures host { result ≡ has_host (parts_in front.now self.now) }
+    fn has_host(&self) -> bool
+        ensures host { result ≡ has_host self.now }
     {
-        match self.find(front, b"host") {
+        match self.find(b"host") {
             Found::Once(_) => true,
             Found::Absent => self.line.version == 0,
             Found::Again => false,
@@ -126,29 +84,26 @@ impl Head {
     }
 
     /// Under which key.
-    fn wide_key(&self, alloc: Global, front: &[u8]) -> Result<Option<Key>, AllocError>
-        requires { LiesIn front.now self.now }
-        ensures key { IfOk result (λ key. key ≡ plain_key_of (parts_in front.now self.now)) }
+    fn wide_key(&self, alloc: Global) -> Result<Option<Key>, AllocError>
+        ensures key { IfOk result (λ key. key ≡ plain_key_of self.now) }
     {
-        match self.find(front, b"desk-key") {
-            Found::Once(value) => plain_key(alloc, value.of(front)),
+        match self.find(b"desk-key") {
+            Found::Once(value) => plain_key(alloc, value),
             Found::Absent | Found::Again => Ok(None),
         }
     }
 
     /// Whether the connection ends after it.
-    fn ends(&self, front: &[u8]) -> bool
-        requires { LiesIn front.now self.now }
-        ensures ends { result ≡ ends_after (parts_in front.now self.now) }
+    fn ends(&self) -> bool
+        ensures ends { result ≡ ends_after self.now }
     {
-        self.line.version == 0 || self.known(front).close
+        self.line.version == 0 || self.known().close
     }
 
     /// What its fields say of the connection and the body.
-    fn known(&self, front: &[u8]) -> KnownFields
-        requires { LiesIn front.now self.now }
-        ensures known { result ≡ known_fields (parts_in front.now self.now).fields }
+    fn known(&self) -> KnownFields
+        ensures known { result ≡ known_fields self.now.fields }
     {
-        KnownFields::from_spans(front, self.fields())
+        KnownFields::from_spans(self.front, &self.fields[..self.line.headers])
     }
 }

@@ -1,13 +1,10 @@
 //! The first message of bytes as libraries, proxies and pools write HTTP, and when `100 Continue` is sent.
-ghost use Rattle.std.specs.Prelude.{◌≡◌, ◌≤◌, IfOk, IsTrue, Ok, false, length, take};
-ghost use Rattle.commands.specs.Limits.{most_bytes};
+ghost use Rattle.std.specs.Prelude.{◌≡◌, IfOk, IsTrue, false};
 ghost use Rattle.http_messages.specs.Places.{IsToldAt};
-ghost use Rattle.http_messages.specs.Framing.{IsWithinLimit, head_kind};
 ghost use Rattle.http_messages.specs.Wide.{begins_no_method, has_no_method};
-ghost use Rattle.http_messages.specs.Fields.{IsSomeHeadAt, LiesIn, parts_in};
-ghost use Rattle.http_messages.specs.WideReading.{AsksAt, IsDue, IsFirstWide, has_body};
+ghost use Rattle.http_messages.specs.WideReading.{IsDue, IsFirstWide, has_body};
 
-use crate::asked::AskedKind;
+use crate::asked::{AskedKind, asked_kind};
 use crate::bodies::{BodyFault, BodyReader, Progress};
 use crate::denials::Denial;
 use crate::framing::{BodyKind, Unframed};
@@ -66,71 +63,29 @@ fn at_front(
     requires told { IsToldAt bytes.now end }
     ensures first { IfOk result (IsFirstWide bytes.now) }
 {
-    match Head::read(&bytes[..end]) {
-        Ok(head) => at_head(alloc, bytes, end, &head),
-        Err(why) => {
-            let denial = denial_for(&bytes[..end], why);
-            Ok(Some((WideMessage::Denied(denial), bytes.len())))
-        }
-    }
-}
-
-/// The first message, where that prefix is this head.
-fn at_head(
-    alloc: Global,
-    bytes: &[u8],
-    end: usize,
-    head: &Head,
-) -> Result<Option<(WideMessage, usize)>, AllocError>
-    requires method { has_no_method bytes.now ≡ false }
-    requires told { IsToldAt bytes.now end }
-    requires head { IsSomeHeadAt (take end bytes.now) head.now }
-    ensures first { IfOk result (IsFirstWide bytes.now) }
-{
-    match head.kind(&bytes[..end]) {
-        Ok(kind) => at_body(alloc, bytes, end, head, kind),
-        Err(why) => Ok(Some((WideMessage::Denied(Denial::of(why)), bytes.len()))),
-    }
-}
-
-/// The first message, where its body is of this kind.
-fn at_body(
-    alloc: Global,
-    bytes: &[u8],
-    end: usize,
-    head: &Head,
-    kind: BodyKind,
-) -> Result<Option<(WideMessage, usize)>, AllocError>
-    requires method { has_no_method bytes.now ≡ false }
-    requires told { IsToldAt bytes.now end }
-    requires head { IsSomeHeadAt (take end bytes.now) head.now }
-    requires kind { head_kind (parts_in (take end bytes.now) head.now) ≡ Ok kind }
-    requires within { IsWithinLimit kind }
-    ensures first { IfOk result (IsFirstWide bytes.now) }
-{
+    let front = &bytes[..end];
+    let head = match Head::read(front) {
+        Ok(head) => head,
+        Err(why) => return Ok(Some((WideMessage::Denied(denial_for(front, why)), bytes.len()))),
+    };
+    let kind = match head.kind() {
+        Ok(kind) => kind,
+        Err(why) => return Ok(Some((WideMessage::Denied(Denial::of(why)), bytes.len()))),
+    };
     let mut reader = BodyReader::new(alloc, kind);
     match reader.read(&bytes[end..]) {
         Ok(Progress::More(_)) => Ok(None),
         Ok(Progress::Whole(count)) => {
-            let asks = asked(alloc, &bytes[..end], head, reader.into_body())?;
+            let asks = WideRequest {
+                kind: asked_kind(head.method()),
+                request: head.plain_request(alloc, reader.into_body())?,
+            };
             Ok(Some((WideMessage::Asks(asks), end + count)))
         }
         Err(BodyFault::Memory) => Err(AllocError),
         Err(BodyFault::TooLarge) => Ok(Some((WideMessage::Denied(Denial::TooLarge), bytes.len()))),
         Err(BodyFault::Malformed) => Ok(Some((WideMessage::Denied(Denial::BadHead), bytes.len()))),
     }
-}
-
-/// The request of a head with this body.
-fn asked(alloc: Global, front: &[u8], head: &Head, body: Vec<u8>) -> Result<WideRequest, AllocError>
-    requires lies { LiesIn front.now head.now }
-    requires short { length body.items ≤ most_bytes }
-    ensures asked { IfOk result (AsksAt front.now head.now body.items) }
-{
-    Ok(WideRequest {
-        kind: head.asked_kind(front),
-        request: head.wide_request(alloc, front, body)?,
-    })
 }
 
 /// Whether the bytes begin with no method, as far as a head may reach.
@@ -171,7 +126,7 @@ pub fn go_on_is_due(bytes: &[u8], was_sent: bool) -> bool
         return false;
     }
     match Head::read(bytes) {
-        Ok(head) => head.expects(bytes) && has_body(head.kind(bytes)),
+        Ok(head) => head.expects() && has_body(head.kind()),
         Err(_) => false,
     }
 }

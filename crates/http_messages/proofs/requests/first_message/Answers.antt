@@ -1,6 +1,5 @@
 -- The first message is the decided prefix, or the request of which it is the head.
 use Rattle.std.proofs.Common.{◌≡◌, ◌∙◌, ap, arith, drop, subst, take}
-use Rattle.http_messages.specs.Fields.{parts_in}
 use Rattle.http_messages.specs.Requests.{IsRequest}
 use Rattle.http_messages.proofs.FirstLemmas.{no_front_none, no_head_first, none_whole, request_first}
 use Rattle.http_messages.proofs.requests.first_message.Goals as goal
@@ -33,6 +32,6 @@ returns c =
       first = request_first bytes end count c.in-Ok.head c.in-Some.ensures.front
           c.in-Ok.ensures.head c.body_length-count.ensures.length c.in_ok-request.request
           (omega (arith, c.in-Some.ensures.front.within, c.if-bytes-end.false))
-          (subst (λ body. IsRequest c.in_ok-request.request (parts_in (take end bytes) c.in-Ok.head) body) is_body
+          (subst (λ body. IsRequest c.in_ok-request.request c.in-Ok.head body) is_body
           c.in_ok-request.ensures.request);
     }

@@ -1,5 +1,5 @@
 -- It is due for the head that is all of the bytes, and for no other.
-use Rattle.std.proofs.Common.{◌≡◌, ◌∙◌, ap, sym, subst, length, arith, ℕ, ◌<◌, ◌≤◌, true, false, List, [], take, append-nil, Some, length-take-le, take_all}
+use Rattle.std.proofs.Common.{◌≡◌, ◌∙◌, ap, sym, subst, length, arith, ℕ, ◌<◌, ◌≤◌, true, false, List, [], append-nil, Some, length-take-le, take_all}
 use Rattle.http_messages.specs.Places.{IsToldAt}
 use Rattle.http_messages.specs.Framing.{head_kind}
 use Rattle.http_messages.specs.WideHeads.{asks_to_go_on}
@@ -9,13 +9,9 @@ use Rattle.httparse.specs.Grammar.{RequestHead}
 use Rattle.httparse.proofs.GrammarLemmas.{request_unique}
 use Rattle.http_messages.specs.Heads.{IsHead, parts_of}
 use Rattle.http_messages.specs.Messages.{first_told}
-use Rattle.http_messages.proofs.HeadLemmas.{first_of_told}
+use Rattle.http_messages.proofs.HeadLemmas.{told_here}
 use Rattle.http_messages.specs.Wide.{has_no_method}
 use Rattle.http_messages.proofs.LawLemmas.{same_front}
-
--- the decided prefix of the bytes themselves
-told_here : (bytes : List ℕ) (end : ℕ) → IsToldAt bytes end → first_told bytes ≡ Some (take end bytes)
-told_here bytes end at = ap first_told (sym (append-nil bytes)) ∙ first_of_told bytes [] end at
 
 -- where it is due, the head is all that came
 due_is_all : (bytes : List ℕ) (end : ℕ) → IsToldAt bytes end → IsDue bytes → end < length bytes → ⊥
@@ -50,20 +46,20 @@ ends_here bytes end at all = subst (IsToldAt bytes) (omega (arith, at.within)) a
 pub returns-then-expects-clause-due : goal.returns-then-expects-clause-due
 returns-then-expects-clause-due c has =
     let head = c.in-Ok.ensures.head in
-    is_due c.args.bytes.now (ends_here _ _ c.in-Some.ensures.front c.if-end-bytes.false) head.0 head.1.is_head
+    is_due c.args.bytes.now (ends_here _ _ c.in-Some.ensures.front c.if-end-bytes.false) head.0 head.1
     (sym c.has_no_method.ensures.none ∙ c.if-has_no_method.false)
-    (ap asks_to_go_on (sym head.1.parts) ∙ sym c.expects.ensures.expects ∙ c.if-expects.true)
-    (ap (λ parts. has_body (head_kind parts)) (sym head.1.parts) ∙ ap has_body (sym c.kind.ensures.kind) ∙ sym c.has_body.ensures.body ∙ has)
+    (ap asks_to_go_on (sym head.2) ∙ sym c.expects.ensures.expects ∙ c.if-expects.true)
+    (ap (λ parts. has_body (head_kind parts)) (sym head.2) ∙ ap has_body (sym c.kind.ensures.kind) ∙ sym c.has_body.ensures.body ∙ has)
 
 pub returns-then-expects-clause-all : goal.returns-then-expects-clause-all
 returns-then-expects-clause-all c due unsent =
     let head = c.in-Ok.ensures.head in
-    c.has_body.ensures.body ∙ ap has_body c.kind.ensures.kind ∙ ap (λ parts. has_body (head_kind parts)) head.1.parts
-    ∙ (due_asks _ (ends_here _ _ c.in-Some.ensures.front c.if-end-bytes.false) due head.0 head.1.is_head).1
+    c.has_body.ensures.body ∙ ap has_body c.kind.ensures.kind ∙ ap (λ parts. has_body (head_kind parts)) head.2
+    ∙ (due_asks _ (ends_here _ _ c.in-Some.ensures.front c.if-end-bytes.false) due head.0 head.1).1
 
 -- it does not ask for it
 pub returns-else-expects-clause-all : goal.returns-else-expects-clause-all
 returns-else-expects-clause-all c due unsent =
     let head = c.in-Ok.ensures.head in
-    c.expects.ensures.expects ∙ ap asks_to_go_on head.1.parts
-    ∙ (due_asks _ (ends_here _ _ c.in-Some.ensures.front c.if-end-bytes.false) due head.0 head.1.is_head).0
+    c.expects.ensures.expects ∙ ap asks_to_go_on head.2
+    ∙ (due_asks _ (ends_here _ _ c.in-Some.ensures.front c.if-end-bytes.false) due head.0 head.1).0
