@@ -12,7 +12,7 @@ use Rattle.http_messages.specs.Places.{IsToldAt, WentThrough}
 use Rattle.http_messages.specs.Requests.{IsRequest}
 use Rattle.http_messages.specs.Fields.{IsHeadWith}
 use Rattle.http_messages.specs.Reading.{IsFirstOf}
-use Rattle.http_messages.specs.declared.places.Search.{Search}
+use Rattle.http_messages.specs.declared.places.Place.{Place}
 use Rattle.http_messages.specs.declared.requests.Request.{Request}
 use Rattle.http_messages.specs.declared.requests.Message.TheVariants as taken
 use Rattle.http_messages.proofs.HeadLemmas.{first_of_told}
@@ -42,9 +42,9 @@ find_none test (b ∷ xs) none =
     ap (λ z. if z then Some [] else find test (map (λ x. b ∷ x) (fronts xs))) (none 0 (omega arith))
     ∙ find_map_none test b (fronts xs) (find_none (λ x. test (b ∷ x)) xs (λ k within. none (suc k) (omega arith)))
 
--- where the search went through all bytes, none of their prefixes is decided
-pub none_told : (search : Search) (bytes : List ℕ) → WentThrough search bytes → first_told bytes ≡ None
-none_told search bytes went = find_none is_told bytes went.calm
+-- where the walk went through all bytes, none of their prefixes is decided
+pub none_told : (place : Place) (bytes : List ℕ) → WentThrough bytes (length bytes) place → first_told bytes ≡ None
+none_told place bytes went = find_none is_told bytes went.calm
 
 -- Messages.
 

@@ -1,9 +1,8 @@
 -- A walk through the bytes of a stream, which finds where a prefix is decided.
-use Rattle.std.specs.Prelude.{◌≡◌, ℕ, ◌≤◌, ◌<◌, ◌==◌, Bool, true, false, List, [], ◌∷◌, ◌++◌, length, take, if◌then◌else◌}
+use Rattle.std.specs.Prelude.{◌≡◌, ℕ, ◌≤◌, ◌<◌, ◌==◌, Bool, true, false, List, [], ◌∷◌, length, take, if◌then◌else◌}
 use Rattle.http_messages.specs.Messages.{is_newline, is_told}
 use Rattle.http_messages.specs.declared.places.Place.{Place}
 use Rattle.http_messages.specs.declared.places.Place.TheVariants.{Before, Within, AfterLf, AfterCr, Told}
-use Rattle.http_messages.specs.declared.places.Search.{Search}
 
 -- where one byte leads
 abbrev pub next_place : Place → ℕ → Place
@@ -26,21 +25,10 @@ is_told_place Within = false
 is_told_place AfterLf = false
 is_told_place AfterCr = false
 
--- the search went through these bytes, and none of their prefixes is decided
-pub record WentThrough (search : Search) (bytes : List ℕ) : Type 0 where
-  pub far : search.looked ≡ length bytes
-  pub place : search.place ≡ walk Before bytes
-  pub calm : (k : ℕ) → k ≤ length bytes → is_told (take k bytes) ≡ false
-
--- the bytes are decided, or the search went through them too
-abbrev pub WhereTold : Bool → Search → List ℕ → Type 0
-WhereTold true search bytes = is_told bytes ≡ true
-WhereTold false search bytes = WentThrough search bytes
-
--- the search examined one more byte
-abbrev pub LooksAt : Bool → Search → Search → ℕ → Type 0
-LooksAt told old new byte =
-    (seen : List ℕ) → WentThrough old seen → WhereTold told new (seen ++ byte ∷ [])
+-- the first so many bytes lead to this place, and none of their prefixes is decided
+pub record WentThrough (bytes : List ℕ) (n : ℕ) (place : Place) : Type 0 where
+  pub leads : walk Before (take n bytes) ≡ place
+  pub calm : (k : ℕ) → k ≤ n → is_told (take k bytes) ≡ false
 
 -- the first so many of these bytes are decided, and no shorter prefix is
 pub record IsToldAt (bytes : List ℕ) (end : ℕ) : Type 0 where

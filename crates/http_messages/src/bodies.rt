@@ -1,6 +1,5 @@
 //! The body of a request, as it arrives.
-ghost use Rattle.std.specs.Prelude.{◌≡◌, ◌<◌, ◌≤◌, ◌+◌, ◌++◌, ◌↔◌, ℕ, List, length, OnOk, OnErr, IfOk, IsErrOf};
-ghost use Rattle.commands.specs.Limits.{most_bytes};
+ghost use Rattle.std.specs.Prelude.{◌≡◌, ◌↔◌, ℕ, List, IfOk, IsErrOf};
 ghost use Rattle.http_messages.specs.Bodies.{Awaits, Exceeds, IsBody, Moves, NeverEnds, Reads, first_reading};
 ghost use Rattle.http_messages.specs.Framing.{IsWithinLimit};
 ghost use Rattle.http_messages.specs.declared.bodies.BodyFault.TheVariants.{Memory};
@@ -139,7 +138,12 @@ impl BodyReader {
                 Ok(Step::Waits(count))
             }
             Ok(Decoded::Data(piece)) => {
-                append(&mut self.body, piece.of(input))?;
+                let body = &mut self.body;
+                let data = piece.of(input);
+                if data.len() > MOST_BYTES - body.len() {
+                    return Err(BodyFault::TooLarge);
+                }
+                body.extend_from_slice(data)?;
                 self.decoder = decoder;
                 Ok(Step::Took(piece.end))
             }
@@ -147,22 +151,4 @@ impl BodyReader {
             Err(_) => Err(BodyFault::Malformed),
         }
     }
-}
-
-/// Appends a piece to a body, unless that becomes too large.
-fn append(body: &mut Vec<u8>, piece: &[u8]) -> Result<(), BodyFault>
-    requires { length body.old.items ≤ most_bytes }
-    ensures ok { OnOk result (body.new.items ≡ body.old.items ++ piece.now) }
-    ensures short { length body.new.items ≤ most_bytes }
-
-    ensures too_large { IsErrOf result BodyFault.TooLarge
-        → most_bytes < length body.old.items + length piece.now }
-    ensures never_malformed { ¬ (IsErrOf result BodyFault.Malformed) }
-    ensures err { OnErr result (body.new.items ≡ body.old.items) }
-{
-    if piece.len() > MOST_BYTES - body.len() {
-        return Err(BodyFault::TooLarge);
-    }
-    body.extend_from_slice(piece)?;
-    Ok(())
 }

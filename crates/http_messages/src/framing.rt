@@ -1,10 +1,10 @@
 //! How the body of a request is framed.
 ghost use Rattle.std.specs.Prelude.{◌≡◌, IfOk};
-ghost use Rattle.http_messages.specs.Framing.{IsWithinLimit, body_kind_by, kind_of};
+ghost use Rattle.http_messages.specs.Framing.{IsWithinLimit, body_kind_by};
 
 use commands::MOST_BYTES;
 use http1::fields::KnownFields;
-use http1::framing::{Framing, FramingError, MethodKind, request_framing};
+use http1::framing::{Framing, MethodKind, request_framing};
 
 /// How the body of a request is framed (RFC 9112, section 6.3).
 #[derive(Clone, Copy, Debug, PartialEq, Eq)]
@@ -39,15 +39,7 @@ pub fn body_kind(method: &[u8], minor: u8, fields: &KnownFields) -> Result<BodyK
     if fields.other_coding {
         return Err(Unframed::OtherCoding);
     }
-    kind_of(request_framing(MethodKind::of(method), minor, fields))
-}
-
-/// The kind of a framing that fits the limit.
-fn kind_of(framing: Result<Framing, FramingError>) -> Result<BodyKind, Unframed>
-    ensures kind { result ≡ kind_of framing }
-    ensures within { IfOk result IsWithinLimit }
-{
-    match framing {
+    match request_framing(MethodKind::of(method), minor, fields) {
         Ok(Framing::NoBody) => Ok(BodyKind::Sized(0)),
         Ok(Framing::Length(count)) if count > MOST_BYTES as u64 => Err(Unframed::TooLarge),
         Ok(Framing::Length(count)) => Ok(BodyKind::Sized(count as usize)),

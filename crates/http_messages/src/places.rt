@@ -46,42 +46,16 @@ impl Place {
     }
 }
 
-/// How far the bytes of a message were examined.
-#[derive(Drop)]
-struct Search {
-    place: Place,
-    /// How many bytes were examined.
-    looked: usize,
-}
-
-impl Search {
-    ghost use Rattle.std.specs.Prelude.{◌≡◌, ◌+◌, ◌<◌};
-    ghost use Rattle.http_messages.specs.Places.{LooksAt};
-
-    /// Examines one more byte, and returns whether a prefix is decided here.
-    fn look(&mut self, byte: u8) -> bool
-        requires { self.old.looked < usize.MAX }
-        ensures told { LooksAt result self.old self.new byte }
-        ensures looked { self.new.looked ≡ self.old.looked + 1 }
-    {
-        self.place = self.place.next(byte);
-        self.looked += 1;
-        self.place.is_told() || self.looked == LONGEST_HEAD
-    }
-}
-
 /// The length of the shortest decided prefix of these bytes; `None` if no prefix is decided yet.
 pub fn decided_front(bytes: &[u8]) -> Option<usize>
     ensures front { IfSome result (IsToldAt bytes.now) }
     ensures none { IsNone result → first_told bytes.now ≡ None }
 {
-    let mut search = Search {
-        place: Place::Before,
-        looked: 0,
-    };
-    for byte in bytes {
-        if search.look(*byte) {
-            return Some(search.looked);
+    let mut place = Place::Before;
+    for (at, byte) in bytes.iter().enumerate() {
+        place = place.next(*byte);
+        if place.is_told() || at + 1 == LONGEST_HEAD {
+            return Some(at + 1);
         }
     }
     None

@@ -3,7 +3,7 @@ ghost use Rattle.std.specs.Prelude.{◌≡◌, ◌<◌, ◌≤◌, length, IfOk,
 ghost use Rattle.std.specs.List.{position};
 ghost use Rattle.allotment.specs.Texts.{keep_if};
 ghost use Rattle.commands.specs.Names.{is_key};
-ghost use Rattle.http_messages.specs.Plain.{are_digits, authority_length, ends_authority, has_empty_query, host_for, is_absolute, is_path, is_uuid};
+ghost use Rattle.http_messages.specs.Plain.{are_digits, authority_length, ends_authority, has_empty_query, host_for, is_absolute, is_uuid};
 ghost use Rattle.http_messages.specs.Plain.{path_of, plain_key, plain_method, plain_target};
 ghost use Rattle.http_messages.specs.Plain.{uuid_digits, without_empty_query};
 
@@ -68,7 +68,10 @@ fn is_absolute(target: &[u8]) -> bool
     }
     let (scheme, later) = target.split_at(SCHEME.len());
     let (authority, path) = later.split_at(authority_length(later));
-    scheme.eq_ignore_ascii_case(SCHEME) && !authority.is_empty() && is_path(path)
+    scheme.eq_ignore_ascii_case(SCHEME)
+        && !authority.is_empty()
+        && !path.is_empty()
+        && path[0] == b'/'
 }
 
 /// How many bytes the authority has with which a text begins.
@@ -89,13 +92,6 @@ fn end_of_authority(text: &[u8]) -> Option<usize>
 {
     text.iter()
         .position(|byte| *byte == b'/' || *byte == b'?' || *byte == b'#')
-}
-
-/// Whether a text begins with a slash.
-fn is_path(text: &[u8]) -> bool
-    ensures path { result ≡ is_path text.now }
-{
-    !text.is_empty() && text[0] == b'/'
 }
 
 /// A path without an empty query.

@@ -1,9 +1,8 @@
 -- What the decoder found, as what the reader found.
 use Rattle.std.proofs.Common.{◌≡◌, ◌∙◌, ap, sym, subst, ◌++◌, arith}
-use Rattle.std.proofs.lemmas.Result.{err_from_is_err_and}
 use Rattle.httparse.specs.Spans.{span_bytes}
 use Rattle.http_messages.specs.Bodies.{Moves}
-use Rattle.http_messages.proofs.BodyLemmas.{ends, goes, moves_on, reading, too_large}
+use Rattle.http_messages.proofs.BodyLemmas.{ends, goes, is_short, moves_on, reading, too_large}
 use Rattle.http_messages.proofs.bodies.BodyReader.step.Goals as goal
 
 -- more is needed
@@ -11,25 +10,25 @@ pub returns-in-Ok-NeedMore-clause-steps : goal.returns-in-Ok-NeedMore-clause-ste
 returns-in-Ok-NeedMore-clause-steps c = search (arith, reading, goes)
 
 -- a piece came
-pub returns-in_ok-append-in-Ok-Data-clause-steps : goal.returns-in_ok-append-in-Ok-Data-clause-steps
-returns-in_ok-append-in-Ok-Data-clause-steps c =
+pub returns-in_ok-extend_from_slice-in-Ok-Data-clause-steps : goal.returns-in_ok-extend_from_slice-in-Ok-Data-clause-steps
+returns-in_ok-extend_from_slice-in-Ok-Data-clause-steps c =
     let old = c.self.inside.decoder in
     let body = c.self.inside.body.items in
     let input = c.args.input.now in
     let end = c.in-Ok-Data.piece.end in
     let piece = span_bytes input c.in-Ok-Data.piece in
     let found = rw c.in-Ok-Data.field-0-is at c.in-Ok-Data.ensures.ok in
-    let longer : c.append.new.body.items ≡ body ++ piece =
-    c.in_ok-append-in-Ok-Data.ensures.ok ∙ ap (λ p. body ++ p) c.of.ensures in (
+    let longer : c.extend_from_slice.new.self.items ≡ body ++ piece =
+    c.in_ok-extend_from_slice-in-Ok-Data.ensures.items ∙ ap (λ p. body ++ p) c.of-data.ensures in (
       omega (arith, found.0),
-      subst (λ r. Moves r input (reading c.decode.new.self c.append.new.body.items) end) c.self.view_is
+      subst (λ r. Moves r input (reading c.decode.new.self c.extend_from_slice.new.self.items) end) c.self.view_is
           (subst (λ items. Moves (reading old body) input (reading c.decode.new.self items) end) (sym longer)
           (moves_on old c.decode.new.self body input piece end found.1)),
     )
 
 -- too much came
-pub returns-in_err-append-in-Ok-Data-clause-too_large : goal.returns-in_err-append-in-Ok-Data-clause-too_large
-returns-in_err-append-in-Ok-Data-clause-too_large c large = grind (arith, err_from_is_err_and, too_large)
+pub returns-then-data-len-clause-too_large : goal.returns-then-data-len-clause-too_large
+returns-then-data-len-clause-too_large c large = grind (arith, is_short, too_large)
 
 -- the body ends
 pub returns-in-Ok-End-clause-steps : goal.returns-in-Ok-End-clause-steps
