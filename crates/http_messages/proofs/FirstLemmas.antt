@@ -16,22 +16,10 @@ use Rattle.http_messages.specs.declared.places.Place.{Place}
 use Rattle.http_messages.specs.declared.requests.Request.{Request}
 use Rattle.http_messages.specs.declared.requests.Message.TheVariants as taken
 use Rattle.http_messages.proofs.HeadLemmas.{first_of_told}
+use Rattle.http_messages.proofs.ToldLemmas.{find_map}
+use Rattle.std.specs.Prelude.{option_map}
 
 -- Prefixes.
-
--- what is found in a list of prefixes, by the first and the later ones
-find_map_none_by : (t : Bool) (test : List ℕ → Bool) (b : ℕ) (g : List ℕ) (fs : List (List ℕ))
-    → (find (λ x. test (b ∷ x)) fs ≡ None → find test (map (λ x. b ∷ x) fs) ≡ None)
-    → (if t then Some g else find (λ x. test (b ∷ x)) fs) ≡ None
-    → (if t then Some (b ∷ g) else find test (map (λ x. b ∷ x) fs)) ≡ None
-find_map_none_by t test b g fs later none = grind arith
-
--- of lists that all begin with the same byte, none passes where no suffix does
-find_map_none : (test : List ℕ → Bool) (b : ℕ) (fs : List (List ℕ))
-    → find (λ x. test (b ∷ x)) fs ≡ None
-    → find test (map (λ x. b ∷ x) fs) ≡ None
-find_map_none test b [] none = refl
-find_map_none test b (g ∷ fs) none = find_map_none_by (test (b ∷ g)) test b g fs (find_map_none test b fs) none
 
 -- of the prefixes, none passes where none of each length does
 find_none : (test : List ℕ → Bool) (xs : List ℕ)
@@ -40,7 +28,7 @@ find_none : (test : List ℕ → Bool) (xs : List ℕ)
 find_none test [] none = ap (λ z. if z then Some [] else None) (none 0 (omega arith))
 find_none test (b ∷ xs) none =
     ap (λ z. if z then Some [] else find test (map (λ x. b ∷ x) (fronts xs))) (none 0 (omega arith))
-    ∙ find_map_none test b (fronts xs) (find_none (λ x. test (b ∷ x)) xs (λ k within. none (suc k) (omega arith)))
+    ∙ find_map test b (fronts xs) ∙ ap (option_map (λ x. b ∷ x)) (find_none (λ x. test (b ∷ x)) xs (λ k within. none (suc k) (omega arith)))
 
 -- where the walk went through all bytes, none of their prefixes is decided
 pub none_told : (place : Place) (bytes : List ℕ) → WentThrough bytes (length bytes) place → first_told bytes ≡ None

@@ -1,7 +1,8 @@
 -- After a head and its body the next message is looked for, whatever the body stands for. For the laws.
-use Rattle.std.proofs.Common.{◌≡◌, ◌∙◌, ap, sym, subst, refl, ℕ, ◌+◌, ◌-◌, true, false, List, [], ◌∷◌, ◌++◌, length, take, arith, append-nil, append_assoc, Result, Ok, Some, IsTrue, ◌≤◌}
+use Rattle.std.proofs.Common.{◌≡◌, ◌∙◌, ap, sym, subst, refl, ℕ, ◌+◌, ◌-◌, true, false, List, [], ◌∷◌, ◌++◌, length, take, arith, append-nil, append_assoc, Result, Ok, Some, IsTrue, inl, inr}
 use Rattle.std.proofs.Math.Seq.{take-append-add}
-use Rattle.std.proofs.lemmas.List.{append_cancel_left}
+use Rattle.std.proofs.lemmas.Bool.{cases_lt}
+use Rattle.std.proofs.lemmas.List.{append_cancel_left, take_all, take-append-le}
 use Rattle.std.proofs.lemmas.List.Elements.{recursion_from_All}
 use Rattle.httparse.specs.Grammar.{IsToken, LineEnd, RequestHead, crlf, is_token_byte, lf, print_blank, print_request}
 use Rattle.httparse.proofs.GrammarLemmas.{print_request-append, request_unique}
@@ -41,15 +42,19 @@ body_more (Sized count) text body rest is = grind (arith, append-nil)
 body_more Chunked text body rest is = grind (arith, append_assoc)
 
 -- of more bytes, those that a head may have are the first ones and some of what follows them
-pub reach : (front more : List ℕ) → length front ≤ most_head_bytes
-    → take most_head_bytes (front ++ more) ≡ front ++ take (most_head_bytes - length front) more
-reach front more short =
-    let all : most_head_bytes ≡ length front + (most_head_bytes - length front) = omega (arith, short) in
-    ap (λ n. take n (front ++ more)) all ∙ take-append-add front more (most_head_bytes - length front)
+pub reach : (bytes more : List ℕ)
+    → take most_head_bytes (bytes ++ more) ≡ take most_head_bytes bytes ++ take (most_head_bytes - length bytes) more
+reach bytes more = elim (cases_lt (length bytes) most_head_bytes) [
+  | inl few ↦
+      let all : most_head_bytes ≡ length bytes + (most_head_bytes - length bytes) = omega (arith, few) in
+      ap (λ n. take n (bytes ++ more)) all ∙ take-append-add bytes more (most_head_bytes - length bytes)
+      ∙ ap (λ z. z ++ take (most_head_bytes - length bytes) more) (sym (take_all most_head_bytes bytes (omega (arith, few))))
+  | inr many ↦ grind (arith, take-append-le most_head_bytes bytes more many, append-nil)
+]
 
 -- a head begins with a method
 method_here : (front more : List ℕ) (h : RequestHead) → IsHead front h → has_no_method (front ++ more) ≡ false
-method_here front more h is = grind (arith, reach, method_first)
+method_here front more h is = rw (reach front more, take_all most_head_bytes front is.short) (method_first front _ h is)
 
 pub same_front : (stream f g : List ℕ) → first_told stream ≡ Some f → first_told stream ≡ Some g → f ≡ g
 same_front stream f g one other = cc

@@ -5,6 +5,7 @@ use Rattle.std.specs.List.{list_all}
 use Rattle.std.specs.Char.{digit_value, is_ascii_digit}
 use Rattle.std.specs.Str.Parse.{digits_value, digits_value_after}
 use Rattle.std.proofs.lemmas.List.{take_more, take_all}
+use Rattle.std.proofs.lemmas.List.Folds.{list_all-append}
 use Rattle.std.proofs.lemmas.Bool.Decides.{nat_tests}
 use Rattle.allotment.specs.Limits.{is_digit}
 use Rattle.http_messages.specs.Fields.{length_of}
@@ -35,16 +36,6 @@ digits-append : (n : ℕ) (xs : List ℕ) (c : ℕ)
 digits-append n [] c = refl
 digits-append n (x ∷ xs) c = digits-append (n * 10 + digit_value x) xs c
 
--- all pass where all did, and one more does
-all-append : (test : ℕ → Bool) (xs : List ℕ) (c : ℕ)
-    → list_all test xs ≡ true
-    → test c ≡ true
-    → list_all test (xs ++ c ∷ []) ≡ true
-all-append test [] c all last = and_from (test c) true last refl
-all-append test (x ∷ xs) c all last =
-    let both = and_parts (test x) (list_all test xs) all in
-    and_from (test x) _ both.0 (all-append test xs c both.1 last)
-
 -- a digit is worth what it is above `0`
 digit_worth : (b : ℕ) → is_ascii_digit b ≡ true → (digit_value b ≡ b - 48) × (b - 48 ≤ 9) × (is_digit b ≡ true)
 digit_worth b is = (grind (arith, nat_tests), grind (arith, nat_tests), grind (arith, nat_tests))
@@ -66,7 +57,7 @@ number_more text i n next inside is made so_far =
     let worth = digit_worth (get_or text i 0) is in
     let more = take_more text i 0 inside in
     record {
-      digits = rw more (all-append is_digit (take i text) (get_or text i 0) so_far.digits worth.2);
+      digits = rw more (grind (arith, list_all-append, so_far.digits, worth.2));
       value = rw more (digits-append 0 (take i text) (get_or text i 0) ∙ ap (λ v. v * 10 + digit_value (get_or text i 0)) so_far.value
           ∙ ap (λ v. n * 10 + v) worth.0 ∙ omega arith);
       small = rw add-one (omega (arith, so_far.small, worth.1));

@@ -2,6 +2,7 @@
 use Rattle.std.proofs.Common.{◌≡◌, ℕ, List, [], ◌∷◌, ◌++◌, length, refl, sym, ap, subst, ◌∙◌, arith, Some}
 use Rattle.std.proofs.lemmas.List.{append_cancel_left}
 use Rattle.httparse.proofs.GrammarLemmas.{request_unique}
+use Rattle.http_messages.proofs.LawLemmas.{same_front}
 use Rattle.http_messages.specs.Heads.{IsHead, body_length, parts_of}
 use Rattle.http_messages.specs.Messages.{Message, NoHead, Asks, BeginsWith, BeginsWithAll, AreMessages, HasNoMessage, first_told}
 
@@ -11,9 +12,6 @@ same_split [] [] x y l e = (refl, e)
 same_split [] (c ∷ b) x y l e = absurd (omega arith)
 same_split (c ∷ a) [] x y l e = absurd (omega arith)
 same_split (c ∷ a) (d ∷ b) x y l e = grind (arith, same_split a b x y (omega arith) cc)
-
-same_front : (stream f g : List ℕ) → first_told stream ≡ Some f → first_told stream ≡ Some g → f ≡ g
-same_front stream f g d e = cc
 
 pub one_message : (stream : List ℕ) (m n : Message) (x y : List ℕ) → BeginsWith stream m x → BeginsWith stream n y → (m ≡ n) × (x ≡ y)
 one_message stream NoHead NoHead x y a b = grind (arith, same_front, append_cancel_left)

@@ -7,6 +7,8 @@ use Rattle.std.specs.List.{list_any, list_all, ends_with, AllByRecursion}
 use Rattle.std.proofs.lemmas.Bool.{eqb-true, or_right, or_left, or_from, not-true, and_parts, and_from}
 use Rattle.std.proofs.lemmas.List.Elements.{recursion_from_All}
 use Rattle.std.proofs.lemmas.List.{length-take-le}
+use Rattle.std.proofs.lemmas.List.Folds.{list_any-append}
+use Rattle.std.specs.Prelude.{option_map}
 use Rattle.httparse.specs.Grammar.{RequestHead, Field, IsField, LineEnd, crlf, lf, print_end, print_blank, print_field, print_version, print_request, is_token_byte, is_uri_byte, is_value_byte, IsRequestHead}
 use Rattle.http_messages.specs.Messages.{ends_in_empty_line, is_newline, fronts, is_told, first_told}
 use Rattle.http_messages.specs.Places.{is_told_place, next_place, walk}
@@ -158,12 +160,8 @@ two_ends s e = grind arith
 three_ends : (s : Place) → is_before s ≡ false → walk s (10 ∷ 13 ∷ 10 ∷ []) ≡ Told
 three_ends s e = grind arith
 
-or_again : (a b c : Bool) → (b ≡ true → c ≡ true) → (a || b) ≡ true → (a || c) ≡ true
-or_again a b c h e = grind arith
-
 any_append : (x y : List ℕ) → list_any is_quiet y ≡ false → list_any is_quiet (x ++ y) ≡ true → list_any is_quiet x ≡ true
-any_append [] y f e = cc
-any_append (b ∷ x) y f e = or_again (is_quiet b) (list_any is_quiet (x ++ y)) (list_any is_quiet x) (any_append x y f) e
+any_append x y f e = grind (arith, list_any-append)
 
 told_after : (t n : List ℕ) → ends_with nat_eq t n ≡ true → list_any is_quiet n ≡ false → list_any is_quiet t ≡ true
     → ((s : Place) → is_before s ≡ false → walk s n ≡ Told) → walk Before t ≡ Told
@@ -183,13 +181,11 @@ told_there t e = grind (arith, and_parts, told_by)
 
 -- A head is decided where it ends.
 
-any_left : (x y : List ℕ) → list_any is_quiet x ≡ true → list_any is_quiet (x ++ y) ≡ true
-any_left [] y e = cc
-any_left (b ∷ x) y e = or_again (is_quiet b) (list_any is_quiet x) (list_any is_quiet (x ++ y)) (any_left x y) e
+pub any_left : (x y : List ℕ) → list_any is_quiet x ≡ true → list_any is_quiet (x ++ y) ≡ true
+any_left x y e = grind (arith, list_any-append)
 
 any_last : (x : List ℕ) (b : ℕ) → is_quiet b ≡ true → list_any is_quiet (x ++ b ∷ []) ≡ true
-any_last [] b e = or_left (is_quiet b) false e
-any_last (c ∷ x) b e = or_right (is_quiet c) _ (any_last x b e)
+any_last x b e = grind (arith, list_any-append)
 
 ends_so : (w n : List ℕ) → ends_with nat_eq (w ++ n) n ≡ true
 ends_so w n =
@@ -252,21 +248,18 @@ told_at_end x e = (subst (λ z. Fits z x) e (fits_run Before [] x tt)).1
 
 -- The first decided prefix.
 
-find_map_by : (t : Bool) (test : List ℕ → Bool) (b : ℕ) (g : List ℕ) (fs : List (List ℕ)) (f : List ℕ)
-    → (find (λ x. test (b ∷ x)) fs ≡ Some f → find test (map (λ x. b ∷ x) fs) ≡ Some (b ∷ f))
-    → (if t then Some g else find (λ x. test (b ∷ x)) fs) ≡ Some f → (if t then Some (b ∷ g) else find test (map (λ x. b ∷ x) fs)) ≡ Some (b ∷ f)
-find_map_by t test b g fs f h e = grind arith
-
-find_map : (test : List ℕ → Bool) (b : ℕ) (fs : List (List ℕ)) (f : List ℕ) → find (λ x. test (b ∷ x)) fs ≡ Some f → find test (map (λ x. b ∷ x) fs) ≡ Some (b ∷ f)
-find_map test b [] f e = cc
-find_map test b (g ∷ fs) f e = find_map_by (test (b ∷ g)) test b g fs f (find_map test b fs f) e
+-- of lists that all begin with the same byte, the first that passes is the one whose suffix is the first to pass
+pub find_map : (test : List ℕ → Bool) (b : ℕ) (fs : List (List ℕ))
+    → find test (map (λ x. b ∷ x) fs) ≡ option_map (λ x. b ∷ x) (find (λ x. test (b ∷ x)) fs)
+find_map test b [] = refl
+find_map test b (g ∷ fs) = grind (arith, find_map test b fs)
 
 pub find_front : (test : List ℕ → Bool) (front rest : List ℕ) → test front ≡ true → ((k : ℕ) → k < length front → test (take k front) ≡ false) → find test (fronts (front ++ rest)) ≡ Some front
 find_front test [] [] e h = ap (λ z. if z then Some [] else None) e
 find_front test [] (c ∷ rest) e h = ap (λ z. if z then Some [] else find test (map (λ x. c ∷ x) (fronts rest))) e
 find_front test (b ∷ front) rest e h =
     ap (λ z. if z then Some [] else find test (map (λ x. b ∷ x) (fronts (front ++ rest)))) (h 0 (omega arith))
-    ∙ find_map test b (fronts (front ++ rest)) front (find_front (λ x. test (b ∷ x)) front rest e (λ k l. h (suc k) (omega arith)))
+    ∙ find_map test b (fronts (front ++ rest)) ∙ ap (option_map (λ x. b ∷ x)) (find_front (λ x. test (b ∷ x)) front rest e (λ k l. h (suc k) (omega arith)))
 
 pub not_empty_line : (t : List ℕ) (a : Bool) → ends_in_empty_line t ≡ a → is_told_place (walk Before t) ≡ false → a ≡ false
 not_empty_line t a e h = grind (arith, told_there)

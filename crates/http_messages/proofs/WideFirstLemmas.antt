@@ -1,6 +1,6 @@
 -- The message that each answer is. For first_wide_message and go_on_is_due.
 use Rattle.std.proofs.Common.{◌≡◌, ◌∙◌, ap, sym, subst, refl, ℕ, ◌+◌, ◌-◌, ◌≤◌, inl, inr, true, false, List, [], ◌∷◌, ◌++◌, length, take, drop, replicate, take-append-drop, append-nil, append_assoc, arith, Some, None, Result, Ok, Err, length-append, IsSome, ◌<◌, Bool, ◌||◌, ◌==◌, not}
-use Rattle.std.proofs.lemmas.List.{drop-drop, length-drop, length-replicate, length-take-le, take_all, take-append-le}
+use Rattle.std.proofs.lemmas.List.{drop-drop, length-drop, length-replicate, length-take-le, take_all, take-append-le, take-take}
 use Rattle.http1.specs.ChunkedDecoder.{run, run_on, skips, start, step, stops, use_of, yields, Use}
 use Rattle.http1.specs.declared.chunked.ChunkedDecoder.{ChunkedDecoder}
 use Rattle.commands.specs.Limits.{most_bytes}
@@ -28,70 +28,43 @@ use Rattle.std.specs.List.{list_any}
 use Rattle.std.proofs.lemmas.Bool.{cases_lt, and_parts}
 use Rattle.http_messages.proofs.HeadLemmas.{first_of_told, told_here}
 use Rattle.http_messages.proofs.PlainLemmas.{as_request}
-use Rattle.http_messages.proofs.ToldLemmas.{not_long}
+use Rattle.http_messages.proofs.ToldLemmas.{any_left, not_long}
 
 -- a byte that begins no method stays the first one
-no_method_by : (t : Bool) (byte : ℕ) (later more : List ℕ) → is_newline byte ≡ t
-    → (begins_no_method later ≡ true → begins_no_method (later ++ more) ≡ true)
-    → begins_no_method (byte ∷ later) ≡ true → begins_no_method (byte ∷ (later ++ more)) ≡ true
-no_method_by t byte later more is on none = grind arith
-
 no_method_more : (bytes more : List ℕ) → begins_no_method bytes ≡ true → begins_no_method (bytes ++ more) ≡ true
 no_method_more [] more none = cc
-no_method_more (byte ∷ later) more none = grind (arith, no_method_by, no_method_more later)
+no_method_more (byte ∷ later) more none = grind (arith, no_method_more later more)
 
 -- where some byte is no line end, more bytes change nothing
-visible_by : (t : Bool) (byte : ℕ) (later more : List ℕ) → is_newline byte ≡ t
-    → (list_any (λ b. not (is_newline b)) later ≡ true → begins_no_method (later ++ more) ≡ begins_no_method later)
-    → list_any (λ b. not (is_newline b)) (byte ∷ later) ≡ true
-    → begins_no_method (byte ∷ (later ++ more)) ≡ begins_no_method (byte ∷ later)
-visible_by t byte later more is on some = grind arith
-
 visible_more : (bytes more : List ℕ) → list_any (λ b. not (is_newline b)) bytes ≡ true
     → begins_no_method (bytes ++ more) ≡ begins_no_method bytes
 visible_more [] more some = cc
-visible_more (byte ∷ later) more some = visible_by (is_newline byte) byte later more refl (visible_more later more) some
+visible_more (byte ∷ later) more some = grind (arith, visible_more later more)
 
 -- bytes that begin no method begin none with more after them
 no_method_stays : (bytes more : List ℕ) → has_no_method bytes ≡ true → has_no_method (bytes ++ more) ≡ true
-no_method_stays bytes more none = elim (cases_lt (length bytes) most_head_bytes) [
-  | inl few ↦
-      ap begins_no_method (reach bytes more (omega (arith, few)))
-      ∙ no_method_more bytes (take (most_head_bytes - length bytes) more)
-      (sym (ap begins_no_method (take_all most_head_bytes bytes (omega (arith, few)))) ∙ none)
-  | inr many ↦ ap begins_no_method (take-append-le most_head_bytes bytes more many) ∙ none
-]
+no_method_stays bytes more none = rw (reach bytes more) (no_method_more (take most_head_bytes bytes) _ none)
 
 -- a decided prefix that is shorter than a head may be has a byte that is no line end
 visible_in : (bytes : List ℕ) (end : ℕ) → IsToldAt bytes end → end < most_head_bytes
-    → list_any (λ b. not (is_newline b)) (take end bytes) ≡ true
+    → list_any (λ b. not (is_newline b)) (take most_head_bytes bytes) ≡ true
 visible_in bytes end at short =
     let front = take end bytes in
-    let count : length front < most_head_bytes = omega (arith, length-take-le end bytes at.within, short) in
-    let quiet : (length front == most_head_bytes) ≡ false = not_long (length front) (length front == most_head_bytes) refl count in
-    (and_parts _ _ (empty_line (ends_in_empty_line front) (length front == most_head_bytes) quiet at.told)).1
+    let quiet = not_long (length front) _ refl (omega (arith, length-take-le end bytes at.within, short)) in
+    let whole : take most_head_bytes bytes ≡ front ++ drop end (take most_head_bytes bytes) =
+    sym (take-append-drop end (take most_head_bytes bytes))
+    ∙ ap (λ z. z ++ drop end (take most_head_bytes bytes)) (take-take end most_head_bytes bytes (omega (arith, short))) in
+    rw whole (any_left front _ (and_parts _ _ (empty_line (ends_in_empty_line front) (length front == most_head_bytes) quiet at.told)).1)
   where
     empty_line : (a b : Bool) → b ≡ false → (a || b) ≡ true → a ≡ true
     empty_line a b quiet both = grind arith
 
 -- whether a decided prefix begins with a method does not change
-method_same : (bytes more : List ℕ) (end : ℕ) → IsToldAt bytes end → end < most_head_bytes
-    → begins_no_method (bytes ++ more) ≡ begins_no_method bytes
-method_same bytes more end at short =
-    ap begins_no_method (ap (λ z. z ++ more) (sym (take-append-drop end bytes))
-    ∙ append_assoc (take end bytes) (drop end bytes) more)
-    ∙ visible_more (take end bytes) (drop end bytes ++ more) (visible_in bytes end at short)
-    ∙ sym (visible_more (take end bytes) (drop end bytes) (visible_in bytes end at short))
-    ∙ ap begins_no_method (sym (sym (take-append-drop end bytes)))
-
 method_stays : (bytes more : List ℕ) (end : ℕ) → IsToldAt bytes end → has_no_method bytes ≡ false
     → has_no_method (bytes ++ more) ≡ false
-method_stays bytes more end at some = elim (cases_lt (length bytes) most_head_bytes) [
-  | inl few ↦
-      ap begins_no_method (reach bytes more (omega (arith, few)))
-      ∙ method_same bytes (take (most_head_bytes - length bytes) more) end at (omega (arith, few, at.within))
-      ∙ sym (ap begins_no_method (take_all most_head_bytes bytes (omega (arith, few)))) ∙ some
-  | inr many ↦ ap begins_no_method (take-append-le most_head_bytes bytes more many) ∙ some
+method_stays bytes more end at some = elim (cases_lt end most_head_bytes) [
+  | inl short ↦ rw (reach bytes more) (visible_more (take most_head_bytes bytes) _ (visible_in bytes end at short) ∙ some)
+  | inr long ↦ ap begins_no_method (take-append-le most_head_bytes bytes more (omega (arith, long, at.within))) ∙ some
 ]
 
 -- the decided prefix is that of all streams that begin with these bytes

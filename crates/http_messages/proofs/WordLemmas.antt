@@ -18,36 +18,16 @@ passing_ascii passes small (b ∷ bytes) all (suc i) =
     passing_ascii passes small bytes (and_parts (passes b) (list_all passes bytes) all).1 i
 
 -- a byte of an agent is ASCII
-agent_byte_small : (b : ℕ) → is_agent_byte b ≡ true → b < 128
+pub agent_byte_small : (b : ℕ) → is_agent_byte b ≡ true → b < 128
 agent_byte_small b passes = grind (arith, nat_tests)
 
 -- a byte of a key is ASCII
-key_byte_small : (b : ℕ) → is_key_byte b ≡ true → b < 128
+pub key_byte_small : (b : ℕ) → is_key_byte b ≡ true → b < 128
 key_byte_small b passes = grind (arith, nat_tests)
 
--- a text is not kept where it does not pass
-none_kept : (test : List ℕ → Bool) (bytes : List ℕ) (b : Bool) → test bytes ≡ b → ¬ (test bytes ≡ true)
-    → keep_if test bytes ≡ None
-none_kept test bytes b is fails = grind arith
-
--- bytes that cannot be read as text are no text
-no_text : {E : Type 0} (bytes : List ℕ) (r : Result (Bor (List ℕ)) E) (Wrong : E → Type 0)
+-- bytes that are no text are no word of such bytes
+pub no_word : {E : Type 0} (passes : ℕ → Bool) (is_word : List ℕ → Bool) (bytes : List ℕ) (r : Result (Bor (List ℕ)) E) (Wrong : E → Type 0)
+    → ((b : ℕ) → passes b ≡ true → b < 128) → (is_word bytes ≡ true → list_all passes bytes ≡ true)
     → MatchResult r (λ s. (s.now ≡ bytes) × IsUtf8 bytes) (λ e. ¬ (IsUtf8 bytes) × Wrong e)
-    → result_ok r ≡ None → ¬ (IsUtf8 bytes)
-no_text bytes r Wrong cases none = grind arith
-
--- bytes that are no text are no agent
-pub no_agent : {E : Type 0} (bytes : List ℕ) (r : Result (Bor (List ℕ)) E) (Wrong : E → Type 0)
-    → MatchResult r (λ s. (s.now ≡ bytes) × IsUtf8 bytes) (λ e. ¬ (IsUtf8 bytes) × Wrong e)
-    → result_ok r ≡ None → keep_if is_agent bytes ≡ None
-no_agent bytes r Wrong cases none =
-    none_kept is_agent bytes (is_agent bytes) refl
-    (λ good. no_text bytes r Wrong cases none (IsUtf8-from_ascii bytes (passing_ascii is_agent_byte agent_byte_small bytes (and_parts _ (list_all is_agent_byte bytes) good).1)))
-
--- bytes that are no text are no key
-pub no_key : {E : Type 0} (bytes : List ℕ) (r : Result (Bor (List ℕ)) E) (Wrong : E → Type 0)
-    → MatchResult r (λ s. (s.now ≡ bytes) × IsUtf8 bytes) (λ e. ¬ (IsUtf8 bytes) × Wrong e)
-    → result_ok r ≡ None → keep_if is_key bytes ≡ None
-no_key bytes r Wrong cases none =
-    none_kept is_key bytes (is_key bytes) refl
-    (λ good. no_text bytes r Wrong cases none (IsUtf8-from_ascii bytes (passing_ascii is_key_byte key_byte_small bytes (and_parts _ (list_all is_key_byte bytes) good).1)))
+    → result_ok r ≡ None → keep_if is_word bytes ≡ None
+no_word passes is_word bytes r Wrong small each cases none = grind (arith, IsUtf8-from_ascii, passing_ascii passes small bytes)

@@ -1,11 +1,14 @@
 -- Bytes that are no text are no agent.
 use Rattle.std.proofs.Common.{◌∙◌, sym}
-use Rattle.http_messages.proofs.WordLemmas.{no_agent}
+use Rattle.std.proofs.lemmas.Bool.{and_parts}
+use Rattle.commands.specs.Names.{is_agent, is_agent_byte}
+use Rattle.http_messages.proofs.WordLemmas.{agent_byte_small, no_word}
 use Rattle.http_messages.proofs.heads.agent_in.Goals as goal
 
 -- the bytes are no text
 pub returns-in_err-ok : goal.returns-in_err-ok
 returns-in_err-ok c = record {
   form = c.from_residual.ensures
-      ∙ sym (no_agent c.args.bytes.now c.from_utf8.result _ c.from_utf8.ensures.cases (sym c.ok.ensures.value ∙ c.in_err-ok.was));
+      ∙ sym (no_word is_agent_byte is_agent c.args.bytes.now c.from_utf8.result _ agent_byte_small (λ good. (and_parts _ _ good).1)
+      c.from_utf8.ensures.cases (sym c.ok.ensures.value ∙ c.in_err-ok.was));
 }
