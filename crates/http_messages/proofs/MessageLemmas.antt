@@ -1,10 +1,10 @@
 -- A stream has one list of messages.
-use Rattle.std.proofs.Common.{◌≡◌, ℕ, List, [], ◌∷◌, ◌++◌, length, refl, sym, ap, subst, ◌∙◌, arith, Some}
+use Rattle.std.proofs.Common.{◌≡◌, ℕ, List, [], ◌∷◌, ◌++◌, length, refl, sym, ap, subst, ◌∙◌, arith}
 use Rattle.std.proofs.lemmas.List.{append_cancel_left}
 use Rattle.httparse.proofs.GrammarLemmas.{request_unique}
 use Rattle.http_messages.proofs.LawLemmas.{same_front}
 use Rattle.http_messages.specs.Heads.{IsHead, body_length, parts_of}
-use Rattle.http_messages.specs.Messages.{Message, NoHead, Asks, BeginsWith, BeginsWithAll, AreMessages, HasNoMessage, first_told}
+use Rattle.http_messages.specs.Messages.{Message, NoHead, Asks, BeginsWith, BeginsWithAll, AreMessages, HasNoMessage}
 
 -- equal lists that are cut at the same length have equal parts
 pub same_split : (a b x y : List ℕ) → length a ≡ length b → a ++ x ≡ b ++ y → (a ≡ b) × (x ≡ y)

@@ -1,6 +1,6 @@
 -- The message that each answer is. For first_wide_message and go_on_is_due.
-use Rattle.std.proofs.Common.{◌≡◌, ◌∙◌, ap, sym, subst, refl, ℕ, ◌+◌, ◌-◌, ◌≤◌, inl, inr, true, false, List, [], ◌∷◌, ◌++◌, length, take, drop, replicate, take-append-drop, append-nil, append_assoc, arith, Some, None, Result, Ok, Err, length-append, IsSome, ◌<◌, Bool, ◌||◌, ◌==◌, not}
-use Rattle.std.proofs.lemmas.List.{drop-drop, length-drop, length-replicate, length-take-le, take_all, take-append-le, take-take}
+use Rattle.std.proofs.Common.{◌≡◌, ◌∙◌, ap, sym, subst, refl, ℕ, ◌+◌, ◌≤◌, inl, inr, true, false, List, [], ◌∷◌, ◌++◌, length, take, drop, replicate, take-append-drop, append-nil, append_assoc, arith, Some, None, Result, Ok, Err, length-append, IsSome, ◌<◌, Bool, ◌||◌, ◌==◌, not}
+use Rattle.std.proofs.lemmas.List.{drop-drop, length-drop, length-replicate, length-take-le, take-append-le, take-take}
 use Rattle.http1.specs.ChunkedDecoder.{run, run_on, skips, start, step, stops, use_of, yields, Use}
 use Rattle.http1.specs.declared.chunked.ChunkedDecoder.{ChunkedDecoder}
 use Rattle.commands.specs.Limits.{most_bytes}

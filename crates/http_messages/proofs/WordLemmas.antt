@@ -1,5 +1,5 @@
 -- Bytes that are not UTF-8 spell no agent and no key. For agent_in and key_in.
-use Rattle.std.proofs.Common.{◌≡◌, ℕ, zero, suc, ◌<◌, Bool, true, List, [], ◌∷◌, refl, arith, Bor, IsUtf8, MatchResult, None, Result}
+use Rattle.std.proofs.Common.{◌≡◌, ℕ, zero, suc, ◌<◌, Bool, true, List, [], ◌∷◌, arith, Bor, IsUtf8, MatchResult, None, Result}
 use Rattle.std.proofs.lemmas.Bool.{and_parts}
 use Rattle.std.specs.List.{list_all}
 use Rattle.std.specs.Result.{result_ok}
@@ -7,7 +7,7 @@ use Rattle.std.specs.Str.{IsAscii}
 use Rattle.std.proofs.lemmas.Str.{IsUtf8-from_ascii}
 use Rattle.std.proofs.lemmas.Bool.Decides.{nat_tests}
 use Rattle.allotment.specs.Texts.{keep_if}
-use Rattle.commands.specs.Names.{is_agent, is_agent_byte, is_key, is_key_byte}
+use Rattle.commands.specs.Names.{is_agent_byte, is_key_byte}
 
 -- bytes that pass are ASCII, where each byte that passes is
 passing_ascii : (passes : ℕ → Bool) → ((b : ℕ) → passes b ≡ true → b < 128)

@@ -1,11 +1,10 @@
 -- It is due for the head that is all of the bytes, and for no other.
-use Rattle.std.proofs.Common.{◌≡◌, ◌∙◌, ap, sym, subst, length, arith, ℕ, ◌<◌, ◌≤◌, true, false, List, [], append-nil, Some, length-take-le, take_all}
+use Rattle.std.proofs.Common.{◌≡◌, ◌∙◌, ap, sym, length, arith, ℕ, ◌<◌, ◌≤◌, true, false, List, [], append-nil, Some, length-take-le, take_all}
 use Rattle.http_messages.specs.Places.{IsToldAt}
 use Rattle.http_messages.specs.Framing.{head_kind}
 use Rattle.http_messages.specs.WideHeads.{asks_to_go_on}
 use Rattle.http_messages.specs.WideReading.{has_body, IsDue}
 use Rattle.http_messages.proofs.wide_messages.go_on_is_due.Goals as goal
-use Rattle.httparse.specs.Grammar.{RequestHead}
 use Rattle.httparse.proofs.GrammarLemmas.{request_unique}
 use Rattle.http_messages.specs.Heads.{IsHead, Parts}
 use Rattle.http_messages.specs.Fields.{IsHeadWith}
