@@ -1,12 +1,12 @@
 -- Serving answers one message after another, until a closing page, the end of the input or a fault. For serve.
-use Rattle.std.proofs.Common.{◌≡◌, ◌∙◌, ap, sym, subst, ◌+◌, List, [], ◌∷◌, ◌++◌, ℕ, Bool, true, false, if◌then◌else◌, length, take, drop, append-nil, length-append, Option, Some, IfSome, arith}
+use Rattle.std.proofs.Common.{◌≡◌, ◌∙◌, ap, sym, subst, ◌+◌, List, [], ◌∷◌, ◌++◌, ℕ, Bool, true, false, if◌then◌else◌, length, take, append-nil, length-append, Option, Some, IfSome, Result, IfOk, IfErr, arith}
 use Rattle.std.specs.List.{concat}
-use Rattle.std.specs.Io.KnownBytes.{Appends, Keeps}
+use Rattle.std.specs.Io.KnownBytes.{Appends}
 use Rattle.std.proofs.Math.Seq.{take-add}
 use Rattle.std.proofs.lemmas.List.{drop-drop, take-append-drop}
 use Rattle.ledger.specs.Answer.{State}
 use Rattle.http_messages.specs.Messages.{Message}
-use Rattle.streams.proofs.ByteLemmas.{appends_before, appends_more, appends_none, keeps_same}
+use Rattle.streams.proofs.ByteLemmas.{appends_more, appends_none, keeps_same}
 use Rattle.streams.specs.Faults.{IsOfReading}
 use Rattle.streams.specs.Scenes.{Scene, Wrote, scene}
 use Rattle.streams.specs.declared.serve_faults.ServeFault.{ServeFault}
@@ -16,7 +16,9 @@ use Rattle.desk_http.specs.Serving.{Answered, ServesAll, ServesSome}
 use Rattle.desk_http.specs.declared.doors.Door.TheVariants.{Port}
 use Rattle.desk_http.proofs.ServeLemmas.{after_more, begins_more, concat_more, open_more, pages_more}
 use Rattle.http_conversations.specs.History.{History, after_sent}
-use Rattle.http_conversations.specs.Serving.{FailsAt, FindsNone, GetsNext, HandsOut, HandsOutAll, to_come}
+use Rattle.http_conversations.specs.ServeReasons.{ServesTo}
+use Rattle.http_conversations.specs.Serving.{FailsAt, FindsNone, GetsNext, HandsOut, to_come}
+use Rattle.http_conversations.specs.declared.serving.Served.{Served}
 use Rattle.http_conversations.specs.declared.conversation.Stage.{Stage}
 use Rattle.http_conversations.specs.declared.conversation.Stage.TheVariants.{Open, Closing}
 
@@ -43,10 +45,25 @@ pub stops : {x : Scene} {s : State} {input : List ℕ} {left : Option (List ℕ)
     (so_far : SoFar x s input left count) → IsOfReading fault → ServesSome x s input fault
 stops fault so_far reads = grind arith
 
+-- what serving came to, where no fault came, and where one did
+module _ (x : Scene) (s : State) (known : Option (List ℕ)) (r : Result Served ServeFault) (to : IfSome known (λ input. ServesTo x s input r)) where
+  pub all_of : IfSome known (λ input. IfOk r (λ served. ServesAll x s input served.pages))
+  all_of = grind arith
+
+  pub some_of : IfSome known (λ input. IfErr r (ServesSome x s input))
+  some_of = grind arith
+
 -- what is said of the stream is true of the rest of the input
 pub rest_is : {x : Scene} {s : State} {input : List ℕ} {left : Option (List ℕ)} {count : ℕ} (so_far : SoFar x s input left count)
     (So : List ℕ → Type 0) → IfSome left So → So so_far.rest
 rest_is so_far So said = subst (λ known. IfSome known So) so_far.left_is said
+
+-- where no byte of the page waits, all of it was written
+wrote_all : {b c : Option (List ℕ)} {h k : History} → HandsOut b c h k → k.pending ≡ [] → Appends b c h.pending
+wrote_all {b = b} {c = c} {h = h} x none =
+    subst (Appends b c)
+    (sym (append-nil (take x.part h.pending)) ∙ ap (λ t. take x.part h.pending ++ t) (sym (sym x.pending ∙ none))
+    ∙ take-append-drop x.part h.pending) x.wrote
 
 module _ {held holds : Option (List ℕ)} {stands0 stands1 : State → Type 0} {leaves0 leaves1 : State → State → Type 0}
     {sound : Type 0} {s : State} {input : List ℕ} {left : Option (List ℕ)} {count : ℕ}
@@ -77,10 +94,10 @@ module _ {held holds : Option (List ℕ)} {stands0 stands1 : State → Type 0} {
     more_answered : Answered s input (so_far.messages ++ next.message ∷ []) next.rest (so_far.pages ++ h.pending ∷ [])
     more_answered = grind (arith, begins_more, pages_more)
 
-    module _ {now : Option (List ℕ)} {k : History} (all : HandsOutAll holds now h k) where
+    module _ {now : Option (List ℕ)} {k : History} (out : HandsOut holds now h k) (none : k.pending ≡ []) where
       -- and its page was written
       more_sent : Appends held now (concat (so_far.pages ++ h.pending ∷ []))
-      more_sent = grind (arith, concat_more, appends_more)
+      more_sent = grind (arith, concat_more, appends_more, wrote_all out none)
 
       more_stands : stands1 (state_after_all s (so_far.messages ++ next.message ∷ []))
       more_stands = subst stands1 (sym (after_more s so_far.messages next.message)) next_page.1
@@ -118,11 +135,3 @@ hands_then x y = grind (arith, take-add, appends_more, drop-drop)
 pub hands_more : {a b c : Option (List ℕ)} {h k j : History} (count : ℕ) → HandsOut a b h k
     → (j ≡ after_sent k count) × Appends b c (take count k.pending) → HandsOut a c h j
 hands_more count x sent = grind (arith, hands_then)
-
-pub hands_all : {a b c : Option (List ℕ)} {h k : History} → HandsOut a b h k → k.pending ≡ [] → Keeps b c → HandsOutAll a c h k
-hands_all {a = a} {b = b} {c = c} {h = h} x none kept =
-    let rest : drop x.part h.pending ≡ [] = sym x.pending ∙ none in
-    let whole : take x.part h.pending ≡ h.pending =
-    sym (append-nil (take x.part h.pending)) ∙ ap (λ t. take x.part h.pending ++ t) (sym rest)
-    ∙ take-append-drop x.part h.pending in
-    record { wrote = appends_before a b c h.pending (subst (Appends a b) whole x.wrote) kept; pending = none; same = x.same }

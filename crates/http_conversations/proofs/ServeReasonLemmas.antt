@@ -6,6 +6,8 @@ use Rattle.commands.specs.declared.replies.Fault.{Fault}
 use Rattle.commands.specs.declared.replies.Fault.TheVariants as fault
 use Rattle.streams.specs.Faults.{IsOfReading, is_store, served_fault}
 use Rattle.streams.specs.declared.serve_faults.ServeFault.{ServeFault}
+use Rattle.streams.specs.declared.serve_faults.ServeFault.TheVariants.{Memory}
+use Rattle.streams.proofs.KnownLemmas.{for_known}
 use Rattle.saga_core.specs.Runs.{Asks}
 use Rattle.desk_http.specs.declared.doors.Door.TheVariants.{Port}
 use Rattle.http_conversations.specs.declared.modes.Mode.TheVariants.{Strict}
@@ -13,10 +15,11 @@ use Rattle.http_conversations.specs.Answering.{LeavesTaken}
 use Rattle.http_conversations.specs.Calls.{Receives}
 use Rattle.http_conversations.specs.History.{History, IsServed, new_history}
 use Rattle.http_conversations.specs.Leading.{GoesOnByOne, has_broken}
-use Rattle.http_conversations.specs.ServeReasons.{HasServed}
+use Rattle.http_conversations.specs.ServeReasons.{HasServed, ServesReader}
 use Rattle.http_conversations.specs.Serving.{IsAsBefore, IsAtPort}
 use Rattle.http_conversations.proofs.CallLemmas.{receives_on}
 use Rattle.http_conversations.proofs.ReasonLemmas.{ends_none, ends_then}
+use Rattle.http_conversations.proofs.ServeLemmas.{starts, stops}
 use Rattle.http_conversations.proofs.Steps.{begins, since_more}
 
 consumes_none : (x : Option (List ℕ)) → Consumes x x []
@@ -41,6 +44,15 @@ module _ {B : Type 0} {is_sound : B → Type 0} {may : B → B → State → Ask
     at_port = grind arith;
     read = consumes_none left;
     reasons = λ sound first. ends_none (may first b) (reason first b);
+  }
+
+  -- memory ran out before a message was looked for
+  pub serves_nothing : {stands : B → State → Type 0} {leaves : B → State → State → Type 0} (held left : Option (List ℕ)) (b : B)
+      → ServesReader is_sound stands leaves may reason held held left left b b (Err Memory)
+  serves_nothing {stands} {leaves} held left b = record {
+    answers = λ sound s was. for_known left _ (λ input is.
+        stops Memory (starts held (stands b) (leaves b) s input (new_history Port Strict) left refl is was) tt);
+    reasons = (new_history Port Strict, serves_none left b);
   }
 
   -- a read failed

@@ -36,29 +36,11 @@ keeps_more : (stage : Stage) (waiting rest more : List ℕ) → waiting ≡ kept
 keeps_more stage waiting rest more is = grind arith
 
 pub receives : (h : History) (more : List ℕ) → IsServed h → IsServed (after_received h more)
-receives h more x = record {
-  rest = x.rest ++ more;
-  received = ap (λ t. t ++ more) x.received ∙ append_assoc (bytes_of h.exchanges) x.rest more;
-  waits = keeps_more h.stage h.waiting x.rest more x.waits;
-  answered = x.answered;
-  at_door = x.at_door;
-  in_mode = x.in_mode;
-  stopping = x.stopping;
-  sent = x.sent;
-}
+receives h more x = grind (arith, append_assoc, keeps_more)
 
 -- Bytes were yielded.
 pub sends : (h : History) (count : ℕ) → IsServed h → IsServed (after_sent h count)
-sends h count x = record {
-  rest = x.rest;
-  received = x.received;
-  waits = x.waits;
-  answered = x.answered;
-  at_door = x.at_door;
-  in_mode = x.in_mode;
-  stopping = x.stopping;
-  sent = grind (arith, append_assoc, take-append-drop);
-}
+sends h count x = grind (arith, append_assoc, take-append-drop)
 
 -- A message got its page.
 

@@ -5,7 +5,7 @@ use Rattle.httparse.specs.Grammar.{RequestHead, print_section}
 use Rattle.http1.specs.ChunkedBody.{print_chunks}
 use Rattle.http_messages.specs.Messages as sent
 use Rattle.http_messages.specs.Reading as plain
-use Rattle.http_messages.specs.Requests.{IsRequest, IsTaken}
+use Rattle.http_messages.specs.Requests.{IsRequest}
 use Rattle.http_messages.specs.declared.requests.Message.{Message}
 use Rattle.http_messages.specs.declared.requests.Message.TheVariants as message
 use Rattle.http_messages.specs.Bodies.{IsBody}
@@ -30,11 +30,11 @@ use Rattle.http_conversations.specs.declared.modes.Mode.TheVariants as mode
 use Rattle.http_conversations.proofs.HeadLemmas.{some_head}
 
 -- the first message of the profile was read
-pub reads_plain : (bytes : List ℕ) (m : Message) (count : ℕ) (a : Arrived) → plain.IsFirstOf bytes m count → a.message ≡ m
-    → a.layout ≡ layout.Profile → IsFirstOfBy mode.Strict bytes a count
-reads_plain bytes m count a first is laid = record {
+pub reads_plain : (bytes : List ℕ) (m : Message) (count : ℕ) → plain.IsFirstOf bytes m count
+    → IsFirstOfBy mode.Strict bytes (record { message = m; layout = layout.Profile }) count
+reads_plain bytes m count first = record {
   said = record { meant = first.message; layout = layout.Profile };
-  is_read = record { message = subst (λ z. IsTaken z first.message) (sym is) first.is_taken; layout = laid };
+  is_read = record { message = first.is_taken; layout = refl };
   within = first.within;
   says = (first.is_message, refl);
 }
@@ -90,26 +90,24 @@ text_of_request bytes count h body begins more =
     (begins_with front split.0 body more h begins.0 begins.2.is_head begins.2.framed split.2))
 
 -- a request was read
-pub reads_request : (bytes : List ℕ) (r : WideRequest) (count : ℕ) (a : Arrived) → IsFirstOf bytes (taken.Asks r) count
-    → a.message ≡ message.Asks r.request → a.layout ≡ layout.Wide r.kind → IsFirstOfBy mode.Lenient bytes a count
-reads_request bytes r count a first read laid = go first.sent first.is_taken first.begins
+pub reads_request : (bytes : List ℕ) (r : WideRequest) (count : ℕ) → IsFirstOf bytes (taken.Asks r) count
+    → IsFirstOfBy mode.Lenient bytes (record { message = message.Asks r.request; layout = layout.Wide r.kind }) count
+reads_request bytes r count first = go first.sent first.is_taken first.begins
   where
     go : (w : Wide) → IsWideMessage bytes (taken.Asks r) w
         → ((more : List ℕ) → BeginsWith (bytes ++ more) w (rest_of w (drop count bytes ++ more)))
-        → IsFirstOfBy mode.Lenient bytes a count
+        → IsFirstOfBy mode.Lenient bytes (record { message = message.Asks r.request; layout = layout.Wide r.kind }) count
     go wide.NoMethod is begins = absurd is
     go wide.NoHead is begins = absurd is
     go (wide.Unread h why) is begins = absurd is
     go (wide.BadBody h) is begins = absurd is
     go (wide.Asks h body) is begins =
         let head = some_head h body (begins []).2.is_head.reads.0.target.1 in
-        let asks : IsTaken (message.Asks r.request) (sent.Asks head.0 body) =
-        subst (λ parts. IsRequest r.request parts body) (sym head.1) is.request in
         record {
           said = record { meant = sent.Asks head.0 body; layout = layout.Wide (asked_kind h.method) };
           is_read = record {
-            message = subst (λ z. IsTaken z (sent.Asks head.0 body)) (sym read) asks;
-            layout = laid ∙ ap layout.Wide is.kind;
+            message = subst (λ parts. IsRequest r.request parts body) (sym head.1) is.request;
+            layout = ap layout.Wide is.kind;
           };
           within = first.within;
           says = inl (
@@ -119,49 +117,46 @@ reads_request bytes r count a first read laid = go first.sent first.is_taken fir
           );
         }
 
--- all of the bytes are a message that is not read
-module _ (bytes : List ℕ) (l : Layout) (a : Arrived) (count : ℕ) (read : a.message ≡ message.NoHead) (laid : a.layout ≡ l)
-    (all : count ≡ length bytes) where
-  unread_by : Says mode.Lenient bytes (unread l) → IsFirstOfBy mode.Lenient bytes a count
-  unread_by says = record {
+module _ (bytes : List ℕ) (found : Arrived × ℕ) where
+  -- all of the bytes are a message that is not read
+  unread_by : (l : Layout) → found ≡ (record { message = message.NoHead; layout = l }, length bytes) → Says mode.Lenient bytes (unread l)
+      → IsFirstOfBy mode.Lenient bytes found.0 found.1
+  unread_by l is says = subst (λ (x : Arrived × ℕ). IsFirstOfBy mode.Lenient bytes x.0 x.1) (sym is) (record {
     said = unread l;
-    is_read = record { message = subst (λ z. IsTaken z sent.NoHead) (sym read) tt; layout = laid };
-    within = omega (arith, all);
-    says = subst (λ z. Says mode.Lenient z (unread l)) (sym (take_all count bytes (omega (arith, all)))) says;
-  }
+    is_read = record { message = tt; layout = refl };
+    within = omega arith;
+    says = subst (λ z. Says mode.Lenient z (unread l)) (sym (take_all (length bytes) bytes (omega arith))) says;
+  })
 
--- a message that is denied
-pub reads_denied : (bytes : List ℕ) (why : Denial) (count : ℕ) (a : Arrived) (found : ℕ) → IsFirstOf bytes (taken.Denied why) count
-    → a.message ≡ message.NoHead → a.layout ≡ layout.Denied why → found ≡ length bytes → IsFirstOfBy mode.Lenient bytes a found
-reads_denied bytes why count a found first read laid all =
-    unread_by bytes (layout.Denied why) a found read laid all (inl (go first.sent first.is_taken first.begins))
-  where
-    go : (w : Wide) → IsWideMessage bytes (taken.Denied why) w
-        → ((more : List ℕ) → BeginsWith (bytes ++ more) w (rest_of w (drop count bytes ++ more)))
-        → IsSaidWidely bytes (unread (layout.Denied why))
-    go wide.NoMethod is begins = absurd is
-    go wide.NoHead is begins = (wide.NoHead, begins, (why, is, refl))
-    go (wide.Unread h reason) is begins = (wide.Unread h reason, begins, (why, is, refl))
-    go (wide.BadBody h) is begins = (wide.BadBody h, begins, (why, is, refl))
-    go (wide.Asks h body) is begins = absurd is
+  -- a message that is denied
+  pub reads_denied : (why : Denial) (count : ℕ) → IsFirstOf bytes (taken.Denied why) count
+      → found ≡ (record { message = message.NoHead; layout = layout.Denied why }, length bytes) → IsFirstOfBy mode.Lenient bytes found.0 found.1
+  reads_denied why count first is = unread_by (layout.Denied why) is (inl (go first.sent first.is_taken first.begins))
+    where
+      go : (w : Wide) → IsWideMessage bytes (taken.Denied why) w
+          → ((more : List ℕ) → BeginsWith (bytes ++ more) w (rest_of w (drop count bytes ++ more)))
+          → IsSaidWidely bytes (unread (layout.Denied why))
+      go wide.NoMethod is begins = absurd is
+      go wide.NoHead is begins = (wide.NoHead, begins, (why, is, refl))
+      go (wide.Unread h reason) is begins = (wide.Unread h reason, begins, (why, is, refl))
+      go (wide.BadBody h) is begins = (wide.BadBody h, begins, (why, is, refl))
+      go (wide.Asks h body) is begins = absurd is
 
--- a byte that begins no method
-pub reads_no_method : (bytes : List ℕ) (count : ℕ) (a : Arrived) (found : ℕ) → IsFirstOf bytes taken.NoMethod count
-    → a.message ≡ message.NoHead → a.layout ≡ layout.Nothing → found ≡ length bytes → IsFirstOfBy mode.Lenient bytes a found
-reads_no_method bytes count a found first read laid all =
-    unread_by bytes layout.Nothing a found read laid all (inl (go first.sent first.is_taken first.begins))
-  where
-    go : (w : Wide) → IsWideMessage bytes taken.NoMethod w
-        → ((more : List ℕ) → BeginsWith (bytes ++ more) w (rest_of w (drop count bytes ++ more)))
-        → IsSaidWidely bytes (unread layout.Nothing)
-    go wide.NoMethod is begins = (wide.NoMethod, begins, refl)
-    go wide.NoHead is begins = absurd is
-    go (wide.Unread h reason) is begins = absurd is
-    go (wide.BadBody h) is begins = absurd is
-    go (wide.Asks h body) is begins = absurd is
+  -- a byte that begins no method
+  pub reads_no_method : (count : ℕ) → IsFirstOf bytes taken.NoMethod count
+      → found ≡ (record { message = message.NoHead; layout = layout.Nothing }, length bytes) → IsFirstOfBy mode.Lenient bytes found.0 found.1
+  reads_no_method count first is = unread_by layout.Nothing is (inl (go first.sent first.is_taken first.begins))
+    where
+      go : (w : Wide) → IsWideMessage bytes taken.NoMethod w
+          → ((more : List ℕ) → BeginsWith (bytes ++ more) w (rest_of w (drop count bytes ++ more)))
+          → IsSaidWidely bytes (unread layout.Nothing)
+      go wide.NoMethod is begins = (wide.NoMethod, begins, refl)
+      go wide.NoHead is begins = absurd is
+      go (wide.Unread h reason) is begins = absurd is
+      go (wide.BadBody h) is begins = absurd is
+      go (wide.Asks h body) is begins = absurd is
 
--- as many bytes as a message may have
-pub reads_too_long : (bytes : List ℕ) (a : Arrived) (found : ℕ) → IsOpen bytes → MOST_TEXT ≤ length bytes → a.message ≡ message.NoHead
-    → a.layout ≡ layout.Denied TooLarge → found ≡ length bytes → IsFirstOfBy mode.Lenient bytes a found
-reads_too_long bytes a found none long read laid all =
-    unread_by bytes (layout.Denied TooLarge) a found read laid all (inr (record { none = none; long = long; denied = refl }))
+  -- as many bytes as a message may have
+  pub reads_too_long : IsOpen bytes → MOST_TEXT ≤ length bytes
+      → found ≡ (record { message = message.NoHead; layout = layout.Denied TooLarge }, length bytes) → IsFirstOfBy mode.Lenient bytes found.0 found.1
+  reads_too_long none long is = unread_by (layout.Denied TooLarge) is (inr (record { none = none; long = long; denied = refl }))

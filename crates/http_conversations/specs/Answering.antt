@@ -9,7 +9,7 @@ use Rattle.http_conversations.specs.Pages.{IsPageAt}
 use Rattle.http_conversations.specs.Reading.{IsRead}
 use Rattle.http_conversations.specs.Modes.{Said, Says}
 use Rattle.http_conversations.specs.declared.modes.Arrived.{Arrived}
-use Rattle.http_conversations.specs.History.{AnswersOne, History, Passes, TakesFirst, exchange}
+use Rattle.http_conversations.specs.History.{AnswersOne, HasNoTurn, History, Passes, TakesFirst, exchange}
 use Rattle.http_conversations.specs.declared.conversation.Stage.TheVariants.{Failed}
 
 -- memory ran out for a page, and its message was carried out or not; or the store failed, and a crash leaves one of these states
@@ -48,6 +48,13 @@ pub record SeesLast (arrived : Arrived) (old new : History) : Type 0 where
 abbrev pub Sees : Option Arrived → History → History → Type 0
 Sees (Some arrived) old new = SeesLast arrived old new
 Sees None old new = new.exchanges ≡ old.exchanges
+
+-- The same of a book. Where it was not its turn, nothing changed. The message is shown.
+pub record AnswersAndShows {B : Type 0} (is_sound : B → Type 0) (stands : B → State → Type 0) (leaves : B → State → State → Type 0) (from to : B)
+    (second : Option ℕ) (result : Result Bool Fault) (shown : Option Arrived) (old new : History) : Type 0 where
+  pub first : AnswersFirst (is_sound to) (stands from) (stands to) (leaves to) second result old new
+  pub none : result ≡ Ok false → HasNoTurn old × (new ≡ old) × (to ≡ from)
+  pub seen : Sees shown old new
 
 -- what that leaves of a conversation
 pub record LeavesTaken (result : Result Bool Fault) (old new : History) : Type 0 where

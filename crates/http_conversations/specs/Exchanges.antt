@@ -1,5 +1,5 @@
 -- What is yielded for messages that were answered, and which of them close or stop.
-use Rattle.std.specs.Prelude.{◌≡◌, ⊤, ℕ, Bool, true, false, List, [], ◌∷◌, ◌++◌, ◌⊎◌, All, length, drop, if◌then◌else◌, Option, None, IsSome, unwrap_or}
+use Rattle.std.specs.Prelude.{◌≡◌, ⊤, ℕ, Bool, true, false, List, [], ◌∷◌, ◌++◌, ◌⊎◌, All, length, drop, if◌then◌else◌, None, IsSome, unwrap_or}
 use Rattle.std.specs.List.{flat_map}
 use Rattle.desk_http.specs.Pages.{closes, stops}
 use Rattle.desk_http.specs.declared.doors.Door.{Door}

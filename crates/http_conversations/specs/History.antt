@@ -35,8 +35,7 @@ pub record History : Type 0 where
 -- what of a suffix waits: all of it, while messages are answered
 abbrev pub kept : Stage → List ℕ → List ℕ
 kept Open bytes = bytes
-kept Closing bytes = []
-kept Failed bytes = []
+kept _ bytes = []
 
 -- True of every conversation: what was received begins with the messages of the exchanges, and what was yielded and
 -- then waits is their pages, and 100 Continue, if it was given for the next message.
@@ -80,16 +79,11 @@ abbrev pub exchange : History → ℕ → Option (List ℕ) → Exchange
 exchange h count page =
     record { door = h.door; mode = h.mode; bytes = take count h.waiting; went_on = h.went_on; page = page }
 
--- the first bytes were used; after a closing page, all are
-abbrev pub moved_on : History → ℕ → Bool → History
-moved_on h count closing = record h {
+-- That message got this page, which may close, and asks the desk to stop, or does not. Its bytes were used; after a closing page, all are.
+abbrev pub after_answer : History → ℕ → List ℕ → Bool → Bool → History
+after_answer h count page closing stopping = record h {
   stage = if closing then Closing else Open;
   waiting = if closing then [] else drop count h.waiting;
-}
-
--- that message got this page, which may close, and asks the desk to stop, or does not
-abbrev pub after_answer : History → ℕ → List ℕ → Bool → Bool → History
-after_answer h count page closing stopping = record (moved_on h count closing) {
   stops = stopping;
   went_on = false;
   exchanges = h.exchanges ++ exchange h count (Some page) ∷ [];
@@ -175,8 +169,7 @@ pub record AnswersOne (old new : History) : Type 0 where
 -- a message was answered, and asked the desk to stop
 abbrev pub stops_by : Result Bool Fault → History → Bool
 stops_by (Ok true) h = h.stops
-stops_by (Ok false) h = false
-stops_by (Err fault) h = false
+stops_by _ h = false
 
 -- no message is to be answered now: a page waits, or the conversation is over, or no message is whole
 abbrev pub HasNoTurn : History → Type 0

@@ -1,5 +1,5 @@
 -- Where exchanges lead the desk, from one state to another.
-use Rattle.std.specs.Prelude.{◌≡◌, ◌⊎◌, ◌+◌, ◌≤◌, ℕ, Bool, true, false, List, [], ◌∷◌, ◌++◌, length, Option, Some, None, Result, Ok, Err}
+use Rattle.std.specs.Prelude.{◌≡◌, ◌⊎◌, ◌+◌, ◌≤◌, ℕ, Bool, true, false, List, [], ◌∷◌, ◌++◌, length, Option, Some, None, Result, Err}
 use Rattle.ledger.specs.Answer.{State}
 use Rattle.commands.specs.declared.replies.Fault.{Fault}
 use Rattle.commands.specs.declared.replies.Fault.TheVariants.{Memory, Store}
@@ -69,9 +69,8 @@ pub record GoesOnByOne {B : Type 0} (is_sound : B → Type 0) (stands : B → St
 
 -- the store failed
 abbrev pub has_broken : {T : Type 0} → Result T Fault → Bool
-has_broken (Ok value) = false
-has_broken (Err Memory) = false
 has_broken (Err Store) = true
+has_broken _ = false
 
 -- the fault of an answer as one of the book
 abbrev pub fault_by : ServeFault → Fault

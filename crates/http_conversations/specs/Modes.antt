@@ -41,10 +41,8 @@ IsDeniedFor bytes w x = (why : Denial) × IsWideMessage bytes (taken.Denied why)
 -- what is meant by a wide message
 abbrev pub Means : List ℕ → Wide → Said → Type 0
 Means bytes wide.NoMethod x = x ≡ unread layout.Nothing
-Means bytes wide.NoHead x = IsDeniedFor bytes wide.NoHead x
-Means bytes (wide.Unread h why) x = IsDeniedFor bytes (wide.Unread h why) x
-Means bytes (wide.BadBody h) x = IsDeniedFor bytes (wide.BadBody h) x
 Means bytes (wide.Asks h body) x = IsMeantBy h body x
+Means bytes w x = IsDeniedFor bytes w x
 
 -- these bytes are this message, whatever follows them
 abbrev pub IsWideText : List ℕ → Wide → Type 0

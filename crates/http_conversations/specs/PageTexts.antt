@@ -75,11 +75,8 @@ phrase_of denial.OtherVersion = codes "HTTP Version Not Supported"
 
 -- the refusal that is reported with it
 abbrev pub refusal_of : Denial → Refusal
-refusal_of denial.BadHead = refusal.BadHead
 refusal_of denial.TooLarge = refusal.TooLarge
-refusal_of denial.LongHead = refusal.BadHead
-refusal_of denial.OtherCoding = refusal.BadHead
-refusal_of denial.OtherVersion = refusal.BadHead
+refusal_of _ = refusal.BadHead
 
 -- the text of a refusal
 abbrev pub text_of : Refusal → List ℕ

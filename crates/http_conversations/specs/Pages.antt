@@ -1,5 +1,5 @@
 -- The page of what is said in a mode.
-use Rattle.std.specs.Prelude.{◌≡◌, ℕ, ◌||◌, Bool, true, false, List, [], bytes_eq, codes, if◌then◌else◌, Option, Some, None, is_some, Result, Ok, Err}
+use Rattle.std.specs.Prelude.{◌≡◌, ℕ, ◌||◌, Bool, true, false, List, [], bytes_eq, codes, if◌then◌else◌, Option, Some, None, is_some, Result, Err}
 use Rattle.ledger.specs.Answer.{State}
 use Rattle.http_messages.specs.Heads.{parts_of}
 use Rattle.http_messages.specs.Messages as sent
@@ -7,7 +7,7 @@ use Rattle.http_pages.specs.Routes.{route_of}
 use Rattle.http_pages.specs.Verbs.{verb_text}
 use Rattle.http_pages.specs.declared.routes.Route.{Route}
 use Rattle.http_pages.specs.declared.routes.Unrouted.{Unrouted}
-use Rattle.http_pages.specs.declared.routes.Unrouted.TheVariants.{UnknownPath, WrongMethod, BadPart}
+use Rattle.http_pages.specs.declared.routes.Unrouted.TheVariants.{WrongMethod}
 use Rattle.http_pages.specs.declared.routes.Verb.{Verb}
 use Rattle.http_pages.specs.declared.routes.Verb.TheVariants as verb
 use Rattle.report_words.specs.Targets.{asks_for_report}
@@ -18,7 +18,7 @@ use Rattle.desk_http.specs.declared.answering.Answer.{Answer}
 use Rattle.desk_http.specs.declared.doors.Door.{Door}
 use Rattle.desk_http.specs.declared.doors.Door.TheVariants as doors
 use Rattle.http_messages.specs.declared.asked.AskedKind.{AskedKind}
-use Rattle.http_messages.specs.declared.asked.AskedKind.TheVariants.{Get, Head, Post, Options, Other}
+use Rattle.http_messages.specs.declared.asked.AskedKind.TheVariants.{Head, Options}
 use Rattle.http_conversations.specs.PageTexts.{IsDateLine, denial_text, not_allowed_text, options_text, wide_text}
 use Rattle.streams.specs.declared.serve_faults.ServeFault.{ServeFault}
 use Rattle.http_conversations.specs.Modes.{Said}
@@ -31,10 +31,8 @@ use Rattle.http_conversations.specs.declared.modes.Layout.TheVariants as layout
 
 -- the method of a path that was asked for by another
 abbrev pub other_verb : Result Route Unrouted → Option Verb
-other_verb (Ok route) = None
-other_verb (Err UnknownPath) = None
 other_verb (Err (WrongMethod verb)) = Some verb
-other_verb (Err BadPart) = None
+other_verb _ = None
 
 -- the method that a path has, which was asked for by another
 abbrev pub verb_of_path : List ℕ → List ℕ → Option Verb
@@ -64,19 +62,13 @@ verb_at door method target = verb_by (own_verb door target) method target
 
 -- the page of the profile; for HEAD without its body
 abbrev pub page_for : AskedKind → Shown
-page_for Get = shown.Page
 page_for Head = shown.PageOfHead
-page_for Post = shown.Page
-page_for Options = shown.Page
-page_for Other = shown.Page
+page_for _ = shown.Page
 
 -- it is HEAD
 abbrev pub is_head : AskedKind → Bool
-is_head Get = false
 is_head Head = true
-is_head Post = false
-is_head Options = false
-is_head Other = false
+is_head _ = false
 
 -- a path that is known shows what it allows
 abbrev pub options_of : Option Verb → Shown
@@ -90,12 +82,9 @@ not_allowed_of kind None = page_for kind
 
 -- what is shown at a door for a request that asks for this
 abbrev pub shown_at : Door → AskedKind → List ℕ → List ℕ → Shown
-shown_at door Get method target = not_allowed_of Get (verb_at door method target)
-shown_at door Head method target = not_allowed_of Head (verb_at door method target)
-shown_at door Post method target = not_allowed_of Post (verb_at door method target)
 shown_at door Options method target =
     if bytes_eq target (codes "*") then shown.Options None else options_of (verb_at door method target)
-shown_at door Other method target = not_allowed_of Other (verb_at door method target)
+shown_at door kind method target = not_allowed_of kind (verb_at door method target)
 
 -- the same for the message that is meant; a head that is refused at the door, as one with another host, gets its refusal
 abbrev pub shown_for : Door → AskedKind → sent.Message → Shown

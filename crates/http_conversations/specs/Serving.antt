@@ -71,9 +71,3 @@ pub record HandsOut (held holds : Option (List ℕ)) (old new : History) : Type 
   pub wrote : Appends held holds (take part old.pending)
   pub pending : new.pending ≡ drop part old.pending
   pub same : IsAsBefore old new
-
--- all of it was written
-pub record HandsOutAll (held holds : Option (List ℕ)) (old new : History) : Type 0 where
-  pub wrote : Appends held holds old.pending
-  pub pending : new.pending ≡ []
-  pub same : IsAsBefore old new

@@ -1,12 +1,12 @@
 //! A conversation, with no socket of its own.
-ghost use Rattle.http_conversations.specs.Answering.{AnswersFirst, LeavesTaken, Sees};
+ghost use Rattle.http_conversations.specs.Answering.{AnswersAndShows, LeavesTaken};
 ghost use Rattle.http_conversations.specs.Calls.{GivesIfDue, Receives, Sends};
-ghost use Rattle.http_conversations.specs.History.{HasNoTurn, IsQuiet, IsServed, WantsRead, new_history, stops_by};
+ghost use Rattle.http_conversations.specs.History.{IsQuiet, IsServed, WantsRead, new_history, stops_by};
 ghost use Rattle.http_conversations.specs.Leading.{GoesOnByOne, has_broken};
 ghost use Rattle.http_conversations.specs.Talks.{history_of};
 ghost use Rattle.http_conversations.specs.declared.conversation.TheConstants.{MOST_READ, MOST_WAITING};
 ghost use Rattle.saga_core.specs.Calls.{Serves};
-ghost use Rattle.std.specs.Prelude.{◌≡◌, ◌≢◌, ◌+◌, ◌<◌, ◌≤◌, ◌↔◌, [], length, Ok, false, IsTrue};
+ghost use Rattle.std.specs.Prelude.{◌≡◌, ◌≢◌, ◌+◌, ◌<◌, ◌≤◌, ◌↔◌, [], length, IsTrue};
 
 use crate::modes::{Arrived, Mode};
 use crate::talk::Talk;
@@ -88,16 +88,12 @@ impl Conversation {
         seen: &mut Option<Arrived>,
         book: &mut B,
     ) -> Result<bool, Fault>
-        ensures answers { AnswersFirst (B.is_sound book.new) (B.stands book.old)
-            (B.stands book.new) (B.leaves book.new) second result
-            (history self.old) (history self.new) }
+        ensures answers { AnswersAndShows B.is_sound B.stands B.leaves book.old book.new
+            second result seen.new (history self.old) (history self.new) }
         ensures turn { GoesOnByOne B.is_sound B.stands B.leaves B.may_act B.has_reason
             book.old book.new (has_broken result) (stops_by result (history self.new))
             (history self.old).exchanges (history self.new).exchanges }
         ensures leaves { LeavesTaken result (history self.old) (history self.new) }
-        ensures none { result ≡ Ok false → HasNoTurn (history self.old)
-            × (history self.new ≡ history self.old) × (book.new ≡ book.old) }
-        ensures seen { Sees seen.new (history self.old) (history self.new) }
         ensures serves { Serves B.is_sound B.leaves B.has_failed book.old book.new
             Fault.Store result }
     {

@@ -17,6 +17,7 @@
 #![tactic(auto)]
 
 mod allowed;
+mod buffers;
 mod conversation;
 mod dates;
 mod denials;
@@ -27,6 +28,7 @@ mod serving;
 mod showing;
 mod talk;
 
+pub use buffers::ReadBuffer;
 pub use conversation::{Conversation, MOST_PENDING, MOST_READ, MOST_WAITING, Stage};
 pub use laws::{asks_are_short, post_has_a_short_ask, post_is_first, said_is_first};
 pub use modes::{Arrived, Layout, MOST_TEXT, Mode, answer_by, first_by, go_on_by, go_on_text};

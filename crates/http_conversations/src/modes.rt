@@ -2,9 +2,8 @@
 
 ghost use Rattle.http_conversations.specs.Reading.{IsDueBy, IsFirstBy, IsFirstOfBy, IsRead};
 ghost use Rattle.http_conversations.specs.PageTexts.{go_on};
-ghost use Rattle.std.specs.Prelude.{◌≡◌, ◌↔◌, IfOk, IsTrue, ◌≤◌, length, IfErr};
-ghost use Rattle.http_messages.specs.Reading as profile;
-ghost use Rattle.http_messages.specs.WideReading.{IsFirstOf, IsOpen};
+ghost use Rattle.std.specs.Prelude.{◌≡◌, ◌↔◌, IfOk, IsTrue, length, IfErr};
+ghost use Rattle.http_messages.specs.WideReading.{IsFirstOf};
 ghost use Rattle.http_conversations.specs.declared.modes.Mode.TheVariants.{Strict, Lenient};
 ghost use Rattle.ledger.specs.Answer.{State};
 ghost use Rattle.saga_core.specs.Calls.{Serves};
@@ -103,21 +102,12 @@ fn first_plain(alloc: Global, bytes: &[u8]) -> Result<Option<(Arrived, usize)>, 
     ensures first { IfOk result (IsFirstBy Strict bytes.now) }
 {
     match first_message(alloc, bytes)? {
-        Some((message, count)) => Ok(Some(plain(bytes, message, count))),
+        Some((message, count)) => {
+            let layout = Layout::Profile;
+            Ok(Some((Arrived { message, layout }, count)))
+        }
         None => Ok(None),
     }
-}
-
-/// The first message of the profile, of which so many bytes were read.
-fn plain(bytes: &[u8], message: Message, count: usize) -> (Arrived, usize)
-    requires first { profile.IsFirstOf bytes.now message count }
-    ensures first { IsFirstOfBy Strict bytes.now result.0 result.1 }
-{
-    let arrived = Arrived {
-        message,
-        layout: Layout::Profile,
-    };
-    (arrived, count)
 }
 
 /// The first message in lenient mode.
@@ -126,18 +116,12 @@ fn first_wide(alloc: Global, bytes: &[u8]) -> Result<Option<(Arrived, usize)>, A
 {
     match first_wide_message(alloc, bytes)? {
         Some((message, count)) => Ok(Some(taken(bytes, message, count))),
-        None if bytes.len() >= MOST_TEXT => Ok(Some(too_long(bytes))),
+        None if bytes.len() >= MOST_TEXT => Ok(Some(unread(
+            bytes,
+            Layout::Denied(Denial::TooLarge),
+        ))),
         None => Ok(None),
     }
-}
-
-/// As many bytes as a message may have, of which none is whole.
-fn too_long(bytes: &[u8]) -> (Arrived, usize)
-    requires none { IsOpen bytes.now }
-    requires long { MOST_TEXT ≤ length bytes.now }
-    ensures first { IsFirstOfBy Lenient bytes.now result.0 result.1 }
-{
-    unread(bytes, Layout::Denied(Denial::TooLarge))
 }
 
 /// The first message, of which so many bytes were read.
@@ -154,8 +138,8 @@ fn taken(bytes: &[u8], message: WideMessage, count: usize) -> (Arrived, usize)
 
 /// A request that was read.
 fn asked(asks: WideRequest) -> Arrived
-    ensures message { result.message ≡ Message.Asks asks.request }
-    ensures layout { result.layout ≡ Layout.Wide asks.kind }
+    ensures asked { result ≡
+        record { message = Message.Asks asks.request; layout = Layout.Wide asks.kind } }
 {
     let WideRequest { kind, request } = asks;
     Arrived {
@@ -166,9 +150,7 @@ fn asked(asks: WideRequest) -> Arrived
 
 /// A message that is not read: all bytes are its own.
 fn unread(bytes: &[u8], layout: Layout) -> (Arrived, usize)
-    ensures message { result.0.message ≡ Message.NoHead }
-    ensures layout { result.0.layout ≡ layout }
-    ensures all { result.1 ≡ length bytes.now }
+    ensures all { result ≡ (record { message = Message.NoHead; layout = layout }, length bytes.now) }
 {
     let arrived = Arrived {
         message: Message::NoHead,

@@ -1,17 +1,15 @@
 //! A conversation at the port with one reader and one writer, in strict mode, until it is over.
-ghost use Rattle.std.specs.Prelude.{◌≡◌, ◌<◌, ◌≤◌, ◌↔◌, length, true, IfOk, IfErr, IfSome, OnOk};
-ghost use Rattle.ledger.specs.Answer.{State};
+ghost use Rattle.std.specs.Prelude.{◌≡◌, ◌↔◌, [], true, IfOk, IfErr, IfSome, OnOk};
 ghost use Rattle.saga_core.specs.Calls.{Serves};
 ghost use Rattle.streams.specs.Faults.{IsOfReading};
 ghost use Rattle.streams.specs.Scenes.{scene};
-ghost use Rattle.desk_http.specs.Serving.{ServesAll, ServesSome};
 ghost use Rattle.desk_http.specs.Worlds.{GoesOnWithMessages, GoesOnAmongMessages};
 ghost use Rattle.http_conversations.specs.Calls.{Receives};
 ghost use Rattle.http_conversations.specs.Conversations.{history};
-ghost use Rattle.http_conversations.specs.History.{History};
-ghost use Rattle.http_conversations.specs.Serving.{AwaitsNext, FindsNext, HandsOut, HandsOutAll, IsAtPort, to_come};
-ghost use Rattle.http_conversations.specs.ServeReasons.{HasServed, ServesOn, has_store_failed};
+ghost use Rattle.http_conversations.specs.Serving.{AwaitsNext, FindsNext, HandsOut, to_come};
+ghost use Rattle.http_conversations.specs.ServeReasons.{ServesOn, ServesReader, has_store_failed};
 
+use crate::buffers::ReadBuffer;
 use crate::conversation::{Conversation, MOST_READ, Stage};
 use crate::modes::Mode;
 use desk_http::Door;
@@ -41,16 +39,9 @@ pub fn serve<R: Read, W: Write, B: Reporting>(
     writer: &mut W,
     book: &mut Ready<B>,
 ) -> Result<Served, ServeFault>
-    ensures all { B.is_sound book.new → (s : State) → B.stands book.old s →
-        IfSome (R.remaining reader.old) (λ input. IfOk result (λ served. ServesAll
-        (scene (W.contents writer.old) (W.contents writer.new)
-        (B.stands book.new) (B.leaves book.new)) s input served.pages)) }
-
-    ensures some { B.is_sound book.new → (s : State) → B.stands book.old s →
-        IfSome (R.remaining reader.old) (λ input. IfErr result (ServesSome
-        (scene (W.contents writer.old) (W.contents writer.new)
-        (B.stands book.new) (B.leaves book.new)) s input)) }
-
+    ensures served { ServesReader B.is_sound B.stands B.leaves B.may_act B.has_reason
+        (W.contents writer.old) (W.contents writer.new)
+        (R.remaining reader.old) (R.remaining reader.new) book.old book.new result }
     ensures world { B.is_sound book.new → IfSome (R.remaining reader.old) (λ input.
         IfOk result (λ served. GoesOnWithMessages (B.stands book.old)
         (scene (W.contents writer.old) (W.contents writer.new)
@@ -61,70 +52,28 @@ pub fn serve<R: Read, W: Write, B: Reporting>(
         (B.stands book.new) (B.leaves book.new)) input)) }
     ensures serves { Serves B.is_sound B.leaves B.has_failed book.old book.new
         ServeFault.Store result }
-    ensures reason { (h : History) × HasServed B.is_sound B.may_act B.has_reason
-        (R.remaining reader.old) (R.remaining reader.new) book.old book.new
-        (has_store_failed result) h }
 {
-    serve_book(alloc, reader, writer, book)
+    serve_messages(alloc, reader, writer, book)
 }
 
 /// Does the same over any book.
-fn serve_book<R: Read, W: Write, B: Reporting>(
-    alloc: Global,
-    reader: &mut R,
-    writer: &mut W,
-    book: &mut B,
-) -> Result<Served, ServeFault>
-    ensures all { B.is_sound book.new → (s : State) → B.stands book.old s →
-        IfSome (R.remaining reader.old) (λ input. IfOk result (λ served. ServesAll
-        (scene (W.contents writer.old) (W.contents writer.new)
-        (B.stands book.new) (B.leaves book.new)) s input served.pages)) }
-
-    ensures some { B.is_sound book.new → (s : State) → B.stands book.old s →
-        IfSome (R.remaining reader.old) (λ input. IfErr result (ServesSome
-        (scene (W.contents writer.old) (W.contents writer.new)
-        (B.stands book.new) (B.leaves book.new)) s input)) }
-    ensures serves { Serves B.is_sound B.leaves B.has_failed book.old book.new
-        ServeFault.Store result }
-    ensures reason { (h : History) × HasServed B.is_sound B.may_act B.has_reason
-        (R.remaining reader.old) (R.remaining reader.new) book.old book.new
-        (has_store_failed result) h }
-{
-    let paths = Paths::new(alloc)?;
-    let mut buffer = vec![in alloc; 0u8; MOST_READ]?;
-    serve_messages(alloc, &paths, buffer.as_mut_slice(), reader, writer, book)
-}
-
-/// Does the same by way of a buffer.
 fn serve_messages<R: Read, W: Write, B: Reporting>(
     alloc: Global,
-    paths: &Paths,
-    buffer: &mut [u8],
     reader: &mut R,
     writer: &mut W,
     book: &mut B,
 ) -> Result<Served, ServeFault>
-    requires small { length buffer.old ≤ MOST_READ }
-    requires some { 0 < length buffer.old }
-
-    ensures all { B.is_sound book.new → (s : State) → B.stands book.old s →
-        IfSome (R.remaining reader.old) (λ input. IfOk result (λ served. ServesAll
-        (scene (W.contents writer.old) (W.contents writer.new)
-        (B.stands book.new) (B.leaves book.new)) s input served.pages)) }
-
-    ensures some { B.is_sound book.new → (s : State) → B.stands book.old s →
-        IfSome (R.remaining reader.old) (λ input. IfErr result (ServesSome
-        (scene (W.contents writer.old) (W.contents writer.new)
-        (B.stands book.new) (B.leaves book.new)) s input)) }
+    ensures served { ServesReader B.is_sound B.stands B.leaves B.may_act B.has_reason
+        (W.contents writer.old) (W.contents writer.new)
+        (R.remaining reader.old) (R.remaining reader.new) book.old book.new result }
     ensures serves { Serves B.is_sound B.leaves B.has_failed book.old book.new
         ServeFault.Store result }
-    ensures reason { (h : History) × HasServed B.is_sound B.may_act B.has_reason
-        (R.remaining reader.old) (R.remaining reader.new) book.old book.new
-        (has_store_failed result) h }
 {
+    let paths = Paths::new(alloc)?;
+    let mut buffer = ReadBuffer::new(alloc)?;
     let mut conversation = Conversation::new(alloc, Door::Port, Mode::Strict);
     for pages in 0..u64::MAX {
-        let found = answer_next(paths, &mut conversation, buffer, reader, book)?;
+        let found = answer_next(&paths, &mut conversation, &mut buffer, reader, book)?;
         if !found {
             return Ok(Served { pages });
         }
@@ -147,18 +96,15 @@ fn is_open(conversation: &Conversation) -> bool
 fn answer_next<R: Read, B: Reporting>(
     paths: &Paths,
     conversation: &mut Conversation,
-    buffer: &mut [u8],
+    buffer: &mut ReadBuffer,
     reader: &mut R,
     book: &mut B,
 ) -> Result<bool, ServeFault>
-    requires small { length buffer.old ≤ MOST_READ }
-    requires some { 0 < length buffer.old }
     requires awaits { AwaitsNext (history conversation.old) }
 
     ensures next { IfSome (to_come (history conversation.old) (R.remaining reader.old)) (λ stream.
         FindsNext (B.is_sound book.new) (B.stands book.old) (B.stands book.new) (B.leaves book.new)
         stream (R.remaining reader.new) (history conversation.new) result) }
-    ensures at_port { IsAtPort (history conversation.new) }
     ensures serves { Serves B.is_sound B.leaves B.has_failed book.old book.new
         ServeFault.Store result }
     ensures reason { ServesOn B.is_sound B.may_act B.has_reason
@@ -184,21 +130,18 @@ fn answer_next<R: Read, B: Reporting>(
 /// Reads more, and retries an interrupted read. Returns 0 if the input has ended.
 fn read_more<R: Read>(
     conversation: &mut Conversation,
-    buffer: &mut [u8],
+    buffer: &mut ReadBuffer,
     reader: &mut R,
 ) -> Result<usize, ServeFault>
-    requires small { length buffer.old ≤ MOST_READ }
-    requires some { 0 < length buffer.old }
-
     ensures receives { Receives (R.remaining reader.old) (R.remaining reader.new)
-        (length buffer.old) result (history conversation.old) (history conversation.new) }
+        MOST_READ result (history conversation.old) (history conversation.new) }
     ensures fault { IfErr result IsOfReading }
 {
     if !conversation.wants_read() {
         return Err(ServeFault::Read);
     }
     for _ in 0..u64::MAX {
-        match conversation.receive(buffer, reader) {
+        match conversation.receive(buffer.bytes.as_mut_slice(), reader) {
             Ok(count) => return Ok(count),
             Err(error) => match error.kind() {
                 ErrorKind::Interrupted => {}
@@ -212,9 +155,7 @@ fn read_more<R: Read>(
 
 /// Writes the page that waits, and flushes the writer.
 fn send_page<W: Write>(conversation: &mut Conversation, writer: &mut W) -> Result<(), ServeFault>
-    ensures all { OnOk result (HandsOutAll (W.contents writer.old) (W.contents writer.new)
-        (history conversation.old) (history conversation.new)) }
-
+    ensures all { OnOk result ((history conversation.new).pending ≡ []) }
     ensures some { HandsOut (W.contents writer.old) (W.contents writer.new)
         (history conversation.old) (history conversation.new) }
     ensures fault { IfErr result (λ fault. fault ≡ ServeFault.Write) }

@@ -1,12 +1,12 @@
 //! What a conversation holds, and each step of it.
-ghost use Rattle.std.specs.Prelude.{◌≡◌, ◌≢◌, ◌≤◌, [], length, drop, vec_capacity, Ok, false};
+ghost use Rattle.std.specs.Prelude.{◌≡◌, ◌≤◌, [], length, drop, vec_capacity, Some};
 ghost use Rattle.saga_core.specs.Calls.{Serves};
 ghost use Rattle.http_conversations.specs.Reading.{IsFirstOfBy};
-ghost use Rattle.http_conversations.specs.Answering.{AnswersFirst, Sees, SeesLast};
+ghost use Rattle.http_conversations.specs.Answering.{AnswersAndShows};
 ghost use Rattle.http_conversations.specs.Calls.{GivesIfDue, Receives, Sends};
 ghost use Rattle.http_conversations.specs.Exchanges.{since};
 ghost use Rattle.http_conversations.specs.Leading.{fault_by, has_broken};
-ghost use Rattle.http_conversations.specs.History.{HasNoTurn, IsReady, after_answer, after_failure, after_loss, kept, moved_on, new_history};
+ghost use Rattle.http_conversations.specs.History.{IsReady, after_answer, after_failure, after_loss, kept, new_history};
 ghost use Rattle.http_conversations.specs.Reasons.{HasReasons};
 ghost use Rattle.http_conversations.specs.Talks.{history_of};
 
@@ -112,15 +112,11 @@ impl Talk {
         seen: &mut Option<Arrived>,
         book: &mut B,
     ) -> Result<bool, Fault>
-        ensures answers { AnswersFirst (B.is_sound book.new) (B.stands book.old)
-            (B.stands book.new) (B.leaves book.new) second result
-            (history_of self.old) (history_of self.new) }
+        ensures answers { AnswersAndShows B.is_sound B.stands B.leaves book.old book.new
+            second result seen.new (history_of self.old) (history_of self.new) }
         ensures reasons { HasReasons B.is_sound B.may_act B.has_reason book.old book.new
             (has_broken result)
             (since (history_of self.old).exchanges (history_of self.new).exchanges) }
-        ensures none { result ≡ Ok false → HasNoTurn (history_of self.old)
-            × (history_of self.new ≡ history_of self.old) × (book.new ≡ book.old) }
-        ensures seen { Sees seen.new (history_of self.old) (history_of self.new) }
         ensures serves { Serves B.is_sound B.leaves B.has_failed book.old book.new
             Fault.Store result }
     {
@@ -155,14 +151,11 @@ impl Talk {
         requires first { IsFirstOfBy self.old.mode self.old.waiting.items arrived.now count }
         requires ready { IsReady (history_of self.old) }
 
-        ensures answers { AnswersFirst (B.is_sound book.new) (B.stands book.old)
-            (B.stands book.new) (B.leaves book.new) second result
-            (history_of self.old) (history_of self.new) }
+        ensures answers { AnswersAndShows B.is_sound B.stands B.leaves book.old book.new
+            second result (Some arrived.now) (history_of self.old) (history_of self.new) }
         ensures reasons { HasReasons B.is_sound B.may_act B.has_reason book.old book.new
             (has_broken result)
             (since (history_of self.old).exchanges (history_of self.new).exchanges) }
-        ensures some { result ≢ Ok false }
-        ensures seen { SeesLast arrived.now (history_of self.old) (history_of self.new) }
         ensures serves { Serves B.is_sound B.leaves B.has_failed book.old book.new
             Fault.Store result }
     {
@@ -178,7 +171,7 @@ impl Talk {
         }
     }
 
-    /// The first bytes were a message, and this is its page.
+    /// The first bytes were a message, and this is its page. They were used; after a closing page, all are.
     pub(crate) fn keep(&mut self, count: usize, answer: Answer)
         requires within { count ≤ length self.old.waiting.items }
         requires is_open { self.old.stage ≡ Stage.Open }
@@ -197,15 +190,6 @@ impl Talk {
         self.went_on = false;
         self.exchanges = self.exchanges.and(&self.waiting, &taken);
         self.pending = taken.page;
-        self.move_on(count, closes);
-    }
-
-    /// The first bytes were used; after a closing page, all are.
-    fn move_on(&mut self, count: usize, closes: bool)
-        requires within { count ≤ length self.old.waiting.items }
-        requires is_open { self.old.stage ≡ Stage.Open }
-        ensures moved { history_of self.new ≡ moved_on (history_of self.old) count closes }
-    {
         if closes {
             self.stage = Stage::Closing;
             self.waiting = Vec::new(self.alloc);
@@ -282,7 +266,6 @@ fn forget(alloc: Global, bytes: &mut Vec<u8>, count: usize)
 /// The fault of an answer as one of the book. An answer meets no other.
 fn fault_of(fault: ServeFault) -> Fault
     ensures fault { result ≡ fault_by fault }
-    ensures store { result ≡ Fault.Store → fault ≡ ServeFault.Store }
 {
     match fault {
         ServeFault::Store => Fault::Store,

@@ -1,5 +1,5 @@
 -- What a turn gains. For Connection::serve and Slot::serve.
-use Rattle.std.proofs.Common.{◌≡◌, ◌∙◌, ℕ, Bool, true, false, List, [], ◌∷◌, ◌++◌, Option, Ok, Err, refl, sym, ap, subst, inl, inr, append_assoc}
+use Rattle.std.proofs.Common.{◌≡◌, ◌∙◌, ℕ, Bool, true, false, List, [], ◌∷◌, ◌++◌, Option, Ok, Err, refl, sym, ap, subst, inl, inr, append_assoc, arith}
 use Rattle.std.specs.Prelude.{Some, None}
 use Rattle.commands.specs.declared.replies.Fault.{Fault}
 use Rattle.http_conversations.specs.Worlds.{Exchange}
@@ -43,14 +43,7 @@ gains_page s true h k is takes some =
 -- or lost it, or was not looked at
 pub gains_lost : (fault : Fault) (pending : List ℕ) (h k : History) → TakesFirst (Err fault) h k
     → Gains Over pending h.exchanges k.exchanges
-gains_lost fault pending h k takes = elim takes [
-  | inl loses ↦ inr (record {
-    last = exchange h loses.count None;
-    one = ap (λ (j : History). j.exchanges) loses.is;
-    has_page = refl;
-  })
-  | inr fails ↦ inl (ap (λ (j : History). j.exchanges) fails.1)
-]
+gains_lost fault pending h k takes = grind arith
 
 -- Of a slot.
 

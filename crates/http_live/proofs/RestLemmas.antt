@@ -6,7 +6,7 @@ use Rattle.http_conversations.proofs.CallLemmas.{nothing_pending}
 use Rattle.http_live.specs.Endings.{ending_after, ends_stopped, is_stop, turn_stops}
 use Rattle.http_live.specs.Resting.{HasUnanswered, IsUsedUp}
 use Rattle.http_live.specs.declared.slots.Standing.{Standing}
-use Rattle.http_live.specs.declared.slots.Standing.TheVariants.{Between, Amid, Unsent, Lingering, Answered, Stopped, Busy, Over}
+use Rattle.http_live.specs.declared.slots.Standing.TheVariants.{Stopped}
 
 -- where no page waits and nothing is to be answered, all was used
 pub used_up : (h k : History) (b : Bool) → (h.pending ≢ [] → IsTrue b) → b ≡ false → HasNoTurn h → k ≡ h → IsUsedUp k
@@ -30,13 +30,7 @@ unanswered h waits has some is_false part =
 -- the house asked for a stop only in a turn that says so
 asked_to_stop : (standing : Standing) → is_stop standing ≡ true → standing ≡ Stopped
 asked_to_stop Stopped is = refl
-asked_to_stop Between is = cc
-asked_to_stop Amid is = cc
-asked_to_stop Unsent is = cc
-asked_to_stop Lingering is = cc
-asked_to_stop Answered is = cc
-asked_to_stop Busy is = cc
-asked_to_stop Over is = cc
+asked_to_stop _ is = cc
 
 -- so it is of what a turn came to
 pub asked_in_turn : (result : Result Standing Fault) → turn_stops result ≡ true → result ≡ Ok Stopped
@@ -46,10 +40,4 @@ asked_in_turn (Err fault) is = cc
 -- a turn ends serving as the house asked just where it asked in this turn
 pub stops_in_turn : (standing : Standing) → ends_stopped (Ok (ending_after standing)) ≡ is_stop standing
 stops_in_turn Stopped = refl
-stops_in_turn Between = refl
-stops_in_turn Amid = refl
-stops_in_turn Unsent = refl
-stops_in_turn Lingering = refl
-stops_in_turn Answered = refl
-stops_in_turn Busy = refl
-stops_in_turn Over = refl
+stops_in_turn _ = refl

@@ -12,11 +12,11 @@ use Rattle.desk_http.specs.declared.doors.Door.{Door}
 use Rattle.http_conversations.specs.declared.modes.Mode.{Mode}
 use Rattle.http_conversations.specs.Leading.{GoesOnByOne, has_broken}
 use Rattle.http_live.specs.Arrivals.{arrivals_at}
-use Rattle.http_live.specs.Calls.{Admits, ChangesAt, ChangesOne, TakesTurns}
+use Rattle.http_live.specs.Calls.{Admits, AreLeft, ChangesAt, ChangesOne, IsLeft, TakesTurns}
 use Rattle.http_live.specs.Endings.{turn_stops}
 use Rattle.http_live.specs.InTime.{ByTurns, InTime, Instant, IsInOrder, IsTurn, TakesSome, TakesTurn, came, ended, had_none, left, more, none, went_on}
 use Rattle.http_live.specs.Merging.{Slotted, slotted_at}
-use Rattle.http_live.specs.Slots.{HasStopAt, exchanges_at}
+use Rattle.http_live.specs.Slots.{HasStopAt, exchanges_at, received_at}
 use Rattle.http_live.specs.declared.slots.Slot.{Slot}
 use Rattle.http_live.specs.declared.slots.Standing.{Standing}
 use Rattle.http_live.specs.declared.serving.Turn.{Turn}
@@ -34,6 +34,15 @@ module _ {R W : Type 0} {r : Read.Ghosts R} {w : Write.Ghosts W} where
     new = new;
     is = refl;
     so = subst (λ old. how old new) (get_or_default slots i d new within) so;
+  }
+
+  -- one slot of these was left
+  pub left_one : (slots : List (Slot R W r w)) (i : ℕ) (d new : Slot R W r w) → IsLeft (slice_index_or slots i d) new
+      → AreLeft slots (slice_set slots i new)
+  left_one slots i d new so = record {
+    kept = map-set_same exchanges_at slots i new d so.kept;
+    arrivals = map-set_same arrivals_at slots i new d so.arrivals;
+    unread = map-set_same received_at slots i new d so.unread;
   }
 
 module _ {R W : Type 0} {r : Read.Ghosts R} {w : Write.Ghosts W} {is_at : R → Door → Type 0} {is_by : R → Mode → Type 0}
@@ -116,11 +125,8 @@ module _ {R W T B : Type 0} {r : Read.Ghosts R} {w : Write.Ghosts W} {took : T �
   sound_turn : (failed stopped : Bool) (old : Instant r w T B) (added : List Slotted) (new : Instant r w T B)
       → IsTurn took heard seen is_at is_by is_pair is_sound stands leaves may reason failed stopped old added new
       → is_sound new.book → is_sound old.book
-  sound_turn _ _ _ _ _ (came from to before after book i door mode reader writer took here read pair changes) sound = sound
   sound_turn _ _ _ _ _ (went_on from taken shown timed to before after old new i result took shows times slot told back) sound = back sound
-  sound_turn _ _ _ _ _ (had_none from to slots book i took past) sound = sound
-  sound_turn _ _ _ _ _ (left from to before after book i took changes) sound = sound
-  sound_turn _ _ _ _ _ (ended from to slots book took) sound = sound
+  sound_turn _ _ _ _ _ _ sound = sound
 
   -- as much is said of a stop
   pub turn_as : {failed stopped other : Bool} {old new : Instant r w T B} → stopped ≡ other

@@ -1,5 +1,5 @@
 -- What a call leaves of a connection, of a slot, and of all slots.
-use Rattle.std.specs.Prelude.{◌≡◌, ◌⊎◌, ℕ, ◌<◌, ◌≤◌, Bool, true, false, List, [], ◌∷◌, ◌++◌, length, map, None, Result, Ok, IfErr, IfOk, IfSome, slice_index_or, slice_set}
+use Rattle.std.specs.Prelude.{◌≡◌, ◌⊎◌, ℕ, ◌<◌, ◌≤◌, Bool, true, false, List, [], ◌∷◌, ◌++◌, length, map, None, Result, Ok, IfErr, IfOk, IfSome, OnErr, slice_index_or, slice_set}
 use Rattle.std.specs.declared.io.traits.Read as Read
 use Rattle.std.specs.declared.io.traits.Write as Write
 use Rattle.ledger.specs.Answer.{State}
@@ -11,6 +11,7 @@ use Rattle.http_conversations.specs.declared.modes.Mode.{Mode}
 use Rattle.http_conversations.specs.Conversations.{history}
 use Rattle.http_conversations.specs.History.{History}
 use Rattle.http_conversations.specs.Leading.{GoesOnByOne, has_broken}
+use Rattle.http_conversations.specs.Worlds.{Exchange}
 use Rattle.http_live.specs.Arrivals.{AreAtTheirDoors, ArePairs, AreReadInTheirModes, arrival, arrival_of, arrivals_at}
 use Rattle.http_live.specs.Endings.{turn_stops}
 use Rattle.http_live.specs.Gains.{Gains, is_answer}
@@ -22,15 +23,25 @@ use Rattle.http_live.specs.declared.slots.Slot.{Slot}
 use Rattle.http_live.specs.declared.slots.Standing.{Standing}
 use Rattle.http_live.specs.declared.slots.Standing.TheVariants.{Stopped}
 
+-- A turn: a connection went on by one message at most, which leads the book on, and ended its turn so. The page waits, or was lost.
+pub record GoesOn {B : Type 0} (is_sound : B → Type 0) (stands : B → State → Type 0) (leaves : B → State → State → Type 0)
+    (may : B → B → State → Asks → Type 0) (reason : B → B → State → State → Type 0) (from to : B)
+    (result : Result Standing Fault) (Ends : Type 0) (pending : List ℕ) (before after : List Exchange) : Type 0 where
+  pub turn : GoesOnByOne is_sound stands leaves may reason from to (has_broken result) (turn_stops result) before after
+  pub ends : Ends
+  pub gains : IfOk result (λ standing. Gains standing pending before after)
+
 module _ {R W : Type 0} {r : Read.Ghosts R} {w : Write.Ghosts W} where
   -- Of a connection.
 
-  -- no message was answered, and it is the one that came
-  pub record IsUnanswered (old new : Connection R W r w) : Type 0 where
+  -- One read: no message was answered, it is the one that came, and what goes out is the same. At a fault nothing changed.
+  pub record ReadsOnce {E : Type 0} (result : Result ℕ E) (old new : Connection R W r w) : Type 0 where
     pub kept : exchanges_with new ≡ exchanges_with old
     pub arrival : arrival_of new ≡ arrival_of old
+    pub unsent : (history new.conversation).pending ≡ (history old.conversation).pending
+    pub err : OnErr result (history new.conversation ≡ history old.conversation)
 
-  -- and nothing was read
+  -- no message was answered, it is the one that came, and nothing was read
   pub record IsUnread (old new : Connection R W r w) : Type 0 where
     pub kept : exchanges_with new ≡ exchanges_with old
     pub arrival : arrival_of new ≡ arrival_of old
@@ -82,14 +93,11 @@ module _ {R W : Type 0} {r : Read.Ghosts R} {w : Write.Ghosts W} where
     pub left : IsLeft old new
     pub none : new.connection ≡ None
 
-  -- The connection, if there is one, went on by one message at most, which leads the book on. Its page waits, or was lost.
-  pub record GoesOn {B : Type 0} (is_sound : B → Type 0) (stands : B → State → Type 0) (leaves : B → State → State → Type 0)
-      (may : B → B → State → Asks → Type 0) (reason : B → B → State → State → Type 0) (from to : B)
-      (result : Result Standing Fault) (old new : Slot R W r w) : Type 0 where
-    pub turn : GoesOnByOne is_sound stands leaves may reason from to (has_broken result) (turn_stops result) (exchanges_at old)
-        (exchanges_at new)
-    pub ends : EndsTurnAt result old new
-    pub gains : IfOk result (λ standing. Gains standing (pending_at new) (exchanges_at old) (exchanges_at new))
+  -- the same of a slot, where the connection went on, if there is one
+  abbrev pub GoesOnAt : {B : Type 0} → (B → Type 0) → (B → State → Type 0) → (B → State → State → Type 0) → (B → B → State → Asks → Type 0)
+      → (B → B → State → State → Type 0) → (from to : B) → Result Standing Fault → (old new : Slot R W r w) → Type 0
+  GoesOnAt is_sound stands leaves may reason from to result old new =
+      GoesOn is_sound stands leaves may reason from to result (EndsTurnAt result old new) (pending_at new) (exchanges_at old) (exchanges_at new)
 
   -- Of all slots.
 

@@ -23,8 +23,7 @@ turn_stops (Err fault) = false
 -- serving ended because the house asked the desk to stop
 abbrev pub is_stopped : Ending → Bool
 is_stopped ending.Stopped = true
-is_stopped ending.NoTurn = false
-is_stopped ending.Spent = false
+is_stopped _ = false
 
 abbrev pub has_stopped : Result Ending Fault → Bool
 has_stopped (Ok end) = is_stopped end
@@ -33,5 +32,4 @@ has_stopped (Err fault) = false
 -- the same of one turn, with which serving may end
 abbrev pub ends_stopped : Result (Option Ending) Fault → Bool
 ends_stopped (Ok (Some end)) = is_stopped end
-ends_stopped (Ok None) = false
-ends_stopped (Err fault) = false
+ends_stopped _ = false

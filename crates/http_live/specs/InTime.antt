@@ -9,7 +9,7 @@ use Rattle.commands.specs.declared.replies.Fault.{Fault}
 use Rattle.desk_http.specs.declared.doors.Door.{Door}
 use Rattle.http_conversations.specs.declared.modes.Mode.{Mode}
 use Rattle.http_conversations.specs.Leading.{has_broken}
-use Rattle.http_live.specs.Calls.{ChangesAt, ChangesOne, GoesOn, IsCleared, IsTakenBy, TakesTurns}
+use Rattle.http_live.specs.Calls.{ChangesAt, ChangesOne, GoesOnAt, IsCleared, IsTakenBy, TakesTurns}
 use Rattle.http_live.specs.Endings.{turn_stops}
 use Rattle.http_live.specs.Merging.{Merges, Slotted, slotted_at}
 use Rattle.http_live.specs.Slots.{exchanges_at}
@@ -54,7 +54,7 @@ module _ {R W T B : Type 0} {r : Read.Ghosts R} {w : Write.Ghosts W} (took : T �
     -- The connection of a slot went on. Before it the source of turns was shown what was received, and asked for the time.
     went_on : (from taken shown timed to : T) (before after : List (Slot R W r w)) (old new : B) (at : ℕ) (result : Result Standing Fault)
         → took from (Ready at) taken → Sees seen taken shown → Sees seen shown timed
-        → (slot : ChangesOne (GoesOn is_sound stands leaves may reason old new result) at before after)
+        → (slot : ChangesOne (GoesOnAt is_sound stands leaves may reason old new result) at before after)
         → IsTold heard seen at result timed to → (is_sound new → is_sound old)
         → IsTurn (has_broken result) (turn_stops result) (instant from before old) (slotted_at at slot.so.turn.goes_on.exchanges)
         (instant to after new)

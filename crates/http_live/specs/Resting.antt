@@ -4,7 +4,7 @@ use Rattle.http_conversations.specs.Modes.{SaysNothing}
 use Rattle.http_conversations.specs.History.{History}
 use Rattle.http_conversations.specs.declared.conversation.Stage.TheVariants.{Open, Closing}
 use Rattle.http_live.specs.declared.slots.Standing.{Standing}
-use Rattle.http_live.specs.declared.slots.Standing.TheVariants.{Between, Amid, Unsent, Lingering, Answered, Stopped, Busy, Over}
+use Rattle.http_live.specs.declared.slots.Standing.TheVariants.{Between, Amid, Unsent, Lingering, Answered, Stopped}
 
 -- each page was yielded, and no whole message waits for an answer
 pub record IsUsedUp (h : History) : Type 0 where
@@ -40,5 +40,4 @@ Rests Unsent h = h.pending ≢ []
 Rests Lingering h = HasClosed h
 Rests Answered h = h.stops ≡ false
 Rests Stopped h = h.stops ≡ true
-Rests Busy h = ⊤
-Rests Over h = ⊤
+Rests _ h = ⊤

@@ -1,17 +1,17 @@
 //! A conversation over a reader and a writer of its own.
-ghost use Rattle.std.specs.Prelude.{◌≡◌, ◌≤◌, [], length, IfOk, OnErr, Ok, false, true};
+ghost use Rattle.std.specs.Prelude.{◌≡◌, ◌≤◌, [], length, OnErr, Ok, false, true};
 ghost use Rattle.saga_core.specs.Calls.{Serves};
 ghost use Rattle.http_conversations.specs.Conversations.{history};
 ghost use Rattle.http_conversations.specs.History.{HasNoTurn, IsServed, TakesFirst, WantsRead, stops_by};
 ghost use Rattle.http_conversations.specs.Leading.{GoesOnByOne, has_broken};
-ghost use Rattle.http_live.specs.Endings.{is_stop, turn_stops};
-ghost use Rattle.http_live.specs.Gains.{Gains, is_answer};
+ghost use Rattle.http_live.specs.Endings.{is_stop};
+ghost use Rattle.http_live.specs.Gains.{is_answer};
 ghost use Rattle.http_live.specs.Faithful.{Faithful};
 
 use crate::slots::Standing;
 use commands::Fault;
 use desk_http::Door;
-use http_conversations::{Arrived, Conversation, MOST_READ, Mode, Stage};
+use http_conversations::{Arrived, Conversation, MOST_READ, Mode, ReadBuffer, Stage};
 use http_log::Metrics;
 use http_pages::Paths;
 use http_server::Log;
@@ -33,7 +33,7 @@ pub struct Connection<R: Read + Drop, W: Write + Drop> {
 
 impl<R: Read + Drop, W: Write + Drop> Connection<R, W> {
     ghost use Rattle.http_live.specs.Arrivals.{arrival, arrival_of};
-    ghost use Rattle.http_live.specs.Calls.{EndsTurn, IsUnanswered, IsUnread, StepsOn};
+    ghost use Rattle.http_live.specs.Calls.{EndsTurn, GoesOn, IsUnread, ReadsOnce, StepsOn};
     ghost use Rattle.http_live.specs.Slots.{exchanges_with};
     ghost use Rattle.http_live.specs.Resting.{IsUnsent, IsUsedUp, Rests};
 
@@ -46,9 +46,7 @@ impl<R: Read + Drop, W: Write + Drop> Connection<R, W> {
         writer: W,
     ) -> Connection<R, W>
         ensures none { exchanges_with result ≡ [] }
-        ensures door { (history result.conversation).door ≡ door }
         ensures arrival { arrival_of result ≡ arrival reader writer door mode }
-        ensures mode { (history result.conversation).mode ≡ mode }
     {
         let came = Log::new().and(&reader, &writer);
         Connection {
@@ -82,19 +80,14 @@ impl<R: Read + Drop, W: Write + Drop> Connection<R, W> {
         paths: &Paths,
         second: Option<u64>,
         metrics: &Metrics,
-        buffer: &mut [u8],
+        buffer: &mut ReadBuffer,
         seen: &mut Option<Arrived>,
         book: &mut B,
     ) -> Result<Standing, Fault>
-        requires small { length buffer.old ≤ MOST_READ }
-
-        ensures turn { GoesOnByOne B.is_sound B.stands B.leaves B.may_act B.has_reason
-            book.old book.new (has_broken result) (turn_stops result)
-            (exchanges_with self.old) (exchanges_with self.new) }
-        ensures ends { EndsTurn result self.old self.new }
-        ensures gains { IfOk result (λ standing. Gains standing
+        ensures goes_on { GoesOn B.is_sound B.stands B.leaves B.may_act B.has_reason
+            book.old book.new result (EndsTurn result self.old self.new)
             (history self.new.conversation).pending
-            (exchanges_with self.old) (exchanges_with self.new)) }
+            (exchanges_with self.old) (exchanges_with self.new) }
         ensures serves { Serves B.is_sound B.leaves B.has_failed book.old book.new
             Fault.Store result }
     {
@@ -110,9 +103,7 @@ impl<R: Read + Drop, W: Write + Drop> Connection<R, W> {
     }
 
     /// Gives `100 Continue` where it is due, or else reads, where no page waits and no message is whole.
-    fn go_on(&mut self, buffer: &mut [u8]) -> Standing
-        requires small { length buffer.old ≤ MOST_READ }
-
+    fn go_on(&mut self, buffer: &mut ReadBuffer) -> Standing
         ensures steps { StepsOn IsUsedUp result self.old self.new }
     {
         if self.gives_go_on() {
@@ -175,10 +166,7 @@ impl<R: Read + Drop, W: Write + Drop> Connection<R, W> {
         requires wants { WantsRead (history self.old.conversation) }
         requires small { length buffer.old ≤ MOST_READ }
 
-        ensures left { IsUnanswered self.old self.new }
-        ensures unsent { (history self.new.conversation).pending
-            ≡ (history self.old.conversation).pending }
-        ensures err { OnErr result (history self.new.conversation ≡ history self.old.conversation) }
+        ensures reads { ReadsOnce result self.old self.new }
     {
         self.conversation.receive(buffer, &mut self.reader)
     }
@@ -192,9 +180,7 @@ impl<R: Read + Drop, W: Write + Drop> Connection<R, W> {
     }
 
     /// Writes what waits. Where the peer does not take it, more is read, as long as no more pages wait than may.
-    fn push(&mut self, buffer: &mut [u8]) -> Standing
-        requires small { length buffer.old ≤ MOST_READ }
-
+    fn push(&mut self, buffer: &mut ReadBuffer) -> Standing
         ensures steps { StepsOn IsUnsent result self.old self.new }
     {
         match self.write() {
@@ -227,15 +213,13 @@ impl<R: Read + Drop, W: Write + Drop> Connection<R, W> {
     }
 
     /// Reads while a page waits, as long as no more of them wait than may.
-    fn read_on(&mut self, buffer: &mut [u8]) -> Standing
-        requires small { length buffer.old ≤ MOST_READ }
-
+    fn read_on(&mut self, buffer: &mut ReadBuffer) -> Standing
         ensures steps { StepsOn IsUnsent result self.old self.new }
     {
         if !self.conversation.wants_read() {
             return Standing::Unsent;
         }
-        match self.read(buffer) {
+        match self.read(buffer.bytes.as_mut_slice()) {
             Ok(0) => Standing::Unsent,
             Ok(_) => Standing::Busy,
             Err(error) => match error.kind() {
@@ -247,15 +231,13 @@ impl<R: Read + Drop, W: Write + Drop> Connection<R, W> {
     }
 
     /// Reads, where no page waits and no message is whole.
-    fn pull(&mut self, buffer: &mut [u8]) -> Standing
-        requires small { length buffer.old ≤ MOST_READ }
-
+    fn pull(&mut self, buffer: &mut ReadBuffer) -> Standing
         ensures steps { StepsOn IsUsedUp result self.old self.new }
     {
         if !self.conversation.wants_read() {
             return Standing::Over;
         }
-        match self.read(buffer) {
+        match self.read(buffer.bytes.as_mut_slice()) {
             Ok(0) => Standing::Over,
             Ok(_) => Standing::Busy,
             Err(error) => match error.kind() {

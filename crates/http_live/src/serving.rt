@@ -5,7 +5,7 @@ ghost use Rattle.http_live.specs.Calls.{AreLeft, ChangesAt, IsTakenBy};
 ghost use Rattle.http_live.specs.Endings.{ends_stopped, has_stopped, ending_after};
 ghost use Rattle.http_live.specs.InTime.{InTime, Sees, TakesSome, TakesTurn, instant};
 ghost use Rattle.saga_core.specs.Calls.{Serves};
-ghost use Rattle.std.specs.Prelude.{◌≡◌, ◌≤◌, ⊤, ℕ, length, false, true, Ok, Err, Some, IfErr};
+ghost use Rattle.std.specs.Prelude.{◌≡◌, ⊤, ℕ, false, true, Ok, Err, Some, IfErr};
 ghost use Rattle.desk_http.specs.declared.doors.Door.{Door};
 ghost use Rattle.http_live.specs.Doors.{ComesByItsDoor, ComesInItsMode, ComesWithBoth, EndsOnlyIf};
 ghost use Rattle.http_live.specs.declared.slots.Standing.{Standing};
@@ -16,7 +16,7 @@ ghost use Rattle.http_conversations.specs.declared.modes.Mode.{Mode};
 use crate::slots::{Slot, Standing};
 use commands::Fault;
 use desk_http::Door;
-use http_conversations::{Arrived, MOST_READ, Mode};
+use http_conversations::{Arrived, Mode, ReadBuffer};
 use http_log::Metrics;
 use http_pages::Paths;
 use recovery::Ready;
@@ -46,10 +46,10 @@ pub fn serve_many<T: Turns, B: Reporting>(
     let Ok(paths) = Paths::new(alloc) else {
         return Err(Fault::Memory);
     };
-    let Ok(mut buffer) = vec![in alloc; 0u8; MOST_READ] else {
+    let Ok(mut buffer) = ReadBuffer::new(alloc) else {
         return Err(Fault::Memory);
     };
-    serve_turns(alloc, &paths, slots, buffer.as_mut_slice(), turns, book)
+    serve_turns(alloc, &paths, slots, &mut buffer, turns, book)
 }
 
 /// The same over any book, by way of a buffer.
@@ -57,12 +57,10 @@ fn serve_turns<T: Turns, B: Reporting>(
     alloc: Global,
     paths: &Paths,
     slots: &mut [Slot<T::Reader, T::Writer>],
-    buffer: &mut [u8],
+    buffer: &mut ReadBuffer,
     turns: &mut T,
     book: &mut B,
 ) -> Result<Ending, Fault>
-    requires small { length buffer.old ≤ MOST_READ }
-
     ensures turns { TakesSome T.took T.heard T.seen T.is_at T.is_by T.is_pair B.is_sound B.stands
         B.leaves B.may_act B.has_reason (has_broken result) (has_stopped result)
         (instant turns.old slots.old book.old) (instant turns.new slots.new book.new) }
@@ -86,12 +84,10 @@ fn take_turn<T: Turns, B: Reporting>(
     alloc: Global,
     paths: &Paths,
     slots: &mut [Slot<T::Reader, T::Writer>],
-    buffer: &mut [u8],
+    buffer: &mut ReadBuffer,
     turns: &mut T,
     book: &mut B,
 ) -> Result<Option<Ending>, Fault>
-    requires small { length buffer.old ≤ MOST_READ }
-
     ensures turn { TakesTurn T.took T.heard T.seen T.is_at T.is_by T.is_pair B.is_sound B.stands
         B.leaves B.may_act B.has_reason (has_broken result) (ends_stopped result)
         (instant turns.old slots.old book.old) (instant turns.new slots.new book.new) }
@@ -192,36 +188,20 @@ fn finish_turn<T: Turns>(slots: &mut [Slot<T::Reader, T::Writer>], turns: &mut T
     match turns.next_turn() {
         Turn::Comes(_, _, _, _, _) => true,
         Turn::Ready(at) => {
-            flush_at(slots, turns, at);
+            if at < slots.len() {
+                let standing = slots[at].flush();
+                turns.hear(at, standing);
+            }
             true
         }
         Turn::Leaves(at) => {
-            clear_at(slots, at);
+            if at < slots.len() {
+                slots[at].clear();
+            }
             true
         }
         Turn::End => false,
     }
-}
-
-/// Writes what waits at a slot.
-fn flush_at<T: Turns>(slots: &mut [Slot<T::Reader, T::Writer>], turns: &mut T, at: usize)
-    ensures left { AreLeft slots.old slots.new }
-{
-    if at >= slots.len() {
-        return;
-    }
-    let standing = slots[at].flush();
-    turns.hear(at, standing);
-}
-
-/// The connection of a slot ends.
-fn clear_at<R: Read + Drop, W: Write + Drop>(slots: &mut [Slot<R, W>], at: usize)
-    ensures left { AreLeft slots.old slots.new }
-{
-    if at >= slots.len() {
-        return;
-    }
-    slots[at].clear();
 }
 
 /// What happens next.

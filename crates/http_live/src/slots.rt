@@ -1,19 +1,16 @@
 //! Places for one connection after another, and what each waits for.
 ghost use Rattle.http_conversations.specs.Conversations.{history};
-ghost use Rattle.http_conversations.specs.Leading.{GoesOnByOne, has_broken};
 ghost use Rattle.http_conversations.specs.declared.conversation.Stage.{Stage};
-ghost use Rattle.http_live.specs.Calls.{EndsTurnAt, IsEmpty, IsLeft, IsTakenBy};
-ghost use Rattle.http_live.specs.Endings.{turn_stops};
-ghost use Rattle.http_live.specs.Gains.{Gains};
+ghost use Rattle.http_live.specs.Calls.{GoesOnAt, IsCleared, IsEmpty, IsLeft, IsTakenBy};
 ghost use Rattle.http_live.specs.Resting.{HasUnanswered};
-ghost use Rattle.http_live.specs.Slots.{exchanges_at, pending_at};
+ghost use Rattle.http_live.specs.Slots.{pending_at};
 ghost use Rattle.saga_core.specs.Calls.{Serves};
-ghost use Rattle.std.specs.Prelude.{◌≡◌, ◌≤◌, ◌↔◌, All, length, IfOk, IsSomeAnd, IsTrue};
+ghost use Rattle.std.specs.Prelude.{◌≡◌, ◌↔◌, All, length, IfOk, IsSomeAnd, IsTrue};
 
 use crate::connection::Connection;
 use commands::Fault;
 use desk_http::Door;
-use http_conversations::{Arrived, Conversation, MOST_READ, Mode, Stage};
+use http_conversations::{Arrived, Conversation, Mode, ReadBuffer, Stage};
 use http_log::Metrics;
 use http_pages::Paths;
 use http_server::Log;
@@ -53,8 +50,7 @@ impl<R: Read + Drop, W: Write + Drop> Slot<R, W> {
 
     /// The connection ends, if there is one.
     pub(crate) fn clear(&mut self)
-        ensures left { IsLeft self.old self.new }
-        ensures none { self.new.connection ≡ None }
+        ensures cleared { IsCleared self.old self.new }
     {
         if let Some(connection) = self.connection.take() {
             self.left = self.left.and(&connection, &());
@@ -114,18 +110,12 @@ impl<R: Read + Drop, W: Write + Drop> Slot<R, W> {
         paths: &Paths,
         second: Option<u64>,
         metrics: &Metrics,
-        buffer: &mut [u8],
+        buffer: &mut ReadBuffer,
         seen: &mut Option<Arrived>,
         book: &mut B,
     ) -> Result<Standing, Fault>
-        requires small { length buffer.old ≤ MOST_READ }
-
-        ensures turn { GoesOnByOne B.is_sound B.stands B.leaves B.may_act B.has_reason
-            book.old book.new (has_broken result) (turn_stops result)
-            (exchanges_at self.old) (exchanges_at self.new) }
-        ensures ends { EndsTurnAt result self.old self.new }
-        ensures gains { IfOk result (λ standing. Gains standing (pending_at self.new)
-            (exchanges_at self.old) (exchanges_at self.new)) }
+        ensures goes_on { GoesOnAt B.is_sound B.stands B.leaves B.may_act B.has_reason
+            book.old book.new result self.old self.new }
         ensures serves { Serves B.is_sound B.leaves B.has_failed book.old book.new
             Fault.Store result }
     {

@@ -6,20 +6,18 @@ use Rattle.http_conversations.proofs.modes.taken.Goals as goal
 
 pub returns-in-Asks : goal.returns-in-Asks
 returns-in-Asks c = record {
-  first = reads_request c.args.bytes.now c.in-Asks.asks c.args.count c.asked.result
-      (subst (λ m. IsFirstOf c.args.bytes.now m c.args.count) c.in-Asks.is c.requires.first) c.asked.ensures.message c.asked.ensures.layout;
+  first = rw c.asked.ensures.asked
+      (reads_request c.args.bytes.now c.in-Asks.asks c.args.count (subst (λ m. IsFirstOf c.args.bytes.now m c.args.count) c.in-Asks.is c.requires.first));
 }
 
 pub returns-in-Denied : goal.returns-in-Denied
 returns-in-Denied c = record {
-  first = reads_denied c.args.bytes.now c.in-Denied.why c.args.count c.unread.result.0 c.unread.result.1
-      (subst (λ m. IsFirstOf c.args.bytes.now m c.args.count) c.in-Denied.is c.requires.first)
-      c.unread.ensures.message c.unread.ensures.layout c.unread.ensures.all;
+  first = reads_denied c.args.bytes.now c.unread.result c.in-Denied.why c.args.count
+      (subst (λ m. IsFirstOf c.args.bytes.now m c.args.count) c.in-Denied.is c.requires.first) c.unread.ensures.all;
 }
 
 pub returns-in-NoMethod : goal.returns-in-NoMethod
 returns-in-NoMethod c = record {
-  first = reads_no_method c.args.bytes.now c.args.count c.unread-in-NoMethod.result.0 c.unread-in-NoMethod.result.1
-      (subst (λ m. IsFirstOf c.args.bytes.now m c.args.count) c.in-NoMethod.is c.requires.first)
-      c.unread-in-NoMethod.ensures.message c.unread-in-NoMethod.ensures.layout c.unread-in-NoMethod.ensures.all;
+  first = reads_no_method c.args.bytes.now c.unread-in-NoMethod.result c.args.count
+      (subst (λ m. IsFirstOf c.args.bytes.now m c.args.count) c.in-NoMethod.is c.requires.first) c.unread-in-NoMethod.ensures.all;
 }

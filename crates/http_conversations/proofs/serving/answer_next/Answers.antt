@@ -23,7 +23,7 @@ returns-in-Ok-true-clause-next g c =
     let answer = c.in-Ok-true.ensures in
     for_known (to_come (history c.args.conversation.now) (left c.args.reader.now)) _ (λ stream is.
     gets_next (left at.reader) at.invariant.awaits.at_port (at.invariant.stream stream is)
-    (λ sound. at.invariant.stands (answer.serves.sound sound)) (rw c.in-Ok-true.field-0-test at answer.answers))
+    (λ sound. at.invariant.stands (answer.serves.sound sound)) (rw c.in-Ok-true.field-0-test at answer.answers.first))
 
 -- the input has ended
 pub returns-then-count-eq0-clause-next : goal.returns-then-count-eq0-clause-next
@@ -31,7 +31,7 @@ returns-then-count-eq0-clause-next g c =
     let left = g.R.Read.remaining in
     let at = c.loop in
     let answer = c.in-Ok-false.ensures in
-    let none = answer.none (ap Ok c.in-Ok-false.field-0-test) in
+    let none = answer.answers.none (ap Ok c.in-Ok-false.field-0-test) in
     let read = c.in_ok-count-in-Ok-false.ensures.receives in
     let more = read.ok in
     for_known (to_come (history c.args.conversation.now) (left c.args.reader.now)) _ (λ stream is. record {
@@ -62,7 +62,7 @@ loop-preserved g c =
 pub returns-in_err-count-in-Ok-false-clause-next : goal.returns-in_err-count-in-Ok-false-clause-next
 returns-in_err-count-in-Ok-false-clause-next g c =
     let answer = c.in-Ok-false.ensures in
-    let none = answer.none (ap Ok c.in-Ok-false.field-0-test) in
+    let none = answer.answers.none (ap Ok c.in-Ok-false.field-0-test) in
     let failed = err_from_is_err_and c.from_residual.result c.from_residual.ensures.1 in
     for_known (to_come (history c.args.conversation.now) (g.R.Read.remaining c.args.reader.now)) _ (λ stream is.
     rw (failed.1)
@@ -78,7 +78,7 @@ returns-in-Err-clause-next g c =
     for_known (to_come (history c.args.conversation.now) (left c.args.reader.now)) _ (λ stream is.
     rw c.from.ensures
     (fails_next (left at.reader) at.invariant.awaits.at_port (at.invariant.stream stream is)
-    (λ sound. at.invariant.stands (answer.serves.sound sound)) c.in-Err.fault answer.answers))
+    (λ sound. at.invariant.stands (answer.serves.sound sound)) c.in-Err.fault answer.answers.first))
 
 -- more was read than can be counted
 pub returns-clause-next : goal.returns-clause-next

@@ -1,7 +1,7 @@
 -- A page is written piece by piece.
 use Rattle.http_conversations.specs.Conversations.{history}
 use Rattle.http_conversations.proofs.CallLemmas.{nothing_pending}
-use Rattle.http_conversations.proofs.ServeLemmas.{hands_all, hands_none, hands_then}
+use Rattle.http_conversations.proofs.ServeLemmas.{hands_none, hands_then}
 use Rattle.http_conversations.proofs.serving.send_page.Goals as goal
 
 pub loop-init : goal.loop-init
@@ -14,9 +14,7 @@ loop-preserved g c = hands_then c.loop.invariant c.in_ok-send_some.ensures.some
 -- all of it was written, and the writer flushed
 pub returns-in-Ok-clause-all : goal.returns-in-Ok-clause-all
 returns-in-Ok-clause-all g c =
-    let pending = (history c.loop.conversation).pending in
-    hands_all c.loop.invariant (nothing_pending pending c.wants_write.result c.wants_write.ensures.pending.1 c.if-not-wants_write.true)
-    c.flush.ensures.bytes
+    nothing_pending (history c.loop.conversation).pending c.wants_write.result c.wants_write.ensures.pending.1 c.if-not-wants_write.true
 
 -- the next part was not
 pub returns-in_err-send_some-clause-some : goal.returns-in_err-send_some-clause-some

@@ -9,8 +9,8 @@ use Rattle.http_live.proofs.serving.serve_many.Goals as goal
 pub returns-in_default-clause-in_time : goal.returns-in_default-clause-in_time
 returns-in_default-clause-in_time g c = in_time false false _ _ (g.met.B.Book.settled c.args.book.now) (no_turn _)
 
-pub returns-in_default-vec-clause-in_time : goal.returns-in_default-vec-clause-in_time
-returns-in_default-vec-clause-in_time g c = in_time false false _ _ (g.met.B.Book.settled c.args.book.now) (no_turn _)
+pub returns-in_default-new-clause-in_time : goal.returns-in_default-new-clause-in_time
+returns-in_default-new-clause-in_time g c = in_time false false _ _ (g.met.B.Book.settled c.args.book.now) (no_turn _)
 
 -- all turns were taken, or the store failed at one
 pub returns-clause-in_time : goal.returns-clause-in_time

@@ -22,7 +22,7 @@ returns-in_err-standing-in-Ready-clause-turn g c =
       _,
       went_on _ _ _ _ _ _ _ _ _ c.in-Ready.at _ c.in-Ready.ensures.takes c.show_received.ensures.sees c.second-second.ensures.sees
           (changes_one _ c.args.slots.now c.in-Ready.at c.index-slots-at.result _ c.if-at-slots.true
-          (record { turn = turn.turn; ends = turn.ends; gains = turn.gains }))
+          turn.goes_on)
           refl turn.serves.sound,
     )
 
@@ -37,7 +37,7 @@ returns-then-at-slots-clause-turn g c =
       _,
       went_on _ _ _ _ _ _ _ _ _ c.in-Ready.at (Ok standing) c.in-Ready.ensures.takes c.show_received.ensures.sees c.second-second.ensures.sees
           (changes_one _ c.args.slots.now c.in-Ready.at c.index-slots-at.result _ c.if-at-slots.true
-          (record { turn = turn.turn; ends = turn.ends; gains = turn.gains }))
+          turn.goes_on)
           (_, c.show_page.ensures.sees, c.hear.ensures.hears) turn.serves.sound,
     )
 
@@ -47,13 +47,11 @@ returns-else-at-slots-clause-turn g c = ([], had_none _ _ _ _ c.in-Ready.at c.in
 
 -- the connection of a slot ends
 pub returns-then-at-slots-2-clause-turn : goal.returns-then-at-slots-2-clause-turn
-returns-then-at-slots-2-clause-turn g c =
-    let clear = c.clear.ensures in (
-      [],
-      left _ _ _ _ _ c.in-Leaves.at c.in-Leaves.ensures.takes
-          (inl (changes_one _ c.args.slots.now c.in-Leaves.at c.index-slots-at-then-at-slots-2.result _ c.if-at-slots-2.true
-          (record { left = clear.left; none = clear.none }))),
-    )
+returns-then-at-slots-2-clause-turn g c = (
+  [],
+  left _ _ _ _ _ c.in-Leaves.at c.in-Leaves.ensures.takes
+      (inl (changes_one _ c.args.slots.now c.in-Leaves.at c.index-slots-at-then-at-slots-2.result _ c.if-at-slots-2.true c.clear.ensures.cleared)),
+)
 
 -- there is no such slot
 pub returns-else-at-slots-2-clause-turn : goal.returns-else-at-slots-2-clause-turn

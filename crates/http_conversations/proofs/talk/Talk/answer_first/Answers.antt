@@ -14,25 +14,26 @@ pub returns-in-Ok-clause-answers : goal.returns-in-Ok-clause-answers
 returns-in-Ok-clause-answers g c =
     let first = c.requires.first in
     let ready = c.requires.ready in
+    let answer = c.in-Ok.answer in
     let ok = c.in-Ok.ensures in
-    gets (history_of c.args.self.now) (history_of c.keep.new.self) c.args.count first.said ready.is_open first.says
-    c.in-Ok.answer.bytes.items c.in-Ok.answer.closes c.in-Ok.answer.stops ready.free c.keep.ensures.answered
-    (ok.closes first.said first.is_read) (ok.stops first.said first.is_read)
-    (λ sound s stood. let came = ok.answer sound s stood first.said first.is_read in (came.0.0, came.1))
+    record {
+      first = gets (history_of c.args.self.now) (history_of c.keep.new.self) c.args.count first.said ready.is_open first.says
+          answer.bytes.items answer.closes answer.stops ready.free c.keep.ensures.answered
+          (ok.closes first.said first.is_read) (ok.stops first.said first.is_read)
+          (λ sound s stood. let came = ok.answer sound s stood first.said first.is_read in (came.0.0, came.1));
+      none = λ is. cc;
+      seen = grind arith;
+    }
 
 pub returns-in-Err-clause-answers : goal.returns-in-Err-clause-answers
 returns-in-Err-clause-answers g c =
     let first = c.requires.first in
-    rw c.fault_of.ensures.fault
-    (loses (history_of c.args.self.now) (history_of c.lose.new.self) c.args.count first.said c.requires.ready.is_open first.says
-    c.in-Err.fault c.lose.ensures.lost (λ sound s stood. c.in-Err.ensures.answer sound s stood first.said first.is_read))
-
--- it is the message that was read
-pub returns-in-Ok-clause-seen : goal.returns-in-Ok-clause-seen
-returns-in-Ok-clause-seen g c = grind arith
-
-pub returns-in-Err-clause-seen : goal.returns-in-Err-clause-seen
-returns-in-Err-clause-seen g c = grind arith
+    rw c.fault_of.ensures.fault (record {
+      first = loses (history_of c.args.self.now) (history_of c.lose.new.self) c.args.count first.said c.requires.ready.is_open first.says
+          c.in-Err.fault c.lose.ensures.lost (λ sound s stood. c.in-Err.ensures.answer sound s stood first.said first.is_read);
+      none = λ is. cc;
+      seen = grind arith;
+    })
 
 -- where the store failed, it did for a reason
 
