@@ -1,5 +1,5 @@
 -- The text that makes the index on the agents of the journeys: what it leaves, and why it fails. For `add_index` and `make_tables`.
-use Rattle.std.proofs.Common.{◌≡◌, ◌≤◌, ◌^◌, ◌∙◌, ℕ, inl, inr, List, [], ◌∷◌, length, codes, Option, None, Ok, Err, Result, OnOk, true, false, if◌then◌else◌, IsUtf8, refl, sym, ap, subst, arith, rules}
+use Rattle.std.proofs.Common.{◌≡◌, ◌∙◌, ℕ, inl, inr, List, [], ◌∷◌, length, codes, Option, None, Ok, Err, Result, OnOk, true, false, if◌then◌else◌, refl, sym, ap, subst, arith, rules}
 use Rattle.std.specs.List.{AllByRecursion}
 use Rattle.sqlite_value.specs.declared.value.Value.TheVariants.{Text}
 use Rattle.sqlite_value.specs.Order.{value_cmp}
@@ -8,11 +8,11 @@ use Rattle.sqlite_trees.specs.Tree.{Trees}
 use Rattle.sqlite_schema.specs.declared.schema.Constraint.TheVariants.{Unique}
 use Rattle.sqlite_schema.specs.declared.schema.Index.{Index}
 use Rattle.sqlite_schema.specs.declared.schema.Schema.{Schema}
-use Rattle.sqlite_schema.specs.Rules.{Keeps, table_reals, index_reals}
+use Rattle.sqlite_schema.specs.Rules.{Keeps}
 use Rattle.sqlite_rules.proofs.ListLemmas.{all_has}
 use Rattle.sqlite_rules.proofs.ProbeLemmas.{has_mapped}
 use Rattle.sqlite_catalog.specs.declared.error.Refusal.{Refusal}
-use Rattle.sqlite_catalog.specs.declared.error.Refusal.TheVariants.{Invalid, NameTaken, BadName, TooBig, BadKey, BadText, Violates}
+use Rattle.sqlite_catalog.specs.declared.error.Refusal.TheVariants.{Violates}
 use Rattle.sqlite_catalog.specs.Listing.{is_fit}
 use Rattle.sqlite_catalog.specs.Calls.{RefusesIndex}
 use Rattle.sqlite_resolve.specs.Compile.{index_defined_by}
@@ -114,24 +114,10 @@ indexed_makes old new t it sees = search (rules, arith, is_extra, shows_same)
 -- Why it fails.
 
 unrefused : (db : Trees) (why : Refusal) → Keeps Unique desk_schema db → ¬ RefusesIndex desk_schema db owner text why
-unrefused db (Invalid e) keeps wrong = let no = sym text_is.defined ∙ wrong in cc
-unrefused db NameTaken keeps (index, defined, used) =
-    let no = sym used ∙ ap (λ (i : Index). is_used desk_schema i.name) (only index defined) ∙ text_is.unused in cc
-unrefused db BadName keeps (index, defined, inl (inl no_text)) =
-    no_text (subst (λ (i : Index). IsUtf8 i.name) (sym (only index defined)) (as_text (codes "journey_agent") refl))
-unrefused db BadName keeps (index, defined, inl (inr (reserved, own))) =
-    let no = sym reserved ∙ ap (λ (i : Index). is_reserved i.name) (only index defined) ∙ text_is.unreserved in cc
-unrefused db BadName keeps (index, defined, inr no_text) = no_text (as_text (codes "journey") refl)
-unrefused db TooBig keeps (index, defined, inl many) = let no : 65536 ≤ 16 = many in omega (arith, no)
-unrefused db TooBig keeps (index, defined, inr (inl big)) = let no : 2 ^ 64 ≤ 0 = big in omega (arith, no)
-unrefused db TooBig keeps (index, defined, inr (inr big)) =
-    let no : 2 ^ 64 ≤ 0 = subst (λ (i : Index). 2 ^ 64 ≤ index_reals (table_reals owner) i.columns) (only index defined) big in omega (arith, no)
-unrefused db BadKey keeps none = none
-unrefused db BadText keeps (index, defined, unfit) =
-    let no = sym unfit ∙ ap (λ (i : Index). is_fit (Text (codes "index")) (Text i.name) (Text owner.name) (Text text)) (only index defined) ∙ text_is.listed in cc
 unrefused db (Violates rule) keeps (index, defined, unique, broken) =
     broken (subst (λ (s : Schema). Keeps Unique s db) (sym (ap (indexed desk_schema owner) (only index defined) ∙ text_is.becomes))
     (unique_more (agent_index_at 16 ∷ []) is_extra db keeps))
+unrefused db why keeps wrong = let it = text_is in search (rules, arith, only, as_text)
 
 -- and its row fits the list of objects, and each entry the store
 unstopped : (s : State) (stop : Option Error) → Keeps Unique desk_schema s.now.trees → AreShortAgents s

@@ -1,5 +1,6 @@
 -- What a query on one table finds whenever it is run, and what its contract says of one run. For each statement that reads.
-use Rattle.std.proofs.Common.{◌≡◌, ◌≤◌, ◌⊎◌, inl, inr, ℕ, ℤ, List, [], ◌∷◌, map, filter, Bool, Option, Some, None, Result, Ok, Err, refl, sym, ap, subst, ◌∙◌, arith, option_map}
+use Rattle.std.proofs.Common.{◌≡◌, ◌≤◌, ◌⊎◌, inl, inr, ℕ, ℤ, List, [], ◌∷◌, map, filter, Bool, Option, Some, None, Result, Err, IfOk, IfErr, refl, sym, ap, subst, ◌∙◌, arith, option_map}
+use Rattle.std.specs.Prelude.{⊤}
 use Rattle.std.specs.List.{AllByRecursion}
 use Rattle.sqlite.specs.declared.error.Error.{Error}
 use Rattle.sqlite.specs.declared.error.Error.TheVariants.{QueryReturnedNoRows}
@@ -10,7 +11,7 @@ use Rattle.sqlite.specs.Query.{Query, Output, IsAnswer, output, output_cmp}
 use Rattle.sqlite.specs.Program.{overlay}
 use Rattle.sqlite.specs.Store.{Ghosts}
 use Rattle.sqlite.specs.Held.{Held, state}
-use Rattle.sqlite.specs.State.{State, HasCleanDisk, FailsToQuery}
+use Rattle.sqlite.specs.State.{State, HasCleanDisk, IsUnchanged, QueriesRow, Shown, FailsToQuery}
 use Rattle.sqlite_trees.specs.Tree.{Trees}
 use Rattle.sqlite_rules.specs.Lists.{Has}
 use Rattle.desk_sql.specs.declared.versions.Version.{Version}
@@ -18,7 +19,7 @@ use Rattle.desk_sql.specs.Lists.{numbered_row, IsTableOf, IsNumbered, IsListed, 
 use Rattle.desk_sql.specs.Rows.{Tables, ShowsIn}
 use Rattle.desk_sql.specs.Calls.{MaySeeIn, Quiet}
 use Rattle.desk_sql.specs.Causes.{IsUp, IsMemory, HasReason}
-use Rattle.desk_sql.specs.Queries.{IsSelect, GivesRow, GivesRows}
+use Rattle.desk_sql.specs.Queries.{IsSelect, one_row, GivesRow, GivesRows}
 use Rattle.desk_sql.specs.Statements.{QueriesIn}
 use Rattle.desk_sql.specs.Meanings.{sorted_rows}
 use Rattle.desk_sql.proofs.Answering.{Answers, numbered_answers, table_answers, all_shown, first_of, none_of, listed}
@@ -27,6 +28,7 @@ use Rattle.desk_sql.proofs.Causing.{Takes, one_table, query_reason}
 use Rattle.desk_sql.proofs.Finding.{first_row, no_row, whole_answer}
 use Rattle.desk_sql.proofs.Meaning.{MeansIn}
 use Rattle.desk_sql.proofs.Reading.{passes, env_of}
+use Rattle.desk_sql.proofs.Selecting.{ok_then, err_then}
 
 -- the text is this query, and takes these values
 pub record SaysQuery (v : Version) (text : List ℕ) (q : Query) (names : List (List ℕ)) (params : Row) : Type 0 where
@@ -90,152 +92,115 @@ asks_own {params = params} tree tests project order says seen number row_of valu
     (λ db t shows rows asked.
     numbered_answers tree tests project order db params rows asked (seen db) number row_of (values t) (shown db t shows) test test_is)
 
--- the value that is read of the first row, if there is one, is that of the tables; a row can be read where the rows fit
-pub record FindsOne (v : Version) (text : List ℕ) (params : Row) {V C : Type 0} (show : V → C) (read : Row → C)
-    (Found : Tables → Option V → Type 0) (Fits : Tables → Type 0) (Good : Row → Type 0) : Type 1 where
+-- what is read of a first row, if there is one
+abbrev pub ReadsOne : {V C : Type 0} → (V → C) → (Row → C) → Option Row → Option V → Type 0
+ReadsOne show read (Some row) (Some f) = show f ≡ read row
+ReadsOne show read None None = ⊤
+ReadsOne show read row f = ⊥
+
+-- what holds of a first row, if there is one
+abbrev pub IfRow : (Row → Type 0) → Option Row → Type 0
+IfRow Good (Some row) = Good row
+IfRow Good None = ⊤
+
+-- what is read of the answer that the query gives is what the tables have; it can be read where the rows fit
+pub record Finds (v : Version) (text : List ℕ) (params : Row) {A V : Type 0} (Gives : State → State → A → Type 0)
+    (Reads : A → V → Type 0) (Found : Tables → V → Type 0) (Fits : Tables → Type 0) (Good : A → Type 0) : Type 1 where
   pub selects : IsSelect text
-  pub some : (old new : State) (t : Tables) → MaySeeIn v old t → (row : Row) (f : V) → show f ≡ read row
-      → GivesRow text params old new (Some row) → Found t (Some f)
-  pub none : (old new : State) (t : Tables) → MaySeeIn v old t → GivesRow text params old new None → Found t None
-  pub good : (old new : State) (t : Tables) → MaySeeIn v old t → Fits t → (row : Row) → GivesRow text params old new (Some row) → Good row
+  pub found : (old new : State) (t : Tables) → MaySeeIn v old t → (a : A) (f : V) → Reads a f → IsUnchanged old new × Gives old new a → Found t f
+  pub good : (old new : State) (t : Tables) → MaySeeIn v old t → Fits t → (a : A) → IsUnchanged old new × Gives old new a → Good a
   pub reason : (old new : State) (t : Tables) → MaySeeIn v old t → IsUp old → (e : Error) → FailsToQuery text params old new e → HasReason old new e
 
--- the values that are read of the rows are those of the tables; a row can be read where the rows fit
-pub record FindsList (v : Version) (text : List ℕ) (params : Row) {V C : Type 0} (show : V → C) (read : Row → C)
-    (Found : Tables → List V → Type 0) (Fits : Tables → Type 0) (Good : Row → Type 0) : Type 1 where
-  pub selects : IsSelect text
-  pub all : (old new : State) (t : Tables) → MaySeeIn v old t → (rows : List Row) (found : List V) → map show found ≡ map read rows
-      → GivesRows text params old new rows → Found t found
-  pub good : (old new : State) (t : Tables) → MaySeeIn v old t → Fits t → (rows : List Row) → GivesRows text params old new rows
-      → AllByRecursion Good rows
-  pub reason : (old new : State) (t : Tables) → MaySeeIn v old t → IsUp old → (e : Error) → FailsToQuery text params old new e → HasReason old new e
+-- the same, of the first row, and of all rows
+abbrev pub FindsOne : Version → List ℕ → Row → {V C : Type 0} → (V → C) → (Row → C) → (Tables → Option V → Type 0) → (Tables → Type 0)
+    → (Row → Type 0) → Type 1
+FindsOne v text params show read Found Fits Good =
+    Finds v text params (λ old new row. QueriesRow text params old new (one_row row)) (ReadsOne show read) Found Fits (IfRow Good)
+
+abbrev pub FindsList : Version → List ℕ → Row → {V C : Type 0} → (V → C) → (Row → C) → (Tables → List V → Type 0) → (Tables → Type 0)
+    → (Row → Type 0) → Type 1
+FindsList v text params show read Found Fits Good =
+    Finds v text params (Shown text params) (λ rows found. map show found ≡ map read rows) Found Fits (AllByRecursion Good)
 
 -- A query whose rows show what is read of them.
 module _ {X V C : Type 0} {v : Version} {text : List ℕ} {params : Row} {q : Query} {out : X → Output} {passing : Tables → List X}
     (it : Asks v text params q out passing) (row_of : V → X) (show : V → C) (read : Row → C)
     (back : (t : Tables) (f : V) (x : X) → Has (passing t) x → show f ≡ read ((out x).1) → row_of f ≡ x)
     (Fits : Tables → Type 0) (Good : Row → Type 0) (good_is : (t : Tables) → Fits t → (x : X) → Has (passing t) x → Good ((out x).1)) where
-  -- the first is a value that passes, and no value that passes is before it
-  pub first_found : (old new : State) (t : Tables) → MaySeeIn v old t → (row : Row) (f : V) → show f ≡ read row
-      → GivesRow text params old new (Some row)
-      → Has (passing t) (row_of f) × ((y : X) → Has (passing t) y → (y ≡ row_of f) ⊎ IsUpTo (output_cmp q) (output_total q) (out (row_of f)) (out y))
-  first_found old new t sees row f shown given =
-      let all = it.first old new t sees row given in
-      let x = first_of q out (passing t) row all.0 all.1 in
-      subst (λ z. Has (passing t) z × ((y : X) → Has (passing t) y → (y ≡ z) ⊎ IsUpTo (output_cmp q) (output_total q) (out z) (out y)))
-      (sym (back t f x.0 x.1 (shown ∙ ap read x.2))) (x.1, x.3)
+  -- the first row is that of a value that passes, and no value that passes is before it
+  first_of_all : (IsFound : Tables → Option X → Type 0)
+      → ((t : Tables) (x : X) → Has (passing t) x
+      → ((y : X) → Has (passing t) y → (y ≡ x) ⊎ IsUpTo (output_cmp q) (output_total q) (out x) (out y)) → IsFound t (Some x))
+      → ((t : Tables) → passing t ≡ [] → IsFound t None)
+      → FindsOne v text params show read (λ t found. IsFound t (option_map row_of found)) Fits Good
+  first_of_all IsFound some none = record { selects = it.selects; found = found; good = good; reason = it.reason }
+    where
+      found : (old new : State) (t : Tables) → MaySeeIn v old t → (row : Option Row) (f : Option V) → ReadsOne show read row f
+          → GivesRow text params old new row → IsFound t (option_map row_of f)
+      found old new t sees (Some row) (Some f) shown given =
+          let all = it.first old new t sees row given in
+          let x = first_of q out (passing t) row all.0 all.1 in
+          subst (λ z. IsFound t (Some z)) (sym (back t f x.0 x.1 (shown ∙ ap read x.2))) (some t x.0 x.1 x.3)
+      found old new t sees None None shown given = none t (it.none old new t sees given)
+      found old new t sees (Some row) None shown given = absurd shown
+      found old new t sees None (Some f) shown given = absurd shown
 
-  pub first_good : (old new : State) (t : Tables) → MaySeeIn v old t → Fits t → (row : Row) → GivesRow text params old new (Some row) → Good row
-  first_good old new t sees fits row given =
-      let all = it.first old new t sees row given in
-      (all_shown q out (passing t) (row ∷ all.0) all.1 Good (good_is t fits)).0
+      good : (old new : State) (t : Tables) → MaySeeIn v old t → Fits t → (row : Option Row) → GivesRow text params old new row → IfRow Good row
+      good old new t sees fits (Some row) given =
+          let all = it.first old new t sees row given in
+          (all_shown q out (passing t) (row ∷ all.0) all.1 Good (good_is t fits)).0
+      good old new t sees fits None given = tt
 
   -- the value is one of those that pass, or the one of them with the least number
   pub one_of : FindsOne v text params show read (λ t found. IsOneOf (passing t) (option_map row_of found)) Fits Good
-  one_of = record {
-    selects = it.selects;
-    some = λ old new t sees row f shown given. (first_found old new t sees row f shown given).0;
-    none = it.none;
-    good = first_good;
-    reason = it.reason;
-  }
+  one_of = first_of_all (λ t. IsOneOf (passing t)) (λ t x there up. there) (λ t none. none)
 
   pub least_of : (number : X → ℕ) → ((x y : X) → IsUpTo (output_cmp q) (output_total q) (out x) (out y) → number x ≤ number y)
       → FindsOne v text params show read (λ t found. IsLeastOf number (passing t) (option_map row_of found)) Fits Good
-  least_of number up_is = record {
-    selects = it.selects;
-    some = λ old new t sees row f shown given. (
-        let x = first_found old new t sees row f shown given in
-        (x.0, λ y h. elim (x.1 y h) [ inl is ↦ (let e = ap number is in omega (arith, e)) | inr up ↦ up_is (row_of f) y up ]));
-    none = it.none;
-    good = first_good;
-    reason = it.reason;
-  }
+  least_of number up_is = first_of_all (λ t. IsLeastOf number (passing t)) (λ t x there up. (
+    there,
+    λ y h. elim (up y h) [
+      | inl is ↦ (let e = ap number is in omega (arith, e))
+      | inr low ↦ up_is x y low
+    ],
+  )) (λ t none. none)
 
   pub lists : (UpTo : X → X → Type 0) → ((x y : X) → IsUpTo (output_cmp q) (output_total q) (out x) (out y) → UpTo x y)
       → FindsList v text params show read (λ t found. IsListed UpTo (passing t) (map row_of found)) Fits Good
   lists UpTo up_is = record {
     selects = it.selects;
-    all = λ old new t sees rows found was given.
+    found = λ old new t sees rows found was given.
         listed q out (passing t) rows (it.all old new t sees rows given) row_of show read found was (back t) UpTo up_is;
     good = λ old new t sees fits rows given. all_shown q out (passing t) rows (it.all old new t sees rows given) Good (good_is t fits);
     reason = it.reason;
   }
 
 -- One run, as contracts say it.
-module _ {v : Version} {text : List ℕ} {params : Row} {V C : Type 0} {show : V → C} {read : Row → C} {Found : Tables → Option V → Type 0}
-    {Fits : Tables → Type 0} {Good : Row → Type 0} (it : FindsOne v text params show read Found Fits Good)
+module _ {v : Version} {text : List ℕ} {params : Row} {A V W : Type 0} {Gives : State → State → A → Type 0} {Reads : A → V → Type 0}
+    {Found : Tables → V → Type 0} {Fits : Tables → Type 0} {Good : A → Type 0} (it : Finds v text params Gives Reads Found Fits Good) (items : W → V)
     {S : Type 0} {g : Ghosts S} {old new : Held S} (quiet : Quiet g old new) where
-  -- the first row is read
-  pub one_found : (f : V) {given : Option Row} {row : Row} → (HasCleanDisk (state g new) → GivesRow text params (state g old) (state g new) given)
-      → given ≡ Some row → show f ≡ read row → QueriesIn g old new v (Ok (Some f)) Found Fits
-  one_found f {row = row} gives is shown = record {
-    found = λ clean t sees. (
-        let given = subst (GivesRow text params (state g old) (state g new)) is (gives clean) in
-        (given.0, it.some (state g old) (state g new) t sees row f shown given));
-    reason = λ _ _ _ _ _. tt;
+  -- the answer is given, and read unless there is no memory
+  pub is_read : (a : A) (result : Result W Error)
+      → (HasCleanDisk (state g new) → IsUnchanged (state g old) (state g new) × Gives (state g old) (state g new) a)
+      → IfOk result (λ found. Reads a (items found)) → (Good a → IfErr result IsMemory) → QueriesIn g old new v result (λ t found. Found t (items found)) Fits
+  is_read a result gives reads memory = record {
+    found = λ clean t sees. ok_then _ _ result
+        (λ f shown. ((gives clean).0, it.found (state g old) (state g new) t sees a (items f) shown (gives clean))) reads;
+    reason = λ clean t sees fits up. err_then _ _ result (λ _ none. inl none) (memory (it.good (state g old) (state g new) t sees fits a (gives clean)));
     quiet = quiet;
   }
 
-  -- there is none
-  pub one_absent : {given : Option Row} → (HasCleanDisk (state g new) → GivesRow text params (state g old) (state g new) given)
-      → given ≡ None → QueriesIn g old new v (Ok None) Found Fits
-  one_absent gives is = record {
-    found = λ clean t sees. (
-        let given = subst (GivesRow text params (state g old) (state g new)) is (gives clean) in
-        (given.0, it.none (state g old) (state g new) t sees given));
-    reason = λ _ _ _ _ _. tt;
-    quiet = quiet;
-  }
+  -- it cannot be read
+  pub not_read : (a : A) {result : Result W Error} {e : Error}
+      → (HasCleanDisk (state g new) → IsUnchanged (state g old) (state g new) × Gives (state g old) (state g new) a)
+      → (Good a → IsMemory e) → result ≡ Err e → QueriesIn g old new v result (λ t found. Found t (items found)) Fits
+  not_read a {e = e} gives memory is = rw is (is_read a (Err e) gives tt memory)
 
   -- the query fails
-  pub one_unasked : {result : Result (Option V) Error} {e : Error} → (HasCleanDisk (state g new) → FailsToQuery text params (state g old) (state g new) e)
-      → result ≡ Err e → QueriesIn g old new v result Found Fits
-  one_unasked {e = e} fails is = subst (λ r. QueriesIn g old new v r Found Fits) (sym is) (record {
+  pub not_asked : {result : Result W Error} {e : Error} → (HasCleanDisk (state g new) → FailsToQuery text params (state g old) (state g new) e)
+      → result ≡ Err e → QueriesIn g old new v result (λ t found. Found t (items found)) Fits
+  not_asked {e = e} fails is = rw is (record {
     found = λ _ _ _. tt;
     reason = λ clean t sees fits up. it.reason (state g old) (state g new) t sees up e (fails clean);
-    quiet = quiet;
-  })
-
-  -- the row cannot be read
-  pub one_unread : {result : Result (Option V) Error} {e : Error} {given : Option Row} {row : Row}
-      → (HasCleanDisk (state g new) → GivesRow text params (state g old) (state g new) given) → given ≡ Some row → (Good row → IsMemory e)
-      → result ≡ Err e → QueriesIn g old new v result Found Fits
-  one_unread {row = row} gives some memory is = subst (λ r. QueriesIn g old new v r Found Fits) (sym is) (record {
-    found = λ _ _ _. tt;
-    reason = λ clean t sees fits up. (
-        let given = subst (GivesRow text params (state g old) (state g new)) some (gives clean) in
-        inl (memory (it.good (state g old) (state g new) t sees fits row given)));
-    quiet = quiet;
-  })
-
-module _ {v : Version} {text : List ℕ} {params : Row} {V W C : Type 0} {show : V → C} {read : Row → C} {Found : Tables → List V → Type 0}
-    {Fits : Tables → Type 0} {Good : Row → Type 0} (it : FindsList v text params show read Found Fits Good) (items : W → List V)
-    {S : Type 0} {g : Ghosts S} {old new : Held S} (quiet : Quiet g old new) where
-  -- all rows are read
-  pub all_found : (rows : List Row) (found : W) → (HasCleanDisk (state g new) → GivesRows text params (state g old) (state g new) rows)
-      → map show (items found) ≡ map read rows → QueriesIn g old new v (Ok found) (λ t all. Found t (items all)) Fits
-  all_found rows found gives was = record {
-    found = λ clean t sees. ((gives clean).0, it.all (state g old) (state g new) t sees rows (items found) was (gives clean));
-    reason = λ _ _ _ _ _. tt;
-    quiet = quiet;
-  }
-
-  -- the query fails
-  pub all_unasked : {result : Result W Error} {e : Error} → (HasCleanDisk (state g new) → FailsToQuery text params (state g old) (state g new) e)
-      → result ≡ Err e → QueriesIn g old new v result (λ t all. Found t (items all)) Fits
-  all_unasked {e = e} fails is = subst (λ r. QueriesIn g old new v r (λ t all. Found t (items all)) Fits) (sym is) (record {
-    found = λ _ _ _. tt;
-    reason = λ clean t sees fits up. it.reason (state g old) (state g new) t sees up e (fails clean);
-    quiet = quiet;
-  })
-
-  -- a row cannot be read
-  pub all_unread : (rows : List Row) {result : Result W Error} {e : Error}
-      → (HasCleanDisk (state g new) → GivesRows text params (state g old) (state g new) rows) → (AllByRecursion Good rows → IsMemory e)
-      → result ≡ Err e → QueriesIn g old new v result (λ t all. Found t (items all)) Fits
-  all_unread rows gives memory is = subst (λ r. QueriesIn g old new v r (λ t all. Found t (items all)) Fits) (sym is) (record {
-    found = λ _ _ _. tt;
-    reason = λ clean t sees fits up. inl (memory (it.good (state g old) (state g new) t sees fits rows (gives clean)));
     quiet = quiet;
   })

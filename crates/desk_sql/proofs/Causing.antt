@@ -31,7 +31,7 @@ use Rattle.desk_sql.specs.declared.versions.Version.{Version}
 use Rattle.desk_sql.specs.Schema.{schema_with, IsSchemaOf}
 use Rattle.desk_sql.specs.Meanings.{sorted_rows}
 use Rattle.desk_sql.specs.Causes.{IsUp, IsMemory, HasReason}
-use Rattle.desk_sql.proofs.Meaning.{SelectsUnder, MeansIn}
+use Rattle.desk_sql.proofs.Meaning.{MeansIn}
 
 -- Reading columns.
 
@@ -96,9 +96,6 @@ module _ {schema : Schema} (text : List ℕ) (params : Row) (plain : IsPlain (un
 module _ {q : Query} (sure : IsSure q) {v : Version} {text : List ℕ} {names : List (List ℕ)} (m : MeansIn v text q names)
     {params : Row} (old new : State) (up : IsUp old) (has : IsSchemaOf v old.now.schema)
     (fits : TakesUnder (schema_with v has.extra) text q params) where
-  means : SelectsUnder (schema_with v has.extra) text q names
-  means = m has.extra
-
   abbrev program : Program
   program = record { lets = []; body = q }
 

@@ -1,5 +1,5 @@
 -- The statements that update rows. For the functions that update.
-use Rattle.std.proofs.Common.{to_z, of_z, w64, ◌≡◌, ◌<◌, ◌≤◌, ◌^◌, ◌+◌, ◌-◌, ◌-ℤ◌, neg_ℤ, ℕ, ℤ, pos, [], ◌∷◌, filter, length, inl, inr, true, ◌&&◌, eqb-true, refl, ◌∙◌, arith, rules}
+use Rattle.std.proofs.Common.{to_z, of_z, w64, ◌≡◌, ◌<◌, ◌≤◌, ◌^◌, ◌+◌, ◌-◌, ◌-ℤ◌, neg_ℤ, ℕ, ℤ, pos, [], ◌∷◌, length, inl, inr, true, ◌&&◌, eqb-true, refl, ◌∙◌, arith, rules}
 use Rattle.std.specs.Prelude.{⊤}
 use Rattle.std.proofs.lemmas.Int.{ints}
 use Rattle.std.proofs.lemmas.Bool.{and_parts, and_from}
@@ -14,7 +14,6 @@ use Rattle.sqlite.specs.Listing.{understood}
 use Rattle.sqlite_schema.specs.declared.schema.Constraint.TheVariants.{Check}
 use Rattle.sqlite_schema.specs.Rules.{Obeys}
 use Rattle.sqlite_rules.specs.Lists.{Has}
-use Rattle.sqlite_rules.specs.InPlace.{Twins}
 use Rattle.sqlite_rules.proofs.ListLemmas.{all_has, all_from, has_kept}
 use Rattle.sqlite_rules.proofs.RuleLemmas.{keeps_at}
 use Rattle.sqlite_tied.specs.Compute.{everything}
@@ -54,10 +53,6 @@ meta_says : (m : MetaRow) → SaysUpdate update_meta_text 0 0 update_meta_query.
 unfolding understood everything
 meta_says m = record { means = λ _. record { is = refl; plain = (refl, refl) }; whole = λ _. refl; types = λ _. refl }
 
--- no unique index is on meta
-meta_twin : (old new : MetaRow) → Twins desk_schema (meta_at 0) (meta_row old) (meta_row new)
-meta_twin old new = search (rules, arith, all_from, has_kept)
-
 pub counts_meta : (m : MetaRow) → Effect update_meta_text (meta_params m) (λ _. ⊤) (counts m) (λ _. ⊤) (λ _. ⊤) (λ _. ⊤) (λ n. n)
 counts_meta m =
     changes_rows (own (λ (x : MetaRow). 1) meta_row (λ _. refl)) Places.meta (inr (refl, (refl, (refl, (refl, (refl, tt))))))
@@ -70,7 +65,7 @@ counts_meta m =
       keyed = refl;
       fits = fits_whole 1 (omega arith);
       storable = held_from (meta_at 0) (meta_row m) (storable _ (meta_row m) refl refl (omega arith), omega arith) tt tt;
-    }) (λ x. meta_twin x m)
+    }) (λ x. search (rules, arith, all_from, has_kept))
 
 -- A journey's cursor.
 
@@ -107,10 +102,6 @@ moves_cursor id c small =
 abbrev option_params : ℕ → ℕ → ℕ → ℕ → Row
 option_params journey place opt taken = whole journey ∷ whole place ∷ whole opt ∷ whole taken ∷ []
 
-option_test : (journey place opt taken : ℕ) (p : ℤ × StepRow)
-    → passes mark_step_query.filter (option_params journey place opt taken) (numbered_row step_columns p) ≡ is_option journey place opt p.1
-option_test journey place opt taken p = simp eq_whole (simp and_true)
-
 option_says : (journey place opt taken : ℕ)
     → SaysUpdate mark_step_text 4 8 mark_step_query.filter mark_step_query.project (option_params journey place opt taken)
 unfolding understood everything
@@ -138,7 +129,7 @@ pub marks_option : (journey place opt taken : ℕ)
     (MayMarkStep journey place opt taken) (λ _. ⊤) (λ n. n)
 marks_option journey place opt taken =
     changes_rows (chosen step_columns) Places.steps (inl (λ n db has. has.step)) mark_step_query.filter mark_step_query.project
-    (option_says journey place opt taken) (is_option journey place opt) (with_taken taken) (option_test journey place opt taken) (λ _. refl) (λ _. refl)
+    (option_says journey place opt taken) (is_option journey place opt) (with_taken taken) (λ p. simp eq_whole (simp and_true)) (λ _. refl) (λ _. refl)
     (λ _. ⊤) (MayMarkStep journey place opt taken) (HasRowids 0) (λ t fits. tt) (λ t any p there is. simp cast_int)
     (λ db t room fits obeys p there row is.
     option_fit db p.0 p.1 taken obeys row (low_fits (db 8) (numbered_row step_columns p) p.0 room.step row refl) fits.mark_is
@@ -149,10 +140,6 @@ marks_option journey place opt taken =
 
 abbrev shift_params : NightRange → ℤ → Row
 shift_params r by = whole r.kind ∷ Text r.supplier.now ∷ Text r.product.now ∷ Int by ∷ whole r.first ∷ whole r.last ∷ []
-
-range_test : (r : NightRange) (by : ℤ) (p : ℤ × StockRow)
-    → passes shift_nights_query.filter (shift_params r by) (numbered_row stock_columns p) ≡ is_within r p.1
-range_test r by p = simp (eq_whole, eq_text, ge_whole, le_whole) (simp and_true)
 
 shift_says : (r : NightRange) (by : ℤ) → SaysUpdate shift_nights_text 1 1 shift_nights_query.filter shift_nights_query.project (shift_params r by)
 unfolding understood everything
@@ -169,7 +156,7 @@ shifts : (w : NightRange) (by : ℤ) (to : StockRow → ℕ) (Seen Fits : Tables
     → Effect shift_nights_text (shift_params w by) Seen (λ t. record t { stock = changed (is_within w) (with_free to) t.stock }) (HasRowids 0) Fits Seen (λ n. n)
 shifts w by to Seen Fits fits_seen sub_is short under =
     changes_rows (chosen stock_columns) Places.stock (inl (λ n db has. has.stock)) shift_nights_query.filter shift_nights_query.project
-    (shift_says w by) (is_within w) (with_free to) (range_test w by) (λ _. refl) (λ _. refl) Seen Fits (HasRowids 0) fits_seen
+    (shift_says w by) (is_within w) (with_free to) (λ p. simp (eq_whole, eq_text, ge_whole, le_whole) (simp and_true)) (λ _. refl) (λ _. refl) Seen Fits (HasRowids 0) fits_seen
     (λ t seen p there is. simp (sub_is t seen p.1 there is, cast_int))
     (λ db t room fits obeys p there row is.
     stock_fit db p.0 (with_free to p.1) (low_fits (db 1) (numbered_row stock_columns p) p.0 room.stock row refl) (kept_kind db p.0 p.1 obeys row)

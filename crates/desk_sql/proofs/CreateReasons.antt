@@ -1,8 +1,8 @@
 -- Why a text that creates a table fails: out of memory, or the disk failed. No rule refuses a text whose names are new and which the
 -- list of objects can hold. For `founding`, and for the migration of older tables.
-use Rattle.std.proofs.Common.{◌≡◌, ◌<◌, ◌≤◌, ◌+◌, ◌*◌, ◌^◌, ◌∙◌, ℕ, zero, suc, List, [], ◌∷◌, length, codes, Option, None, Ok, Err, Bool, true, false, nat_lt, IsTrue, IsUtf8, IsAscii, refl, subst, arith, rules}
+use Rattle.std.proofs.Common.{◌≡◌, ◌<◌, ◌≤◌, ◌+◌, ◌*◌, ◌^◌, ◌∙◌, ℕ, zero, suc, List, [], ◌∷◌, length, codes, Option, None, Ok, Err, Bool, true, false, not, ◌==◌, eqb-true, nat_lt, IsTrue, IsUtf8, IsAscii, refl, subst, arith, rules}
 use Rattle.std.specs.List.{AllByRecursion, list_all}
-use Rattle.std.proofs.lemmas.Bool.{and_parts}
+use Rattle.std.proofs.lemmas.Bool.{and_parts, not-true}
 use Rattle.std.proofs.lemmas.Bool.Decides.{nat_tests}
 use Rattle.std.proofs.lemmas.Str.{IsUtf8-from_ascii}
 use Rattle.sqlite_value.specs.declared.value.Value.TheVariants.{Text}
@@ -11,7 +11,7 @@ use Rattle.sqlite_trees.specs.Sound.{fits_kind, is_free_name, same_name, begins}
 use Rattle.sqlite_schema.specs.declared.schema.Index.{Index}
 use Rattle.sqlite_schema.specs.declared.schema.Schema.{Schema}
 use Rattle.sqlite_schema.specs.Rules.{table_reals, index_reals}
-use Rattle.sqlite_rules.proofs.ListLemmas.{all_has}
+use Rattle.sqlite_rules.proofs.ListLemmas.{all_from, test_has}
 use Rattle.sqlite_catalog.specs.declared.error.Refusal.{Refusal}
 use Rattle.sqlite_catalog.specs.Listing.{is_formed, is_fit}
 use Rattle.sqlite_catalog.specs.Calls.{RefusesTable}
@@ -35,11 +35,21 @@ use Rattle.desk_sql.proofs.Causing.{takes}
 use Rattle.desk_sql.proofs.Making.{creates, schema_1, schema_2, schema_3, schema_5, schema_6, schema_8, builds_then, then_build}
 use Rattle.desk_sql.proofs.Quieting.{faulted_later, survives_twice}
 use Rattle.desk_sql.proofs.Refusing.{gives_on, seen_with, statement_reason}
-use Rattle.desk_sql.proofs.Writing.{same_value}
 
 -- each byte is ASCII
 abbrev pub is_ascii : List ℕ → Bool
 is_ascii bytes = list_all (λ b. nat_lt b 128) bytes
+
+-- what the text must be beside this schema: its letters and its names, the limits of the store, its key, its row in the list of objects,
+-- and that it needs no counter
+abbrev tests_of : Schema → List ℕ → Table → List Bool
+tests_of schema sql table =
+    is_ascii sql ∷ is_ascii table.name ∷ not (is_used schema table.name)
+    ∷ list_all (λ (i : Index). not (is_used schema i.name)) (automatics table 0 0 table.uniques) ∷ not (is_reserved table.name)
+    ∷ nat_lt (next_tree schema + length table.uniques) 65536 ∷ (table_reals table == 0)
+    ∷ list_all (λ key. index_reals (table_reals table) key == 0) table.uniques ∷ nat_lt (2 * length table.name + length sql + 200) 65536
+    ∷ is_formed table ∷ is_fit (Text (codes "table")) (Text table.name) (Text table.name) (Text sql)
+    ∷ not (lacks_sequence (created schema table)) ∷ []
 
 -- Beside this schema the text creates this table: its name and those of its indexes are new, and it meets no limit of the store.
 pub record IsNewTable (schema : Schema) (sql : List ℕ) (table : Table) : Type 0 where
@@ -49,21 +59,7 @@ pub record IsNewTable (schema : Schema) (sql : List ℕ) (table : Table) : Type 
   pub alone : statement_of sql (understood schema sql) ≡ sql
   pub whole : takes (length sql) 0 (understood schema sql) ≡ true
   pub defined : table_defined_by sql ≡ Ok table
-  -- its letters and its names
-  pub letters : is_ascii sql ≡ true
-  pub name_letters : is_ascii table.name ≡ true
-  pub unused : is_used schema table.name ≡ false
-  pub unused_indexes : AllByRecursion (λ (i : Index). is_used schema i.name ≡ false) (automatics table 0 0 table.uniques)
-  pub unreserved : is_reserved table.name ≡ false
-  -- the limits of the store
-  pub few : nat_lt (next_tree schema + length table.uniques) 65536 ≡ true
-  pub reals : table_reals table ≡ 0
-  pub key_reals : AllByRecursion (λ (key : List ℕ). index_reals (table_reals table) key ≡ 0) table.uniques
-  pub short : nat_lt (2 * length table.name + length sql + 200) 65536 ≡ true
-  -- its key, its row in the list of objects, and that it needs no counter
-  pub formed : is_formed table ≡ true
-  pub listed : is_fit (Text (codes "table")) (Text table.name) (Text table.name) (Text sql) ≡ true
-  pub uncounted : lacks_sequence (created schema table) ≡ false
+  pub tests : list_all (λ b. b) (tests_of schema sql table) ≡ true
 
 under : (a b : ℕ) → nat_lt a b ≡ true → a < b
 under a b less = grind (arith, nat_tests)
@@ -81,20 +77,23 @@ pub as_text : (bytes : List ℕ) → is_ascii bytes ≡ true → IsUtf8 bytes
 as_text bytes all = IsUtf8-from_ascii bytes (ascii bytes all)
 
 module _ (schema : Schema) (sql : List ℕ) (table : Table) (it : IsNewTable schema sql table) where
+  each : AllByRecursion (λ b. b ≡ true) (tests_of schema sql table)
+  each = all_from (λ b. b ≡ true) (tests_of schema sql table) (λ b there. test_has (λ b. b) (tests_of schema sql table) b it.tests there)
+
   -- the text defines no other table
   only : (made : Table) → table_defined_by sql ≡ Ok made → made ≡ table
-  only made defined = search (rules, arith, same_value)
+  only made defined = search (rules, arith)
 
   -- no rule refuses it
   unrefused : (why : Refusal) → ¬ RefusesTable schema sql why
-  unrefused why wrong = search (rules, arith, only, all_has, as_text, under, no_reals)
+  unrefused why wrong = let known = each in search (rules, arith, only, test_has, not-true, eqb-true, as_text, under, no_reals)
 
   -- and its row fits the list of objects, whatever the trees are
   unstopped : (db : Trees) (stop : Option Error) → ¬ MakesTable sql (record { schema = schema; trees = db }) (Err stop)
-  unstopped db stop x = search (rules, arith, under, only, as_text, unrefused)
+  unstopped db stop x = let known = each in search (rules, arith, under, only, not-true, as_text, unrefused)
 
   goes : (old : State) (stop : Option Error) → ¬ Defines (mode_of old) (Then (MakesTable sql (seen_with schema old)) MakesSequence) (Err stop)
-  goes old stop x = search (rules, arith, unstopped, only, gives_on)
+  goes old stop x = let known = each in search (rules, arith, unstopped, only, not-true, gives_on)
 
   -- so it fails out of memory, or where the disk failed or refused
   pub create_reason : (old new : State) (e : Error) → IsUp old → old.now.schema ≡ schema → ExecutesInside 0 sql [] old new (Err e) → HasReason old new e
@@ -102,6 +101,10 @@ module _ (schema : Schema) (sql : List ℕ) (table : Table) (it : IsNewTable sch
       statement_reason sql CreateTable [] it.meant it.plain it.whole refl refl old new up has
       (λ stop does. goes old stop (subst (λ t. Does old.step_limit (mode_of old) [] (seen_with schema old) t None CreateTable (Err stop)) it.alone does))
       e ran
+
+-- it needs no counter
+pub uncounted : {schema : Schema} {sql : List ℕ} {table : Table} → IsNewTable schema sql table → lacks_sequence (created schema table) ≡ false
+uncounted {schema = schema} {sql = sql} {table = table} it = let known = each schema sql table it in search (rules, not-true)
 
 -- One text after another.
 
@@ -129,7 +132,7 @@ pub created_by : {a b : State} {schema after : Schema} {sql : List ℕ} {table :
 created_by {a = a} {b = b} {schema = schema} {sql = sql} {table = table} it is count survives runs = record {
   survives = survives;
   made = λ clean start. subst (Builds a b) is
-      (creates sql a b schema table (Ok count) it.meant it.plain it.alone it.defined it.uncounted start (runs clean start.inside));
+      (creates sql a b schema table (Ok count) it.meant it.plain it.alone it.defined (uncounted it) start (runs clean start.inside));
 }
 
 -- a store that was up is so once tables were created
@@ -157,198 +160,36 @@ text_fails {b = b} {c = c} {at = at} {sql = sql} {table = table} e stage it surv
 -- each of their facts is found by computing
 pub meta_is_new : IsNewTable no_schema meta_text (meta_at 0)
 unfolding understood everything value_cmp fits_kind is_free_name same_name begins lib.Ieee.is_nan lib.Ieee.lt
-meta_is_new = record {
-  meant = refl;
-  plain = (refl, refl);
-  alone = refl;
-  whole = refl;
-  defined = refl;
-  letters = refl;
-  name_letters = refl;
-  unused = refl;
-  unused_indexes = tt;
-  unreserved = refl;
-  few = refl;
-  reals = refl;
-  key_reals = tt;
-  short = refl;
-  formed = refl;
-  listed = refl;
-  uncounted = refl;
-}
+meta_is_new = record { meant = refl; plain = (refl, refl); alone = refl; whole = refl; defined = refl; tests = refl }
 
 pub stock_is_new : IsNewTable schema_1 stock_text (stock_at 0)
 unfolding understood everything value_cmp fits_kind is_free_name same_name begins lib.Ieee.is_nan lib.Ieee.lt
-stock_is_new = record {
-  meant = refl;
-  plain = (refl, refl);
-  alone = refl;
-  whole = refl;
-  defined = refl;
-  letters = refl;
-  name_letters = refl;
-  unused = refl;
-  unused_indexes = (refl, tt);
-  unreserved = refl;
-  few = refl;
-  reals = refl;
-  key_reals = (refl, tt);
-  short = refl;
-  formed = refl;
-  listed = refl;
-  uncounted = refl;
-}
+stock_is_new = record { meant = refl; plain = (refl, refl); alone = refl; whole = refl; defined = refl; tests = refl }
 
 pub batch_is_new : IsNewTable schema_2 batch_text (batch_at 0)
 unfolding understood everything value_cmp fits_kind is_free_name same_name begins lib.Ieee.is_nan lib.Ieee.lt
-batch_is_new = record {
-  meant = refl;
-  plain = (refl, refl);
-  alone = refl;
-  whole = refl;
-  defined = refl;
-  letters = refl;
-  name_letters = refl;
-  unused = refl;
-  unused_indexes = (refl, (refl, tt));
-  unreserved = refl;
-  few = refl;
-  reals = refl;
-  key_reals = (refl, (refl, tt));
-  short = refl;
-  formed = refl;
-  listed = refl;
-  uncounted = refl;
-}
+batch_is_new = record { meant = refl; plain = (refl, refl); alone = refl; whole = refl; defined = refl; tests = refl }
 
 pub journey_is_new : IsNewTable schema_3 journey_text (journey_at 0)
 unfolding understood everything value_cmp fits_kind is_free_name same_name begins lib.Ieee.is_nan lib.Ieee.lt
-journey_is_new = record {
-  meant = refl;
-  plain = (refl, refl);
-  alone = refl;
-  whole = refl;
-  defined = refl;
-  letters = refl;
-  name_letters = refl;
-  unused = refl;
-  unused_indexes = (refl, tt);
-  unreserved = refl;
-  few = refl;
-  reals = refl;
-  key_reals = (refl, tt);
-  short = refl;
-  formed = refl;
-  listed = refl;
-  uncounted = refl;
-}
+journey_is_new = record { meant = refl; plain = (refl, refl); alone = refl; whole = refl; defined = refl; tests = refl }
 
 pub step_is_new : IsNewTable first_schema step_text (step_at 0)
 unfolding understood everything value_cmp fits_kind is_free_name same_name begins lib.Ieee.is_nan lib.Ieee.lt
-step_is_new = record {
-  meant = refl;
-  plain = (refl, refl);
-  alone = refl;
-  whole = refl;
-  defined = refl;
-  letters = refl;
-  name_letters = refl;
-  unused = refl;
-  unused_indexes = (refl, tt);
-  unreserved = refl;
-  few = refl;
-  reals = refl;
-  key_reals = (refl, tt);
-  short = refl;
-  formed = refl;
-  listed = refl;
-  uncounted = refl;
-}
+step_is_new = record { meant = refl; plain = (refl, refl); alone = refl; whole = refl; defined = refl; tests = refl }
 
 pub entry_is_new : IsNewTable schema_5 entry_text (entry_at 0)
 unfolding understood everything value_cmp fits_kind is_free_name same_name begins lib.Ieee.is_nan lib.Ieee.lt
-entry_is_new = record {
-  meant = refl;
-  plain = (refl, refl);
-  alone = refl;
-  whole = refl;
-  defined = refl;
-  letters = refl;
-  name_letters = refl;
-  unused = refl;
-  unused_indexes = tt;
-  unreserved = refl;
-  few = refl;
-  reals = refl;
-  key_reals = tt;
-  short = refl;
-  formed = refl;
-  listed = refl;
-  uncounted = refl;
-}
+entry_is_new = record { meant = refl; plain = (refl, refl); alone = refl; whole = refl; defined = refl; tests = refl }
 
 pub answer_is_new : IsNewTable schema_6 answer_text (answer_at 0)
 unfolding understood everything value_cmp fits_kind is_free_name same_name begins lib.Ieee.is_nan lib.Ieee.lt
-answer_is_new = record {
-  meant = refl;
-  plain = (refl, refl);
-  alone = refl;
-  whole = refl;
-  defined = refl;
-  letters = refl;
-  name_letters = refl;
-  unused = refl;
-  unused_indexes = (refl, tt);
-  unreserved = refl;
-  few = refl;
-  reals = refl;
-  key_reals = (refl, tt);
-  short = refl;
-  formed = refl;
-  listed = refl;
-  uncounted = refl;
-}
+answer_is_new = record { meant = refl; plain = (refl, refl); alone = refl; whole = refl; defined = refl; tests = refl }
 
 pub entry2_is_new : IsNewTable seven_schema entry2_text (entry2_at 0)
 unfolding understood everything value_cmp fits_kind is_free_name same_name begins lib.Ieee.is_nan lib.Ieee.lt
-entry2_is_new = record {
-  meant = refl;
-  plain = (refl, refl);
-  alone = refl;
-  whole = refl;
-  defined = refl;
-  letters = refl;
-  name_letters = refl;
-  unused = refl;
-  unused_indexes = tt;
-  unreserved = refl;
-  few = refl;
-  reals = refl;
-  key_reals = tt;
-  short = refl;
-  formed = refl;
-  listed = refl;
-  uncounted = refl;
-}
+entry2_is_new = record { meant = refl; plain = (refl, refl); alone = refl; whole = refl; defined = refl; tests = refl }
 
 pub mark_is_new : IsNewTable schema_8 mark_text (mark_at 0)
 unfolding understood everything value_cmp fits_kind is_free_name same_name begins lib.Ieee.is_nan lib.Ieee.lt
-mark_is_new = record {
-  meant = refl;
-  plain = (refl, refl);
-  alone = refl;
-  whole = refl;
-  defined = refl;
-  letters = refl;
-  name_letters = refl;
-  unused = refl;
-  unused_indexes = (refl, tt);
-  unreserved = refl;
-  few = refl;
-  reals = refl;
-  key_reals = (refl, tt);
-  short = refl;
-  formed = refl;
-  listed = refl;
-  uncounted = refl;
-}
+mark_is_new = record { meant = refl; plain = (refl, refl); alone = refl; whole = refl; defined = refl; tests = refl }

@@ -1,7 +1,7 @@
 -- The queries for the numbers of meta, a kept reply, a batch, journeys, and the nights of a range. For the functions that read one table.
-use Rattle.std.proofs.Common.{◌≡◌, ◌<◌, inl, inr, List, [], ◌∷◌, filter, true, Some, None, arith, refl, sym, ap, subst, ◌∙◌, ℕ, ℤ, string_bytes, eqb-true}
+use Rattle.std.proofs.Common.{◌≡◌, ◌<◌, inl, inr, List, [], ◌∷◌, filter, true, Some, None, arith, refl, sym, ap, subst, ◌∙◌, ℕ, Option, eqb-true, rules}
 use Rattle.sqlite.specs.Order.{Row}
-use Rattle.sqlite.specs.State.{State, IsUnchanged}
+use Rattle.sqlite.specs.State.{State, QueriesRow}
 use Rattle.sqlite.specs.Query.{Output}
 use Rattle.sqlite.specs.Listing.{understood}
 use Rattle.sqlite_tied.specs.Compute.{everything}
@@ -12,33 +12,34 @@ use Rattle.desk_sql.specs.Rows.{whole, Tables, MetaRow, meta_row, AnswerRow, ans
 use Rattle.desk_sql.specs.declared.versions.Version.{Version}
 use Rattle.desk_sql.specs.declared.versions.Version.TheVariants.{One, Two}
 use Rattle.desk_sql.specs.Calls.{MaySeeIn}
-use Rattle.desk_sql.specs.Queries.{GivesRow}
+use Rattle.desk_sql.specs.Queries.{GivesRow, one_row}
 use Rattle.desk_sql.specs.FoundRows.{meta_of, IsMeta, shows_meta, three_of, is_for, answer_of, FindsAnswer, shows_answer, two_of, is_named, batch_of, FindsBatch, shows_batch, journey_of, is_numbered, is_unfinished_after, FindsJourney, FindsUnfinished, shows_journey, nine_of}
 use Rattle.desk_sql.specs.Readable.{HasMeta, meta_shown, ShowsOne, IsReplyText, HasReplyText, answer_shown, Any, batch_shown, IsAgentText, HasAgentText, HaveAgentTexts, night_shown}
 use Rattle.desk_sql.specs.declared.meta.Meta.{Meta}
 use Rattle.desk_sql.specs.Texts.{read_meta_text, find_answer_text, find_batch_text, find_journey_text, first_unfinished_text, find_nights_text}
 use Rattle.desk_sql.specs.Meanings.{read_meta_query, read_meta_names, find_answer_query, find_answer_names, find_batch_query, find_batch_names, find_journey_query, first_unfinished_query, journey_names, journey_project, find_nights_query, find_nights_names}
-use Rattle.desk_sql.proofs.Asking.{SaysQuery, Asks, asks_own, FindsOne, asks_chosen, one_of, least_of, FindsList, lists}
+use Rattle.desk_sql.proofs.Asking.{SaysQuery, Asks, asks_own, Finds, FindsOne, asks_chosen, one_of, least_of, FindsList, lists}
 use Rattle.desk_sql.proofs.Changing.{meta_passes}
 use Rattle.desk_sql.proofs.Answering.{first_of}
 use Rattle.std.proofs.lemmas.Bool.{and_parts}
 use Rattle.std.proofs.lemmas.Slice.Eq.{bytes_eq-Decides}
 use Rattle.sqlite.specs.declared.types.Value.TheVariants.{Text, Blob}
 use Rattle.sqlite_rules.proofs.ListLemmas.{has_filtered}
-use Rattle.desk_sql.specs.Lists.{numbered_row}
-use Rattle.desk_sql.specs.declared.answers.KeptAnswer.{KeptAnswer}
 use Rattle.desk_sql.proofs.Reading.{passes}
 use Rattle.desk_sql.proofs.Testing.{eq_text, and_true, eq_whole, gt_whole, le_whole, ge_whole}
 use Rattle.std.specs.Prelude.{⊤}
-use Rattle.desk_sql.specs.declared.batches.BatchFound.{BatchFound}
 use Rattle.desk_sql.specs.RemainingRows.{journey_shown}
 use Rattle.desk_sql.specs.declared.journeys.JourneyFound.{JourneyFound}
 use Rattle.desk_sql.proofs.Ordered.{whole_last}
 use Rattle.desk_sql.specs.Stock.{is_within, night_of, IsByNight, FindsNights, shows_night}
 use Rattle.desk_sql.specs.declared.stock.NightRange.{NightRange}
-use Rattle.desk_sql.specs.declared.stock.NightFound.{NightFound}
 
 -- The query on meta.
+
+-- there is a row, of which this holds
+abbrev pub HasRow : Option Row → (Row → Type 0) → Type 0
+HasRow (Some row) Holds = Holds row
+HasRow None Holds = ⊥
 
 abbrev meta_out : MetaRow → Output
 meta_out m = ([], whole m.version ∷ whole m.events ∷ whole m.journeys ∷ [])
@@ -58,45 +59,42 @@ only_one (n ∷ ms) m rise h =
     alone ∙ ap (λ x. x ∷ []) (elim (subst (λ xs. Has xs m) alone h) [ inl is ↦ sym is | inr none ↦ absurd none ])
 
 same_meta : (r : Meta) (m : MetaRow) → shows_meta r ≡ whole m.version ∷ whole m.events ∷ whole m.journeys ∷ [] → m ≡ meta_of r
-same_meta r m shown =
-    let version : r.version ≡ m.version = cc in
-    let events : r.events ≡ m.events = cc in
-    let journeys : r.journeys ≡ m.journeys = cc in
-    ap (λ x. record { version = x; events = m.events; journeys = m.journeys }) (sym version)
-    ∙ ap (λ x. record { version = r.version; events = x; journeys = m.journeys }) (sym events)
-    ∙ ap (λ x. record { version = r.version; events = r.events; journeys = x }) (sym journeys)
+same_meta r m shown = search (rules, arith)
 
 meta_says : (v : Version) → SaysQuery v read_meta_text read_meta_query read_meta_names []
 unfolding understood everything
 meta_says One = record { means = λ _. record { is = refl; plain = (refl, refl); unlisted = refl; selects = refl }; takes = λ _. record { whole = refl; typed = refl } }
 meta_says Two = record { means = λ _. record { is = refl; plain = (refl, refl); unlisted = refl; selects = refl }; takes = λ _. record { whole = refl; typed = refl } }
 
-pub meta_asked : (v : Version) → Asks v read_meta_text [] read_meta_query meta_out (λ t. filter (λ _. true) t.meta)
-meta_asked v =
-    asks_own 0 read_meta_query.filter read_meta_query.project [] (meta_says v) (λ _. refl) (λ (m : MetaRow). 1) meta_row (λ t. t.meta)
-    (λ _ _ s. s.meta) (λ _. true) (meta_passes [])
+-- the row that is read is that of meta, and where meta has a row, one is given
+pub finds_meta : (v : Version) → Finds v read_meta_text [] (λ old new row. QueriesRow read_meta_text [] old new (one_row row))
+    (λ row m. HasRow row (λ r. shows_meta m ≡ three_of r)) IsMeta HasMeta (λ row. HasRow row (λ r. (m : MetaRow) × (r ≡ meta_shown m)))
+finds_meta v = record { selects = asked.selects; found = found; good = good; reason = asked.reason }
+  where
+    asked : Asks v read_meta_text [] read_meta_query meta_out (λ t. filter (λ _. true) t.meta)
+    asked =
+        asks_own 0 read_meta_query.filter read_meta_query.project [] (meta_says v) (λ _. refl) (λ (m : MetaRow). 1) meta_row (λ t. t.meta)
+        (λ _ _ s. s.meta) (λ _. true) (meta_passes [])
 
-pub finds_meta : (v : Version) (old new : State) (t : Tables) → MaySeeIn v old t → (row : Row) (r : Meta) → shows_meta r ≡ three_of row
-    → GivesRow read_meta_text [] old new (Some row) → IsUnchanged old new × IsMeta t r
-finds_meta v old new t sees row r read given =
-    let all = (meta_asked v).first old new t sees row given in
-    let it = first_of read_meta_query meta_out (filter (λ _. true) t.meta) row all.0 all.1 in (
-      given.0,
-      only_one t.meta it.0 (sees given.0.0.was_open).rows.meta.rise (subst (λ ms. Has ms it.0) (all_pass t.meta) it.1)
-          ∙ ap (λ m. m ∷ []) (same_meta r it.0 (read ∙ ap three_of it.2)),
-    )
+    first : (old new : State) (t : Tables) → MaySeeIn v old t → (row : Row) → GivesRow read_meta_text [] old new (Some row)
+        → (m : MetaRow) × Has t.meta m × (row ≡ meta_shown m)
+    first old new t sees row given =
+        let all = asked.first old new t sees row given in
+        let it = first_of read_meta_query meta_out (filter (λ _. true) t.meta) row all.0 all.1 in
+        (it.0, subst (λ ms. Has ms it.0) (all_pass t.meta) it.1, it.2)
 
--- the row that is given is that of meta
-pub meta_given : (v : Version) (old new : State) (t : Tables) → MaySeeIn v old t → (row : Row)
-    → GivesRow read_meta_text [] old new (Some row) → (m : MetaRow) × (row ≡ meta_shown m)
-meta_given v old new t sees row given =
-    let all = (meta_asked v).first old new t sees row given in
-    let it = first_of read_meta_query meta_out (filter (λ _. true) t.meta) row all.0 all.1 in (it.0, it.2)
+    found : (old new : State) (t : Tables) → MaySeeIn v old t → (row : Option Row) (m : Meta) → HasRow row (λ r. shows_meta m ≡ three_of r)
+        → GivesRow read_meta_text [] old new row → IsMeta t m
+    found old new t sees (Some row) m read given =
+        let it = first old new t sees row given in
+        only_one t.meta it.0 (sees given.0.0.was_open).rows.meta.rise it.1 ∙ ap (λ x. x ∷ []) (same_meta m it.0 (read ∙ ap three_of it.2))
+    found old new t sees None m read given = absurd read
 
--- where meta has a row, one is given
-pub meta_there : (v : Version) (old new : State) (t : Tables) → MaySeeIn v old t → HasMeta t → ¬ GivesRow read_meta_text [] old new None
-meta_there v old new t sees has given =
-    let bad : has.0 ∷ [] ≡ [] = sym has.1 ∙ (sym (all_pass t.meta) ∙ (meta_asked v).none old new t sees given) in cc
+    good : (old new : State) (t : Tables) → MaySeeIn v old t → HasMeta t → (row : Option Row) → GivesRow read_meta_text [] old new row
+        → HasRow row (λ r. (m : MetaRow) × (r ≡ meta_shown m))
+    good old new t sees has (Some row) given = let it = first old new t sees row given in (it.0, it.2)
+    good old new t sees has None given =
+        let bad : has.0 ∷ [] ≡ [] = sym has.1 ∙ (sym (all_pass t.meta) ∙ asked.none old new t sees given) in cc
 
 -- The reply that is kept under an agent's key.
 
@@ -110,27 +108,12 @@ answer_says : (agent mark : List ℕ) → SaysQuery Two find_answer_text find_an
 unfolding understood everything
 answer_says agent mark = record { means = λ _. record { is = refl; plain = (refl, refl); unlisted = refl; selects = refl }; takes = λ _. record { whole = refl; typed = refl } }
 
-answer_test : (agent mark : List ℕ) (p : ℤ × AnswerRow)
-    → passes find_answer_query.filter (answer_key agent mark) (numbered_row answer_columns p) ≡ is_for agent mark p.1
-answer_test agent mark p = simp eq_text (simp and_true)
-
--- the reply that was read of a row that passes is that of the row
-same_answer : (agent mark : List ℕ) (k : KeptAnswer) (a : AnswerRow) → is_for agent mark a ≡ true
-    → shows_answer k ≡ Blob a.ask ∷ Text a.reply ∷ [] → answer_of agent mark k ≡ a
-same_answer agent mark k a is shown =
-    let both = and_parts _ _ is in
-    let agent_is : a.agent ≡ agent = (bytes_eq-Decides _ _).0 both.0 in
-    let mark_is : a.mark ≡ mark = (bytes_eq-Decides _ _).0 both.1 in
-    let ask_is : k.ask.items ≡ a.ask = cc in
-    let reply_is : string_bytes k.reply ≡ a.reply = cc in
-    rw (← agent_is, ← mark_is, ask_is, reply_is) refl
-
 pub finds_answer : (agent mark : List ℕ)
     → FindsOne Two find_answer_text (answer_key agent mark) shows_answer two_of (FindsAnswer agent mark) (HasReplyText agent mark) (ShowsOne answer_shown IsReplyText)
 finds_answer agent mark =
     one_of (asks_chosen 11 find_answer_query.filter find_answer_query.project [] (answer_says agent mark) (λ _. refl) answer_columns (λ t. t.answer)
-    (λ _ _ s. s.answer) answer_out (λ _. refl) (is_for agent mark) (answer_test agent mark)) (answer_of agent mark) shows_answer two_of
-    (λ t k a there shown. same_answer agent mark k a (has_filtered (is_for agent mark) t.answer a there).1 shown)
+    (λ _ _ s. s.answer) answer_out (λ _. refl) (is_for agent mark) (λ p. simp eq_text (simp and_true))) (answer_of agent mark) shows_answer two_of
+    (λ t k a there shown. let passed = (has_filtered (is_for agent mark) t.answer a there).1 in search (rules, arith, and_parts, bytes_eq-Decides))
     (HasReplyText agent mark) (ShowsOne answer_shown IsReplyText) (λ t fits a there. (a, refl, fits a there))
 
 -- The batch with a name.
@@ -142,43 +125,19 @@ batch_says : (name : List ℕ) → SaysQuery Two find_batch_text find_batch_quer
 unfolding understood everything
 batch_says name = record { means = λ _. record { is = refl; plain = (refl, refl); unlisted = refl; selects = refl }; takes = λ _. record { whole = refl; typed = refl } }
 
-name_test : (name : List ℕ) (p : ℤ × BatchRow) → passes find_batch_query.filter (Text name ∷ []) (numbered_row batch_columns p) ≡ is_named name p.1
-name_test name p = and_true _ ∙ eq_text p.1.name name
-
--- the batch that was read of a row that passes is that of the row
-same_batch : (name : List ℕ) (f : BatchFound) (b : BatchRow) → is_named name b ≡ true → shows_batch f ≡ (batch_out b).1 → batch_of name f ≡ b
-same_batch name f b is e =
-    let name_is : b.name ≡ name = (bytes_eq-Decides _ _).0 is in
-    let num : f.num ≡ b.num = cc in
-    let content : f.content.items ≡ b.content = cc in
-    rw (← name_is, num, content) refl
-
 pub finds_batch : (name : List ℕ)
     → FindsOne Two find_batch_text (Text name ∷ []) shows_batch two_of (FindsBatch name) Any (ShowsOne batch_shown (λ _. ⊤))
 finds_batch name =
     one_of (asks_chosen 3 find_batch_query.filter find_batch_query.project [] (batch_says name) (λ _. refl) batch_columns (λ t. t.batch)
-    (λ _ _ s. s.batch) batch_out (λ _. refl) (is_named name) (name_test name)) (batch_of name) shows_batch two_of
-    (λ t f b there shown. same_batch name f b (has_filtered (is_named name) t.batch b there).1 shown)
+    (λ _ _ s. s.batch) batch_out (λ _. refl) (is_named name) (λ p. and_true _ ∙ eq_text p.1.name name)) (batch_of name) shows_batch two_of
+    (λ t f b there shown. let passed = (has_filtered (is_named name) t.batch b there).1 in search (rules, arith, bytes_eq-Decides))
     Any (ShowsOne batch_shown (λ _. ⊤)) (λ t any b there. (b, refl, tt))
 
 -- The queries on journeys.
 
 -- the journey that was read of a row is that of the row
 pub same_journey : (f : JourneyFound) (j : JourneyRow) → shows_journey f ≡ journey_shown j → journey_of f ≡ j
-same_journey f j e =
-    let id : f.id ≡ j.id = cc in
-    let num : f.num ≡ j.num = cc in
-    let agent : string_bytes f.agent ≡ j.agent = cc in
-    let steps : f.steps ≡ j.steps = cc in
-    let tries : f.tries ≡ j.tries = cc in
-    let at : f.cursor.pos ≡ j.cursor.pos = cc in
-    let phase : f.cursor.phase ≡ j.cursor.phase = cc in
-    let target : f.cursor.target ≡ j.cursor.target = cc in
-    let used : f.cursor.used ≡ j.cursor.used = cc in
-    rw (id, num, agent, steps, tries, at, phase, target, used) refl
-
-id_test : (id : ℕ) (j : JourneyRow) → passes find_journey_query.filter (whole id ∷ []) (journey_row j) ≡ is_numbered id j
-id_test id j = and_true _ ∙ eq_whole j.id id
+same_journey f j e = search (rules, arith)
 
 pub unfinished_test : (after : ℕ) (j : JourneyRow)
     → passes first_unfinished_query.filter (whole after ∷ []) (journey_row j) ≡ is_unfinished_after after j
@@ -193,7 +152,7 @@ pub finds_journey : (v : Version) (id : ℕ)
     → FindsOne v find_journey_text (whole id ∷ []) shows_journey nine_of (FindsJourney id) (HasAgentText id) (ShowsOne journey_shown IsAgentText)
 finds_journey v id =
     one_of (asks_own 6 find_journey_query.filter journey_project [] (journey_says v id) (λ _. refl) (λ (j : JourneyRow). j.id) journey_row (λ t. t.journey)
-    (λ _ _ s. s.journey) (is_numbered id) (id_test id)) journey_of shows_journey nine_of (λ t f j there shown. same_journey f j shown)
+    (λ _ _ s. s.journey) (is_numbered id) (λ j. and_true _ ∙ eq_whole j.id id)) journey_of shows_journey nine_of (λ t f j there shown. same_journey f j shown)
     (HasAgentText id) (ShowsOne journey_shown IsAgentText) (λ t fits j there. (j, refl, fits j there))
 
 unfinished_says : (after : ℕ) → SaysQuery Two first_unfinished_text first_unfinished_query journey_names (whole after ∷ [])
@@ -221,28 +180,10 @@ nights_say : (r : NightRange) → SaysQuery Two find_nights_text find_nights_que
 unfolding understood everything
 nights_say r = record { means = λ _. record { is = refl; plain = (refl, refl); unlisted = refl; selects = refl }; takes = λ _. record { whole = refl; typed = refl } }
 
-range_test : (r : NightRange) (p : ℤ × StockRow)
-    → passes find_nights_query.filter (range_params r) (numbered_row stock_columns p) ≡ is_within r p.1
-range_test r p = simp (eq_whole, eq_text, ge_whole, le_whole) (simp and_true)
-
--- a cell that passes is of the product, so its night and places determine it
-same_night : (r : NightRange) (n : NightFound) (s : StockRow) → is_within r s ≡ true → shows_night n ≡ (night_out s).1 → night_of r n ≡ s
-same_night r n s is e =
-    let one = and_parts _ _ is in
-    let two = and_parts _ _ one.1 in
-    let three = and_parts _ _ two.1 in
-    let kind : s.kind ≡ r.kind = eqb-true _ _ one.0 in
-    let supplier : s.supplier ≡ r.supplier.now = (bytes_eq-Decides _ _).0 two.0 in
-    let product : s.product ≡ r.product.now = (bytes_eq-Decides _ _).0 three.0 in
-    let night : n.night ≡ s.night = cc in
-    let allot : n.allot ≡ s.allot = cc in
-    let free : n.free ≡ s.free = cc in
-    rw (← kind, ← supplier, ← product, night, allot, free) refl
-
 pub finds_nights : (r : NightRange)
     → FindsList Two find_nights_text (range_params r) shows_night three_of (FindsNights r) Any (ShowsOne night_shown (λ _. ⊤))
 finds_nights r =
     lists (asks_chosen 1 find_nights_query.filter find_nights_query.project find_nights_query.order (nights_say r) (λ _. refl) stock_columns (λ t. t.stock)
-    (λ _ _ s. s.stock) night_out (λ _. refl) (is_within r) (range_test r)) (night_of r) shows_night three_of
-    (λ t n s there shown. same_night r n s (has_filtered (is_within r) t.stock s there).1 shown)
+    (λ _ _ s. s.stock) night_out (λ _. refl) (is_within r) (λ p. simp (eq_whole, eq_text, ge_whole, le_whole) (simp and_true))) (night_of r) shows_night three_of
+    (λ t n s there shown. let passed = (has_filtered (is_within r) t.stock s there).1 in search (rules, arith, and_parts, bytes_eq-Decides, eqb-true))
     Any (ShowsOne night_shown (λ _. ⊤)) (λ t any s there. (s, refl, tt)) IsByNight (λ a b up. whole_last a.night b.night up)

@@ -1,5 +1,5 @@
 -- The queries for the rows of a journey. For `find_items`, `find_marks`, `find_steps` and `find_options`.
-use Rattle.std.proofs.Common.{◌≡◌, ◌⊎◌, ℕ, ℤ, ◌<◌, ◌≤◌, ◌==◌, eqb-true, [], ◌∷◌, map, filter, false, Equal, is_lt, refl, ◌∙◌, nat_lt, arith, rules}
+use Rattle.std.proofs.Common.{◌≡◌, ◌⊎◌, ℕ, ◌<◌, ◌≤◌, eqb-true, [], ◌∷◌, map, filter, false, Equal, is_lt, refl, ◌∙◌, arith, rules}
 use Rattle.std.specs.Prelude.{⊤}
 use Rattle.std.proofs.lemmas.Bool.{and_parts}
 use Rattle.std.specs.Ordering.{ordering_then}
@@ -10,7 +10,6 @@ use Rattle.sqlite.specs.Listing.{understood}
 use Rattle.sqlite_rules.proofs.ListLemmas.{has_filtered}
 use Rattle.sqlite_tied.specs.Compute.{everything}
 use Rattle.sqlite_trees.proofs.ListLemmas.{ascending-filter}
-use Rattle.desk_sql.specs.Lists.{numbered_row}
 use Rattle.desk_sql.specs.Rows.{whole, Tables, StepRow, step_columns, EntryRow, entry_row, MarkRow, mark_columns}
 use Rattle.desk_sql.specs.declared.versions.Version.{Version}
 use Rattle.desk_sql.specs.declared.versions.Version.TheVariants.{One, Two}
@@ -18,7 +17,6 @@ use Rattle.desk_sql.specs.FoundRows.{step_of, is_step_of, IsByPlace, FindsSteps,
 use Rattle.desk_sql.specs.Readable.{Any, ShowsOne, AreWantTexts, HaveWantTexts, HaveOptionTexts, step_shown, item_shown, mark_shown}
 use Rattle.desk_sql.specs.Texts.{find_steps_text, find_options_text, find_items_text, find_marks_text}
 use Rattle.desk_sql.specs.Meanings.{find_steps_query, find_steps_names, find_options_query, find_items_query, find_items_names, find_marks_query, find_marks_names}
-use Rattle.desk_sql.specs.declared.steps.StepFound.{StepFound}
 use Rattle.desk_sql.specs.declared.journeys.ItemFound.{ItemFound}
 use Rattle.desk_sql.proofs.Asking.{SaysQuery, FindsList, asks_chosen, asks_own, lists}
 use Rattle.desk_sql.proofs.OneList.{one_list}
@@ -35,17 +33,6 @@ step_out s = (
       ∷ whole s.nights ∷ whole s.places ∷ [],
 )
 
-step_test : (journey : ℕ) (p : ℤ × StepRow)
-    → passes find_steps_query.filter (whole journey ∷ []) (numbered_row step_columns p) ≡ is_step_of journey p.1
-step_test journey p = and_true _ ∙ eq_whole p.1.journey journey
-
-option_test : (journey place : ℕ) (p : ℤ × StepRow)
-    → passes find_options_query.filter (whole journey ∷ whole place ∷ []) (numbered_row step_columns p) ≡ is_option_of journey place p.1
-option_test journey place p = simp eq_whole (simp and_true)
-
-same_step : (journey : ℕ) (f : StepFound) (s : StepRow) → s.journey ≡ journey → shows_step f ≡ (step_out s).1 → step_of journey f ≡ s
-same_step journey f s of e = search (rules, arith)
-
 by_place : (a b c d : ℕ)
     → is_lt (ordering_then (value_cmp (whole b) (whole a)) (ordering_then (value_cmp (whole d) (whole c)) Equal)) ≡ false
     → (a < b) ⊎ ((a ≡ b) × (c ≤ d))
@@ -60,8 +47,8 @@ pub finds_steps : (v : Version) (journey : ℕ)
     → FindsList v find_steps_text (whole journey ∷ []) shows_step ten_of (FindsSteps journey) (HaveWantTexts journey) (ShowsOne step_shown AreWantTexts)
 finds_steps v journey =
     lists (asks_chosen 8 find_steps_query.filter find_steps_query.project find_steps_query.order (steps_say v journey) (λ _. refl) step_columns (λ t. t.step)
-    (λ _ _ s. s.step) step_out (λ _. refl) (is_step_of journey) (step_test journey)) (step_of journey) shows_step ten_of
-    (λ t f s there shown. same_step journey f s (eqb-true _ _ (has_filtered (is_step_of journey) t.step s there).1) shown)
+    (λ _ _ s. s.step) step_out (λ _. refl) (is_step_of journey) (λ p. and_true _ ∙ eq_whole p.1.journey journey)) (step_of journey) shows_step ten_of
+    (λ t f s there shown. let passed = (has_filtered (is_step_of journey) t.step s there).1 in search (rules, arith, eqb-true))
     (HaveWantTexts journey) (ShowsOne step_shown AreWantTexts) (λ t fits s there. (s, refl, fits s there))
     IsByPlace (λ a b up. by_place a.place b.place a.opt b.opt up)
 
@@ -74,10 +61,8 @@ pub finds_options : (journey place : ℕ)
     (ShowsOne step_shown AreWantTexts)
 finds_options journey place =
     lists (asks_chosen 8 find_options_query.filter find_options_query.project find_options_query.order (options_say journey place) (λ _. refl) step_columns
-    (λ t. t.step) (λ _ _ s. s.step) step_out (λ _. refl) (is_option_of journey place) (option_test journey place)) (step_of journey) shows_step ten_of
-    (λ t f s there shown.
-    let both = and_parts (s.journey == journey) (s.place == place) (has_filtered (is_option_of journey place) t.step s there).1 in
-    same_step journey f s (eqb-true _ _ both.0) shown)
+    (λ t. t.step) (λ _ _ s. s.step) step_out (λ _. refl) (is_option_of journey place) (λ p. simp eq_whole (simp and_true))) (step_of journey) shows_step ten_of
+    (λ t f s there shown. let passed = (has_filtered (is_option_of journey place) t.step s there).1 in search (rules, arith, and_parts, eqb-true))
     (HaveOptionTexts journey place) (ShowsOne step_shown AreWantTexts) (λ t fits s there. (s, refl, fits s there))
     IsByPlace (λ a b up. by_place a.place b.place a.opt b.opt up)
 
@@ -105,14 +90,12 @@ finds_items journey after =
     let it = lists (asks_own 13 find_items_query.filter find_items_query.project find_items_query.order (items_say journey after) (λ _. refl)
     (λ (e : EntryRow). e.num) entry_row (λ t. t.entries) (λ _ _ s. s.entries) (is_item_after journey after) (item_test journey after))
     (item_of journey) shows_item four_of
-    (λ t f e there shown.
-    let both = and_parts (e.journey == journey) (nat_lt after e.num) (has_filtered (is_item_after journey after) t.entries e there).1 in
-    same_item journey f e (eqb-true _ _ both.0) shown)
+    (λ t f e there shown. let passed = (has_filtered (is_item_after journey after) t.entries e there).1 in search (rules, arith, and_parts, eqb-true))
     Any (ShowsOne item_shown (λ _. ⊤)) (λ t any e there. (e, refl, tt)) (λ (a b : EntryRow). a.num ≤ b.num) (λ a b up. whole_last a.num b.num up) in
     record {
       selects = it.selects;
-      all = λ old new t sees rows found was given. (
-          let listed = it.all old new t sees rows found was given in
+      found = λ old new t sees rows found was given. (
+          let listed = it.found old new t sees rows found was given in
           one_list (λ (e : EntryRow). e.num) (some t) (map (item_of journey) found)
           (ascending-filter _ (is_item_after journey after) t.entries (sees given.0.0.was_open).rows.entries.rise) listed.same listed.rising);
       good = it.good;
@@ -124,13 +107,6 @@ finds_items journey after =
 abbrev mark_out : MarkRow → Output
 mark_out m = (whole m.pos ∷ [], whole m.pos ∷ [])
 
-mark_test : (journey : ℕ) (p : ℤ × MarkRow)
-    → passes find_marks_query.filter (whole journey ∷ []) (numbered_row mark_columns p) ≡ is_mark_of journey p.1
-mark_test journey p = and_true _ ∙ eq_whole p.1.journey journey
-
-same_mark : (journey at : ℕ) (m : MarkRow) → m.journey ≡ journey → whole at ≡ whole m.pos → mark_at_pos journey at ≡ m
-same_mark journey at m of shown = let same : at ≡ m.pos = cc in rw (← of, same) refl
-
 marks_say : (journey : ℕ) → SaysQuery Two find_marks_text find_marks_query find_marks_names (whole journey ∷ [])
 unfolding understood everything
 marks_say journey = record { means = λ _. record { is = refl; plain = (refl, refl); unlisted = refl; selects = refl }; takes = λ _. record { whole = refl; typed = refl } }
@@ -139,6 +115,6 @@ pub finds_marks : (journey : ℕ)
     → FindsList Two find_marks_text (whole journey ∷ []) whole (λ r. column r 0) (FindsMarks journey) Any (ShowsOne mark_shown (λ _. ⊤))
 finds_marks journey =
     lists (asks_chosen 14 find_marks_query.filter find_marks_query.project find_marks_query.order (marks_say journey) (λ _. refl) mark_columns (λ t. t.mark)
-    (λ _ _ s. s.mark) mark_out (λ _. refl) (is_mark_of journey) (mark_test journey)) (mark_at_pos journey) whole (λ r. column r 0)
-    (λ t at m there shown. same_mark journey at m (eqb-true _ _ (has_filtered (is_mark_of journey) t.mark m there).1) shown)
+    (λ _ _ s. s.mark) mark_out (λ _. refl) (is_mark_of journey) (λ p. and_true _ ∙ eq_whole p.1.journey journey)) (mark_at_pos journey) whole (λ r. column r 0)
+    (λ t at m there shown. let passed = (has_filtered (is_mark_of journey) t.mark m there).1 in search (rules, arith, eqb-true))
     Any (ShowsOne mark_shown (λ _. ⊤)) (λ t any m there. (m, refl, tt)) IsByPosition (λ a b up. whole_last a.pos b.pos up)

@@ -21,7 +21,6 @@ use Rattle.desk_sql.specs.Schema.{meta_at, stock_at, batch_at, journey_at, step_
 use Rattle.sqlite.specs.Order.{Row}
 use Rattle.desk_sql.specs.Lists.{IsTableOf, IsNumbered}
 use Rattle.desk_sql.specs.Rows.{no_rows}
-use Rattle.desk_sql.proofs.Framing.{shows}
 
 -- The effect of CREATE TABLE, if no table has a row.
 
@@ -111,4 +110,4 @@ no_values_of number row_of rows none = record { rows_are = none; rise = tt }
 
 -- tables without rows show no rows
 pub sees_none : (s : State) → IsEmptyWith desk_schema s → IsDatabase s.now → Sees s no_rows
-sees_none s it sound = search (rules, arith, shows, no_values_of, no_rows_of)
+sees_none s it sound = search (rules, arith, no_values_of, no_rows_of)

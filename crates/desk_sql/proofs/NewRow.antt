@@ -9,13 +9,13 @@ use Rattle.sqlite_value.proofs.OrderLemmas.{value_cmp_total}
 use Rattle.sqlite_trees.specs.Tree.{Trees, rowid, with_tree, IsTable, IsAscending}
 use Rattle.sqlite_trees.specs.View.{is_int}
 use Rattle.sqlite_schema.specs.declared.schema.Among.TheVariants.{All}
-use Rattle.sqlite_schema.specs.declared.schema.Constraint.TheVariants.{Datatype, NotNull, Check, PrimaryKey, Unique, ForeignKey}
+use Rattle.sqlite_schema.specs.declared.schema.Constraint.TheVariants.{Datatype, NotNull, Check, Unique, ForeignKey}
 use Rattle.sqlite_schema.specs.declared.schema.Keys.TheVariants.{Enforced}
 use Rattle.sqlite_schema.specs.declared.schema.Reference.{Reference}
 use Rattle.sqlite_schema.specs.declared.schema.Index.{Index}
 use Rattle.sqlite_schema.specs.Rules.{passes, guards, agree, differ, clashes, has_parent, is_held, ParentKey, parent_key, Keeps, Refers, Obeys}
 use Rattle.sqlite_rules.specs.declared.error.Refusal.{Refusal}
-use Rattle.sqlite_rules.specs.declared.error.Refusal.TheVariants.{Violates, Mismatch, NoRowid, BadReference}
+use Rattle.sqlite_rules.specs.declared.error.Refusal.TheVariants.{Violates, Mismatch, NoRowid}
 use Rattle.sqlite_rules.specs.Lists.{Has}
 use Rattle.sqlite_rules.specs.Edit.{IsRefused, is_taken, are_fresh, is_referred, left_by, taken_by, id_in, Edit, edited}
 use Rattle.sqlite_rules.proofs.ListLemmas.{all_has, all_from, test_from, some_has, some_from, has_kept}
@@ -84,12 +84,9 @@ module _ (db : Trees) (edit : Edit) (fit : (r : Row) → Has edit.news r → IsF
   permitted (Violates Datatype) h = fails (passes Datatype desk_schema db edit.table) (λ r it. it.typed) h
   permitted (Violates NotNull) h = fails (passes NotNull desk_schema db edit.table) (λ r it. it.present) h
   permitted (Violates Check) h = fails (passes Check desk_schema db edit.table) (λ r it. it.checked) h
-  permitted (Violates PrimaryKey) h = let bad = sym fresh ∙ h in cc
-  permitted (Violates Unique) h = h (unique after after_lands)
   permitted Mismatch h = fails (λ r. is_int (rowid r)) (λ r it. ap is_int it.keyed) h
   permitted NoRowid h = fails (λ r. fits_i64 (id_in (rowid r))) (λ r it. ap (λ v. fits_i64 (id_in v)) it.keyed ∙ it.fits) h
-  permitted BadReference h = let bad : true ≡ false = sym referred ∙ h in cc
-  permitted why h = h
+  permitted why h = search (rules, arith, after_lands, unique)
 
   pub edit_safe : IsSafe db edit
   edit_safe = record { permitted = permitted; storable = λ r there. (fit r there).storable; refers = refers }

@@ -1,5 +1,5 @@
 -- The tables of the desk, each with the values that its rows are. For the lemmas of each statement that writes.
-use Rattle.std.proofs.Common.{◌≡◌, ◌<ℤ◌, ◌==◌, ℕ, ℤ, pos, List, [], ◌∷◌, map, slice_get, Some, Bool, true, false, append-nil, refl, sym, subst}
+use Rattle.std.proofs.Common.{◌≡◌, ◌<ℤ◌, ◌==◌, ℕ, ℤ, pos, List, [], ◌∷◌, map, slice_get, Some, Bool, true, false, append-nil, refl, sym, subst, rules}
 use Rattle.std.specs.List.{AllByRecursion, list_all}
 use Rattle.sqlite.specs.declared.types.Value.TheVariants.{Int}
 use Rattle.sqlite.specs.Order.{Row}
@@ -15,7 +15,6 @@ use Rattle.sqlite_tied.specs.Compute.{everything}
 use Rattle.desk_sql.specs.Schema.{desk_schema, meta_at, stock_at, batch_at, journey_at, step_at, answer_at, entry2_at, mark_at}
 use Rattle.desk_sql.specs.Lists.{numbered_row, IsTableOf, IsNumbered, changed}
 use Rattle.desk_sql.specs.Rows.{whole, Tables, Shows, MetaRow, meta_row, stock_columns, batch_columns, JourneyRow, journey_row, step_columns, EntryRow, entry_row, answer_columns, mark_columns}
-use Rattle.desk_sql.proofs.Framing.{with_meta, with_stock, with_batch, with_journey, with_step, with_answer, with_entries, with_mark}
 use Rattle.desk_sql.proofs.Keyed.{id_of, value_of, own_rise, replaced_values, numbered_changed}
 
 -- How rows are values: each row is that of an element, which has a rowid and a value.
@@ -74,32 +73,32 @@ IsOwn table = AllByRecursion (λ (k : ℕ). (k == table.tree) ≡ false) (1 ∷ 
 
 pub meta : Place 0 (meta_at 0) (IsNumbered (λ (m : MetaRow). 1) meta_row) (λ t. t.meta) (λ t xs. record t { meta = xs })
 unfolding everything first_key joined
-meta = record { there = refl; uncounted = refl; unstamped = append-nil; seen = λ _. refl; owns = refl; serves = refl; shown = λ _ _ s. s.meta; with_rows = with_meta }
+meta = record { there = refl; uncounted = refl; unstamped = append-nil; seen = λ _. refl; owns = refl; serves = refl; shown = λ _ _ s. s.meta; with_rows = λ db t s rows xs is. search rules }
 
 pub stock : Place 1 (stock_at 1) (IsTableOf stock_columns) (λ t. t.stock) (λ t xs. record t { stock = xs })
 unfolding everything first_key joined
-stock = record { there = refl; uncounted = refl; unstamped = append-nil; seen = λ _. refl; owns = refl; serves = refl; shown = λ _ _ s. s.stock; with_rows = with_stock }
+stock = record { there = refl; uncounted = refl; unstamped = append-nil; seen = λ _. refl; owns = refl; serves = refl; shown = λ _ _ s. s.stock; with_rows = λ db t s rows xs is. search rules }
 
 pub batches : Place 2 (batch_at 3) (IsTableOf batch_columns) (λ t. t.batch) (λ t xs. record t { batch = xs })
 unfolding everything first_key joined
-batches = record { there = refl; uncounted = refl; unstamped = append-nil; seen = λ _. refl; owns = refl; serves = refl; shown = λ _ _ s. s.batch; with_rows = with_batch }
+batches = record { there = refl; uncounted = refl; unstamped = append-nil; seen = λ _. refl; owns = refl; serves = refl; shown = λ _ _ s. s.batch; with_rows = λ db t s rows xs is. search rules }
 
 pub journeys : Place 3 (journey_at 6) (IsNumbered (λ (j : JourneyRow). j.id) journey_row) (λ t. t.journey) (λ t xs. record t { journey = xs })
 unfolding everything first_key joined
-journeys = record { there = refl; uncounted = refl; unstamped = append-nil; seen = λ _. refl; owns = refl; serves = refl; shown = λ _ _ s. s.journey; with_rows = with_journey }
+journeys = record { there = refl; uncounted = refl; unstamped = append-nil; seen = λ _. refl; owns = refl; serves = refl; shown = λ _ _ s. s.journey; with_rows = λ db t s rows xs is. search rules }
 
 pub steps : Place 4 (step_at 8) (IsTableOf step_columns) (λ t. t.step) (λ t xs. record t { step = xs })
 unfolding everything first_key joined
-steps = record { there = refl; uncounted = refl; unstamped = append-nil; seen = λ _. refl; owns = refl; serves = refl; shown = λ _ _ s. s.step; with_rows = with_step }
+steps = record { there = refl; uncounted = refl; unstamped = append-nil; seen = λ _. refl; owns = refl; serves = refl; shown = λ _ _ s. s.step; with_rows = λ db t s rows xs is. search rules }
 
 pub answers : Place 6 (answer_at 11) (IsTableOf answer_columns) (λ t. t.answer) (λ t xs. record t { answer = xs })
 unfolding everything first_key joined
-answers = record { there = refl; uncounted = refl; unstamped = append-nil; seen = λ _. refl; owns = refl; serves = refl; shown = λ _ _ s. s.answer; with_rows = with_answer }
+answers = record { there = refl; uncounted = refl; unstamped = append-nil; seen = λ _. refl; owns = refl; serves = refl; shown = λ _ _ s. s.answer; with_rows = λ db t s rows xs is. search rules }
 
 pub entries : Place 7 (entry2_at 13) (IsNumbered (λ (e : EntryRow). e.num) entry_row) (λ t. t.entries) (λ t xs. record t { entries = xs })
 unfolding everything first_key joined
-entries = record { there = refl; uncounted = refl; unstamped = append-nil; seen = λ _. refl; owns = refl; serves = refl; shown = λ _ _ s. s.entries; with_rows = with_entries }
+entries = record { there = refl; uncounted = refl; unstamped = append-nil; seen = λ _. refl; owns = refl; serves = refl; shown = λ _ _ s. s.entries; with_rows = λ db t s rows xs is. search rules }
 
 pub marks : Place 8 (mark_at 14) (IsTableOf mark_columns) (λ t. t.mark) (λ t xs. record t { mark = xs })
 unfolding everything first_key joined
-marks = record { there = refl; uncounted = refl; unstamped = append-nil; seen = λ _. refl; owns = refl; serves = refl; shown = λ _ _ s. s.mark; with_rows = with_mark }
+marks = record { there = refl; uncounted = refl; unstamped = append-nil; seen = λ _. refl; owns = refl; serves = refl; shown = λ _ _ s. s.mark; with_rows = λ db t s rows xs is. search rules }

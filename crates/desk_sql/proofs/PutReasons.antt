@@ -15,8 +15,6 @@ use Rattle.sqlite_schema.specs.declared.schema.Among.TheVariants.{All}
 use Rattle.sqlite_schema.specs.declared.command.Conflict.TheVariants.{Abort}
 use Rattle.sqlite_schema.specs.Rules.{Obeys, Refers, agree}
 use Rattle.sqlite_rules.specs.declared.error.Refusal.{Refusal}
-use Rattle.sqlite_rules.specs.declared.error.Refusal.TheVariants.{Violates, Mismatch}
-use Rattle.sqlite_schema.specs.declared.schema.Constraint.TheVariants.{Datatype, NotNull, Check}
 use Rattle.sqlite_rules.specs.Keys.{AreConflicts}
 use Rattle.sqlite_rules.specs.Steps.{IsJudged}
 use Rattle.sqlite_rules.specs.Calls.{ids_of}
@@ -35,7 +33,8 @@ use Rattle.desk_sql.specs.Writable.{HasRowids, MayPut, IsShort}
 use Rattle.desk_sql.specs.Texts.{put_cell_text}
 use Rattle.desk_sql.specs.Meanings.{put_cell, put_cell_terms, put_cell_query}
 use Rattle.desk_sql.proofs.Effects.{Says, Effect}
-use Rattle.desk_sql.proofs.Framing.{ready_of, makes_at, with_stock}
+use Rattle.desk_sql.proofs.Framing.{ready_of, makes_at}
+use Rattle.desk_sql.proofs.Places
 use Rattle.desk_sql.proofs.Rowids.{low_fewer, rowids_fewer, rowids_kept}
 use Rattle.desk_sql.proofs.Writing.{same_value, task_for, Edits, target, tries_one, IsPut, upserts, put_tree, clauses}
 use Rattle.desk_sql.proofs.InsertReasons.{obeys_desk}
@@ -118,11 +117,7 @@ module _ (extra : List Index) (are : AllByRecursion IsExtra extra) (old : State)
   judged_on : (verdict : Option Refusal) (stop : Option Error) → IsJudged (stock_at 1) new verdict
       → ¬ Judged (task_for extra old (stock_at 1) (put_params s)) Abort (clauses put_cell_query) new db verdict (Err stop)
   judged_on None stop judged h = upserts_on stop h
-  judged_on (Some Mismatch) stop judged h = let bad : true ≡ false = judged in cc
-  judged_on (Some (Violates Datatype)) stop judged h = let bad = sym fit.typed ∙ judged in cc
-  judged_on (Some (Violates NotNull)) stop judged h = let bad = sym fit.present ∙ judged in cc
-  judged_on (Some (Violates Check)) stop judged h = let bad = sym fit.checked ∙ judged in cc
-  judged_on verdict stop judged h = judged
+  judged_on verdict stop judged h = let it = fit in search (rules, arith)
 
   tries_on : (stop : Option Error) → ¬ Tries (task_for extra old (stock_at 1) (put_params s)) Abort (clauses put_cell_query) new db (Err stop)
   tries_on stop (inl h) = let bad = sym (next_fits (db 1) rowids.stock) ∙ h.0 in cc
@@ -167,7 +162,7 @@ sets_cell s = record {
       let shown_rows = (may.sees ran.1.was_open).rows in
       let it = put_by old new t s count may ran in
       makes_at old new it.0 it.2 1 (edited db it.0) (puts_cell s t) (put_tree db (put_params s) put_cell_query _ it.0 it.1) refl
-      (with_stock db t shown_rows (edited db it.0) (put s t.stock) (puts_table db t.stock shown_rows.stock s it.0 apart (sets db t.stock shown_rows.stock s it.0 it.1) it.2.applies.fresh)));
+      (Places.stock.with_rows db t shown_rows (edited db it.0) (put s t.stock) (puts_table db t.stock shown_rows.stock s it.0 apart (sets db t.stock shown_rows.stock s it.0 it.1) it.2.applies.fresh)));
   reason = λ old new t e rowids may fits up ran. (
       let sees = may.sees up.is_open in
       let obeys = obeys_desk old t sees in

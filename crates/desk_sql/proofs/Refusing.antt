@@ -1,6 +1,6 @@
 -- Why a write of the desk's tables fails: out of memory, or the disk failed. Each other error that the store names is shut
 -- out, if the rules of SQL allow the edit.
-use Rattle.std.proofs.Common.{◌≡◌, inl, inr, ℕ, ℤ, zero, suc, ◌/◌, List, [], ◌∷◌, length, length-append, append-nil, slice_get, Bool, true, false, ◌||◌, if◌then◌else◌, Option, None, Some, Ok, Err, Result, IfErr, sym, ap, subst, ◌∙◌, arith, IsSome, rules}
+use Rattle.std.proofs.Common.{◌≡◌, inl, inr, ℕ, ℤ, zero, suc, ◌/◌, List, [], ◌∷◌, length, length-append, append-nil, slice_get, Bool, true, false, ◌||◌, if◌then◌else◌, Option, None, Some, Ok, Err, Result, IfErr, sym, ap, subst, ◌∙◌, arith, rules}
 use Rattle.sqlite.specs.declared.types.Value.TheVariants.{Null}
 use Rattle.sqlite.specs.declared.error.Error.{Error}
 use Rattle.sqlite_resolve.specs.declared.compiled.Compiled.{Compiled}
@@ -28,7 +28,6 @@ use Rattle.sqlite.specs.Does.{Does, OnRows, WritesRows, Concludes}
 use Rattle.sqlite.specs.Effect.{Database, is_query, value_rows}
 use Rattle.sqlite.specs.Listing.{understood}
 use Rattle.sqlite.specs.Clock.{timed}
-use Rattle.sqlite.specs.State as store
 use Rattle.sqlite.specs.State.{State, mode_of, IsMisplaced, Escapes, EndsScope, ExecutesIn, ExecutesInside, RunsAlone, is_pragma, text_of}
 use Rattle.sqlite.proofs.Callers.{IsPlain, command_of, statement_of, one_step}
 use Rattle.sqlite_schema.specs.declared.program.Program.{Program}
@@ -158,9 +157,7 @@ module _ (extra : List Index) (are : AllByRecursion IsExtra extra) where
   rows_go old params table command stop goes refers (inr h) = concluded h.0 (refers h.0 h.1) h.2
     where
       concluded : (w : Written) → Refers All desk_schema w.trees → ¬ Concludes (task_for extra old table params) (mode_of old) None w (Err stop)
-      concluded w held (inl k) = k.1.0 held
-      concluded w held (inr (doubt, tested, inl k)) = gives_on k.0 k.1
-      concluded w held (inr (doubt, tested, inr k)) = gives_on stop k.2
+      concluded w held x = search (rules, arith, gives_on)
 
   -- VALUES of these terms are rows, whose insertion is one edit
   pub insert_goes : (old : State) (params : Row) (at : ℕ) (table : Table) (terms : List Term) (width : ℕ)
@@ -174,11 +171,7 @@ module _ (extra : List Index) (are : AllByRecursion IsExtra extra) where
       (insert_edits (task_for extra old table params) terms width old.now.trees w uncounted unstamped done)) (rw there at h)
     where
       sourced : (stopped : Option Error) → ¬ Sourced old.step_limit (desk_at extra old) (stamped table params) (Values terms width) (Err stopped)
-      sourced None none = none
-      sourced (Some e) (inl (is, wrong)) =
-          let right : accepts_terms terms (stamped table params) ≡ true = rw unstamped typed in
-          let bad : true ≡ false = sym right ∙ wrong in cc
-      sourced (Some e) (inr (is, limit)) = let none : false ≡ true = subst (λ l. IsSome l) unlimited limit in cc
+      sourced stopped x = search (rules, arith)
 
       counter : (stopped : Option Error) → ¬ Counter (task_for extra old table params) old.now.trees (Err stopped)
       counter stopped k = let e = rw uncounted at k in cc

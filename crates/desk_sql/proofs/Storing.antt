@@ -1,5 +1,5 @@
 -- Rows that the store can hold, rowids that are free, and keys that are new. For the lemmas of each statement that writes.
-use Rattle.std.proofs.Common.{◌≡◌, ◌<◌, ◌≤◌, ◌^◌, ◌+◌, ◌+ℤ◌, ◌<ℤ◌, ℕ, ℤ, pos, zero, Some, List, [], ◌∷◌, map, filter, length, fold, Bool, true, false, not, ◌&&◌, Less, is_eq, refl, sym, ap, ap₂, subst, ◌∙◌, arith, nat_lt, nat_le, bytes_eq, ◌==◌, sum_by, ◌||◌, is_ge, is_le, rules}
+use Rattle.std.proofs.Common.{◌≡◌, ◌<◌, ◌≤◌, ◌^◌, ◌+◌, ◌+ℤ◌, ◌<ℤ◌, ℕ, ℤ, pos, Some, List, [], ◌∷◌, map, filter, length, fold, Bool, true, false, not, ◌&&◌, Less, is_eq, refl, sym, ap, ap₂, subst, ◌∙◌, arith, nat_lt, nat_le, bytes_eq, ◌==◌, sum_by, ◌||◌, is_ge, is_le, rules}
 use Rattle.std.specs.Float.{NotNan}
 use Rattle.std.specs.Float.Ieee
 use Rattle.std.specs.List.{AllByRecursion, list_all}

@@ -28,7 +28,7 @@ use Rattle.sqlite_rules.proofs.RuleLemmas.{keeps_at}
 use Rattle.sqlite_typing.specs.Types.{accepts_program}
 use Rattle.desk_sql.specs.Schema.{desk_schema, desk_with, stock_at, to_journey, mark_at}
 use Rattle.desk_sql.specs.Lists.{numbered_row, IsTableOf, changed}
-use Rattle.desk_sql.specs.Rows.{Tables, Shows, StockRow, stock_columns, whole, MarkRow, mark_columns}
+use Rattle.desk_sql.specs.Rows.{Tables, Shows, StockRow, stock_columns, whole, mark_columns}
 use Rattle.desk_sql.specs.Calls.{Sees, MayRun}
 use Rattle.desk_sql.specs.Writable.{AreLow, HasRowids, IsShort}
 use Rattle.desk_sql.specs.Meanings.{update, every_row, delete, delete_mark_query}
@@ -36,7 +36,7 @@ use Rattle.desk_sql.proofs.Refusing.{write_reason, update_goes, IsSafe, delete_g
 use Rattle.desk_sql.proofs.NewRow.{IsFit, turn_safe}
 use Rattle.desk_sql.proofs.ChangedRows.{update_safe}
 use Rattle.desk_sql.proofs.Writing.{updates, Edits, Lands, deletes}
-use Rattle.desk_sql.proofs.Framing.{ready_of, makes_at, with_mark}
+use Rattle.desk_sql.proofs.Framing.{ready_of, makes_at}
 use Rattle.desk_sql.proofs.InsertReasons.{obeys_desk}
 use Rattle.desk_sql.proofs.Reading.{passes, shown_of}
 use Rattle.desk_sql.proofs.Keyed.{value_of}
@@ -216,10 +216,6 @@ module _ (db : Trees) (rows : List Row) (ordered : IsTable (db 14)) (obeys : Obe
 abbrev place_params : ℕ → ℕ → Row
 place_params journey at = whole journey ∷ whole at ∷ []
 
-place_test : (journey at : ℕ) (p : ℤ × MarkRow)
-    → passes delete_mark_query.filter (place_params journey at) (numbered_row mark_columns p) ≡ is_mark_at journey at p.1
-place_test journey at p = simp eq_whole (simp and_true)
-
 place_says : (journey at : ℕ) → Says delete_mark_text (delete 8 delete_mark_query) (place_params journey at)
     (λ extra. accepts_program (desk_with extra) [] delete_mark_query (place_params journey at))
 unfolding understood everything
@@ -236,9 +232,9 @@ drops journey at =
           let it = deletes delete_mark_text params old new 8 (mark_at 14) delete_mark_query count says.means refl
           (ready_of old t may ran.1.was_open) ran.0 in
           makes_at old new (mark_edit db it.0) it.2 14 (edited db (mark_edit db it.0)) (drops_mark journey at t) refl refl
-          (with_mark db t shown (edited db (mark_edit db it.0)) (filter (λ m. not (is_mark_at journey at m)) t.mark)
+          (Places.marks.with_rows db t shown (edited db (mark_edit db it.0)) (filter (λ m. not (is_mark_at journey at m)) t.mark)
           (table_deleted mark_columns db (mark_at 14) t.mark shown.mark refl delete_mark_query.filter delete_mark_query.project params it.0
-          (is_mark_at journey at) (place_test journey at) (λ _. refl) it.1)));
+          (is_mark_at journey at) (λ p. simp eq_whole (simp and_true)) (λ _. refl) it.1)));
       reason = λ old new t e room may any up ran. (
           let sees = may.sees up.is_open in
           write_reason delete_mark_text (delete 8 delete_mark_query) params says.means says.whole refl refl old new up sees.schema

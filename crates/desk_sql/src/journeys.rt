@@ -245,8 +245,7 @@ pub fn find_items<S: Alter>(
         "SELECT num, item, a, b FROM entry2 WHERE journey = ?1 AND num > ?2 ORDER BY num",
         &[ValueRef::Int(journey as i64), ValueRef::Int(after as i64)],
     )?;
-    let items = read_items(alloc, rows.as_slice())?;
-    Ok(items)
+    read_items(alloc, rows.as_slice())
 }
 
 /// Inserts an item of a journey. Its number is above all others.

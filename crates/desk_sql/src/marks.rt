@@ -46,8 +46,7 @@ pub fn find_marks<S: Alter>(
         "SELECT pos FROM mark WHERE journey = ?1 ORDER BY pos",
         &[ValueRef::Int(journey as i64)],
     )?;
-    let marks = read_marks(alloc, rows.as_slice())?;
-    Ok(marks)
+    read_marks(alloc, rows.as_slice())
 }
 
 /// Inserts a save-point of a journey.

@@ -144,8 +144,7 @@ pub fn find_steps<S: Alter>(
         "SELECT place, opt, save, taken, kind, supplier, product, night, nights, places FROM step WHERE journey = ?1 ORDER BY place, opt",
         &[ValueRef::Int(journey as i64)],
     )?;
-    let steps = read_steps(alloc, rows.as_slice())?;
-    Ok(steps)
+    read_steps(alloc, rows.as_slice())
 }
 
 /// Returns the options of one step of a journey's plan, in order of their numbers.
@@ -166,8 +165,7 @@ pub fn find_options<S: Alter>(
         "SELECT place, opt, save, taken, kind, supplier, product, night, nights, places FROM step WHERE journey = ?1 AND place = ?2 ORDER BY place, opt",
         &[ValueRef::Int(journey as i64), ValueRef::Int(place as i64)],
     )?;
-    let steps = read_steps(alloc, rows.as_slice())?;
-    Ok(steps)
+    read_steps(alloc, rows.as_slice())
 }
 
 /// Updates whether a standing transaction took an option: 1 if one did, else 0.

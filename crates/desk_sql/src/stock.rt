@@ -83,8 +83,7 @@ pub fn find_nights<S: Alter>(
             ValueRef::Int(range.last as i64),
         ],
     )?;
-    let nights = read_nights(alloc, rows.as_slice())?;
-    Ok(nights)
+    read_nights(alloc, rows.as_slice())
 }
 
 /// One cell, with its places.

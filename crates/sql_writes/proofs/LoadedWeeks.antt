@@ -31,7 +31,8 @@ use Rattle.desk_sql.specs.Writable.{AreLow, HasRowids}
 use Rattle.desk_sql.proofs.Meaning.{insert}
 use Rattle.desk_sql.proofs.Effects.{Effect}
 use Rattle.desk_sql.proofs.Inserting.{cast_int}
-use Rattle.desk_sql.proofs.Framing.{ready_of, makes_at, with_stock}
+use Rattle.desk_sql.proofs.Framing.{ready_of, makes_at}
+use Rattle.desk_sql.proofs.Places
 use Rattle.desk_sql.proofs.Keyed.{appended}
 use Rattle.desk_sql.proofs.InsertReasons.{obeys_desk, SaysInsert}
 use Rattle.desk_sql.proofs.UpdateReasons.{stock_fit}
@@ -225,7 +226,7 @@ loads_week s = record {
       let shown = (may.sees ran.1.was_open).rows in
       makes_at old new (week_edit db s) (edits old new t count may ran) 1 (put_all (db 1) (next_rows (db 1) (week_from s)))
       (adds_cells (week_from s) t) refl (ap (put_all (db 1)) (week_news db s))
-      (with_stock db t shown _ (t.stock ++ week_from s) (appended_all (week_from s) (db 1) t.stock shown.stock)));
+      (Places.stock.with_rows db t shown _ (t.stock ++ week_from s) (appended_all (week_from s) (db 1) t.stock shown.stock)));
   reason = λ old new t e rowids may fits up. reason old new t e rowids may fits up;
   rowids = λ old new t count may any ran n has. (
       let db = old.now.trees in
