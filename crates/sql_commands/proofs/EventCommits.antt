@@ -1,20 +1,22 @@
--- The outcome of a begin, the rowids of an event, and the rows of an item, a begin and a load, which lead to the outcome of their request
--- and are permitted. For the functions that commit.
-use Rattle.std.proofs.Common.{◌≡◌, ◌+◌, ◌<◌, ◌≤◌, ℕ, List, length, Option, Some, None, IsTrue, refl, sym, ap, subst, ◌∙◌, is_some, option_map, IsUtf8, suc, [], ◌∷◌, ap₂, arith, flat_map, sum_by, ◌&&◌, nat_le, length-append, le-leb}
+-- Kept replies, the rowids of an event, and what the rules answer: an item, a begin or a load, whose rows lead to the outcome of its
+-- request and are permitted. For the functions that commit.
+use Rattle.std.proofs.Common.{[], ◌≡◌, ◌+◌, ◌<◌, ◌≤◌, ℕ, List, length, Option, Some, None, IsTrue, refl, sym, ap, subst, ◌∙◌, is_some, option_map, IsUtf8, suc, ◌∷◌, ap₂, arith, flat_map, sum_by, ◌&&◌, nat_le, length-append, le-leb}
 use Rattle.commands.specs.Asks.{Asked}
 use Rattle.commands.specs.Request as request
 use Rattle.commands.specs.Texts.{reply_line, is_accepted}
 use Rattle.commands.specs.declared.replies.Refusal.TheVariants.{Limit}
 use Rattle.commands.specs.declared.replies.Reply.{Reply}
-use Rattle.commands.specs.declared.replies.Reply.TheVariants.{Begun as Begins, Refused}
+use Rattle.commands.specs.declared.replies.Reply.TheVariants.{Refused}
 use Rattle.desk_sql.specs.Rows.{Tables}
 use Rattle.desk_sql.specs.FoundRows.{FindsAnswer, answer_of}
 use Rattle.desk_sql.specs.Readable.{HasReplyText}
 use Rattle.desk_sql.specs.declared.answers.KeptAnswer.{KeptAnswer}
 use Rattle.desk_sql.specs.declared.meta.Meta.{Meta}
 use Rattle.plan.specs.PlanModel.{Planned, is_plan, StepPlan}
-use Rattle.ledger.specs.Answer.{KeptReply, State, Outcome, most_events, kept_for, outcome}
-use Rattle.ledger.specs.Ledger.{Began, journeys}
+use Rattle.ledger.specs.Answer.{KeptReply, State, Answer, Outcome, answer_within, asker, most_events, kept_for, state_with}
+use Rattle.ledger.specs.Ledger.{Began, Did, Loaded, history, journeys}
+use Rattle.ledger.specs.Cursors.{cursor_of}
+use Rattle.ledger.proofs.Growing.{is_item_allowed-may_do}
 use Rattle.saga_core.specs.Views.{kept_under}
 use Rattle.sql_model.specs.Standing.{StandsFor, IsDesk}
 use Rattle.sql_model.specs.Reading.{IsAnswerOf, stock_row_of}
@@ -26,9 +28,14 @@ use Rattle.sql_writes.specs.declared.events.JourneyBegun.{JourneyBegun}
 use Rattle.sql_writes.specs.declared.events.Event.TheVariants.{Begin, Load}
 use Rattle.sql_commands.specs.Answering.{AnswersAgain, Counts, Finds, IsKeptLine, ReadsReply}
 use Rattle.sql_writes.specs.Kinds.{LeadsTo}
-use Rattle.sql_model.proofs.Keeping.{outcome-room, outcome-full}
+use Rattle.sql_model.proofs.Accepting.{moved-good}
+use Rattle.sql_model.proofs.Keeping.{outcome-event, outcome-room, outcome-full}
+use Rattle.sql_model.proofs.Loading.{load_stands}
+use Rattle.sql_model.proofs.Moves.{cursor_next}
 use Rattle.sql_commands.proofs.Executing.{IsUnmoved, LeadsToOutcome}
-use Rattle.sql_commands.proofs.LeadLemmas.{leads_of, due_leads_at, due_replied}
+use Rattle.sql_commands.specs.Executing.{IsAnswered}
+use Rattle.sql_commands.specs.Placing.{begun_as}
+use Rattle.sql_commands.proofs.LeadLemmas.{IsMade as IsMadeNext, item_leads, leads_of, move_request}
 use Rattle.sql_commands.proofs.TextLengths.{line_text}
 use Rattle.std.proofs.lemmas.List.{length-map}
 use Rattle.std.proofs.lemmas.List.Sums.{sum_by-cons}
@@ -59,32 +66,11 @@ use Rattle.ledger.specs.JourneyChanges.{cursor_after}
 use Rattle.sql_reads.proofs.ReadReasons.{few_journeys}
 use Rattle.sql_writes.specs.declared.events.BatchLoaded.{BatchLoaded}
 use Rattle.sql_commands.specs.declared.moves.Made.{Made}
-use Rattle.sql_commands.proofs.Permitted.{due_permitted, answered_permitted, begin_permitted, load_permitted}
-use Rattle.sql_commands.proofs.LoadComes.{due_load_leads, load_replied}
+use Rattle.sql_commands.proofs.Permitted.{answered_permitted, begin_permitted, item_permitted, load_permitted}
+use Rattle.sql_commands.proofs.LoadComes.{fitting}
+use Rattle.sql_commands.proofs.LoadRows.{put_told}
 
--- The outcome of a begin, and the rows that represent it.
-
--- with the next numbers, the rows of a new journey lead to the outcome of its begin
-pub begin_leads : (s : State) (ask : Option Asked) (counts : Meta) (n : Numbers) (b : JourneyBegun) → IsDesk s
-    → kept_for s ask ≡ None → IsTrue (is_plan b.plan.now) → Counts s counts → length s.ledger < most_events
-    → n.num ≡ counts.events + 1 → n.journeys ≡ counts.journeys + 1 → b.agent.now ≡ beginner ask
-    → LeadsTo n (Begin b) ask (reply_line (Begins n.journeys)) s (outcome s ask (request.Begin b.plan.now)).state
-begin_leads s ask counts n b desk new good counted room num_is journeys_are agent =
-    let num = num_is ∙ ap (λ k. k + 1) counted.events in
-    let journey = journeys_are ∙ ap (λ k. k + 1) counted.journeys_are in
-    leads_of n _ ask (Begins n.journeys) (λ t st. rw journey (next_is_above t s st desk))
-    (λ t st. rw (agent, journey, num) (begin_stands t s ask b.plan.now st desk.legal good room new))
-
--- if the ledger has room, the reply is the number of the new journey; if it is full, nothing changes
-pub begin_replied : (s : State) (ask : Option Asked) (plan : Planned) → kept_for s ask ≡ None → length s.ledger < most_events
-    → Begins (length (journeys s.ledger) + 1) ≡ (outcome s ask (request.Begin plan)).reply
-begin_replied s ask plan new room = sym (ap (λ (o : Outcome). o.reply) (outcome-room s ask (request.Begin plan) new room))
-
-pub begin_full : (s : State) (ask : Option Asked) (plan : Planned) → kept_for s ask ≡ None → most_events ≤ length s.ledger
-    → IsUnmoved s ask (request.Begin plan) (Refused Limit)
-begin_full s ask plan new full =
-    let comes = outcome-full s ask (request.Begin plan) new (Began (beginner ask) plan) refl full in
-    record { replied = sym (ap (λ (o : Outcome). o.reply) comes); same = ap (λ (o : Outcome). o.state) comes }
+-- Kept replies.
 
 -- if a row was found, its key is known, and this is the reply
 pub known_reply : (t : Tables) (s : State) (ask : Asked) (found : KeptAnswer) (r : Reply) → StandsFor t s → IsDesk s
@@ -130,7 +116,7 @@ new_key t s ask st desk finds = tells-none IsAnswerOf (s.kept ask.agent ask.key)
 -- The rows of an event take at most the rowids of its request.
 
 -- with its reply an event takes at most what is counted for its request, if it does without
-pub few_with_reply : (ask : Option Asked) (n : Numbers) (e : Event) (asked : Request) → rowids_of n e ≤ request_rowids asked
+few_with_reply : (ask : Option Asked) (n : Numbers) (e : Event) (asked : Request) → rowids_of n e ≤ request_rowids asked
     → event_rowids n e ask ≤ asked_rowids ask asked
 few_with_reply None n e asked few = few
 few_with_reply (Some ask) n e asked few = omega (arith, few)
@@ -145,13 +131,6 @@ item_few id plan then n _ e says = subst (λ v. rowids_of n v ≤ 1) (sym says.2
 one_counted : (id : ℕ) (why : Motion) → request_rowids (asked_for id why) ≡ 1
 one_counted id motion.Refused = refl
 one_counted id _ = refl
-
-pub item_rowids : (ask : Option Asked) (id : ℕ) (why : Motion) (plan : Planned) (then : Cursor) (n : Numbers) (x : Item) (e : Event)
-    → Says id plan then x e → event_rowids n e ask ≤ asked_rowids ask (asked_for id why)
-item_rowids ask id why plan then n x e says =
-    let few = item_few id plan then n x e says in
-    let one = one_counted id why in
-    few_with_reply ask n e (asked_for id why) (omega (arith, few, one))
 
 -- Plans.
 
@@ -182,65 +161,129 @@ plan_rowids id plan = steps_many id 1 plan.steps
 pub load_rowids : (rows : List Row) (s : State) (cells : List (Cell × HeldPlaces)) → HavePlaces rows s cells → length cells ≡ length rows
 load_rowids rows s cells places = sym (length-map cells stock_row_of) ∙ ap length places.told ∙ length-map rows (row_loaded s)
 
--- An item, a begin and a load lead to the outcome of their request, and the rows permit them.
+-- What the rules answer is the outcome of a request.
 
--- a request for which no reply is kept, with the numbers of the ledger
-pub record IsCountedNew (ask : Option Asked) (counts : Meta) (s : State) : Type 0 where
-  pub here : IsNewTo ask s
-  pub counted : Counts s counts
+module _ {n : Numbers} {e : Event} {ask : Option Asked} {asked : Request} {answered : Reply} {s : State}
+    (is : IsAnswered n e ask asked answered s) where
+  -- the event of the answer
+  event_is : (answer_within s.ledger (asker ask) asked).event ≡ Some is.event
+  event_is = ap (λ (a : Answer). a.event) is.answered
 
-module _ (ask : Option Asked) (counts : Meta) (n : Numbers) (few : counts.events < most_events) (num : n.num ≡ counts.events + 1) where
-  -- the item that the rules answer
-  pub made_leads : (m : Made) (why : Motion) → n.journeys ≡ counts.journeys → (s : State) → IsMade s ask counts why m
-      → LeadsToOutcome n m.event ask (asked_for m.id why) (reply.Moved m.id m.item m.cursor.pos m.cursor.phase) s
-  made_leads m why number s made =
-      let room : length s.ledger < most_events = (let same = made.due.counted.events in omega (arith, same, few)) in
+  -- if the ledger is full, nothing changes
+  pub answered_full : most_events ≤ length s.ledger → IsUnmoved s ask asked (Refused Limit)
+  answered_full full =
+      let comes = outcome-full s ask asked is.new is.event event_is full in
+      record { replied = sym (ap (λ (o : Outcome). o.reply) comes); same = ap (λ (o : Outcome). o.state) comes }
+
+  -- if it has room, the rows lead to the outcome
+  pub answered_leads : length s.ledger < most_events → LeadsToOutcome n e ask asked answered s
+  answered_leads room =
+      let comes = outcome-event s ask asked is.new is.event is.good room event_is in
+      let said : (answer_within s.ledger (asker ask) asked).reply ≡ answered = ap (λ (a : Answer). a.reply) is.answered in
+      let rows = is.rows room comes.0 in
       record {
-        leads = due_leads_at s ask why counts m.id made.journey m.item n m.event m.cursor made.cursor made.due room num number made.says;
-        replied = ap (λ (x : Cursor). reply.Moved m.id m.item x.pos x.phase) made.cursor
-            ∙ due_replied s ask why counts m.id made.journey m.item made.due room;
-        few = item_rowids ask m.id why made.journey.plan (cursor_after made.journey.plan made.journey.cursor m.item) n m.item m.event made.says;
+        leads = subst (LeadsTo n e ask (reply_line answered) s) (sym (comes.1 ∙ ap (λ r. state_with s ask r (Some is.event)) said)) rows.leads;
+        replied = sym (ap (λ (o : Outcome). o.reply) (outcome-room s ask asked is.new room) ∙ said);
+        few = few_with_reply ask n e asked is.few;
         permits = λ spelled short t st.
-            due_permitted s spelled ask why counts m.id made.journey m.item made.due n m.event m.cursor made.cursor room num number made.says
-            short t st;
+            answered_permitted t s st is.desk n e ask answered (rows.permits spelled t st) is.new short rows.accepted;
       }
 
-  -- a begin, for an agent
-  pub begin_leads_on : (j : JourneyBegun) → n.journeys ≡ counts.journeys + 1 → IsTrue (is_plan j.plan.now) → j.agent.now ≡ beginner ask
-      → IsTrue (is_agent j.agent.now) → (s : State) → IsCountedNew ask counts s
-      → LeadsToOutcome n (Begin j) ask (request.Begin j.plan.now) (reply.Begun n.journeys) s
-  begin_leads_on j number good whose agent s due =
-      let room : length s.ledger < most_events = (let same = due.counted.events in omega (arith, same, few)) in
-      let same : n.journeys ≡ length (journeys s.ledger) + 1 = number ∙ ap (λ k. k + 1) due.counted.journeys_are in
-      record {
-        leads = begin_leads s ask counts n j due.here.desk due.here.new good due.counted room num number whose;
-        replied = ap reply.Begun same ∙ begin_replied s ask j.plan.now due.here.new room;
-        few = few_with_reply ask n (Begin j) (request.Begin j.plan.now) (let many = plan_rowids n.journeys j.plan.now in omega (arith, many));
-        permits = λ spelled short t st. (
-            let fewer = few_journeys s.ledger in
-            let accepted : IsTrue (is_accepted (reply.Begun n.journeys)) =
-            and_from (nat_le 1 n.journeys) (nat_le n.journeys most_events) (le-leb 1 n.journeys (omega (arith, same)))
-            (le-leb n.journeys most_events (omega (arith, same, room, fewer))) in
-            answered_permitted t s st due.here.desk n (Begin j) ask (reply.Begun n.journeys)
-            (begin_permitted t s st due.here.desk n j (num ∙ ap (λ k. k + 1) due.counted.events) same agent) due.here.new short accepted);
-      }
+-- An item, a begin and a load are what the rules answer, and the rows permit them.
 
-  -- a load of a batch with a new name
-  pub load_leads_on : (l : BatchLoaded) (name : List ℕ) (rows : List Row) (answered : Reply) → n.journeys ≡ counts.journeys
-      → IsTrue (is_batch name rows) → l.name.now ≡ name → l.content.now ≡ batch_text rows → answered ≡ loaded name rows
-      → (s : State) → IsLoadDue ask counts name rows l.cells.now s
-      → LeadsToOutcome n (Load l) ask (request.Load name rows) answered s
-  load_leads_on l name rows answered number good named content is s due =
-      let room : length s.ledger < most_events = (let same = due.new_name.counted.events in omega (arith, same, few)) in
-      record {
-        leads = due_load_leads s ask counts n l name rows answered due good room num number named content is;
-        replied = is ∙ load_replied s ask name rows counts l.cells.now due room;
-        few = few_with_reply ask n (Load l) (request.Load name rows)
-            (let many = load_rowids rows s l.cells.now due.places in omega (arith, many));
-        permits = λ spelled short t st. (
+-- the item that the rules answer
+pub made_answered : (s : State) (ask : Option Asked) (counts : Meta) (n : Numbers) (m : Made) (why : Motion) → n.num ≡ counts.events + 1
+    → n.journeys ≡ counts.journeys → IsMade s ask counts why m
+    → IsAnswered n m.event ask (asked_for m.id why) (reply.Moved m.id m.item m.cursor.pos m.cursor.phase) s
+made_answered s ask counts n m why num number made =
+    let due = made.due in
+    let r = made.journey in
+    let next = num ∙ ap (λ k. k + 1) due.counted.events in
+    let answered = reply.Moved m.id m.item m.cursor.pos m.cursor.phase in
+    let after : m.cursor ≡ cursor_after r.plan (cursor_of r.plan (history s.ledger m.id)) m.item =
+    made.cursor ∙ ap (λ c. cursor_after r.plan c m.item) due.here.cursor in
+    let says = subst (λ c. Says m.id r.plan c m.item m.event) (sym made.cursor) made.says in
+    record {
+      desk = due.desk;
+      new = due.new;
+      good = move_request m.id why;
+      event = Did m.id m.item;
+      answered = due.answered
+          ∙ ap (λ (c : Cursor). record { event = Some (Did m.id m.item); reply = reply.Moved m.id m.item c.pos c.phase }) (sym made.cursor);
+      num = next;
+      few = (let few = item_few m.id r.plan m.cursor n m.item m.event says in let one = one_counted m.id why in omega (arith, few, one));
+      rows = λ room may. (
+          let is : IsMadeNext s ask m.id (begun_as r) m.item n m.cursor = record {
+            desk = due.desk;
+            new = due.new;
+            at = due.here.at;
+            may = may;
+            num = next;
+            journeys_are = number ∙ due.counted.journeys_are;
+            cursor = after;
+          } in
+          record {
+            leads = item_leads s ask answered m.id (begun_as r) n m.cursor m.item m.event says is;
+            permits = λ spelled t st. item_permitted s spelled ask m.id (begun_as r) n m.cursor t st m.item m.event says is;
+            accepted =
+                subst (λ (c : Cursor). IsTrue (is_accepted (reply.Moved m.id m.item c.pos c.phase)))
+                (sym (after ∙ sym (cursor_next s.ledger m.id (begun_as r) m.item due.desk.legal due.here.at may)))
+                (moved-good s.ledger due.desk.legal room m.id (begun_as r) m.item due.here.at
+                (sym (is_item_allowed-may_do s.ledger m.id m.item (begun_as r) due.here.at) ∙ may));
+          });
+    }
+
+-- a begin, for an agent
+pub begin_answered : (s : State) (ask : Option Asked) (counts : Meta) (n : Numbers) (j : JourneyBegun) → IsNewTo ask s → Counts s counts
+    → n.num ≡ counts.events + 1 → n.journeys ≡ counts.journeys + 1 → IsTrue (is_plan j.plan.now) → j.agent.now ≡ beginner ask
+    → IsTrue (is_agent j.agent.now) → IsAnswered n (Begin j) ask (request.Begin j.plan.now) (reply.Begun n.journeys) s
+begin_answered s ask counts n j here counted num_is number good whose agent =
+    let plan = j.plan.now in
+    let num = num_is ∙ ap (λ k. k + 1) counted.events in
+    let same : n.journeys ≡ length (journeys s.ledger) + 1 = number ∙ ap (λ k. k + 1) counted.journeys_are in
+    let many = plan_rowids n.journeys plan in
+    record {
+      desk = here.desk;
+      new = here.new;
+      good = good;
+      event = Began (beginner ask) plan;
+      answered = ap (λ k. record { event = Some (Began (beginner ask) plan); reply = reply.Begun k }) (sym same);
+      num = num;
+      few = omega arith;
+      rows = λ room may. (
+          let fewer = few_journeys s.ledger in
+          let comes = outcome-event s ask (request.Begin plan) here.new (Began (beginner ask) plan) good room refl in
+          record {
+            leads = leads_of n _ ask (reply.Begun n.journeys) (λ t st. rw same (next_is_above t s st here.desk))
+                (λ t st. rw (whose, same, num) (subst (StandsFor _) comes.1 (begin_stands t s ask plan st here.desk.legal good room here.new)));
+            permits = λ spelled t st. begin_permitted t s st here.desk n j num same agent;
+            accepted = and_from (nat_le 1 n.journeys) (nat_le n.journeys most_events) (le-leb 1 n.journeys (omega (arith, same)))
+                (le-leb n.journeys most_events (omega (arith, same, room, fewer)));
+          });
+    }
+
+-- a load of a batch with a new name
+pub load_answered : (s : State) (ask : Option Asked) (n : Numbers) (l : BatchLoaded) (name : List ℕ) (rows : List Row) (answered : Reply)
+    → IsTrue (is_batch name rows) → l.name.now ≡ name → l.content.now ≡ batch_text rows → answered ≡ loaded name rows
+    → IsLoadDue ask n name rows l.cells.now s → IsAnswered n (Load l) ask (request.Load name rows) answered s
+load_answered s ask n l name rows answered good named content is due =
+    let new = due.new_name in
+    let many = load_rowids rows s l.cells.now due.places in
+    record {
+      desk = new.desk;
+      new = new.new;
+      good = good;
+      event = Loaded name rows;
+      answered = fitting s ask name rows n l.cells.now due ∙ ap (λ r. record { event = Some (Loaded name rows); reply = r }) (sym is);
+      num = new.counted.num;
+      few = omega arith;
+      rows = λ room may. record {
+        leads = leads_of n _ ask answered (λ t st. st.stock.once)
+            (λ t st. rw (new.counted.num, new.counted.journeys_are, named, content, put_told s rows l.cells.now t.stock due.places.told)
+            (load_stands t s ask answered name rows st may new.new));
+        permits = λ spelled t st. load_permitted t s st new.desk n l name rows new.counted.num new.unknown named content good;
+        accepted = (
             let three = (and_parts (is_batch_name name && is_between 1 most_rows (length rows) && list_all is_good_row rows) (are_distinct rows) good).0 in
-            let limits = (and_parts (is_batch_name name && is_between 1 most_rows (length rows)) (list_all is_good_row rows) three).0 in
-            answered_permitted t s st due.new_name.desk n (Load l) ask answered
-            (load_permitted t s st due.new_name.desk n l name rows (num ∙ ap (λ k. k + 1) due.new_name.counted.events) due.new_name.unknown named content good)
-            due.new_name.new short (subst (λ r. IsTrue (is_accepted r)) (sym is) limits));
-      }
+            rw is (and_parts (is_batch_name name && is_between 1 most_rows (length rows)) (list_all is_good_row rows) three).0);
+      };
+    }

@@ -1,5 +1,5 @@
 -- The rows of an event lead to the state with it, and a move to the outcome that the rules answer. For the lemmas of each request.
-use Rattle.std.proofs.Common.{◌≡◌, ℕ, ◌+◌, length, Option, Some, None, IsTrue, sym, ap, subst, ◌∙◌, ◌<◌, ◌≤◌, refl, Ok, Err}
+use Rattle.std.proofs.Common.{◌≡◌, ℕ, ◌+◌, length, Option, Some, None, IsTrue, sym, ap, subst, ◌∙◌, refl, Err}
 use Rattle.allotment.specs.Want.{Wanted}
 use Rattle.plan.specs.PlanModel.{want_at}
 use Rattle.commands.specs.Asks.{Asked}
@@ -9,7 +9,7 @@ use Rattle.commands.specs.declared.items.Cursor.{Cursor}
 use Rattle.commands.specs.declared.items.Item.{Item}
 use Rattle.commands.specs.declared.items.Item.TheVariants as item
 use Rattle.commands.specs.declared.replies.Reply.{Reply}
-use Rattle.ledger.specs.Answer.{State, kept_for, state_with, Outcome, asker, answer_within, is_request, most_events, carried_out, outcome}
+use Rattle.ledger.specs.Answer.{State, kept_for, state_with, Outcome, asker, answer_within, is_request, carried_out, outcome}
 use Rattle.ledger.specs.Ledger.{Did, Journey, journeys, journey_at, history, is_allowed, fits}
 use Rattle.ledger.specs.JourneyChanges.{cursor_after}
 use Rattle.ledger.specs.Cursors.{cursor_of}
@@ -24,15 +24,14 @@ use Rattle.sql_writes.specs.Kinds.{Fits, LeadsTo, rows_after}
 use Rattle.sql_writes.specs.declared.events.Numbers.{Numbers}
 use Rattle.sql_writes.specs.declared.events.Event.{Event}
 use Rattle.sql_writes.specs.declared.events.Event.TheVariants.{Transaction, Compensation, Turn, Save}
-use Rattle.sql_commands.specs.Moving.{Says, asked_for, IsDue, IsEventOf}
+use Rattle.sql_commands.specs.Moving.{Says, asked_for, IsDue}
 use Rattle.commands.specs.declared.replies.Refusal.{Refusal}
-use Rattle.commands.specs.declared.replies.Refusal.TheVariants.{NoJourney, NoSavePoint, NoSave, Limit}
+use Rattle.commands.specs.declared.replies.Refusal.TheVariants.{NoJourney, NoSavePoint, NoSave}
 use Rattle.commands.specs.declared.replies.Reply.TheVariants as reply
 use Rattle.ledger.specs.Replies.{Answer, refused, seen_journey, answer_move, step_choices, abort_choices, stop_choices, save_choices}
 use Rattle.saga_core.specs.declared.records.Record.{Record}
 use Rattle.desk_sql.specs.declared.meta.Meta.{Meta}
-use Rattle.sql_model.proofs.Keeping.{outcome-room, outcome-no_event, outcome-full, outcome-event}
-use Rattle.sql_commands.specs.Placing.{begun_as}
+use Rattle.sql_model.proofs.Keeping.{outcome-no_event}
 use Rattle.sql_commands.specs.declared.moves.Motion.{Motion}
 use Rattle.sql_commands.specs.declared.moves.Motion.TheVariants as motion
 use Rattle.sql_commands.proofs.Executing.{IsUnmoved}
@@ -121,7 +120,7 @@ module _ (s : State) (ask : Option Asked) (reply : Reply) (id : ℕ) (a : Journe
 -- The outcome of a move of a journey, by the answer of the rules.
 
 -- each request for a move keeps the limits
-move_request : (id : ℕ) (why : Motion) → IsTrue (is_request (asked_for id why))
+pub move_request : (id : ℕ) (why : Motion) → IsTrue (is_request (asked_for id why))
 move_request id motion.Refused = refl
 move_request id _ = refl
 
@@ -160,56 +159,3 @@ module _ (s : State) (ask : Option Asked) (why : Motion) (counts : Meta) (id : �
   pub due_refused : (refusal : Refusal) → IsDue s ask (asked_for id why) counts id r (Err refusal)
       → IsRefused s ask id why refusal
   due_refused refusal due = answered_refused s ask id why refusal due.new due.answered
-
-  -- an item for which the ledger has no room
-  pub due_full : (x : Item) → IsDue s ask (asked_for id why) counts id r (Ok x) → most_events ≤ length s.ledger
-      → IsRefused s ask id why Limit
-  due_full x due full =
-      by_outcome s ask id why Limit
-      (outcome-full s ask (asked_for id why) due.new (Did id x) (ap (λ (a : Answer). a.event) due.answered) full)
-
-  -- the cursor of the journey after an item
-  abbrev then_at : Item → Cursor
-  then_at x = cursor_after r.plan r.cursor x
-
-  -- if the ledger has room, the reply is the item
-  pub due_replied : (x : Item) → IsDue s ask (asked_for id why) counts id r (Ok x) → length s.ledger < most_events
-      → reply.Moved id x (then_at x).pos (then_at x).phase ≡ (outcome s ask (asked_for id why)).reply
-  due_replied x due room =
-      sym (ap (λ (o : Outcome). o.reply) (outcome-room s ask (asked_for id why) due.new room)
-      ∙ ap (λ (a : Answer). a.reply) due.answered)
-
-  -- the rows of an item lead to the state of the outcome
-  pub due_leads : (x : Item) (n : Numbers) (e : Event) → IsDue s ask (asked_for id why) counts id r (Ok x)
-      → length s.ledger < most_events → n.num ≡ counts.events + 1 → n.journeys ≡ counts.journeys
-      → IsEventOf id r.plan r.cursor x e
-      → LeadsTo n e ask (reply_line (reply.Moved id x (then_at x).pos (then_at x).phase)) s (outcome s ask (asked_for id why)).state
-  due_leads x n e due room num journeys_are says =
-      let within = answer_within s.ledger (asker ask) (asked_for id why) in
-      let answer : reply.Moved id x (then_at x).pos (then_at x).phase ≡ within.reply =
-      sym (ap (λ (a : Answer). a.reply) due.answered) in
-      let comes = outcome-event s ask (asked_for id why) due.new (Did id x) (move_request id why) room
-      (ap (λ (a : Answer). a.event) due.answered) in
-      let state : (outcome s ask (asked_for id why)).state
-      ≡ state_with s ask (reply.Moved id x (then_at x).pos (then_at x).phase) (Some (Did id x)) =
-      comes.1 ∙ ap (λ v. state_with s ask v (Some (Did id x))) (sym answer) in
-      subst (λ next. LeadsTo n e ask (reply_line (reply.Moved id x (then_at x).pos (then_at x).phase)) s next) (sym state)
-      (item_leads s ask (reply.Moved id x (then_at x).pos (then_at x).phase) id (begun_as r) n (then_at x) x e says
-      (record {
-        desk = due.desk;
-        new = due.new;
-        at = due.here.at;
-        may = comes.0;
-        num = num ∙ ap (λ k. k + 1) due.counted.events;
-        journeys_are = journeys_are ∙ due.counted.journeys_are;
-        cursor = ap (λ c. cursor_after r.plan c x) due.here.cursor;
-      }))
-
-  -- the same, if the cursor after the item is known
-  pub due_leads_at : (x : Item) (n : Numbers) (e : Event) (then : Cursor) → then ≡ then_at x
-      → IsDue s ask (asked_for id why) counts id r (Ok x) → length s.ledger < most_events
-      → n.num ≡ counts.events + 1 → n.journeys ≡ counts.journeys → IsEventOf id r.plan r.cursor x e
-      → LeadsTo n e ask (reply_line (reply.Moved id x then.pos then.phase)) s (outcome s ask (asked_for id why)).state
-  due_leads_at x n e then is due room num journeys_are says =
-      subst (λ (a : Cursor). LeadsTo n e ask (reply_line (reply.Moved id x a.pos a.phase)) s (outcome s ask (asked_for id why)).state)
-      (sym is) (due_leads x n e due room num journeys_are says)

@@ -1,6 +1,6 @@
 -- The rows of a desk permit a begin, a load of a new batch, each item that the rules allow, and the reply that is kept with an event. For
 -- the functions that commit.
-use Rattle.std.proofs.Common.{◌≡◌, ◌==◌, ◌+◌, ◌≤◌, ◌^◌, ℕ, List, length, false, IsTrue, sym, ap, subst, arith, leb-true, ◌&&◌, [], Option, None, Some, nat_le, ◌-◌, true, refl, ◌∙◌, option_map, ◌<◌, ◌++◌, ◌∷◌, Ok}
+use Rattle.std.proofs.Common.{[], ◌≡◌, ◌==◌, ◌+◌, ◌≤◌, ◌^◌, ℕ, List, length, false, IsTrue, sym, ap, subst, arith, leb-true, ◌&&◌, Option, None, Some, nat_le, ◌-◌, true, refl, ◌∙◌, option_map}
 use Rattle.std.specs.List.{AllByRecursion, list_all}
 use Rattle.std.proofs.lemmas.Bool.{and_parts, false_from_ne_true}
 use Rattle.sqlite_rules.proofs.ListLemmas.{all_from, has_kept, all_has, some_from}
@@ -12,8 +12,8 @@ use Rattle.commands.specs.Limits.{longest_agent, longest_batch_name, longest_key
 use Rattle.commands.specs.Names.{is_agent, is_agent_byte, is_batch_byte, is_batch_name, is_key, is_key_byte}
 use Rattle.commands.specs.Texts.{is_accepted, reply_line}
 use Rattle.commands.specs.declared.replies.Reply.{Reply}
-use Rattle.ledger.specs.Answer.{State, kept_for, asker, most_events}
-use Rattle.ledger.specs.Ledger.{batches_named, journeys, Event, Journey, allotment, fits, held, history, places_in, IsLegal, Did, is_allowed}
+use Rattle.ledger.specs.Answer.{State, kept_for}
+use Rattle.ledger.specs.Ledger.{batches_named, journeys, Event, Journey, allotment, fits, held, history, places_in, IsLegal}
 use Rattle.desk_sql.specs.Changes.{AreJourneysBelow, is_mark_at}
 use Rattle.desk_sql.specs.FoundRows.{is_for, is_named}
 use Rattle.desk_sql.specs.Rows.{Tables, BatchRow, JourneyRow, MarkRow, StockRow}
@@ -49,20 +49,11 @@ use Rattle.sql_reads.proofs.GoodStock.{good_row}
 use Rattle.sql_model.proofs.Conditions.{items_below, nights_have_free}
 use Rattle.sql_model.proofs.Plans.{wanted_nights}
 use Rattle.sql_model.proofs.Ranges.{range_row}
-use Rattle.sql_model.proofs.Moves.{save-new, cursor_next}
+use Rattle.sql_model.proofs.Moves.{save-new}
 use Rattle.sql_model.proofs.Wants.{wanted_row}
-use Rattle.sql_commands.specs.Moving.{Says, IsDue, IsEventOf, asked_for}
+use Rattle.sql_commands.specs.Moving.{Says}
 use Rattle.sql_commands.proofs.LeadLemmas.{IsMade}
 use Rattle.commands.specs.declared.replies.Reply.TheVariants as reply
-use Rattle.ledger.proofs.Growing.{is_item_allowed-may_do}
-use Rattle.ledger.specs.JourneyChanges.{cursor_after}
-use Rattle.ledger.specs.Cursors.{cursor_of}
-use Rattle.saga_core.specs.declared.records.Record.{Record}
-use Rattle.desk_sql.specs.declared.meta.Meta.{Meta}
-use Rattle.sql_model.proofs.Accepting.{moved-good}
-use Rattle.sql_commands.specs.Placing.{begun_as}
-use Rattle.sql_commands.specs.declared.moves.Motion.{Motion}
-use Rattle.sql_commands.proofs.Possible.{item_allowed}
 
 -- The rows of a desk permit a begin, a load of a new batch, and the reply that is kept with an event.
 
@@ -219,36 +210,3 @@ module _ (s : State) (spelled : IsSpelled s.ledger) (ask : Option Asked) (id : �
         cells = short_cells t s st is.desk;
         options = short_options t s st is.desk;
       })
-
--- The rows of a desk permit the item that the rules answer, with its reply.
-
-module _ (s : State) (spelled : IsSpelled s.ledger) (ask : Option Asked) (why : Motion) (counts : Meta) (id : ℕ) (r : Record) (x : Item)
-    (due : IsDue s ask (asked_for id why) counts id r (Ok x)) where
-  allowed : IsTrue (is_allowed s.ledger (Did id x))
-  allowed = is_item_allowed-may_do s.ledger id x (begun_as r) due.here.at ∙ item_allowed s (asker ask) id r x due.here why due.answered
-
-  made : (n : Numbers) (then : Cursor) → then ≡ cursor_after r.plan r.cursor x → n.num ≡ counts.events + 1 → n.journeys ≡ counts.journeys
-      → IsMade s ask id (begun_as r) x n then
-  made n then is num journeys_are = record {
-    desk = due.desk;
-    new = due.new;
-    at = due.here.at;
-    may = allowed;
-    num = num ∙ ap (λ k. k + 1) due.counted.events;
-    journeys_are = journeys_are ∙ due.counted.journeys_are;
-    cursor = is ∙ ap (λ c. cursor_after r.plan c x) due.here.cursor;
-  }
-
-  pub due_permitted : (n : Numbers) (e : Written) (then : Cursor) → then ≡ cursor_after r.plan r.cursor x → length s.ledger < most_events
-      → n.num ≡ counts.events + 1 → n.journeys ≡ counts.journeys → IsEventOf id r.plan r.cursor x e → HasShortText ask
-      → (t : Tables) → StandsFor t s → PermitsEvent n e ask (reply_line (reply.Moved id x then.pos then.phase)) t
-  due_permitted n e then is room num journeys_are says short t st =
-      let it = made n then is num journeys_are in
-      let own = subst (λ c. Says id r.plan c x e) (sym is) says in
-      let after : then ≡ cursor_of r.plan (history s.ledger id ++ x ∷ []) =
-      it.cursor ∙ sym (cursor_next s.ledger id (begun_as r) x due.desk.legal due.here.at allowed) in
-      let accepted : IsTrue (is_accepted (reply.Moved id x then.pos then.phase)) =
-      subst (λ (c : Cursor). IsTrue (is_accepted (reply.Moved id x c.pos c.phase))) (sym after)
-      (moved-good s.ledger due.desk.legal room id (begun_as r) x due.here.at (item_allowed s (asker ask) id r x due.here why due.answered)) in
-      answered_permitted t s st due.desk n e ask (reply.Moved id x then.pos then.phase)
-      (item_permitted s spelled ask id (begun_as r) n then t st x e own it) due.new short accepted

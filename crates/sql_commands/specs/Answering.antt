@@ -1,5 +1,5 @@
 -- What a call over a connection returns.
-use Rattle.std.specs.Prelude.{◌≡◌, ◌≤◌, not, true, is_some, length, Option, Some, None, Result, IsTrue, string_bytes}
+use Rattle.std.specs.Prelude.{◌≡◌, ◌≤◌, ◌+◌, not, true, is_some, length, Option, Some, None, Result, IsTrue, string_bytes}
 use Rattle.sqlite.specs.Store.{Ghosts}
 use Rattle.sqlite.specs.Held.{Held}
 use Rattle.commands.specs.Asks.{Asked}
@@ -12,6 +12,7 @@ use Rattle.desk_sql.specs.declared.answers.KeptAnswer.{KeptAnswer}
 use Rattle.ledger.specs.Ledger.{journeys}
 use Rattle.ledger.specs.Answer.{State, KeptReply, most_events, kept_for, answered_again, outcome}
 use Rattle.sql_reads.specs.Reading.{ShowsKept}
+use Rattle.sql_writes.specs.declared.events.Numbers.{Numbers}
 use Rattle.sql_commands.specs.declared.answering.Answered.{Answered}
 
 -- the row of meta has the newest version, and counts the events and the journeys
@@ -24,6 +25,11 @@ pub record Counts (s : State) (m : Meta) : Type 0 where
 pub record IsCounted (m : Meta) : Type 0 where
   pub events : m.events ≤ most_events
   pub journeys_are : m.journeys ≤ most_events
+
+-- the numbers of the next event of a ledger, if it begins no journey
+pub record AreNext (s : State) (n : Numbers) : Type 0 where
+  pub num : n.num ≡ length s.ledger + 1
+  pub journeys_are : n.journeys ≡ length (journeys s.ledger)
 
 -- the reply found for an ask: none if its key is new, else the reply that each request gets; it changes
 -- nothing

@@ -1,5 +1,5 @@
 -- What a load of a batch finds, its outcome, and what it leaves.
-use Rattle.std.specs.Prelude.{◌≡◌, ℕ, ◌+◌, ◌-◌, not, true, false, List, [], ◌∷◌, map, position, nat_le, Option, Some, None, IsTrue}
+use Rattle.std.specs.Prelude.{[], ◌≡◌, ℕ, ◌+◌, ◌-◌, not, true, false, List, ◌∷◌, map, position, nat_le, Option, Some, None, IsTrue}
 use Rattle.std.specs.List.{list_all}
 use Rattle.allotment.specs.declared.cells.Cell.{Cell}
 use Rattle.allotment.specs.declared.cells.Row.{Row}
@@ -15,12 +15,12 @@ use Rattle.ledger.specs.Ledger.{batches_named, held, is_not_below_held}
 use Rattle.ledger.specs.Replies as rules
 use Rattle.desk_sql.specs.Rows.{StockRow}
 use Rattle.desk_sql.specs.declared.batches.BatchFound.{BatchFound}
-use Rattle.desk_sql.specs.declared.meta.Meta.{Meta}
 use Rattle.sql_model.specs.ExpectedRows.{batch_text}
 use Rattle.sql_model.specs.Reading.{stock_row_of}
 use Rattle.sql_model.specs.Standing.{IsDesk}
 use Rattle.sql_model.specs.Loading.{loaded_row}
-use Rattle.sql_commands.specs.Answering.{Counts}
+use Rattle.sql_writes.specs.declared.events.Numbers.{Numbers}
+use Rattle.sql_commands.specs.Answering.{AreNext}
 
 -- Known batches.
 
@@ -69,16 +69,15 @@ TellsBelow rows s why =
     (i : ℕ) × (why ≡ BelowHeld (i + 1))
     × (position (λ (r : Row). not (is_not_below_held s.ledger r)) rows ≡ Some i)
 
--- A load for which nothing is kept, of a name that no batch has. The numbers of `meta` are those of the
--- ledger.
-pub record IsNewName (ask : Option Asked) (counts : Meta) (name : List ℕ) (s : State) : Type 0 where
+-- A load for which nothing is kept, of a name that no batch has. The numbers are those of the ledger's next event.
+pub record IsNewName (ask : Option Asked) (n : Numbers) (name : List ℕ) (s : State) : Type 0 where
   pub desk : IsDesk s
   pub new : kept_for s ask ≡ None
-  pub counted : Counts s counts
+  pub counted : AreNext s n
   pub unknown : batches_named s.ledger name ≡ []
 
 -- the same, if no row is below what is held
-pub record IsLoadDue (ask : Option Asked) (counts : Meta) (name : List ℕ) (rows : List Row)
+pub record IsLoadDue (ask : Option Asked) (n : Numbers) (name : List ℕ) (rows : List Row)
     (cells : List (Cell × HeldPlaces)) (s : State) : Type 0 where
-  pub new_name : IsNewName ask counts name s
+  pub new_name : IsNewName ask n name s
   pub places : HavePlaces rows s cells

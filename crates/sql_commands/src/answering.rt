@@ -3,9 +3,10 @@
 ghost use Rattle.std.specs.Prelude.{◌≡◌, false, IfErr, IfOk, IsTrue, Some};
 ghost use Rattle.std.specs.Option.{option_copied as asker};
 ghost use Rattle.commands.specs.Orders.{request_of};
+ghost use Rattle.commands.specs.Request.{Request};
 ghost use Rattle.ledger.specs.Answer.{is_request};
-ghost use Rattle.sql_commands.specs.Answering.{AnswersAgain, IsKeptLine, Finds, TellsNew, Counts, IsCounted};
-ghost use Rattle.sql_commands.specs.Executing.{Executes, Replies};
+ghost use Rattle.sql_commands.specs.Answering.{AnswersAgain, AreNext, IsKeptLine, Finds, TellsNew, Counts, IsCounted};
+ghost use Rattle.sql_commands.specs.Executing.{Executes, IsAnswered, Replies};
 ghost use Rattle.sql_commands.specs.Failing.{IsNewTo};
 ghost use Rattle.sql_model.specs.Standing.{IsDesk};
 ghost use Rattle.sql_reads.specs.GoodRows.{IsMemory};
@@ -135,7 +136,7 @@ pub fn know_limits(command: &Command)
 }
 
 /// Writes an event in one commit, with its reply if there is an ask.
-pub(crate) fn commit_answered<S: Alter>(
+fn commit_kept<S: Alter>(
     alloc: Global,
     conn: &mut Connection<S>,
     numbers: Numbers,
@@ -159,6 +160,39 @@ pub(crate) fn commit_answered<S: Alter>(
             Err(_) => Err(Fault::Memory),
         },
     }
+}
+
+/// Writes the event that the rules answer in one commit, with its reply if there is an ask, unless the ledger is full.
+pub(crate) fn commit_answered<S: Alter>(
+    alloc: Global,
+    conn: &mut Connection<S>,
+    numbers: Numbers,
+    event: &Event<'_>,
+    reply: Reply,
+    ask: Option<&Ask>,
+) -> Result<Reply, Fault>
+    requires outside { conn.old.in_transaction ≡ false }
+    requires small { IsSmall event.now }
+
+    ensures { (asked : Request) → Replies S.Store conn.old conn.new (asker ask.entry) asked
+        (IsAnswered numbers event.now (asker ask.entry) asked reply) result }
+{
+    if numbers.num > MOST_EVENTS {
+        return Ok(Reply::Refused(Refusal::Limit));
+    }
+    commit_kept(alloc, conn, numbers, event, &reply, ask)?;
+    Ok(reply)
+}
+
+/// Reads the numbers that `meta` has after the next event, if it begins no journey.
+pub(crate) fn next_numbers<S: Alter>(conn: &mut Connection<S>) -> Result<Numbers, Fault>
+    ensures { Read S.Store conn.old conn.new result AreNext }
+{
+    let counts = read_counts(conn)?;
+    Ok(Numbers {
+        num: counts.events + 1,
+        journeys: counts.journeys,
+    })
 }
 
 /// Reads the numbers of `meta`. Numbers greater than those of any ledger are a fault of the store.

@@ -8,7 +8,7 @@ ghost use Rattle.sql_commands.specs.Executing.{Replies};
 ghost use Rattle.sql_commands.specs.Failing.{IsNewTo};
 
 use crate::answering::{commit_answered, read_counts};
-use commands::{Agent, Ask, Fault, MOST_EVENTS, Refusal, Reply};
+use commands::{Agent, Ask, Fault, Reply};
 use plan::Plan;
 use sql_writes::{Event, JourneyBegun, Numbers};
 use sqlite::{Alter, Connection};
@@ -38,9 +38,6 @@ pub(crate) fn answer_begin<S: Alter>(
 {
     let _steps = plan.steps();
     let counts = read_counts(conn)?;
-    if counts.events >= MOST_EVENTS {
-        return Ok(Reply::Refused(Refusal::Limit));
-    }
     let numbers = Numbers {
         num: counts.events + 1,
         journeys: counts.journeys + 1,
@@ -53,6 +50,5 @@ pub(crate) fn answer_begin<S: Alter>(
     let reply = Reply::Begun {
         id: numbers.journeys,
     };
-    commit_answered(alloc, conn, numbers, &event, &reply, ask)?;
-    Ok(reply)
+    commit_answered(alloc, conn, numbers, &event, reply, ask)
 }

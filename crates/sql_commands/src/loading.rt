@@ -8,7 +8,6 @@ ghost use Rattle.std.specs.Option.{option_copied as asked_by};
 ghost use Rattle.commands.specs.Request.{Load};
 ghost use Rattle.ledger.specs.Replies.{loaded as reply_to};
 ghost use Rattle.sql_model.specs.ExpectedRows.{batch_text};
-ghost use Rattle.sql_commands.specs.Answering.{IsCounted};
 ghost use Rattle.sql_commands.specs.Loading.{TellsName, AnswersKnown, LeavesPlaces};
 ghost use Rattle.sql_commands.specs.Loading.{HavePlaces, TellsBelow, IsNewName, IsLoadDue};
 ghost use Rattle.sql_commands.specs.Executing.{Replies};
@@ -16,10 +15,10 @@ ghost use Rattle.sql_commands.specs.Failing.{IsNewTo};
 ghost use Rattle.sql_reads.specs.GoodRows.{IsMemory};
 ghost use Rattle.sql_reads.specs.Reads.{Read};
 
-use crate::answering::{commit_answered, read_counts};
+use crate::answering::{commit_answered, next_numbers};
 use allotment::{Cell, Held, Row};
-use commands::{Ask, Batch, Fault, MOST_EVENTS, Refusal, Reply};
-use desk_sql::{BatchFound, Meta, find_batch};
+use commands::{Ask, Batch, Fault, Refusal, Reply};
+use desk_sql::{BatchFound, find_batch};
 use sql_model::fault_of;
 use sql_reads::nights_with;
 use sql_writes::{BatchLoaded, Event, Numbers};
@@ -119,21 +118,17 @@ fn answer_known(alloc: Global, batch: &Batch, content: &[u8]) -> Result<Reply, F
 fn load_cells<S: Alter>(
     alloc: Global,
     conn: &mut Connection<S>,
-    counts: Meta,
+    numbers: Numbers,
     batch: &Batch,
     cells: &[(Cell, Held)],
     ask: Option<&Ask>,
 ) -> Result<Reply, Fault>
     requires outside { conn.old.in_transaction ≡ false }
-    requires counted { IsCounted counts }
 
     ensures { Replies S.Store conn.old conn.new (asked_by ask.entry)
         (Load batch.now.name batch.now.rows)
-        (IsLoadDue (asked_by ask.entry) counts batch.now.name batch.now.rows cells.now) result }
+        (IsLoadDue (asked_by ask.entry) numbers batch.now.name batch.now.rows cells.now) result }
 {
-    if counts.events >= MOST_EVENTS {
-        return Ok(Reply::Refused(Refusal::Limit));
-    }
     let Ok(content) = content_of(alloc, batch.rows()) else {
         return Err(Fault::Memory);
     };
@@ -143,32 +138,25 @@ fn load_cells<S: Alter>(
         content: content.as_str(),
         cells,
     });
-    let numbers = Numbers {
-        num: counts.events + 1,
-        journeys: counts.journeys,
-    };
-    let reply = loaded(batch);
-    commit_answered(alloc, conn, numbers, &event, &reply, ask)?;
-    Ok(reply)
+    commit_answered(alloc, conn, numbers, &event, loaded(batch), ask)
 }
 
 /// Loads a batch with a new name, unless a row has fewer places than journeys hold.
 fn load_new<S: Alter>(
     alloc: Global,
     conn: &mut Connection<S>,
-    counts: Meta,
+    numbers: Numbers,
     batch: &Batch,
     ask: Option<&Ask>,
 ) -> Result<Reply, Fault>
     requires outside { conn.old.in_transaction ≡ false }
-    requires counted { IsCounted counts }
 
     ensures { Replies S.Store conn.old conn.new (asked_by ask.entry)
         (Load batch.now.name batch.now.rows)
-        (IsNewName (asked_by ask.entry) counts batch.now.name) result }
+        (IsNewName (asked_by ask.entry) numbers batch.now.name) result }
 {
     match cells_of(alloc, conn, batch.rows()) {
-        Ok(Ok(cells)) => load_cells(alloc, conn, counts, batch, &cells, ask),
+        Ok(Ok(cells)) => load_cells(alloc, conn, numbers, batch, &cells, ask),
         Ok(Err(refusal)) => Ok(Reply::Refused(refusal)),
         Err(fault) => Err(fault),
     }
@@ -186,11 +174,11 @@ pub(crate) fn answer_load<S: Alter>(
     ensures { Replies S.Store conn.old conn.new (asked_by ask.entry)
         (Load batch.now.name batch.now.rows) (IsNewTo (asked_by ask.entry)) result }
 {
-    let counts = read_counts(conn)?;
+    let numbers = next_numbers(conn)?;
     let name = batch.name();
     match find_known(conn, name.as_str()) {
         Ok(Some(found)) => answer_known(alloc, batch, found.content.as_slice()),
-        Ok(None) => load_new(alloc, conn, counts, batch, ask),
+        Ok(None) => load_new(alloc, conn, numbers, batch, ask),
         Err(fault) => Err(fault),
     }
 }

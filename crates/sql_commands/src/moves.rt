@@ -24,7 +24,7 @@ ghost use Rattle.sql_reads.specs.Reads.{Read};
 
 use crate::answering::{commit_answered, read_counts};
 use crate::cursors::{is_placed, may_be_made};
-use commands::{Agent, Ask, Cause, Cursor, Fault, Item, MOST_EVENTS, Phase, Refusal, Reply};
+use commands::{Agent, Ask, Cause, Cursor, Fault, Item, Phase, Refusal, Reply};
 use desk_sql::Meta;
 use plan::{MOST_STEPS, Plan, Turn};
 use saga_core::{Move, Record, cursor_after, cursor_turned, decide, saved, turned};
@@ -138,9 +138,6 @@ pub(crate) fn make_event<S: Alter>(
         (asked_for made.now.id why)
         (λ s. IsMade s (asked_by ask.entry) counts why made.now) result }
 {
-    if counts.events >= MOST_EVENTS {
-        return Ok(Reply::Refused(Refusal::Limit));
-    }
     let reply = Reply::Moved {
         id: made.id,
         item: made.item,
@@ -151,8 +148,7 @@ pub(crate) fn make_event<S: Alter>(
         num: counts.events + 1,
         journeys: counts.journeys,
     };
-    commit_answered(alloc, conn, numbers, &made.event, &reply, ask)?;
-    Ok(reply)
+    commit_answered(alloc, conn, numbers, &made.event, reply, ask)
 }
 
 /// Writes an item of a journey, unless the ledger is full. An item whose numbers do not fit the cursor is a fault of

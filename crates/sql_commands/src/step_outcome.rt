@@ -2,7 +2,7 @@
 //!
 //! A want that fits is taken, and a step is compensated, without the other rows of the plan. If the want does not fit,
 //! the journey turns, and more of the plan is read only if a try is left.
-ghost use Rattle.std.specs.Prelude.{◌≡◌, ◌≤◌, ◌<◌, ◌^◌, false, true, IfOk, IfSome};
+ghost use Rattle.std.specs.Prelude.{◌≡◌, ◌≤◌, ◌<◌, ◌^◌, false, IfOk};
 ghost use Rattle.std.specs.Option.{option_copied as asked_by};
 ghost use Rattle.plan.specs.Limits.{most_options, most_steps};
 ghost use Rattle.desk_sql.specs.declared.versions.Version.TheVariants.{Two};

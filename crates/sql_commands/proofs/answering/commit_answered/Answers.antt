@@ -1,35 +1,17 @@
--- With an ask there is one more row, that of its reply.
-use Rattle.std.proofs.Common.{inl, subst, sym, ◌∙◌, arith, option_copied}
-use Rattle.commands.specs.Texts.{reply_line}
-use Rattle.desk_sql.proofs.Quieting.{quiet_alone}
-use Rattle.desk_sql.proofs.Rowids.{rowids_fewer}
-use Rattle.sql_model.proofs.Quieting.{quiet_up}
-use Rattle.sql_writes.specs.Commits.{CommitsEvent}
+-- What the rules answer is committed, unless the ledger is full.
+use Rattle.std.proofs.Common.{refl, arith, rules}
+use Rattle.sql_commands.proofs.EventCommits.{answered_full, answered_leads}
+use Rattle.sql_commands.proofs.Executing.{answers_alone, commit_fails, commits}
 use Rattle.sql_commands.proofs.answering.commit_answered.Goals as goal
 
-pub returns-in-None : goal.returns-in-None
-returns-in-None g c =
-    subst (λ o. CommitsEvent g.S.Store c.args.conn.now c.commit_event.new.conn c.args.numbers c.args.event.now (option_copied o) (reply_line c.args.reply.now) c.commit_event.result)
-    (sym c.in-None.is) (c.commit_event.ensures.commits (reply_line c.args.reply.now) tt)
+pub returns-then-numbers-gt-MOST_EVENTS : goal.returns-then-numbers-gt-MOST_EVENTS
+returns-then-numbers-gt-MOST_EVENTS g c asked =
+    answers_alone c.requires.outside (λ s is. answered_full is (omega (arith, is.num, c.if-numbers-gt-MOST_EVENTS.true)))
 
-pub returns-in-Ok : goal.returns-in-Ok
-returns-in-Ok g c =
-    subst (λ o. CommitsEvent g.S.Store c.args.conn.now c.commit_event-in-Ok.new.conn c.args.numbers c.args.event.now (option_copied o) (reply_line c.args.reply.now) c.commit_event-in-Ok.result)
-    (sym c.in-Some.is) (c.commit_event-in-Ok.ensures.commits (reply_line c.args.reply.now) (c.as_str-line.ensures.value ∙ c.in-Ok.ensures.line))
+pub returns : goal.returns
+returns g c asked =
+    commits (λ s is. answered_leads is (omega (arith, is.num, c.if-numbers-gt-MOST_EVENTS.false))) c.in_ok-commit_kept.ensures refl
 
--- nothing was written
-pub returns-in-Err : goal.returns-in-Err
-returns-in-Err g c =
-    let conn = c.args.conn.now in
-    record {
-      done = λ s next leads keeps. tt;
-      memory = λ s keeps ran. keeps;
-      store = λ clean s keeps permits has up failed. absurd (cc);
-      leaves = record {
-        outside = c.requires.outside;
-        either = λ s next leads keeps clean db may. inl ((keeps clean).leaves db may);
-        rowids = λ clean s keeps fits m has live. rowids_fewer m _ _ (omega arith) has;
-        up = quiet_up g.S.Store conn conn (quiet_alone g.S.Store conn);
-        less = λ clean. clean;
-      };
-    }
+pub returns-in_err-commit_kept : goal.returns-in_err-commit_kept
+returns-in_err-commit_kept g c asked =
+    commit_fails (λ s is. answered_leads is (omega (arith, is.num, c.if-numbers-gt-MOST_EVENTS.false))) (search rules) c.in_err-commit_kept.ensures

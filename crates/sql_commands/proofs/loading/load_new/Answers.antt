@@ -10,7 +10,7 @@ returns-in-Ok-Err g c =
     let b = c.args.batch.now in
     let why = c.in-Ok-Err.refusal in
     reads_alone (λ s is. is.desk) c.requires.outside (rw c.in-Ok-Err.field-0-is at c.in-Ok-Err.ensures) (λ s is told.
-    below_comes s (option_copied c.args.ask) b.name b.rows c.args.counts why is (subst (λ rows. TellsBelow rows s why) c.rows.ensures.rows told))
+    below_comes s (option_copied c.args.ask) b.name b.rows c.args.numbers why is (subst (λ rows. TellsBelow rows s why) c.rows.ensures.rows told))
 
 pub returns-in-Ok-Ok : goal.returns-in-Ok-Ok
 returns-in-Ok-Ok g c =
