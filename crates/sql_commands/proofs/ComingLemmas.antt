@@ -16,19 +16,16 @@ use Rattle.commands.specs.declared.items.Phase.TheVariants.{Run, Back}
 use Rattle.ledger.specs.Answer.{State, asker, answer_within, kept_for}
 use Rattle.commands.specs.Asks.{Asked}
 use Rattle.commands.specs.Request as request
-use Rattle.desk_sql.specs.declared.meta.Meta.{Meta}
-use Rattle.sql_commands.specs.Answering.{Counts}
 use Rattle.sql_commands.specs.declared.moves.Motion.{Motion}
 use Rattle.sql_commands.specs.declared.moves.Motion.TheVariants as motion
 use Rattle.commands.specs.declared.replies.Refusal.{Refusal}
 use Rattle.commands.specs.declared.replies.Refusal.TheVariants.{NoSavePoint}
 use Rattle.ledger.specs.History.{is_finished, position_of}
-use Rattle.ledger.specs.Ledger.{Journey, fits, history}
+use Rattle.ledger.specs.Ledger.{fits, history}
 use Rattle.ledger.specs.Replies.{Answer, sees, seen_journey, answer_move, abort_choices, step_choices}
 use Rattle.ledger.proofs.Histories.{follows}
 use Rattle.ledger.proofs.Positions.{last_standing}
-use Rattle.ledger.specs.JourneyChanges.{cursor_after}
-use Rattle.ledger.specs.Cursors.{cursor_of, marks_of}
+use Rattle.ledger.specs.Cursors.{marks_of}
 use Rattle.saga_core.specs.Views.{record_of, record_of_journey}
 use Rattle.saga_core.specs.Deciding.{NamesStep}
 use Rattle.saga_core.specs.declared.deciding.Move.{Move}
@@ -38,13 +35,12 @@ use Rattle.saga_core.proofs.DecidingLemmas.{one-take, one-turn, one-undo}
 use Rattle.sql_model.specs.Standing.{IsDesk}
 use Rattle.sql_reads.specs.Reading.{stand_of, HasStand, IsRecordOf}
 use Rattle.sql_reads.specs.declared.reads.Stand.{Stand}
-use Rattle.sql_writes.specs.declared.events.Event.TheVariants as event
 use Rattle.sql_reads.specs.OptionChoice.{IsNextChoice, IsLastChoice}
-use Rattle.sql_commands.specs.Moving.{IsStepUp, IsStepDown, IsTurnedToStart, LeadsToStart, FitsIn, IsNextMade, IsMade, ComesFor, IsLastOption, FitsNext, IsEventOf, IsUnfit, IsNext, IsDue, IsRead, Runs, asked_for}
+use Rattle.sql_commands.specs.Moving.{LeadsToStart, FitsIn, FitsNext, IsDue, IsFound, IsLastOption, IsMade, IsNext, IsNextMade, IsRead, IsStuck, IsUnfit, asked_for, down_made, save_made, turn_made, up_made}
 use Rattle.saga_core.specs.Cursors.{turned_to}
-use Rattle.sql_commands.specs.Placing.{begun_as, IsSeen, SeesStand, StandsAt}
-use Rattle.sql_commands.specs.declared.step_outcome.Coming.TheVariants as coming
-use Rattle.sql_commands.specs.declared.moves.Made.{Made}
+use Rattle.sql_commands.specs.Placing.{begun_as, IsSeen, StandsAt}
+use Rattle.sql_commands.specs.declared.cursors.Found.{Found}
+use Rattle.sql_commands.specs.declared.cursors.Made.{Made}
 use Rattle.sql_reads.specs.declared.plan_rows.Choice.{Choice}
 use Rattle.sql_commands.proofs.StepLemmas.{abort_next, record_seen, record_unseen, none_seen, IsSaid, step_next}
 
@@ -59,7 +55,7 @@ stand_shown stand (Some r) e = (r, refl, cc)
 module _ (s : State) (who : Option (List ℕ)) (id : ℕ) where
   -- a caller who sees the journeys of its agent sees the journey
   pub stand_seen : (stand : Stand) → Some stand ≡ option_map stand_of (record_of s.ledger id)
-      → ((plan : Planned) → true ≡ sees who (record { agent = stand.agent; plan = plan })) → SeesStand who id s (Some stand)
+      → ((plan : Planned) → true ≡ sees who (record { agent = stand.agent; plan = plan })) → (r : Record) × IsSeen s who id r × (stand_of r ≡ stand)
   stand_seen stand found seen =
       let it = stand_shown stand (record_of s.ledger id) found in
       let agent : it.0.agent ≡ stand.agent = ap (λ (x : Stand). x.agent) it.2 in (
@@ -101,10 +97,10 @@ module _ (s : State) (desk : IsDesk s) (who : Option (List ℕ)) (id : ℕ) (r :
       step_next s desk.legal who id r is fit fitting d one
       ((λ e. absurd (some e)), (λ e. absurd (let bad : true ≡ false = sym e ∙ goes in cc))) (Ok x) said
 
-  up_at : (choice : Choice) (m : Made) → r.cursor.phase ≡ Run → r.cursor.pos < step_count r.plan
+  up_at : (choice : Choice) → r.cursor.phase ≡ Run → r.cursor.pos < step_count r.plan
       → IsNextChoice id (r.cursor.pos + 1) r.cursor.used s choice → FitsIn choice.want s true
-      → IsStepUp id (stand_of r) choice m → IsNextMade id r answered m
-  up_at choice m run below next fit up =
+      → IsNextMade id r answered (up_made id (stand_of r) choice)
+  up_at choice run below next fit =
       let i = r.cursor.pos + 1 in
       let chosen = next (begun_as r) is.at (omega arith) (omega arith) in
       let option : choice.option ≡ rules.next_option r.plan r.cursor.pos r.cursor.used = chosen.0 in
@@ -112,19 +108,15 @@ module _ (s : State) (desk : IsDesk s) (who : Option (List ℕ)) (id : ℕ) (r :
       ap (want_at r.plan i) (sym option) ∙ chosen.1 in
       let fitting : FitsNext r s true = λ now. fit ∙ ap (fits s.ledger) (sym want) in
       record {
-        same = up.same;
-        next = subst (λ x. Fits id r.plan r.cursor answered (Ok x)) (sym up.item_is)
-            (decided true fitting (move.Take i choice.option) (one-take r.plan r.marks r.cursor true choice.option run refl option)
-            (ap is_finished run) (λ e. cc) (item.Transaction i choice.option) refl);
-        says = subst (λ x. IsEventOf id r.plan r.cursor x m.event) (sym up.item_is)
-            (choice.want, chosen.1, up.event ∙ ap (λ c. event.Transaction (record { journey = id; step = i; option = choice.option; want = choice.want; cursor = c })) up.cursor);
-        cursor = up.cursor ∙ ap (cursor_after r.plan r.cursor) (sym up.item_is);
+        next = decided true fitting (move.Take i choice.option) (one-take r.plan r.marks r.cursor true choice.option run refl option)
+            (ap is_finished run) (λ e. cc) (item.Transaction i choice.option) refl;
+        says = (choice.want, chosen.1, refl);
+        cursor = refl;
       }
 
-  down_at : (choice : Choice) (m : Made) (q : ℕ) → r.cursor.phase ≡ Back q → 1 ≤ r.cursor.pos
-      → IsLastChoice id r.cursor.pos s choice
-      → IsStepDown id (stand_of r) choice m → IsNextMade id r answered m
-  down_at choice m q back above last down =
+  down_at : (choice : Choice) (q : ℕ) → r.cursor.phase ≡ Back q → 1 ≤ r.cursor.pos → IsLastChoice id r.cursor.pos s choice
+      → IsNextMade id r answered (down_made id (stand_of r) choice)
+  down_at choice q back above last =
       let i = r.cursor.pos in
       let h = history s.ledger id in
       let here : i ≡ position_of h = ap (λ (c : Cursor). c.pos) is.cursor in
@@ -133,26 +125,20 @@ module _ (s : State) (desk : IsDesk s) (who : Option (List ℕ)) (id : ℕ) (r :
       let option : IsLastOption id i s choice.option = λ a c at stands. (last a c at stands).0 in
       let fitting : FitsNext r s false = λ now. absurd (let bad : Back q ≡ Run = sym back ∙ now in cc) in
       record {
-        same = down.same;
-        next = subst (λ x. Fits id r.plan r.cursor answered (Ok x)) (sym down.item_is)
-            (decided false fitting (move.Undo i) (one-undo r.plan r.marks r.cursor false q back) (ap is_finished back) (λ e. cc)
-            (item.Compensation i choice.option) (choice.option, option, refl));
-        says = subst (λ x. IsEventOf id r.plan r.cursor x m.event) (sym down.item_is) (
-          choice.want,
-          ap (want_at r.plan i) chosen.0 ∙ chosen.1,
-          down.event ∙ ap (λ c. event.Compensation (record { journey = id; step = i; option = choice.option; want = choice.want; cursor = c })) down.cursor,
-        );
-        cursor = down.cursor ∙ ap (cursor_after r.plan r.cursor) (sym down.item_is);
+        next = decided false fitting (move.Undo i) (one-undo r.plan r.marks r.cursor false q back) (ap is_finished back) (λ e. cc)
+            (item.Compensation i choice.option) (choice.option, option, refl);
+        says = (choice.want, ap (want_at r.plan i) chosen.0 ∙ chosen.1, refl);
+        cursor = refl;
       }
 
   -- no try is left, so a refused step leads to the start
-  refused_at : r.cursor.phase ≡ Run → FitsNext r s false → r.plan.tries ≤ r.cursor.used
+  refused_at : IsStuck r s → r.plan.tries ≤ r.cursor.used
       → Fits id r.plan r.cursor answered (Ok (item.Turn 0 causes.Refused))
-  refused_at run unfit none =
+  refused_at stuck none =
       let target : 0 ≡ rules.refused_target r.plan (is_taken_in r.marks) r.cursor.pos r.cursor.used =
       sym (ap (λ b. if b then rules.last_save r.plan (is_taken_in r.marks) r.cursor.pos else 0) (none_left none)) in
-      decided false unfit (move.Turn 0) (one-turn r.plan r.marks r.cursor false 0 run refl target)
-      (ap is_finished run) (λ e. cc) (item.Turn 0 causes.Refused) refl
+      decided false stuck.1 (move.Turn 0) (one-turn r.plan r.marks r.cursor false 0 stuck.0 refl target)
+      (ap is_finished stuck.0) (λ e. cc) (item.Turn 0 causes.Refused) refl
     where
       none_left : r.plan.tries ≤ r.cursor.used → nat_lt r.cursor.used r.plan.tries ≡ false
       none_left more = grind (arith, nat_tests)
@@ -165,102 +151,53 @@ module _ (s : State) (desk : IsDesk s) (who : Option (List ℕ)) (id : ℕ) (r :
       (ap (λ p. turn_said r.plan (record { pos = r.cursor.pos; phase = p; used = r.cursor.used }) r.marks (turn.Asked 0) causes.Asked) (sym run))
 
   -- what leads to the start is the answer of the rules
-  pub start_at : (why : Motion) (cause : Cause) → LeadsToStart (stand_of r) why cause → IsUnfit id why s → Runs id why s
+  pub start_at : (why : Motion) (cause : Cause) → LeadsToStart (stand_of r) why cause → IsUnfit id why s
       → Fits id r.plan r.cursor (answer_within s.ledger who (asked_for id why)) (Ok (item.Turn 0 cause))
-  start_at motion.Refused cause leads unfit runs =
-      subst (λ k. Fits id r.plan r.cursor answered (Ok (item.Turn 0 k))) (sym leads.1)
-      (refused_at (runs who r is) (unfit who r is) leads.0)
-  start_at (motion.Abort p) cause leads unfit runs =
+  start_at motion.Refused cause leads unfit = rw leads.1 (refused_at (unfit who r is) leads.0)
+  start_at (motion.Abort p) cause leads unfit =
       subst
       (λ q. Fits id r.plan r.cursor (answer_move s.ledger id (abort_choices q) NoSavePoint (seen_journey s.ledger who id)) (Ok (item.Turn 0 cause)))
-      (sym leads.0)
-      (subst
-      (λ k. Fits id r.plan r.cursor (answer_move s.ledger id (abort_choices 0) NoSavePoint (seen_journey s.ledger who id)) (Ok (item.Turn 0 k)))
-      (sym leads.2) (asked_at leads.1))
-  start_at motion.Stop cause leads unfit runs = absurd leads
-  start_at motion.Save cause leads unfit runs = absurd leads
+      (sym leads.0) (rw leads.2 (asked_at leads.1))
+  start_at motion.Stop cause leads unfit = absurd leads
+  start_at motion.Save cause leads unfit = absurd leads
 
   -- the next step, if its want fits
   pub up_comes : (stand : Stand) → stand_of r ≡ stand → (choice : Choice) → stand.cursor.phase ≡ Run
       → stand.cursor.pos < stand.steps → IsNextChoice id (stand.cursor.pos + 1) stand.cursor.used s choice
-      → FitsIn choice.want s true → ComesFor id stand s r answered (coming.Up choice)
+      → FitsIn choice.want s true → IsNextMade id r answered (up_made id stand choice)
   up_comes stand same choice =
       subst
       (λ (x : Stand). x.cursor.phase ≡ Run → x.cursor.pos < x.steps → IsNextChoice id (x.cursor.pos + 1) x.cursor.used s choice
-      → FitsIn choice.want s true → ComesFor id x s r answered (coming.Up choice)) same (λ run below next fit m up. up_at choice m run below next fit up)
+      → FitsIn choice.want s true → IsNextMade id r answered (up_made id x choice)) same (up_at choice)
 
   -- the compensation of the last standing step
   pub down_comes : (stand : Stand) → stand_of r ≡ stand → (choice : Choice) (q : ℕ) → stand.cursor.phase ≡ Back q
       → 1 ≤ stand.cursor.pos → IsLastChoice id stand.cursor.pos s choice
-      → ComesFor id stand s r answered (coming.Down choice)
+      → IsNextMade id r answered (down_made id stand choice)
   down_comes stand same choice q =
       subst
       (λ (x : Stand). x.cursor.phase ≡ Back q → 1 ≤ x.cursor.pos → IsLastChoice id x.cursor.pos s choice
-      → ComesFor id x s r answered (coming.Down choice)) same (λ back above last m down. down_at choice m q back above last down)
+      → IsNextMade id r answered (down_made id x choice)) same (down_at choice q)
 
   -- a turn, if its want does not fit
-  pub refused_comes : (stand : Stand) → stand_of r ≡ stand → (choice : Choice)
+  pub refused_comes : (stand : Stand) → stand_of r ≡ stand → (choice : Choice) → stand.cursor.phase ≡ Run
       → stand.cursor.pos < stand.steps → IsNextChoice id (stand.cursor.pos + 1) stand.cursor.used s choice
-      → FitsIn choice.want s false → ComesFor id stand s r answered coming.Refused
+      → FitsIn choice.want s false → IsStuck r s
   refused_comes stand same choice =
       subst
-      (λ (x : Stand). x.cursor.pos < x.steps → IsNextChoice id (x.cursor.pos + 1) x.cursor.used s choice
-      → FitsIn choice.want s false → FitsNext r s false) same
-      (λ below next fit run.
-      let chosen = next (begun_as r) is.at (omega arith) (omega arith) in
-      fit ∙ ap (fits s.ledger) (sym chosen.1) ∙ ap (λ n. fits s.ledger (want_at r.plan (r.cursor.pos + 1) n)) chosen.0)
-
--- the outcome of a step of a journey that the caller sees is made
-pub made_step : (s : State) (ask : Option Asked) (counts : Meta) (id : ℕ) (r : Record) (m : Made) → IsDesk s → kept_for s ask ≡ None
-    → Counts s counts → IsSeen s (asker ask) id r → IsNextMade id r (answer_within s.ledger (asker ask) (request.Step id)) m
-    → IsMade s ask counts motion.Refused m
-made_step s ask counts id r m desk new counted here next =
-    subst
-    (λ n. IsSeen s (asker ask) n r → Fits n r.plan r.cursor (answer_within s.ledger (asker ask) (request.Step n)) (Ok m.item)
-    → IsEventOf n r.plan r.cursor m.item m.event → IsMade s ask counts motion.Refused m) next.same
-    (λ seen fit says. record {
-      journey = r;
-      due = record { desk = desk; new = new; counted = counted; here = seen; answered = fit };
-      says = says;
-      cursor = next.cursor;
-    }) here next.next next.says
-
--- the record is the same for all callers who see the journey, so its want fits for none of them
-pub unfit_seen : (s : State) (who : Option (List ℕ)) (id : ℕ) (r : Record) → IsSeen s who id r → FitsNext r s false
-    → IsUnfit id motion.Refused s
-unfit_seen s who id r is unfit other b seen run =
-    let one : Some (begun_as b) ≡ Some (begun_as r) = sym seen.at ∙ is.at in
-    let same : begun_as b ≡ begun_as r = cc in
-    let plan : b.plan ≡ r.plan = ap (λ (a : Journey). a.plan) same in
-    let cursor : b.cursor ≡ r.cursor =
-    seen.cursor ∙ ap (λ p. cursor_of p (history s.ledger id)) plan ∙ sym is.cursor in
-    unfit (ap (λ (c : Cursor). c.phase) (sym cursor) ∙ run)
-    ∙ ap (λ p. fits s.ledger (rules.next_want p r.cursor.pos r.cursor.used)) (sym plan)
-    ∙ ap (λ (c : Cursor). fits s.ledger (rules.next_want b.plan c.pos c.used)) (sym cursor)
-
--- and so it runs for all of them
-pub runs_seen : (s : State) (who : Option (List ℕ)) (id : ℕ) (r : Record) → IsSeen s who id r → r.cursor.phase ≡ Run
-    → Runs id motion.Refused s
-runs_seen s who id r is run other b seen =
-    let one : Some (begun_as b) ≡ Some (begun_as r) = sym seen.at ∙ is.at in
-    let same : begun_as b ≡ begun_as r = cc in
-    let cursor : b.cursor ≡ r.cursor =
-    seen.cursor ∙ ap (λ (a : Journey). cursor_of a.plan (history s.ledger id)) same ∙ sym is.cursor in
-    ap (λ (c : Cursor). c.phase) cursor ∙ run
-
--- the journey that a caller sees is there
-pub stand_there : (s : State) (who : Option (List ℕ)) (id : ℕ) (stand : Stand) → SeesStand who id s (Some stand) → StandsAt id stand s
-stand_there s who id stand here = record {
-  journey = begun_as here.0;
-  at = here.1.at;
-  steps = sym (ap (λ (x : Stand). x.steps) here.2);
-  cursor = sym (ap (λ (x : Stand). x.cursor) here.2) ∙ here.1.cursor;
-}
+      (λ (x : Stand). x.cursor.phase ≡ Run → x.cursor.pos < x.steps → IsNextChoice id (x.cursor.pos + 1) x.cursor.used s choice
+      → FitsIn choice.want s false → IsStuck r s) same
+      (λ run below next fit. (
+        run,
+        λ now. (
+            let chosen = next (begun_as r) is.at (omega arith) (omega arith) in
+            fit ∙ ap (fits s.ledger) (sym chosen.1) ∙ ap (λ n. fits s.ledger (want_at r.plan (r.cursor.pos + 1) n)) chosen.0),
+      ))
 
 -- The record of a journey that was found.
 
 -- the record that the caller sees is the one in the ledger
-pub record_there : (s : State) (who : Option (List ℕ)) (id : ℕ) (r : Record) → IsSeen s who id r → record_of s.ledger id ≡ Some r
+record_there : (s : State) (who : Option (List ℕ)) (id : ℕ) (r : Record) → IsSeen s who id r → record_of s.ledger id ≡ Some r
 record_there s who id r is =
     ap (option_map (record_of_journey (history s.ledger id))) is.at
     ∙ ap (λ c. Some (made c (marks_of (history s.ledger id)))) (sym is.cursor)
@@ -269,66 +206,76 @@ record_there s who id r is =
     made : Cursor → set.FinSet nat_cmp → Record
     made cursor marks = record { agent = r.agent; plan = r.plan; cursor = cursor; marks = marks }
 
--- the journey that a caller sees has this agent, these steps and tries, and this cursor
-pub has_stand : (s : State) (who : Option (List ℕ)) (id : ℕ) (stand : Stand) → SeesStand who id s (Some stand) → HasStand id stand s
-has_stand s who id stand here = sym (ap (option_map stand_of) (record_there s who id here.0 here.1) ∙ ap Some here.2)
+-- it is the same for all callers who see the journey
+pub unfit_seen : (s : State) (who : Option (List ℕ)) (id : ℕ) (r : Record) → IsSeen s who id r → IsStuck r s → IsUnfit id motion.Refused s
+unfit_seen s who id r is stuck other b seen =
+    let both : Some r ≡ Some b = sym (record_there s who id r is) ∙ record_there s other id b seen in
+    let same : r ≡ b = cc in
+    subst (λ x. IsStuck x s) same stuck
 
--- the record that is read of it is the one that the caller sees
-pub read_seen : (s : State) (who : Option (List ℕ)) (id : ℕ) (stand : Stand) (r : Record) → SeesStand who id s (Some stand)
-    → IsRecordOf id stand s r → IsSeen s who id r
-read_seen s who id stand r here is =
-    let both : Some here.0 ≡ Some r = sym (record_there s who id here.0 here.1) ∙ sym (is (has_stand s who id stand here)) in
-    let same : here.0 ≡ r = cc in
-    subst (IsSeen s who id) same here.1
+module _ (s : State) (ask : Option Asked) (found : Found) where
+  -- the journey that a caller sees is there
+  pub stand_there : IsFound (asker ask) s found → StandsAt found.id found.stand s
+  stand_there here = record {
+    journey = begun_as here.journey;
+    at = here.seen.at;
+    steps = sym (ap (λ (x : Stand). x.steps) here.stand);
+    cursor = sym (ap (λ (x : Stand). x.cursor) here.stand) ∙ here.seen.cursor;
+  }
 
--- what the rules answer a move, of which all was read, is due
-pub due_read : (s : State) (ask : Option Asked) (counts : Meta) (id : ℕ) (stand : Stand) (why : Motion) (r : Record)
-    (next : Result Item Refusal) → IsRead s ask counts id stand why → IsRecordOf id stand s r
-    → ((j : ℕ) (t : State) → IsDesk t → IsNext j r why t next) → IsDue s ask (asked_for id why) counts id r next
-due_read s ask counts id stand why r next read is answers =
-    let here = read_seen s (asker ask) id stand r read.here is in
-    record {
-      desk = read.desk;
-      new = read.new;
-      counted = read.counted;
-      here = here;
-      answered = answers id s read.desk (asker ask) here read.unfit;
-    }
+  -- it has this agent, these steps and tries, and this cursor
+  pub has_stand : IsFound (asker ask) s found → HasStand found.id found.stand s
+  has_stand here = sym (ap (option_map stand_of) (record_there s (asker ask) found.id here.journey here.seen) ∙ ap Some here.stand)
 
--- what a step has read, whose want does not fit, is read for its turn
-pub refused_read : (s : State) (ask : Option Asked) (counts : Meta) (id : ℕ) (stand : Stand) → IsDesk s → kept_for s ask ≡ None
-    → Counts s counts → (here : SeesStand (asker ask) id s (Some stand)) → FitsNext here.0 s false → stand.cursor.phase ≡ Run
-    → IsRead s ask counts id stand motion.Refused
-refused_read s ask counts id stand desk new counted here unfit run = record {
-  desk = desk;
-  new = new;
-  counted = counted;
-  here = here;
-  unfit = unfit_seen s (asker ask) id here.0 here.1 unfit;
-  runs = runs_seen s (asker ask) id here.0 here.1 (ap (λ (x : Stand). x.cursor.phase) here.2 ∙ run);
-}
+  -- the record that is read of it is the one that the caller sees
+  pub read_seen : (r : Record) → (here : IsFound (asker ask) s found) → IsRecordOf found.id found.stand s r → here.journey ≡ r
+  read_seen r here is =
+      let both : Some here.journey ≡ Some r =
+      sym (record_there s (asker ask) found.id here.journey here.seen) ∙ sym (is (has_stand here)) in
+      cc
 
--- the turn to the start is made
-pub start_made : (s : State) (ask : Option Asked) (counts : Meta) (id : ℕ) (stand : Stand) (why : Motion) (cause : Cause) (m : Made)
-    → IsRead s ask counts id stand why → LeadsToStart stand why cause → IsTurnedToStart id stand cause m → IsMade s ask counts why m
-start_made s ask counts id stand why cause m read leads turned =
-    let r = read.here.0 in
-    let is = read.here.1 in
-    let same = read.here.2 in
-    let there : m.cursor ≡ cursor_after r.plan r.cursor m.item =
-    turned.cursor ∙ ap (λ (x : Stand). turned_to 0 cause x.cursor) (sym same) ∙ ap (cursor_after r.plan r.cursor) (sym turned.item_is) in
-    let answer = start_at s read.desk (asker ask) id r is why cause (subst (λ x. LeadsToStart x why cause) (sym same) leads) read.unfit read.runs in
-    let says : IsEventOf id r.plan r.cursor (item.Turn 0 cause) m.event =
-    turned.event ∙ ap (λ c. event.Turn (record { journey = id; target = 0; cause = cause; cursor = c }))
-    (turned.cursor ∙ ap (λ (x : Stand). turned_to 0 cause x.cursor) (sym same)) in
-    subst
-    (λ n. IsSeen s (asker ask) n r → Fits n r.plan r.cursor (answer_within s.ledger (asker ask) (asked_for n why)) (Ok m.item)
-    → IsEventOf n r.plan r.cursor m.item m.event → IsMade s ask counts why m) turned.same
-    (λ seen fit tells. record {
-      journey = r;
-      due = record { desk = read.desk; new = read.new; counted = read.counted; here = seen; answered = fit };
-      says = tells;
-      cursor = there;
-    }) is
-    (subst (λ x. Fits id r.plan r.cursor (answer_within s.ledger (asker ask) (asked_for id why)) (Ok x)) (sym turned.item_is) answer)
-    (subst (λ x. IsEventOf id r.plan r.cursor x m.event) (sym turned.item_is) says)
+  -- what the rules answer a move, of which all was read, is due
+  pub due_read : (why : Motion) (r : Record) (next : Result Item Refusal) → IsRead s ask found why → IsRecordOf found.id found.stand s r
+      → ((j : ℕ) (t : State) → IsDesk t → IsNext j r why t next) → IsDue s ask found why next
+  due_read why r next read is answers = record {
+    desk = read.desk;
+    new = read.new;
+    here = read.here;
+    answered =
+        subst (λ x. (j : ℕ) (t : State) → IsDesk t → IsNext j x why t next) (sym (read_seen r read.here is)) answers found.id s read.desk
+        (asker ask) read.here.seen read.unfit;
+  }
+
+  -- the outcome of a step of a journey that the caller sees is made
+  pub made_step : (m : Made) → IsDesk s → kept_for s ask ≡ None → (here : IsFound (asker ask) s found)
+      → IsNextMade found.id here.journey (answer_within s.ledger (asker ask) (request.Step found.id)) m → IsMade s ask found motion.Refused m
+  made_step m desk new here next = record {
+    due = record { desk = desk; new = new; here = here; answered = next.next };
+    says = next.says;
+    cursor = next.cursor;
+  }
+
+  -- and so are a turn, and a save-point
+  pub turn_is : (why : Motion) (p : ℕ) (cause : Cause) → IsDue s ask found why (Ok (item.Turn p cause))
+      → IsMade s ask found why (turn_made found.id found.stand p cause)
+  turn_is why p cause due = record {
+    due = due;
+    says = ap (λ (x : Stand). (turn_made found.id x p cause).event) (sym due.here.stand);
+    cursor = ap (λ (x : Stand). turned_to p cause x.cursor) (sym due.here.stand);
+  }
+
+  pub save_is : (why : Motion) → IsDue s ask found why (Ok (item.Save found.stand.cursor.pos)) → IsMade s ask found why (save_made found.id found.stand)
+  save_is why due = record { due = due; says = refl; cursor = ap (λ (x : Stand). x.cursor) (sym due.here.stand) }
+
+  -- the turn to the start is made
+  pub start_made : (why : Motion) (cause : Cause) → IsRead s ask found why → LeadsToStart found.stand why cause
+      → IsMade s ask found why (turn_made found.id found.stand 0 cause)
+  start_made why cause read leads =
+      let here = read.here in
+      turn_is why 0 cause (record {
+        desk = read.desk;
+        new = read.new;
+        here = here;
+        answered = start_at s read.desk (asker ask) found.id here.journey here.seen why cause
+            (subst (λ x. LeadsToStart x why cause) (sym here.stand) leads) read.unfit;
+      })

@@ -65,7 +65,8 @@ use Rattle.ledger.specs.Replies.{loaded}
 use Rattle.ledger.specs.JourneyChanges.{cursor_after}
 use Rattle.sql_reads.proofs.ReadReasons.{few_journeys}
 use Rattle.sql_writes.specs.declared.events.BatchLoaded.{BatchLoaded}
-use Rattle.sql_commands.specs.declared.moves.Made.{Made}
+use Rattle.sql_commands.specs.declared.cursors.Found.{Found}
+use Rattle.sql_commands.specs.declared.cursors.Made.{Made}
 use Rattle.sql_commands.proofs.Permitted.{answered_permitted, begin_permitted, item_permitted, load_permitted}
 use Rattle.sql_commands.proofs.LoadComes.{fitting}
 use Rattle.sql_commands.proofs.LoadRows.{put_told}
@@ -192,44 +193,45 @@ module _ {n : Numbers} {e : Event} {ask : Option Asked} {asked : Request} {answe
 -- An item, a begin and a load are what the rules answer, and the rows permit them.
 
 -- the item that the rules answer
-pub made_answered : (s : State) (ask : Option Asked) (counts : Meta) (n : Numbers) (m : Made) (why : Motion) → n.num ≡ counts.events + 1
-    → n.journeys ≡ counts.journeys → IsMade s ask counts why m
-    → IsAnswered n m.event ask (asked_for m.id why) (reply.Moved m.id m.item m.cursor.pos m.cursor.phase) s
-made_answered s ask counts n m why num number made =
+pub made_answered : (s : State) (ask : Option Asked) (found : Found) (m : Made) (why : Motion) → IsMade s ask found why m
+    → IsAnswered found.numbers m.event ask (asked_for found.id why) (reply.Moved found.id m.item m.cursor.pos m.cursor.phase) s
+made_answered s ask found m why made =
+    let id = found.id in
+    let n = found.numbers in
     let due = made.due in
-    let r = made.journey in
-    let next = num ∙ ap (λ k. k + 1) due.counted.events in
-    let answered = reply.Moved m.id m.item m.cursor.pos m.cursor.phase in
-    let after : m.cursor ≡ cursor_after r.plan (cursor_of r.plan (history s.ledger m.id)) m.item =
-    made.cursor ∙ ap (λ c. cursor_after r.plan c m.item) due.here.cursor in
-    let says = subst (λ c. Says m.id r.plan c m.item m.event) (sym made.cursor) made.says in
+    let here = due.here in
+    let r = here.journey in
+    let answered = reply.Moved id m.item m.cursor.pos m.cursor.phase in
+    let after : m.cursor ≡ cursor_after r.plan (cursor_of r.plan (history s.ledger id)) m.item =
+    made.cursor ∙ ap (λ c. cursor_after r.plan c m.item) here.seen.cursor in
+    let says = subst (λ c. Says id r.plan c m.item m.event) (sym made.cursor) made.says in
     record {
       desk = due.desk;
       new = due.new;
-      good = move_request m.id why;
-      event = Did m.id m.item;
+      good = move_request id why;
+      event = Did id m.item;
       answered = due.answered
-          ∙ ap (λ (c : Cursor). record { event = Some (Did m.id m.item); reply = reply.Moved m.id m.item c.pos c.phase }) (sym made.cursor);
-      num = next;
-      few = (let few = item_few m.id r.plan m.cursor n m.item m.event says in let one = one_counted m.id why in omega (arith, few, one));
+          ∙ ap (λ (c : Cursor). record { event = Some (Did id m.item); reply = reply.Moved id m.item c.pos c.phase }) (sym made.cursor);
+      num = here.counted.num;
+      few = (let few = item_few id r.plan m.cursor n m.item m.event says in let one = one_counted id why in omega (arith, few, one));
       rows = λ room may. (
-          let is : IsMadeNext s ask m.id (begun_as r) m.item n m.cursor = record {
+          let is : IsMadeNext s ask id (begun_as r) m.item n m.cursor = record {
             desk = due.desk;
             new = due.new;
-            at = due.here.at;
+            at = here.seen.at;
             may = may;
-            num = next;
-            journeys_are = number ∙ due.counted.journeys_are;
+            num = here.counted.num;
+            journeys_are = here.counted.journeys_are;
             cursor = after;
           } in
           record {
-            leads = item_leads s ask answered m.id (begun_as r) n m.cursor m.item m.event says is;
-            permits = λ spelled t st. item_permitted s spelled ask m.id (begun_as r) n m.cursor t st m.item m.event says is;
+            leads = item_leads s ask answered id (begun_as r) n m.cursor m.item m.event says is;
+            permits = λ spelled t st. item_permitted s spelled ask id (begun_as r) n m.cursor t st m.item m.event says is;
             accepted =
-                subst (λ (c : Cursor). IsTrue (is_accepted (reply.Moved m.id m.item c.pos c.phase)))
-                (sym (after ∙ sym (cursor_next s.ledger m.id (begun_as r) m.item due.desk.legal due.here.at may)))
-                (moved-good s.ledger due.desk.legal room m.id (begun_as r) m.item due.here.at
-                (sym (is_item_allowed-may_do s.ledger m.id m.item (begun_as r) due.here.at) ∙ may));
+                subst (λ (c : Cursor). IsTrue (is_accepted (reply.Moved id m.item c.pos c.phase)))
+                (sym (after ∙ sym (cursor_next s.ledger id (begun_as r) m.item due.desk.legal here.seen.at may)))
+                (moved-good s.ledger due.desk.legal room id (begun_as r) m.item here.seen.at
+                (sym (is_item_allowed-may_do s.ledger id m.item (begun_as r) here.seen.at) ∙ may));
           });
     }
 

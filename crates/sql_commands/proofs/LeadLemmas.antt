@@ -1,5 +1,5 @@
 -- The rows of an event lead to the state with it, and a move to the outcome that the rules answer. For the lemmas of each request.
-use Rattle.std.proofs.Common.{◌≡◌, ℕ, ◌+◌, length, Option, Some, None, IsTrue, sym, ap, subst, ◌∙◌, refl, Err}
+use Rattle.std.proofs.Common.{◌≡◌, ℕ, ◌+◌, length, Option, Some, None, IsTrue, sym, ap, subst, ◌∙◌, refl}
 use Rattle.allotment.specs.Want.{Wanted}
 use Rattle.plan.specs.PlanModel.{want_at}
 use Rattle.commands.specs.Asks.{Asked}
@@ -24,13 +24,11 @@ use Rattle.sql_writes.specs.Kinds.{Fits, LeadsTo, rows_after}
 use Rattle.sql_writes.specs.declared.events.Numbers.{Numbers}
 use Rattle.sql_writes.specs.declared.events.Event.{Event}
 use Rattle.sql_writes.specs.declared.events.Event.TheVariants.{Transaction, Compensation, Turn, Save}
-use Rattle.sql_commands.specs.Moving.{Says, asked_for, IsDue}
+use Rattle.sql_commands.specs.Moving.{Says, asked_for}
 use Rattle.commands.specs.declared.replies.Refusal.{Refusal}
 use Rattle.commands.specs.declared.replies.Refusal.TheVariants.{NoJourney, NoSavePoint, NoSave}
 use Rattle.commands.specs.declared.replies.Reply.TheVariants as reply
 use Rattle.ledger.specs.Replies.{Answer, refused, seen_journey, answer_move, step_choices, abort_choices, stop_choices, save_choices}
-use Rattle.saga_core.specs.declared.records.Record.{Record}
-use Rattle.desk_sql.specs.declared.meta.Meta.{Meta}
 use Rattle.sql_model.proofs.Keeping.{outcome-no_event}
 use Rattle.sql_commands.specs.declared.moves.Motion.{Motion}
 use Rattle.sql_commands.specs.declared.moves.Motion.TheVariants as motion
@@ -153,9 +151,3 @@ unseen_answer s ask id motion.Save e = ap (λ o. answer_move s.ledger id save_ch
 pub unseen_refused : (s : State) (ask : Option Asked) (id : ℕ) (why : Motion) → kept_for s ask ≡ None
     → seen_journey s.ledger (asker ask) id ≡ None → IsRefused s ask id why NoJourney
 unseen_refused s ask id why new e = answered_refused s ask id why NoJourney new (unseen_answer s ask id why e)
-
-module _ (s : State) (ask : Option Asked) (why : Motion) (counts : Meta) (id : ℕ) (r : Record) where
-  -- a refusal of the rules
-  pub due_refused : (refusal : Refusal) → IsDue s ask (asked_for id why) counts id r (Err refusal)
-      → IsRefused s ask id why refusal
-  due_refused refusal due = answered_refused s ask id why refusal due.new due.answered

@@ -28,7 +28,6 @@ use Rattle.sql_model.proofs.Batches.{batch_read, named_good}
 use Rattle.sql_model.proofs.Keeping.{outcome-no_event}
 use Rattle.sql_model.proofs.Lines.{same_batch}
 use Rattle.sql_writes.specs.declared.events.Numbers.{Numbers}
-use Rattle.sql_writes.specs.declared.events.Event.TheVariants as event
 use Rattle.sql_commands.specs.Loading.{IsTextOf, TellsName, AnswersKnown, TellsBelow, IsNewName, IsLoadDue}
 use Rattle.sql_commands.proofs.Executing.{IsUnmoved}
 use Rattle.sql_commands.proofs.LoadRows.{none_below}

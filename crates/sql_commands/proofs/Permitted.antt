@@ -53,7 +53,6 @@ use Rattle.sql_model.proofs.Moves.{save-new}
 use Rattle.sql_model.proofs.Wants.{wanted_row}
 use Rattle.sql_commands.specs.Moving.{Says}
 use Rattle.sql_commands.proofs.LeadLemmas.{IsMade}
-use Rattle.commands.specs.declared.replies.Reply.TheVariants as reply
 
 -- The rows of a desk permit a begin, a load of a new batch, and the reply that is kept with an event.
 

@@ -1,11 +1,8 @@
--- An item that the rules answer is allowed, and may be made at the cursor of its journey as far as numbers show. For `make`
--- and `make_event`.
-use Rattle.std.proofs.Common.{◌≡◌, ◌+◌, ◌≤◌, ◌==◌, ℕ, List, [], ◌∷◌, Bool, true, false, if◌then◌else◌, Option, Some, None, inl, inr, refl, sym, ap, subst, ◌∙◌, arith, eqb-true, leb-true, ◌&&◌, find, min, nat_le, nat_lt, not, option_map, Ok, unwrap_or}
+-- An item that the rules answer is allowed, and the target of a turn is in the plan. For `carry_out`.
+use Rattle.std.proofs.Common.{◌≡◌, ◌≤◌, ℕ, List, Bool, true, false, if◌then◌else◌, Option, Some, None, inl, inr, refl, sym, ap, subst, ◌∙◌, arith, leb-true, ◌&&◌, find, nat_le, option_map, Ok, unwrap_or}
 use Rattle.std.proofs.lemmas.Bool.{and_parts, or_cases}
-use Rattle.sqlite_rules.specs.Lists.{Has}
-use Rattle.sqlite_rules.proofs.ListLemmas.{has_right, test_has}
-use Rattle.plan.specs.PlanModel.{Planned, is_marked_at, option_count, step_count}
-use Rattle.plan.proofs.ChoiceLemmas.{one_le-option_count}
+use Rattle.plan.specs.PlanModel.{Planned, is_marked_at, step_count}
+use Rattle.commands.specs.declared.items.Cause.{Cause}
 use Rattle.commands.specs.declared.items.Cause.TheVariants as cause
 use Rattle.commands.specs.declared.items.Item.{Item}
 use Rattle.commands.specs.declared.items.Item.TheVariants as item
@@ -14,21 +11,18 @@ use Rattle.commands.specs.declared.items.Phase.TheVariants.{Run, Back}
 use Rattle.commands.specs.declared.replies.Refusal.{Refusal}
 use Rattle.commands.specs.declared.replies.Refusal.TheVariants.{Finished, NoSavePoint, NoSave}
 use Rattle.ledger.specs.Answer.{State, answer_within}
-use Rattle.ledger.specs.History.{is_finished, is_running, is_save_point, is_taken, may_come, may_turn, net, next_want, phase, position_of, refusals}
+use Rattle.ledger.specs.History.{is_finished, is_taken, may_come, may_turn, next_want, phase, position_of}
 use Rattle.ledger.specs.Ledger.{Event, Did, Journey, fits, history, may_do}
 use Rattle.ledger.specs.Replies.{Answer, answer_choices, answer_move, moved, refused, seen_journey, step_choices, abort_choices, stop_choices, save_choices}
-use Rattle.ledger.proofs.Coming.{step-comes, compensation-comes, stop-comes, refused-comes}
-use Rattle.ledger.proofs.Lists.{find-passes, last_of-is}
-use Rattle.ledger.proofs.Modes.{running-rises}
-use Rattle.ledger.proofs.Standing.{compensates}
+use Rattle.ledger.proofs.Coming.{stop-comes, refused-comes}
+use Rattle.ledger.proofs.Lists.{find-passes}
 use Rattle.ledger.proofs.Targets.{IsTarget, last_save-target, refused-target, asked-target}
 use Rattle.ledger.specs.AnswerChanges.{moves}
-use Rattle.ledger.specs.Cursors.{cursor_of}
-use Rattle.ledger.proofs.Histories.{Follows, follows, is_option_of}
+use Rattle.ledger.proofs.Histories.{Follows, follows}
 use Rattle.saga_core.specs.declared.records.Record.{Record}
 use Rattle.sql_model.specs.Standing.{IsDesk}
 use Rattle.sql_commands.specs.Moving.{asked_for}
-use Rattle.sql_commands.specs.Placing.{begun_as, IsSeen, MayBeMade}
+use Rattle.sql_commands.specs.Placing.{begun_as, IsSeen}
 use Rattle.saga_core.specs.Rulings.{Fits}
 use Rattle.sql_commands.specs.declared.moves.Motion.{Motion}
 use Rattle.sql_commands.specs.declared.moves.Motion.TheVariants as motion
@@ -63,7 +57,7 @@ module _ (s : State) (who : Option (List ℕ)) (id : ℕ) (r : Record) (x : Item
       (ap (λ (a : Answer). a.event) answered))
 
   -- of an answer to each motion
-  pub item_allowed : (why : Motion) → Fits id r.plan r.cursor (answer_within s.ledger who (asked_for id why)) (Ok x)
+  item_allowed : (why : Motion) → Fits id r.plan r.cursor (answer_within s.ledger who (asked_for id why)) (Ok x)
       → may_do s.ledger id x (begun_as r) ≡ true
   item_allowed motion.Refused answered = by_choices step_choices NoSavePoint answered
   item_allowed (motion.Abort p) answered = by_choices (abort_choices p) NoSavePoint answered
@@ -93,55 +87,18 @@ module _ (plan : Planned) (h : List Item) (f : Follows plan h) where
   asked_within p (Back q) may = target_within p (asked-target plan (is_taken h) (position_of h) p (Some q) may)
   asked_within p _ may = cc
 
-  -- an item that may come
-  possible : (fit : Bool) (x : Item) → may_come plan h fit x ≡ true → MayBeMade plan (cursor_of plan h) x
-  possible fit (item.Transaction i c) may =
-      let comes = step-comes plan h fit i c may in
-      let step = comes.step in
-      let below = (running-rises plan h f.goes.mode comes.running).1 in
-      let some = one_le-option_count plan (position_of h + 1) f.good (omega arith) (omega (arith, below)) in
-      let option : c ≡ min (refusals h + 1) (option_count plan (position_of h + 1)) = comes.option in
-      let count : option_count plan i ≡ option_count plan (position_of h + 1) = ap (option_count plan) step in (
-        step,
-        record {
-          from_one = omega (arith, step);
-          in_plan = omega (arith, step, below);
-          first = omega (arith, option, some);
-          last = omega (arith, option, count, some);
-        },
-      )
-  possible fit (item.Compensation i c) may =
-      let stands = (compensation-comes plan h fit i c may).last in
-      let last = compensates h i c f.stands stands in
-      let is = last.is_last in
-      let lower = last.lower in
-      let within = f.within in
-      let cut = last_of-is (net h) (i, c) stands in
-      let there = subst (λ ts. Has ts (i, c)) (sym cut.1) (has_right cut.0 ((i, c) ∷ []) (i, c) (inl refl)) in
-      let bounds = and_parts (nat_le 1 c) (nat_le c (option_count plan i)) (test_has (is_option_of plan) (net h) (i, c) f.options there) in (
-        is,
-        record {
-          from_one = omega (arith, is, lower);
-          in_plan = omega (arith, is, within);
-          first = leb-true 1 c bounds.0;
-          last = leb-true c (option_count plan i) bounds.1;
-        },
-      )
-  possible fit (item.Turn p cause.Stop) may =
+  -- a turn that may come has such a target
+  turn_target : (fit : Bool) (p : ℕ) (why : Cause) → may_come plan h fit (item.Turn p why) ≡ true → p ≤ step_count plan
+  turn_target fit p cause.Stop may =
       target_within p (last_save-target plan (is_taken h) (position_of h) p (stop-comes plan h fit p may).1)
-  possible fit (item.Turn p cause.Refused) may =
+  turn_target fit p cause.Refused may =
       target_within p (refused-target plan (is_taken h) (position_of h) _ p (refused-comes plan h fit p may).target)
-  possible fit (item.Turn p cause.Asked) may = asked_within p (phase plan h) may
-  possible fit (item.Save p) may =
-      let tests = (and_parts (is_running (phase plan h) && (p == position_of h) && nat_lt 0 p) (not (is_save_point plan h p)) may).0 in
-      let first = (and_parts (is_running (phase plan h) && (p == position_of h)) (nat_lt 0 p) tests).0 in
-      eqb-true p (position_of h) (and_parts (is_running (phase plan h)) (p == position_of h) first).1
+  turn_target fit p cause.Asked may = asked_within p (phase plan h) may
 
--- an item that the rules answer may be made at the cursor of its journey
-pub answered_possible : (s : State) → IsDesk s → (who : Option (List ℕ)) (id : ℕ) (r : Record) (x : Item) → IsSeen s who id r
-    → (why : Motion) → Fits id r.plan r.cursor (answer_within s.ledger who (asked_for id why)) (Ok x) → MayBeMade r.plan r.cursor x
-answered_possible s desk who id r x seen why answered =
+-- a turn that the rules answer has a target in the plan
+pub turn_possible : (s : State) → IsDesk s → (who : Option (List ℕ)) (id : ℕ) (r : Record) (p : ℕ) (cause : Cause) → IsSeen s who id r
+    → (why : Motion) → Fits id r.plan r.cursor (answer_within s.ledger who (asked_for id why)) (Ok (item.Turn p cause)) → p ≤ step_count r.plan
+turn_possible s desk who id r p cause seen why answered =
     let h = history s.ledger id in
-    subst (λ c. MayBeMade r.plan c x) (sym seen.cursor)
-    (possible r.plan h (follows s.ledger desk.legal id (begun_as r) seen.at) (fits s.ledger (next_want r.plan h)) x
-    (item_allowed s who id r x seen why answered))
+    turn_target r.plan h (follows s.ledger desk.legal id (begun_as r) seen.at) (fits s.ledger (next_want r.plan h)) p cause
+    (item_allowed s who id r (item.Turn p cause) seen why answered)

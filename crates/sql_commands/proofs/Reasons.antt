@@ -24,7 +24,7 @@ use Rattle.sql_reads.specs.Reading.{stand_of}
 use Rattle.sql_reads.specs.declared.reads.Stand.{Stand}
 use Rattle.sql_reads.proofs.ReadReasons.{few_journeys}
 use Rattle.sql_reads.specs.OptionChoice.{HasStep, TakesLast}
-use Rattle.sql_commands.specs.Placing.{IsPlaced, IsPlacedIn, StandsAt}
+use Rattle.sql_commands.specs.Placing.{IsPlacedIn, StandsAt}
 use Rattle.sql_commands.proofs.ComingLemmas.{stand_seen}
 
 -- a journey has at most as many items as there are events
@@ -48,7 +48,7 @@ below_last plan h f _ e opened = cc
 
 -- a journey of a legal ledger is where one may be
 pub placed : (l : List Event) → IsLegal l → length l ≤ most_events → (id : ℕ) (a : Journey) → journey_at l id ≡ Some a
-    → IsPlaced a.plan (cursor_of a.plan (history l id))
+    → IsPlacedIn (step_count a.plan) (cursor_of a.plan (history l id))
 placed l legal few id a at =
     let h = history l id in
     let f = follows l legal id a at in

@@ -1,14 +1,17 @@
 -- What a record implies for its journey, and the decision on a step of it, which is the answer of the rules. For `moves` and
 -- `step_outcome`.
-use Rattle.std.proofs.Common.{◌≡◌, ℕ, true, false, List, Option, Some, None, refl, ap, sym, ◌∙◌, subst, option_map, Result, ◌==◌, Bool, IsTrue, ap₂, eqb-true, ◌↔◌, Ok, Err}
+use Rattle.std.proofs.Common.{◌≡◌, ℕ, true, false, List, Option, Some, None, refl, ap, sym, ◌∙◌, subst, option_map, Result, ◌==◌, Bool, IsTrue, ap₂, eqb-true, ◌↔◌, Ok, Err, IfOk, if◌then◌else◌, ◌&&◌, nat_cmp, nat_lt, not}
+use Rattle.std.specs.FinSet as set
 use Rattle.plan.specs.PlanModel.{Planned}
+use Rattle.plan.specs.Marks.{is_taken_in}
+use Rattle.plan.specs.Turns.{may_be_made, turn_target}
+use Rattle.ledger.specs.JourneyChanges.{target_of}
 use Rattle.plan.specs.declared.turns.Turn.{Turn as Reason}
 use Rattle.plan.specs.declared.turns.Turn.TheVariants as turn
 use Rattle.commands.specs.declared.items.Cause.{Cause}
 use Rattle.commands.specs.declared.items.Cause.TheVariants as causes
 use Rattle.commands.specs.declared.items.Cursor.{Cursor}
 use Rattle.commands.specs.declared.items.Item.{Item}
-use Rattle.commands.specs.declared.items.Item.TheVariants as item
 use Rattle.commands.specs.declared.replies.Refusal.{Refusal}
 use Rattle.commands.specs.declared.replies.Refusal.TheVariants.{NoSavePoint, NoSave, Finished}
 use Rattle.ledger.specs.Answer.{State}
@@ -34,7 +37,7 @@ use Rattle.ledger.proofs.Answering.{step-answer}
 use Rattle.saga_core.specs.Deciding.{names, NamesStep}
 use Rattle.saga_core.specs.declared.deciding.Move.{Move}
 use Rattle.saga_core.specs.declared.deciding.Move.TheVariants as move
-use Rattle.sql_commands.specs.Moving.{FitsNext, IsLastOption}
+use Rattle.sql_commands.specs.Moving.{FitsNext, IsLastOption, IsMove}
 
 -- What a record implies for its journey, and the answers of the rules to its moves.
 
@@ -266,3 +269,24 @@ step_next s legal who id r is fit fitting decided one nothing next said =
         subst (λ n. Fits id r.plan (cursor_of r.plan (history s.ledger id))
         (answer_move s.ledger id step_choices NoSavePoint (Some (begun_as r))) n) (sym item)
         (step-answer s.ledger id (begun_as r) x legal is.at found.1 comes)
+
+-- What answers a move is a turn or a save-point.
+
+pub turn_moves : (plan : Planned) (c : Cursor) (marks : set.FinSet nat_cmp) (why : Reason) (cause : Cause)
+    → IfOk (turn_said plan c marks why cause) (IsMove c)
+turn_moves plan c marks why cause = go (is_finished c.phase) (may_be_made plan (is_taken_in marks) c.pos (target_of c.phase) why)
+  where
+    go : (a b : Bool) → IfOk (if a then Err Finished else if b
+        then Ok (Turn (turn_target plan (is_taken_in marks) c.pos c.used why) cause) else Err NoSavePoint) (IsMove c)
+    go true b = tt
+    go false true = tt
+    go false false = tt
+
+pub save_moves : (plan : Planned) (c : Cursor) (marks : set.FinSet nat_cmp) → IfOk (save_said plan c marks) (IsMove c)
+save_moves plan c marks =
+    go (is_finished c.phase) (is_running c.phase && nat_lt 0 c.pos && not (rules.is_save_point plan (is_taken_in marks) c.pos c.pos))
+  where
+    go : (a b : Bool) → IfOk (if a then Err Finished else if b then Ok (Save c.pos) else Err NoSave) (IsMove c)
+    go true b = tt
+    go false true = refl
+    go false false = tt

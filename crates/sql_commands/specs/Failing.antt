@@ -19,7 +19,7 @@ use Rattle.ledger.specs.Answer.{State, kept_for, outcome}
 use Rattle.sql_model.specs.Keeping.{Keeps}
 use Rattle.sql_model.specs.Spelling.{IsSpelled}
 use Rattle.sql_model.specs.Standing.{IsDesk, StandsFor}
-use Rattle.sql_commands.specs.Moving.{IsUnfit, Runs}
+use Rattle.sql_commands.specs.Moving.{IsUnfit}
 use Rattle.sql_commands.specs.declared.moves.Motion.{Motion}
 
 -- the text of an ask, if there is one, has at most ten million bytes
@@ -84,4 +84,3 @@ pub record IsNewTo (ask : Option Asked) (s : State) : Type 0 where
 pub record IsNewMove (ask : Option Asked) (id : ℕ) (why : Motion) (s : State) : Type 0 where
   pub here : IsNewTo ask s
   pub unfit : IsUnfit id why s
-  pub runs : Runs id why s

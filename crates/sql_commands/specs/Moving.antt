@@ -1,5 +1,5 @@
 -- What a move of a journey requests, its outcome, and what it leaves.
-use Rattle.std.specs.Prelude.{◌≡◌, ℕ, ◌+◌, ◌<◌, ◌≤◌, Bool, false, List, ⊤, Option, Some, None, Result, Ok, Err}
+use Rattle.std.specs.Prelude.{◌≡◌, ℕ, ◌+◌, ◌≤◌, Bool, false, List, ⊤, Option, Some, None, Result, Ok, Err, ◌<◌}
 use Rattle.allotment.specs.Want.{Wanted}
 use Rattle.plan.specs.Limits.{most_options}
 use Rattle.plan.specs.PlanModel.{Planned, want_at}
@@ -17,24 +17,24 @@ use Rattle.commands.specs.declared.replies.Refusal.TheVariants.{Finished}
 use Rattle.ledger.specs.Answer.{State, asker, answer_within, kept_for}
 use Rattle.ledger.specs.History.{net, last_of}
 use Rattle.ledger.specs.Ledger.{Journey, journey_at, history, fits}
-use Rattle.ledger.specs.Replies.{Answer}
+use Rattle.ledger.specs.Replies.{Answer, seen_journey}
 use Rattle.plan.specs.Rules as rules
 use Rattle.ledger.specs.JourneyChanges.{cursor_after}
 use Rattle.saga_core.specs.declared.records.Record.{Record}
-use Rattle.desk_sql.specs.declared.meta.Meta.{Meta}
 use Rattle.sql_model.specs.Standing.{IsDesk}
 use Rattle.sql_writes.specs.declared.events.Event.{Event}
 use Rattle.sql_writes.specs.declared.events.Event.TheVariants.{Transaction, Compensation, Turn, Save}
-use Rattle.sql_commands.specs.Answering.{Counts}
+use Rattle.sql_commands.specs.Answering.{AreNext}
 use Rattle.saga_core.specs.Cursors.{stepped_up, stepped_down, turned_to}
-use Rattle.sql_commands.specs.Placing.{IsSeen, SeesStand}
+use Rattle.sql_commands.specs.Placing.{IsSeen}
 use Rattle.saga_core.specs.Rulings.{Fits}
 use Rattle.sql_reads.specs.Reading.{stand_of}
 use Rattle.sql_reads.specs.declared.reads.Stand.{Stand}
 use Rattle.sql_reads.specs.declared.plan_rows.Choice.{Choice}
 use Rattle.sql_commands.specs.declared.step_outcome.Coming.{Coming}
 use Rattle.sql_commands.specs.declared.step_outcome.Coming.TheVariants as coming
-use Rattle.sql_commands.specs.declared.moves.Made.{Made}
+use Rattle.sql_commands.specs.declared.cursors.Found.{Found}
+use Rattle.sql_commands.specs.declared.cursors.Made.{Made}
 use Rattle.sql_commands.specs.declared.moves.Motion.{Motion}
 use Rattle.sql_commands.specs.declared.moves.Motion.TheVariants as motion
 
@@ -56,10 +56,13 @@ IsLastOption id step s option =
     (a : Journey) (c : ℕ) → journey_at s.ledger id ≡ Some a
     → last_of (net (history s.ledger id)) ≡ Some (step, c) → option ≡ c
 
--- if the move is that of a refused step, the journey's next want does not fit
+-- the journey runs, and its next want does not fit
+abbrev pub IsStuck : Record → State → Type 0
+IsStuck r s = (r.cursor.phase ≡ Run) × FitsNext r s false
+
+-- if the move is that of a refused step, the journey runs, and its next want does not fit
 abbrev pub IsUnfit : ℕ → Motion → State → Type 0
-IsUnfit id motion.Refused s =
-    (who : Option (List ℕ)) (r : Record) → IsSeen s who id r → FitsNext r s false
+IsUnfit id motion.Refused s = (who : Option (List ℕ)) (r : Record) → IsSeen s who id r → IsStuck r s
 IsUnfit id (motion.Abort p) s = ⊤
 IsUnfit id motion.Stop s = ⊤
 IsUnfit id motion.Save s = ⊤
@@ -86,38 +89,57 @@ Says id plan then (item.Save p) e = e ≡ Save (record { journey = id; position 
 abbrev pub IsEventOf : ℕ → Planned → Cursor → Item → Event → Type 0
 IsEventOf id plan at x e = Says id plan (cursor_after plan at x) x e
 
+-- an item that answers no step: a turn, or a save-point at the journey's position
+abbrev pub IsMove : Cursor → Item → Type 0
+IsMove c (item.Turn p cause) = ⊤
+IsMove c (item.Save p) = p ≡ c.pos
+IsMove c _ = ⊥
+
 -- the rules answer this item, and these are its event and the cursor after it
 pub record IsNextMade (id : ℕ) (r : Record) (answered : Answer) (m : Made) : Type 0 where
-  pub same : m.id ≡ id
   pub next : Fits id r.plan r.cursor answered (Ok m.item)
   pub says : IsEventOf id r.plan r.cursor m.item m.event
   pub cursor : m.cursor ≡ cursor_after r.plan r.cursor m.item
 
--- the next step of a journey at this cursor, with this option
-pub record IsStepUp (id : ℕ) (stand : Stand) (choice : Choice) (m : Made) : Type 0 where
-  pub same : m.id ≡ id
-  pub item_is : m.item ≡ item.Transaction (stand.cursor.pos + 1) choice.option
-  pub event : m.event ≡ Transaction (record {
-    journey = id;
-    step = stand.cursor.pos + 1;
-    option = choice.option;
-    want = choice.want;
-    cursor = m.cursor;
-  })
-  pub cursor : m.cursor ≡ stepped_up stand.steps stand.cursor
+-- the next step of a journey, with this option
+abbrev pub up_made : ℕ → Stand → Choice → Made
+up_made id stand choice =
+    let step = stand.cursor.pos + 1 in
+    let then = stepped_up stand.steps stand.cursor in
+    record {
+      item = item.Transaction step choice.option;
+      event = Transaction (record { journey = id; step = step; option = choice.option; want = choice.want; cursor = then });
+      cursor = then;
+    }
 
 -- the compensation of the last standing step, with this option
-pub record IsStepDown (id : ℕ) (stand : Stand) (choice : Choice) (m : Made) : Type 0 where
-  pub same : m.id ≡ id
-  pub item_is : m.item ≡ item.Compensation stand.cursor.pos choice.option
-  pub event : m.event ≡ Compensation (record {
-    journey = id;
-    step = stand.cursor.pos;
-    option = choice.option;
-    want = choice.want;
-    cursor = m.cursor;
-  })
-  pub cursor : m.cursor ≡ stepped_down stand.cursor
+abbrev pub down_made : ℕ → Stand → Choice → Made
+down_made id stand choice =
+    let step = stand.cursor.pos in
+    let then = stepped_down stand.cursor in
+    record {
+      item = item.Compensation step choice.option;
+      event = Compensation (record { journey = id; step = step; option = choice.option; want = choice.want; cursor = then });
+      cursor = then;
+    }
+
+-- the turn of a journey to this target, for this cause
+abbrev pub turn_made : ℕ → Stand → ℕ → Cause → Made
+turn_made id stand target cause =
+    let then = turned_to target cause stand.cursor in
+    record {
+      item = item.Turn target cause;
+      event = Turn (record { journey = id; target = target; cause = cause; cursor = then });
+      cursor = then;
+    }
+
+-- the save-point of a journey at its position
+abbrev pub save_made : ℕ → Stand → Made
+save_made id stand = record {
+  item = item.Save stand.cursor.pos;
+  event = Save (record { journey = id; position = stand.cursor.pos });
+  cursor = stand.cursor;
+}
 
 -- a move of a journey at this cursor turns it back to its start for this cause, whatever its plan
 abbrev pub LeadsToStart : Stand → Motion → Cause → Type 0
@@ -126,31 +148,22 @@ LeadsToStart stand (motion.Abort p) cause = (p ≡ 0) × (stand.cursor.phase ≡
 LeadsToStart stand motion.Stop cause = ⊥
 LeadsToStart stand motion.Save cause = ⊥
 
--- the turn of a journey at this cursor to its start, for this cause
-pub record IsTurnedToStart (id : ℕ) (stand : Stand) (cause : Cause) (m : Made) : Type 0 where
-  pub same : m.id ≡ id
-  pub item_is : m.item ≡ item.Turn 0 cause
-  pub event : m.event ≡ Turn (record {
-    journey = id;
-    target = 0;
-    cause = cause;
-    cursor = m.cursor;
-  })
-  pub cursor : m.cursor ≡ turned_to 0 cause stand.cursor
-
 -- `fitting` says whether the want fits
 abbrev pub FitsIn : Wanted → State → Bool → Type 0
 FitsIn want s fitting = fitting ≡ fits s.ledger (Some want)
 
--- what the rows of a step imply: it is done, or compensated, with this option; its want does not fit; or there is no
--- step
+-- what the rows of a step imply: it is done, or compensated, with this option; its want does not fit; or there is no step
 abbrev pub ComesFor : ℕ → Stand → State → Record → Answer → Coming → Type 0
-ComesFor id stand s r answered (coming.Up choice) =
-    (m : Made) → IsStepUp id stand choice m → IsNextMade id r answered m
-ComesFor id stand s r answered (coming.Down choice) =
-    (m : Made) → IsStepDown id stand choice m → IsNextMade id r answered m
-ComesFor id stand s r answered coming.Refused = FitsNext r s false
+ComesFor id stand s r answered (coming.Up choice) = IsNextMade id r answered (up_made id stand choice)
+ComesFor id stand s r answered (coming.Down choice) = IsNextMade id r answered (down_made id stand choice)
+ComesFor id stand s r answered coming.Refused = IsStuck r s
 ComesFor id stand s r answered coming.Nothing = Fits id r.plan r.cursor answered (Err Finished)
+
+-- the step or the compensation exists, and its option has a small number
+abbrev pub MayCome : Stand → Coming → Type 0
+MayCome stand (coming.Up choice) = (stand.cursor.pos < stand.steps) × (choice.option ≤ most_options)
+MayCome stand (coming.Down choice) = (1 ≤ stand.cursor.pos) × (choice.option ≤ most_options)
+MayCome stand _ = ⊤
 
 -- this is the outcome of a step of the journey at this cursor
 abbrev pub Comes : ℕ → Stand → State → Coming → Type 0
@@ -158,43 +171,35 @@ Comes id stand s c =
     (who : Option (List ℕ)) (r : Record) → IsSeen s who id r → stand_of r ≡ stand
     → ComesFor id stand s r (answer_within s.ledger who (request.Step id)) c
 
--- the step or the compensation exists, and its option has a small number; a journey whose step is refused runs
-abbrev pub MayCome : Stand → Coming → Type 0
-MayCome stand (coming.Up choice) = (stand.cursor.pos < stand.steps) × (choice.option ≤ most_options)
-MayCome stand (coming.Down choice) = (1 ≤ stand.cursor.pos) × (choice.option ≤ most_options)
-MayCome stand coming.Refused = stand.cursor.phase ≡ Run
-MayCome stand coming.Nothing = ⊤
-
--- The rules answer a request for which no reply is kept by this item of a journey, or by this refusal. The caller
--- sees the journey, and the numbers of `meta` are those of the ledger.
-pub record IsDue (s : State) (ask : Option Asked) (asked : Request) (counts : Meta) (id : ℕ)
-    (r : Record) (next : Result Item Refusal) : Type 0 where
-  pub desk : IsDesk s
-  pub new : kept_for s ask ≡ None
-  pub counted : Counts s counts
-  pub here : IsSeen s (asker ask) id r
-  pub answered : Fits id r.plan r.cursor (answer_within s.ledger (asker ask) asked) next
-
--- The event is that of an item that the rules answer, and this is the cursor of the journey after it.
-pub record IsMade (s : State) (ask : Option Asked) (counts : Meta) (why : Motion) (m : Made) : Type 0 where
+-- the numbers are those of the next event, and the caller sees a journey that is where it was found
+pub record IsFound (who : Option (List ℕ)) (s : State) (found : Found) : Type 0 where
+  pub counted : AreNext s found.numbers
   pub journey : Record
-  pub due : IsDue s ask (asked_for m.id why) counts m.id journey (Ok m.item)
-  pub says : IsEventOf m.id journey.plan journey.cursor m.item m.event
-  pub cursor : m.cursor ≡ cursor_after journey.plan journey.cursor m.item
+  pub seen : IsSeen s who found.id journey
+  pub stand : stand_of journey ≡ found.stand
 
--- if the move is that of a refused step, the journey runs
-abbrev pub Runs : ℕ → Motion → State → Type 0
-Runs id motion.Refused s = (who : Option (List ℕ)) (r : Record) → IsSeen s who id r → r.cursor.phase ≡ Run
-Runs id (motion.Abort p) s = ⊤
-Runs id motion.Stop s = ⊤
-Runs id motion.Save s = ⊤
+-- what is found of the journey of this number, or that the caller sees none
+abbrev pub SeesFound : Option (List ℕ) → ℕ → State → Option Found → Type 0
+SeesFound who id s None = seen_journey s.ledger who id ≡ None
+SeesFound who id s (Some found) = IsFound who s found
 
--- What was read for a move for which no reply is kept: the numbers of `meta` are those of the ledger, and the caller sees a journey
--- with these steps, tries and cursor. If the move is that of a refused step, the journey runs, and its next want does not fit.
-pub record IsRead (s : State) (ask : Option Asked) (counts : Meta) (id : ℕ) (stand : Stand) (why : Motion) : Type 0 where
+-- the rules answer a move for which no reply is kept by this item of the journey that was found, or by this refusal
+pub record IsDue (s : State) (ask : Option Asked) (found : Found) (why : Motion) (next : Result Item Refusal) : Type 0 where
   pub desk : IsDesk s
   pub new : kept_for s ask ≡ None
-  pub counted : Counts s counts
-  pub here : SeesStand (asker ask) id s (Some stand)
-  pub unfit : IsUnfit id why s
-  pub runs : Runs id why s
+  pub here : IsFound (asker ask) s found
+  pub answered : Fits found.id here.journey.plan here.journey.cursor (answer_within s.ledger (asker ask) (asked_for found.id why)) next
+
+-- the event is that of an item that the rules answer, and this is the cursor of the journey after it
+pub record IsMade (s : State) (ask : Option Asked) (found : Found) (why : Motion) (m : Made) : Type 0 where
+  pub due : IsDue s ask found why (Ok m.item)
+  pub says : IsEventOf found.id due.here.journey.plan due.here.journey.cursor m.item m.event
+  pub cursor : m.cursor ≡ cursor_after due.here.journey.plan due.here.journey.cursor m.item
+
+-- What was read for a move for which no reply is kept: the journey is where it was found. If the move is that of a refused step, the
+-- journey runs, and its next want does not fit.
+pub record IsRead (s : State) (ask : Option Asked) (found : Found) (why : Motion) : Type 0 where
+  pub desk : IsDesk s
+  pub new : kept_for s ask ≡ None
+  pub here : IsFound (asker ask) s found
+  pub unfit : IsUnfit found.id why s

@@ -1,9 +1,7 @@
 -- The cursor of a journey by its record, and the item that may come next.
-use Rattle.std.specs.Prelude.{◌≡◌, ℕ, ◌+◌, ◌<◌, ◌≤◌, ◌^◌, List, IsTrue, Option, Some, None}
-use Rattle.plan.specs.PlanModel.{Planned, step_count, option_count}
+use Rattle.std.specs.Prelude.{◌≡◌, ℕ, ◌<◌, ◌≤◌, ◌^◌, List, IsTrue, Option, Some}
+use Rattle.plan.specs.PlanModel.{step_count}
 use Rattle.commands.specs.declared.items.Cursor.{Cursor}
-use Rattle.commands.specs.declared.items.Item.{Item}
-use Rattle.commands.specs.declared.items.Item.TheVariants.{Transaction, Compensation, Turn, Save}
 use Rattle.commands.specs.declared.items.Phase.TheVariants.{Back}
 use Rattle.ledger.specs.History.{is_open}
 use Rattle.ledger.specs.Ledger as l
@@ -12,7 +10,6 @@ use Rattle.ledger.specs.Answer.{State}
 use Rattle.ledger.specs.Replies.{seen_journey}
 use Rattle.ledger.specs.Cursors.{cursor_of, marks_of}
 use Rattle.saga_core.specs.declared.records.Record.{Record}
-use Rattle.sql_reads.specs.Reading.{stand_of}
 use Rattle.sql_reads.specs.declared.reads.Stand.{Stand}
 
 -- An open journey is short of its last step, and above its target if it goes back; and no journey was refused more
@@ -22,24 +19,6 @@ pub record IsPlacedIn (steps : ℕ) (c : Cursor) : Type 0 where
   pub short : IsTrue (is_open c.phase) → c.pos < steps
   pub above : (p : ℕ) → c.phase ≡ Back p → p < c.pos
   pub counted : c.used < 2 ^ 62
-
--- the same, for a journey with this plan
-abbrev pub IsPlaced : Planned → Cursor → Type 0
-IsPlaced plan c = IsPlacedIn (step_count plan) c
-
--- the plan has this option of this step
-pub record HasOption (plan : Planned) (step option : ℕ) : Type 0 where
-  pub from_one : 1 ≤ step
-  pub in_plan : step ≤ step_count plan
-  pub first : 1 ≤ option
-  pub last : option ≤ option_count plan step
-
--- the item may come at this cursor, as far as numbers show
-abbrev pub MayBeMade : Planned → Cursor → Item → Type 0
-MayBeMade plan c (Transaction i k) = (i ≡ c.pos + 1) × HasOption plan i k
-MayBeMade plan c (Compensation i k) = (i ≡ c.pos) × HasOption plan i k
-MayBeMade plan c (Turn p cause) = p ≤ step_count plan
-MayBeMade plan c (Save p) = p ≡ c.pos
 
 -- a journey as it was begun
 abbrev pub begun_as : Record → l.Journey
@@ -51,11 +30,6 @@ pub record IsSeen (s : State) (who : Option (List ℕ)) (id : ℕ) (r : Record) 
   pub seen : seen_journey s.ledger who id ≡ Some (begun_as r)
   pub cursor : r.cursor ≡ cursor_of r.plan (history s.ledger id)
   pub marks : r.marks ≡ marks_of (history s.ledger id)
-
--- the agent, steps, tries and cursor that the caller sees of the journey of this number, or that there is none
-abbrev pub SeesStand : Option (List ℕ) → ℕ → State → Option Stand → Type 0
-SeesStand who id s None = seen_journey s.ledger who id ≡ None
-SeesStand who id s (Some stand) = (r : Record) × IsSeen s who id r × (stand_of r ≡ stand)
 
 -- the journey of this number has this agent, these steps and this cursor
 pub record StandsAt (id : ℕ) (stand : Stand) (s : State) : Type 0 where

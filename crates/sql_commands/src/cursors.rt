@@ -1,12 +1,36 @@
-//! Which cursors a journey may have, and which items may come at one, by numbers alone.
-ghost use Rattle.sql_commands.specs.Placing.{IsPlacedIn, HasOption, MayBeMade};
-ghost use Rattle.std.specs.Prelude.{◌≡◌, true};
+//! Where a journey is before it moves, and the item that it makes.
+ghost use Rattle.std.specs.Prelude.{◌≡◌, ◌≤◌, ◌<◌, ◌^◌, true};
+ghost use Rattle.plan.specs.Limits.{most_steps};
+ghost use Rattle.sql_commands.specs.Placing.{IsPlacedIn};
 
 use commands::{Cursor, Item, Phase};
-use plan::Plan;
+use sql_reads::Stand;
+use sql_writes::{Event, Numbers};
 
 /// More refused steps than a ledger may have events.
 const MOST_USED: usize = 1 << 62;
+
+/// What was read of a journey that is to move.
+#[derive(Clone, Copy)]
+pub(crate) struct Found {
+    /// The numbers that `meta` has after its next event.
+    pub numbers: Numbers,
+    /// The number of the journey.
+    pub id: u64,
+    /// Its agent, steps, tries and cursor.
+    pub stand: Stand,
+    ghost low: { id < 2 ^ 63 },
+    ghost few: { stand.steps ≤ most_steps },
+    ghost placed: { IsPlacedIn stand.steps stand.cursor },
+}
+
+/// An item of a journey, with its event, and the cursor of the journey after it.
+#[derive(Clone, Copy)]
+pub(crate) struct Made<'x> {
+    pub item: Item,
+    pub event: Event<'x>,
+    pub cursor: Cursor,
+}
 
 /// Whether a journey of so many steps may have this cursor.
 pub(crate) fn is_placed(steps: usize, cursor: Cursor) -> bool
@@ -20,27 +44,4 @@ pub(crate) fn is_placed(steps: usize, cursor: Cursor) -> bool
         Phase::Ended | Phase::Undone => pos <= steps,
     };
     is_there && used < MOST_USED
-}
-
-/// Whether an item may come at this cursor, as far as its numbers show.
-pub(crate) fn may_be_made(plan: &Plan, cursor: Cursor, item: Item) -> bool
-    ensures may { result ≡ true → MayBeMade plan.now cursor item }
-    ensures exact { MayBeMade plan.now cursor item → result ≡ true }
-{
-    match item {
-        Item::Transaction { step, option } => {
-            step > cursor.pos && step - 1 == cursor.pos && is_option(plan, step, option)
-        }
-        Item::Compensation { step, option } => step == cursor.pos && is_option(plan, step, option),
-        Item::Turn { target, .. } => target <= plan.steps(),
-        Item::Save { position } => position == cursor.pos,
-    }
-}
-
-/// Whether a plan has this option of this step.
-fn is_option(plan: &Plan, step: usize, option: usize) -> bool
-    ensures has { result ≡ true → HasOption plan.now step option }
-    ensures exact { HasOption plan.now step option → result ≡ true }
-{
-    1 <= step && step <= plan.steps() && 1 <= option && option <= plan.options(step)
 }

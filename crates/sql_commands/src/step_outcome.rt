@@ -2,24 +2,24 @@
 //!
 //! A want that fits is taken, and a step is compensated, without the other rows of the plan. If the want does not fit,
 //! the journey turns, and more of the plan is read only if a try is left.
-ghost use Rattle.std.specs.Prelude.{◌≡◌, ◌≤◌, ◌<◌, ◌^◌, false, IfOk};
+ghost use Rattle.std.specs.Prelude.{◌≡◌, ◌≤◌, ◌<◌, false, IfOk};
 ghost use Rattle.std.specs.Option.{option_copied as asked_by};
-ghost use Rattle.plan.specs.Limits.{most_options, most_steps};
+ghost use Rattle.plan.specs.Limits.{most_options};
 ghost use Rattle.desk_sql.specs.declared.versions.Version.TheVariants.{Two};
 ghost use Rattle.sql_reads.specs.Reads.{Read, ReadIn};
 ghost use Rattle.sql_commands.specs.Executing.{Replies};
 ghost use Rattle.sql_commands.specs.Failing.{IsNewTo};
-ghost use Rattle.sql_commands.specs.Moving.{Comes, FitsIn, MayCome, IsStepUp, IsStepDown};
-ghost use Rattle.sql_commands.specs.Placing.{IsPlacedIn, StandsAt};
+ghost use Rattle.sql_commands.specs.Moving.{Comes, FitsIn, MayCome, down_made, up_made};
+ghost use Rattle.sql_commands.specs.Placing.{StandsAt};
 ghost use Rattle.commands.specs.Request.{Step};
 ghost use Rattle.sql_writes.specs.Kinds.{IsSmall};
 
-use crate::answering::read_counts;
-use crate::moves::{Made, Motion, answer_motion, find_stand, make_event};
+use crate::cursors::{Found, Made};
+use crate::moves::{Motion, answer_motion, find_stand, make_event};
 use allotment::{Want, fits};
 use commands::{Ask, Fault, Item, Phase, Refusal, Reply};
 use saga_core::{cursor_down, cursor_up};
-use sql_reads::{Choice, Stand, last_choice, next_choice, read_cells};
+use sql_reads::{Choice, last_choice, next_choice, read_cells};
 use sql_writes::{Event, StepMade};
 use sqlite::{Alter, Connection};
 use std::alloc::Global;
@@ -37,60 +37,50 @@ pub(crate) enum Coming {
     Nothing,
 }
 
-/// The next step of a journey at this cursor, with this option.
-fn step_up<'x>(id: u64, stand: &Stand, choice: &Choice) -> Made<'x>
-    requires id { id < 2 ^ 63 }
-    requires placed { IsPlacedIn stand.now.steps stand.now.cursor }
-    requires below { stand.now.cursor.pos < stand.now.steps }
-    requires few_steps { stand.now.steps ≤ most_steps }
-    requires few_options { choice.now.option ≤ most_options }
+/// The next step of a journey, with this option.
+fn step_up<'x>(found: &Found, choice: &Choice) -> Made<'x>
+    requires below { found.now.stand.cursor.pos < found.now.stand.steps }
+    requires few { choice.now.option ≤ most_options }
 
-    ensures up { IsStepUp id stand.now choice.now result }
+    ensures up { result ≡ up_made found.now.id found.now.stand choice.now }
     ensures small { IsSmall result.event }
 {
-    let step = stand.cursor.pos + 1;
+    let step = found.stand.cursor.pos + 1;
     let option = choice.option;
-    let cursor = cursor_up(stand.steps, stand.cursor);
-    let event = Event::Transaction(StepMade {
-        journey: id,
-        step,
-        option,
-        want: choice.want,
-        cursor,
-    });
+    let cursor = cursor_up(found.stand.steps, found.stand.cursor);
     Made {
-        id,
         item: Item::Transaction { step, option },
-        event,
+        event: Event::Transaction(StepMade {
+            journey: found.id,
+            step,
+            option,
+            want: choice.want,
+            cursor,
+        }),
         cursor,
     }
 }
 
-/// The compensation of the last standing step of a journey at this cursor, with this option.
-fn step_down<'x>(id: u64, stand: &Stand, choice: &Choice) -> Made<'x>
-    requires id { id < 2 ^ 63 }
-    requires placed { IsPlacedIn stand.now.steps stand.now.cursor }
-    requires above { 1 ≤ stand.now.cursor.pos }
-    requires few_steps { stand.now.steps ≤ most_steps }
-    requires few_options { choice.now.option ≤ most_options }
+/// The compensation of the last standing step of a journey, with this option.
+fn step_down<'x>(found: &Found, choice: &Choice) -> Made<'x>
+    requires above { 1 ≤ found.now.stand.cursor.pos }
+    requires few { choice.now.option ≤ most_options }
 
-    ensures down { IsStepDown id stand.now choice.now result }
+    ensures down { result ≡ down_made found.now.id found.now.stand choice.now }
     ensures small { IsSmall result.event }
 {
-    let step = stand.cursor.pos;
+    let step = found.stand.cursor.pos;
     let option = choice.option;
-    let cursor = cursor_down(stand.cursor);
-    let event = Event::Compensation(StepMade {
-        journey: id,
-        step,
-        option,
-        want: choice.want,
-        cursor,
-    });
+    let cursor = cursor_down(found.stand.cursor);
     Made {
-        id,
         item: Item::Compensation { step, option },
-        event,
+        event: Event::Compensation(StepMade {
+            journey: found.id,
+            step,
+            option,
+            want: choice.want,
+            cursor,
+        }),
         cursor,
     }
 }
@@ -109,21 +99,17 @@ fn fits_nights<S: Alter>(
     }
 }
 
-/// Finds the outcome of a step of a journey at this cursor.
+/// Finds the outcome of a step of a journey.
 fn find_coming<S: Alter>(
     alloc: Global,
     conn: &mut Connection<S>,
-    id: u64,
-    stand: &Stand,
+    found: &Found,
 ) -> Result<Coming, Fault>
-    requires id { id < 2 ^ 63 }
-    requires placed { IsPlacedIn stand.now.steps stand.now.cursor }
-    requires few { stand.now.steps ≤ most_steps }
-
-    ensures read { ReadIn S.Store conn.old conn.new Two result (StandsAt id stand.now)
-        (Comes id stand.now) }
-    ensures may { IfOk result (MayCome stand.now) }
+    ensures read { ReadIn S.Store conn.old conn.new Two result (StandsAt found.now.id found.now.stand)
+        (Comes found.now.id found.now.stand) }
+    ensures may { IfOk result (MayCome found.now.stand) }
 {
+    let Found { id, stand, .. } = *found;
     match stand.cursor.phase {
         Phase::Run => {
             let choice = next_choice(alloc, conn, id, stand.cursor.pos + 1, stand.cursor.used)?;
@@ -154,21 +140,18 @@ pub(crate) fn answer_step<S: Alter>(
     ensures { Replies S.Store conn.old conn.new (asked_by ask.entry) (Step id)
         (IsNewTo (asked_by ask.entry)) result }
 {
-    let counts = read_counts(conn)?;
     match find_stand(conn, id, ask) {
         Ok(None) => Ok(Reply::Refused(Refusal::NoJourney)),
-        Ok(Some(stand)) => match find_coming(alloc, conn, id, &stand)? {
+        Ok(Some(found)) => match find_coming(alloc, conn, &found)? {
             Coming::Up(choice) => {
-                let made = step_up(id, &stand, &choice);
-                make_event(alloc, conn, counts, &made, ask)
+                let made = step_up(&found, &choice);
+                make_event(alloc, conn, &found, &made, ask)
             }
             Coming::Down(choice) => {
-                let made = step_down(id, &stand, &choice);
-                make_event(alloc, conn, counts, &made, ask)
+                let made = step_down(&found, &choice);
+                make_event(alloc, conn, &found, &made, ask)
             }
-            Coming::Refused => {
-                answer_motion(alloc, conn, counts, id, &stand, Motion::Refused, ask)
-            }
+            Coming::Refused => answer_motion(alloc, conn, &found, Motion::Refused, ask),
             Coming::Nothing => Ok(Reply::Refused(Refusal::Finished)),
         },
         Err(fault) => Err(fault),

@@ -29,18 +29,18 @@ returns-in-Abort g c =
     let ask = option_copied c.args.ask in
     subst (λ k. Replies g.S.Store c.args.conn.now c.answer_move.new.conn ask (request_of k) (IsNewTo ask) c.answer_move.result)
     (sym c.in-Abort.is)
-    (executes_where c.answer_move.ensures (λ s due. record { here = due; unfit = tt; runs = tt }))
+    (executes_where c.answer_move.ensures (λ s due. record { here = due; unfit = tt }))
 
 pub returns-in-Stop : goal.returns-in-Stop
 returns-in-Stop g c =
     let ask = option_copied c.args.ask in
     subst (λ k. Replies g.S.Store c.args.conn.now c.answer_move-in-Stop.new.conn ask (request_of k) (IsNewTo ask) c.answer_move-in-Stop.result)
     (sym c.in-Stop.is)
-    (executes_where c.answer_move-in-Stop.ensures (λ s due. record { here = due; unfit = tt; runs = tt }))
+    (executes_where c.answer_move-in-Stop.ensures (λ s due. record { here = due; unfit = tt }))
 
 pub returns-in-Save : goal.returns-in-Save
 returns-in-Save g c =
     let ask = option_copied c.args.ask in
     subst (λ k. Replies g.S.Store c.args.conn.now c.answer_move-in-Save.new.conn ask (request_of k) (IsNewTo ask) c.answer_move-in-Save.result)
     (sym c.in-Save.is)
-    (executes_where c.answer_move-in-Save.ensures (λ s due. record { here = due; unfit = tt; runs = tt }))
+    (executes_where c.answer_move-in-Save.ensures (λ s due. record { here = due; unfit = tt }))

@@ -1,5 +1,5 @@
 -- The item is what the rules answer.
-use Rattle.std.proofs.Common.{refl, option_copied}
+use Rattle.std.proofs.Common.{option_copied}
 use Rattle.sql_commands.specs.Moving.{asked_for}
 use Rattle.sql_commands.proofs.EventCommits.{made_answered}
 use Rattle.sql_commands.proofs.Executing.{executes_where}
@@ -7,5 +7,5 @@ use Rattle.sql_commands.proofs.moves.make_event.Goals as goal
 
 pub returns : goal.returns
 returns g c why =
-    executes_where (c.commit_answered.ensures (asked_for c.args.made.now.id why))
-    (λ s made. made_answered s (option_copied c.args.ask) c.args.counts _ c.args.made.now why refl refl made)
+    executes_where (c.commit_answered.ensures (asked_for c.args.found.now.id why))
+    (λ s made. made_answered s (option_copied c.args.ask) c.args.found.now c.args.made.now why made)
