@@ -155,9 +155,7 @@ module _ (s : State) (desk : IsDesk s) (who : Option (List ℕ)) (id : ℕ) (r :
       → Fits id r.plan r.cursor (answer_within s.ledger who (asked_for id why)) (Ok (item.Turn 0 cause))
   start_at motion.Refused cause leads unfit = rw leads.1 (refused_at (unfit who r is) leads.0)
   start_at (motion.Abort p) cause leads unfit =
-      subst
-      (λ q. Fits id r.plan r.cursor (answer_move s.ledger id (abort_choices q) NoSavePoint (seen_journey s.ledger who id)) (Ok (item.Turn 0 cause)))
-      (sym leads.0) (rw leads.2 (asked_at leads.1))
+      rw (leads.0, leads.2) (asked_at leads.1)
   start_at motion.Stop cause leads unfit = absurd leads
   start_at motion.Save cause leads unfit = absurd leads
 

@@ -1,15 +1,16 @@
 -- The rows of an event lead to the state with it, and a move to the outcome that the rules answer. For the lemmas of each request.
-use Rattle.std.proofs.Common.{◌≡◌, ℕ, ◌+◌, length, Option, Some, None, IsTrue, sym, ap, subst, ◌∙◌, refl}
+use Rattle.std.proofs.Common.{◌≡◌, ℕ, ◌+◌, length, Option, Some, None, IsTrue, sym, ap, ◌∙◌, refl}
 use Rattle.allotment.specs.Want.{Wanted}
 use Rattle.plan.specs.PlanModel.{want_at}
 use Rattle.commands.specs.Asks.{Asked}
+use Rattle.commands.specs.Request.{Request}
 use Rattle.commands.specs.Texts.{reply_line}
 use Rattle.commands.specs.declared.items.Cause.{Cause}
 use Rattle.commands.specs.declared.items.Cursor.{Cursor}
 use Rattle.commands.specs.declared.items.Item.{Item}
 use Rattle.commands.specs.declared.items.Item.TheVariants as item
 use Rattle.commands.specs.declared.replies.Reply.{Reply}
-use Rattle.ledger.specs.Answer.{State, kept_for, state_with, Outcome, asker, answer_within, is_request, carried_out, outcome}
+use Rattle.ledger.specs.Answer.{State, kept_for, state_with, Outcome, asker, answer_within, is_request, carried_out}
 use Rattle.ledger.specs.Ledger.{Did, Journey, journeys, journey_at, history, is_allowed, fits}
 use Rattle.ledger.specs.JourneyChanges.{cursor_after}
 use Rattle.ledger.specs.Cursors.{cursor_of}
@@ -102,18 +103,10 @@ module _ (s : State) (ask : Option Asked) (reply : Reply) (id : ℕ) (a : Journe
   -- an item of any kind
   pub item_leads : (x : Item) (e : Event) → Says id a.plan then x e → IsMade s ask id a x n then
       → LeadsTo n e ask (reply_line reply) s (state_with s ask reply (Some (Did id x)))
-  item_leads (item.Transaction i c) e says is =
-      subst (λ v. LeadsTo n v ask (reply_line reply) s (state_with s ask reply (Some (Did id (item.Transaction i c)))))
-      (sym says.2) (transaction_leads i c says.0 says.1 is)
-  item_leads (item.Compensation i c) e says is =
-      subst (λ v. LeadsTo n v ask (reply_line reply) s (state_with s ask reply (Some (Did id (item.Compensation i c)))))
-      (sym says.2) (compensation_leads i c says.0 says.1 is)
-  item_leads (item.Turn p cause) e says is =
-      subst (λ v. LeadsTo n v ask (reply_line reply) s (state_with s ask reply (Some (Did id (item.Turn p cause)))))
-      (sym says) (turn_leads p cause is)
-  item_leads (item.Save p) e says is =
-      subst (λ v. LeadsTo n v ask (reply_line reply) s (state_with s ask reply (Some (Did id (item.Save p)))))
-      (sym says) (save_leads p is)
+  item_leads (item.Transaction i c) e says is = rw says.2 (transaction_leads i c says.0 says.1 is)
+  item_leads (item.Compensation i c) e says is = rw says.2 (compensation_leads i c says.0 says.1 is)
+  item_leads (item.Turn p cause) e says is = rw says (turn_leads p cause is)
+  item_leads (item.Save p) e says is = rw says (save_leads p is)
 
 -- The outcome of a move of a journey, by the answer of the rules.
 
@@ -126,19 +119,20 @@ move_request id _ = refl
 abbrev pub IsRefused : State → Option Asked → ℕ → Motion → Refusal → Type 0
 IsRefused s ask id why refusal = IsUnmoved s ask (asked_for id why) (reply.Refused refusal)
 
-by_outcome : (s : State) (ask : Option Asked) (id : ℕ) (why : Motion) (refusal : Refusal)
-    → outcome s ask (asked_for id why) ≡ carried_out s ask (refused refusal) → IsRefused s ask id why refusal
-by_outcome s ask id why refusal e = record {
-  replied = sym (ap (λ (o : Outcome). o.reply) e);
-  same = ap (λ (o : Outcome). o.state) e;
-}
+-- if the rules name no event, nothing changes
+pub unmoved : (s : State) (ask : Option Asked) (asked : Request) (a : Answer) → kept_for s ask ≡ None → a.event ≡ None
+    → answer_within s.ledger (asker ask) asked ≡ a → IsUnmoved s ask asked a.reply
+unmoved s ask asked a new none is =
+    let comes = outcome-no_event s ask asked new (ap (λ (x : Answer). x.event) is ∙ none) ∙ ap (carried_out s ask) is in
+    record {
+      replied = sym (ap (λ (o : Outcome). o.reply) comes);
+      same = ap (λ (o : Outcome). o.state) comes ∙ ap (state_with s ask a.reply) none;
+    }
 
 -- a refusal of the rules is the reply, and nothing changes
 pub answered_refused : (s : State) (ask : Option Asked) (id : ℕ) (why : Motion) (refusal : Refusal) → kept_for s ask ≡ None
     → answer_within s.ledger (asker ask) (asked_for id why) ≡ refused refusal → IsRefused s ask id why refusal
-answered_refused s ask id why refusal new answered =
-    by_outcome s ask id why refusal (outcome-no_event s ask (asked_for id why) new (ap (λ (a : Answer). a.event) answered)
-    ∙ ap (carried_out s ask) answered)
+answered_refused s ask id why refusal new answered = unmoved s ask (asked_for id why) (refused refusal) new refl answered
 
 -- a move of a journey that the caller does not see is refused
 unseen_answer : (s : State) (ask : Option Asked) (id : ℕ) (why : Motion) → seen_journey s.ledger (asker ask) id ≡ None

@@ -10,12 +10,12 @@ use Rattle.allotment.specs.declared.places.Held.{Held as HeldPlaces}
 use Rattle.commands.specs.Asks.{Asked}
 use Rattle.commands.specs.Names.{is_batch_name}
 use Rattle.commands.specs.Batches.{is_batch, is_good_row, are_distinct}
-use Rattle.commands.specs.Request.{Request, Load}
+use Rattle.commands.specs.Request.{Load}
 use Rattle.commands.specs.declared.replies.Refusal.{Refusal}
 use Rattle.commands.specs.declared.replies.Refusal.TheVariants.{BelowHeld, BatchDiffers}
 use Rattle.commands.specs.declared.replies.Reply.{Reply}
 use Rattle.commands.specs.declared.replies.Reply.TheVariants as reply
-use Rattle.ledger.specs.Answer.{State, Answer, Outcome, asker, answer_within, kept_for, carried_out, state_with}
+use Rattle.ledger.specs.Answer.{State, Answer, asker, answer_within, kept_for}
 use Rattle.ledger.specs.Ledger.{Loaded, is_not_below_held}
 use Rattle.ledger.specs.Replies.{refused, loaded, answer_known, answer_new, answer_load, are_same_rows}
 use Rattle.sqlite_rules.specs.Lists.{Has}
@@ -25,11 +25,11 @@ use Rattle.desk_sql.specs.declared.batches.BatchFound.{BatchFound}
 use Rattle.sql_model.specs.ExpectedRows.{batch_text}
 use Rattle.sql_model.specs.Standing.{StandsFor, IsDesk}
 use Rattle.sql_model.proofs.Batches.{batch_read, named_good}
-use Rattle.sql_model.proofs.Keeping.{outcome-no_event}
 use Rattle.sql_model.proofs.Lines.{same_batch}
 use Rattle.sql_writes.specs.declared.events.Numbers.{Numbers}
 use Rattle.sql_commands.specs.Loading.{IsTextOf, TellsName, AnswersKnown, TellsBelow, IsNewName, IsLoadDue}
 use Rattle.sql_commands.proofs.Executing.{IsUnmoved}
+use Rattle.sql_commands.proofs.LeadLemmas.{unmoved}
 use Rattle.sql_commands.proofs.LoadRows.{none_below}
 
 -- the rows of a batch keep the limits
@@ -73,16 +73,6 @@ known_answer name rows known content b batch good text same =
     go false false e = refl
     go true false e = cc
     go false true e = cc
-
--- if the rules name no event, nothing changes
-unmoved : (s : State) (ask : Option Asked) (asked : Request) (a : Answer) → kept_for s ask ≡ None → a.event ≡ None
-    → answer_within s.ledger (asker ask) asked ≡ a → IsUnmoved s ask asked a.reply
-unmoved s ask asked a new none is =
-    let comes = outcome-no_event s ask asked new (ap (λ (x : Answer). x.event) is ∙ none) ∙ ap (carried_out s ask) is in
-    record {
-      replied = sym (ap (λ (o : Outcome). o.reply) comes);
-      same = ap (λ (o : Outcome). o.state) comes ∙ ap (state_with s ask a.reply) none;
-    }
 
 module _ (s : State) (ask : Option Asked) (name : List ℕ) (rows : List Row) where
   -- a batch with a known name

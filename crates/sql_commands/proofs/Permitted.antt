@@ -181,30 +181,24 @@ module _ (s : State) (spelled : IsSpelled s.ledger) (ask : Option Asked) (id : �
 
   -- each item is permitted
   pub item_permitted : (x : Item) (e : Written) → Says id a.plan then x e → IsMade s ask id a x n then → Permits n e t
-  item_permitted (item.Turn p cause) e says is =
-      subst (λ v. Permits n v t) (sym says) (may_move_on (item.Turn p cause) is)
+  item_permitted (item.Turn p cause) e says is = rw says (may_move_on (item.Turn p cause) is)
   item_permitted (item.Save p) e says is =
-      subst (λ v. Permits n v t) (sym says)
-      (record {
+      rw says (record {
         item = may_add (item.Save p) is;
         mark = record { journey_is = has_journey t s st id a is.at; unmarked = unmarked p is };
       })
   item_permitted (item.Compensation i c) e says is =
-      let w = says.0 in
-      subst (λ v. Permits n v t) (sym says.2)
-      (record {
+      rw says.2 (record {
         move = may_move_on (item.Compensation i c) is;
-        held = have_held i c w says.1 is;
+        held = have_held i c says.0 says.1 is;
         cells = short_cells t s st is.desk;
         options = short_options t s st is.desk;
       })
   item_permitted (item.Transaction i c) e says is =
-      let w = says.0 in
-      subst (λ v. Permits n v t) (sym says.2)
-      (record {
+      rw says.2 (record {
         move = may_move_on (item.Transaction i c) is;
-        free = λ r range. nights_have_free s.ledger t is.desk.legal st.stock r w range
-            (wanted_nights s.ledger id i c a w is.desk.legal is.at says.1)
+        free = λ r range. nights_have_free s.ledger t is.desk.legal st.stock r says.0 range
+            (wanted_nights s.ledger id i c a says.0 is.desk.legal is.at says.1)
             (ap (fits s.ledger) (sym says.1) ∙ transaction_fits s.ledger id i c a is.at is.may);
         cells = short_cells t s st is.desk;
         options = short_options t s st is.desk;

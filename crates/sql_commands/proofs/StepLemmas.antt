@@ -43,12 +43,6 @@ use Rattle.sql_commands.specs.Moving.{FitsNext, IsLastOption, IsMove}
 
 -- Records.
 
--- a journey is its agent and its plan
-one_journey : (a : Journey) (agent : List ℕ) (plan : Planned) → a.agent ≡ agent → a.plan ≡ plan
-    → a ≡ record { agent = agent; plan = plan }
-one_journey a agent plan e f =
-    let with : List ℕ → Planned → Journey = λ x p. record { agent = x; plan = p } in ap (λ x. with x a.plan) e ∙ ap (with agent) f
-
 -- a record that a read returned is that of the journey with its number
 record IsShown (l : List Event) (id : ℕ) (r : Record) : Type 0 where
   at : journey_at l id ≡ Some (begun_as r)
@@ -64,12 +58,11 @@ shown_of l id r (Some a) e = (a, refl, cc)
 shown : (l : List Event) (id : ℕ) (r : Record) → Some r ≡ record_of l id → IsShown l id r
 shown l id r e =
     let of = shown_of l id r (journey_at l id) e in
-    let agent : r.agent ≡ of.0.agent = ap (λ (b : Record). b.agent) of.2 in
     let plan : r.plan ≡ of.0.plan = ap (λ (b : Record). b.plan) of.2 in
     let cursor : r.cursor ≡ cursor_of of.0.plan (history l id) = ap (λ (b : Record). b.cursor) of.2 in
     let marks : r.marks ≡ marks_of (history l id) = ap (λ (b : Record). b.marks) of.2 in
     record {
-      at = of.1 ∙ ap Some (one_journey of.0 r.agent r.plan (sym agent) (sym plan));
+      at = of.1 ∙ ap (λ b. Some (begun_as b)) (sym of.2);
       cursor = cursor ∙ ap (λ p. cursor_of p (history l id)) (sym plan);
       marks = marks;
     }
@@ -181,12 +174,10 @@ comes_so plan h fit real (Transaction i c) forward is comes =
     subst (λ b. may_come plan h b (Transaction i c) ≡ true) (is (running-is _ k.running)) comes
 comes_so plan h fit real (Compensation i c) forward is comes =
     let k = compensation-comes plan h fit i c comes in compensation-may_come plan h real i c k.back k.last
-comes_so plan h fit real (Turn p Stop) forward is comes = cc
 comes_so plan h fit real (Turn p Refused) forward is comes =
     let k = refused-comes plan h fit p comes in
     subst (λ b. may_come plan h b (Turn p Refused) ≡ true) (is (running-is _ k.running)) comes
-comes_so plan h fit real (Turn p Asked) forward is comes = cc
-comes_so plan h fit real (Save p) forward is comes = cc
+comes_so plan h fit real _ forward is comes = cc
 
 -- the item that the decision names is the item of the answer
 said_item : (s : State) (id : ℕ) (a : Journey) (fit : Bool) (decided : Move) (next : Result Item Refusal) (x : Item)
@@ -195,33 +186,14 @@ said_item : (s : State) (id : ℕ) (a : Journey) (fit : Bool) (decided : Move) (
 said_item s id a fit (move.Take i c) next (Transaction k d) at said named comes =
     let both = and_parts (i == k) (c == d) named in
     said ∙ ap₂ (λ n m. Ok (Transaction n m)) (eqb-true i k both.0) (eqb-true c d both.1)
-said_item s id a fit (move.Take i c) next (Compensation k d) at said named comes = cc
-said_item s id a fit (move.Take i c) next (Turn p why) at said named comes = cc
-said_item s id a fit (move.Take i c) next (Save p) at said named comes = cc
-said_item s id a fit (move.Undo i) next (Transaction k d) at said named comes = cc
 said_item s id a fit (move.Undo i) next (Compensation k d) at said named comes =
     let same = eqb-true i k named in
     let last = (compensation-comes a.plan (history s.ledger id) fit k d comes).last in
     let option : said.0 ≡ d = said.1 a d at (last ∙ ap (λ n. Some (n, d)) (sym same)) in
     said.2 ∙ ap₂ (λ n m. Ok (Compensation n m)) same option
-said_item s id a fit (move.Undo i) next (Turn p why) at said named comes = cc
-said_item s id a fit (move.Undo i) next (Save p) at said named comes = cc
-said_item s id a fit (move.Turn p) next (Transaction k d) at said named comes = cc
-said_item s id a fit (move.Turn p) next (Compensation k d) at said named comes = cc
-said_item s id a fit (move.Turn p) next (Turn q Stop) at said named comes = cc
 said_item s id a fit (move.Turn p) next (Turn q Refused) at said named comes =
     said ∙ ap (λ n. Ok (Turn n Refused)) (eqb-true p q named)
-said_item s id a fit (move.Turn p) next (Turn q Asked) at said named comes = cc
-said_item s id a fit (move.Turn p) next (Save q) at said named comes = cc
-said_item s id a fit move.Nothing next x at said named comes = nothing x named
-  where
-    nothing : (y : Item) → names move.Nothing y ≡ true → next ≡ Ok x
-    nothing (Transaction k d) e = cc
-    nothing (Compensation k d) e = cc
-    nothing (Turn q Stop) e = cc
-    nothing (Turn q Refused) e = cc
-    nothing (Turn q Asked) e = cc
-    nothing (Save q) e = cc
+said_item s id a fit _ next _ at said named comes = cc
 
 -- the decision on a record that the caller sees is the answer of the rules
 pub step_next : (s : State) (legal : IsLegal s.ledger) (who : Option (List ℕ)) (id : ℕ) (r : Record) (is : IsSeen s who id r)
