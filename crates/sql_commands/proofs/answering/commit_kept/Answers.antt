@@ -1,21 +1,17 @@
 -- With an ask there is one more row, that of its reply.
-use Rattle.std.proofs.Common.{inl, subst, sym, ◌∙◌, arith, option_copied}
+use Rattle.std.proofs.Common.{inl, ◌∙◌, arith}
 use Rattle.commands.specs.Texts.{reply_line}
 use Rattle.desk_sql.proofs.Quieting.{quiet_alone}
 use Rattle.desk_sql.proofs.Rowids.{rowids_fewer}
 use Rattle.sql_model.proofs.Quieting.{quiet_up}
-use Rattle.sql_writes.specs.Commits.{CommitsEvent}
 use Rattle.sql_commands.proofs.answering.commit_kept.Goals as goal
 
 pub returns-in-None : goal.returns-in-None
-returns-in-None g c =
-    subst (λ o. CommitsEvent g.S.Store c.args.conn.now c.commit_event.new.conn c.args.numbers c.args.event.now (option_copied o) (reply_line c.args.reply.now) c.commit_event.result)
-    (sym c.in-None.is) (c.commit_event.ensures.commits (reply_line c.args.reply.now) tt)
+returns-in-None g c = rw c.in-None.is (c.commit_event.ensures.commits (reply_line c.args.reply.now) tt)
 
 pub returns-in-Ok : goal.returns-in-Ok
 returns-in-Ok g c =
-    subst (λ o. CommitsEvent g.S.Store c.args.conn.now c.commit_event-in-Ok.new.conn c.args.numbers c.args.event.now (option_copied o) (reply_line c.args.reply.now) c.commit_event-in-Ok.result)
-    (sym c.in-Some.is) (c.commit_event-in-Ok.ensures.commits (reply_line c.args.reply.now) (c.as_str-line.ensures.value ∙ c.in-Ok.ensures.line))
+    rw c.in-Some.is (c.commit_event-in-Ok.ensures.commits (reply_line c.args.reply.now) (c.as_str-line.ensures.value ∙ c.in-Ok.ensures.line))
 
 -- nothing was written
 pub returns-in-Err : goal.returns-in-Err
