@@ -262,7 +262,8 @@ module _ (s : State) (ask : Option Asked) (found : Found) where
     cursor = ap (λ (x : Stand). turned_to p cause x.cursor) (sym due.here.stand);
   }
 
-  pub save_is : (why : Motion) → IsDue s ask found why (Ok (item.Save found.stand.cursor.pos)) → IsMade s ask found why (save_made found.id found.stand)
+  pub save_is : (why : Motion) → IsDue s ask found why (Ok (item.Save found.stand.cursor.pos))
+      → IsMade s ask found why (save_made found.id found.stand)
   save_is why due = record { due = due; says = refl; cursor = ap (λ (x : Stand). x.cursor) (sym due.here.stand) }
 
   -- the turn to the start is made

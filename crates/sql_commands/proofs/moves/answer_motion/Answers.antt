@@ -40,4 +40,5 @@ returns-in_err-next g c =
     let same = read_seen s ask found c.in_ok-journey.journey read.here record_is in
     let too : c.next_of.result ≡ Err Store = search rules in
     not_failed c.next_of.result (c.next_of.ensures.there (λ is.
-    subst (λ (r : Record). r.cursor.phase ≡ Run) same (subst (λ x. IsUnfit found.id x s) is read.unfit (asker ask) read.here.journey read.here.seen).0)) too)
+    let unfit = subst (λ x. IsUnfit found.id x s) is read.unfit in
+    subst (λ (r : Record). r.cursor.phase ≡ Run) same (unfit (asker ask) read.here.journey read.here.seen).0)) too)

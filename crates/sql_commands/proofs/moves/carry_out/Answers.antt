@@ -32,7 +32,8 @@ returns-then-target-gt-MOST_STEPS g c why =
     let found = c.args.found.now in
     rw (c.in-Ok.is, c.in-Turn.is) (fails_alone c.requires.outside (λ s due store.
     let here = due.here in
-    let within = turn_possible s due.desk (asker (option_copied c.args.ask)) found.id here.journey c.in-Turn.target c.in-Turn.cause here.seen why due.answered in
+    let who = asker (option_copied c.args.ask) in
+    let within = turn_possible s due.desk who found.id here.journey c.in-Turn.target c.in-Turn.cause here.seen why due.answered in
     let steps = ap (λ (x : Stand). x.steps) here.stand in
     omega arith))
 
