@@ -343,6 +343,7 @@ git checkout -q crates.txt tests
 python3 -B - "$tests/.." >turns 2>&1 <<'PY'
 import sys
 sys.path.insert(0, sys.argv[1] + "/scripts/gate")
+from edits import edits_of, texts_of
 from tables import Tables
 from turns import landing_of, mutant_turns, mutants_in, part_of_script, share_of, test_turns
 tables = Tables(sys.argv[1])
@@ -351,6 +352,8 @@ for name, found in tables.mutants.items():
     names = [path.rsplit("/", 1)[1] for path in found]
     if len({*names}) < len(names):
         print(f"{name}: two mutants of one name:", *{it for it in names if names.count(it) > 1})
+    crate = tables.top / "crates" / name
+    print("".join(f"{name}: {it.name} cannot be applied, or changes nothing\n" for it in edits_of(crate, []) if not texts_of(it, crate)), end="")
 for lanes in range(1, 9):
     shares, parts = mutant_turns(tables, lanes), {part_of_script(3, number) for number in (7, 8, 9)}
     if parts != {1, 2, 3}:
