@@ -47,7 +47,7 @@ impl Recent {
 
         ensures memory { OnErr result (self.new ≡ self.old) }
     {
-        if self.pairs.contains(&(agent, key)) {
+        if self.has(agent, key) {
             return Ok(true);
         }
         self.pairs.push_back((agent, key))?;
@@ -55,5 +55,12 @@ impl Recent {
             let _ = self.pairs.pop_front();
         }
         Ok(false)
+    }
+
+    /// Whether the agent's key is remembered.
+    fn has(&self, agent: Agent, key: Key) -> bool
+        ensures among { result ≡ is_among self.now (agent, key) }
+    {
+        self.pairs.contains(&(agent, key))
     }
 }

@@ -11,6 +11,7 @@ mod files;
 mod limits;
 mod listeners;
 mod places;
+mod rounds;
 mod sockets;
 
 pub use files::is_socket_at;

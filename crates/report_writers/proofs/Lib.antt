@@ -1,7 +1,5 @@
-pub mod OneOrder
 pub mod ReadyLemmas
 pub mod WriteLemmas
-pub mod StartLemmas
 pub mod StockLemmas
 pub mod StockOrder
 pub mod WhyLemmas

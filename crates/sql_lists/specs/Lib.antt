@@ -1,4 +1,3 @@
-pub mod Listing
 pub mod CellLists
 pub mod JourneyLists
 pub mod HolderLists

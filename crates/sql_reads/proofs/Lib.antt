@@ -14,6 +14,7 @@ pub mod ReadLemmas
 pub mod ReadPlans
 pub mod ReadReasons
 pub mod ReadSought
+pub mod ReadStock
 pub mod ChoiceLemmas
 pub mod OptionReasons
 pub mod NextItems

@@ -1,6 +1,5 @@
 pub mod Causes
 pub mod Following
-pub mod FoundJourney
 pub mod GoodRows
 pub mod RemainingRows
 pub mod Lending

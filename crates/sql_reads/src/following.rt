@@ -1,12 +1,11 @@
 //! The position of a journey after an item, and whether the item finishes the journey.
-ghost use Rattle.std.specs.Prelude.{◌≡◌};
-ghost use Rattle.sql_reads.specs.Following.{next_position, finishes};
+ghost use Rattle.sql_reads.specs.Following.{BringsTo, TellsFinished};
 
 use commands::Item;
 
 /// The position of a journey after an item, from its position before the item.
 pub(crate) fn position_after(item: &Item, pos: u64) -> u64
-    ensures { result ≡ next_position pos item.now }
+    ensures { BringsTo pos item.now result }
 {
     match item {
         Item::Transaction { step, .. } => *step as u64,
@@ -18,7 +17,7 @@ pub(crate) fn position_after(item: &Item, pos: u64) -> u64
 
 /// Whether an item finishes a journey of so many steps, which stands at this position before the item.
 pub(crate) fn is_finished_with(item: &Item, steps: u64, pos: u64) -> bool
-    ensures { result ≡ finishes steps pos item.now }
+    ensures { TellsFinished steps pos item.now result }
 {
     match item {
         Item::Transaction { step, .. } => *step as u64 == steps,

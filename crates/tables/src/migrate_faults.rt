@@ -1,5 +1,5 @@
 //! Why a file could not be migrated.
-ghost use Rattle.tables.specs.MigrateReasons.{IsFaultOf};
+ghost use Rattle.std.specs.Prelude.{◌≡◌, ◌≢◌, ◌↔◌};
 
 use sqlite::{Error, ErrorCode};
 
@@ -18,7 +18,10 @@ pub enum MigrateFault {
 
 /// The fault of an error before the commit. Nothing was committed, so out of memory is reported as such.
 pub(crate) fn fault_of(error: &Error) -> MigrateFault
-    ensures { IsFaultOf error.now result }
+    ensures memory { result ≡ MigrateFault.Memory
+        ↔ error.now ≡ Error.SqliteFailure ErrorCode.OutOfMemory }
+    ensures store { result ≡ MigrateFault.Store
+        ↔ (error.now ≢ Error.SqliteFailure ErrorCode.OutOfMemory) }
 {
     match error {
         Error::SqliteFailure(ErrorCode::OutOfMemory) => MigrateFault::Memory,

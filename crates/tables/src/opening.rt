@@ -6,10 +6,10 @@
 //! Words: a connection *stood for* a state (`StoodFor`) if it showed that state and a crash left just that state; a
 //! store without tables represents a new desk.
 
-ghost use Rattle.std.specs.Prelude.{◌≡◌, ◌≢◌, ◌↔◌, false, None, IsTrue, IfOk, IfErr};
+ghost use Rattle.std.specs.Prelude.{◌≡◌, ◌≢◌, ◌↔◌, false, None, IsTrue, IfOk, IfErr, OnOk};
 ghost use Rattle.desk_sql.specs.Schema.{no_schema};
 ghost use Rattle.desk_sql.specs.Calls.{Idle};
-ghost use Rattle.tables.specs.Opening.{EndsOpening, FailsOpening, IsOpeningFault, Opens};
+ghost use Rattle.tables.specs.Opening.{FailsOpening, Opens};
 
 use crate::faults::OpenFault;
 use commands::Fault;
@@ -91,7 +91,8 @@ impl<S: Alter> Opened<S> {
 
 /// The fault of an opening for a fault of the store.
 fn opening_fault(fault: Fault) -> OpenFault
-    ensures { IsOpeningFault fault result }
+    ensures memory { result ≡ OpenFault.Memory ↔ fault ≡ Fault.Memory }
+    ensures store { result ≡ OpenFault.Store ↔ fault ≡ Fault.Store }
 {
     match fault {
         Fault::Memory => OpenFault::Memory,
@@ -100,11 +101,12 @@ fn opening_fault(fault: Fault) -> OpenFault
 }
 
 /// Creates all tables of the newest version in one commit, in a store that has none.
-fn found_tables<S: Alter>(conn: &mut Connection<S>) -> Result<Version, OpenFault>
+fn found_tables<S: Alter>(conn: &mut Connection<S>) -> Result<(), OpenFault>
     requires idle { Idle conn.old }
     requires bare { conn.old.schema ≡ no_schema }
 
-    ensures { EndsOpening S.Store conn.old conn.new result }
+    ensures opens { OnOk result (Opens S.Store conn.old conn.new Version.Two) }
+    ensures fails { IfErr result (FailsOpening S.Store conn.old conn.new) }
 {
     let mut tx = conn.transaction();
     if let Err(error) = make_tables(&mut tx) {
@@ -112,7 +114,7 @@ fn found_tables<S: Alter>(conn: &mut Connection<S>) -> Result<Version, OpenFault
         return Err(opening_fault(fault_of(&error)));
     }
     match tx.commit() {
-        Ok(()) => Ok(Version::Two),
+        Ok(()) => Ok(()),
         Err(_) => Err(OpenFault::Store),
     }
 }
@@ -122,7 +124,8 @@ fn read_version<S: Alter>(conn: &mut Connection<S>) -> Result<Version, OpenFault
     requires idle { Idle conn.old }
     requires filled { conn.old.schema ≢ no_schema }
 
-    ensures { EndsOpening S.Store conn.old conn.new result }
+    ensures opens { IfOk result (Opens S.Store conn.old conn.new) }
+    ensures fails { IfErr result (FailsOpening S.Store conn.old conn.new) }
 {
     match read_meta(conn) {
         Ok(meta) => match Version::from_number(meta.version) {
@@ -147,7 +150,10 @@ pub fn open_from<S: Alter>(mut conn: Connection<S>) -> Result<Opened<S>, (Connec
     let bare = has_no_tables(conn.schema());
     if bare {
         return match found_tables(&mut conn) {
-            Ok(version) => Ok(Opened { conn, version }),
+            Ok(()) => Ok(Opened {
+                conn,
+                version: Version::Two,
+            }),
             Err(fault) => Err((conn, fault)),
         };
     }
