@@ -1,5 +1,5 @@
 -- A message that made an event is answered again with the kept reply. For the law.
-use Rattle.std.proofs.Common.{◌≡◌, ◌∙◌, ap, sym, subst, refl, ℕ, List, [], ◌∷◌, Bool, true, false, ◌&&◌, if◌then◌else◌, Option, Some, None, Result, Ok, Err, bytes_eq, codes, is_some, IsTrue}
+use Rattle.std.proofs.Common.{◌≡◌, ◌∙◌, ap, sym, subst, refl, ℕ, List, [], ◌∷◌, Bool, true, false, ◌&&◌, if◌then◌else◌, Option, Some, None, Result, Ok, bytes_eq, codes, is_some, IsTrue}
 use Rattle.std.proofs.lemmas.Bool.{and_parts}
 use Rattle.std.proofs.lemmas.Slice.Eq.{bytes_eq-Decides}
 use Rattle.allotment.proofs.TestLemmas.{bytes_eq_self}
@@ -16,7 +16,7 @@ use Rattle.http_messages.specs.Heads.{is_method, parts_of}
 use Rattle.http_messages.specs.Messages.{Message, NoHead, Asks}
 use Rattle.http_pages.specs.Pages.{page_text, reply_page}
 use Rattle.http_pages.specs.declared.routes.Denied.{Denied}
-use Rattle.desk_http.specs.Demands.{Demand, Carry, SeeJourney, SeePlan, SeeWhy, SeeBegun, SeeUnfinished, SeeMine, SeeStock, SeeCells, SeeHealth, SeeMetrics, SeeAgent, SeePage, SeeReport, Stop, demand_of}
+use Rattle.desk_http.specs.Demands.{Demand, Carry, demand_of}
 use Rattle.desk_http.specs.declared.doors.Door.{Door}
 use Rattle.desk_http.specs.Hosts.{refusal_at}
 use Rattle.desk_http.specs.Laws.{AnswersAgain, MakesEvent, later}
@@ -112,21 +112,7 @@ pub carry_of : (o : Option Refusal) (d : Result Demand Denied) (c : Command) →
     → (o ≡ None) × (d ≡ Ok (Carry c.0 c.1))
 carry_of (Some why) d c = λ is. cc
 carry_of None (Ok (Carry asked ask)) c = λ is. let e : (asked, ask) ≡ c = cc in (refl, ap (λ (x : Command). Ok (Carry x.0 x.1)) e)
-carry_of None (Ok (SeeJourney asker id)) c = λ is. cc
-carry_of None (Ok (SeePlan asker id)) c = λ is. cc
-carry_of None (Ok (SeeWhy asker id)) c = λ is. cc
-carry_of None (Ok (SeeBegun asker key)) c = λ is. cc
-carry_of None (Ok (SeeUnfinished asker)) c = λ is. cc
-carry_of None (Ok (SeeMine asker after)) c = λ is. cc
-carry_of None (Ok SeeStock) c = λ is. cc
-carry_of None (Ok (SeeCells f)) c = λ is. cc
-carry_of None (Ok SeeHealth) c = λ is. cc
-carry_of None (Ok SeeMetrics) c = λ is. cc
-carry_of None (Ok (SeeAgent asker)) c = λ is. cc
-carry_of None (Ok (SeePage html)) c = λ is. cc
-carry_of None (Ok (SeeReport report)) c = λ is. cc
-carry_of None (Ok Stop) c = λ is. cc
-carry_of None (Err denied) c = λ is. cc
+carry_of None _ c = λ is. cc
 
 -- the message's page has no body
 abbrev is_head_in : Message → Bool

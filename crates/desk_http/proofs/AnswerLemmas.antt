@@ -1,97 +1,35 @@
 -- The outcome of messages and demands. For the answer to one message.
-use Rattle.std.proofs.Common.{◌≡◌, ◌∙◌, ap, sym, subst, refl, inl, inr, ℕ, List, Bool, true, false, ◌&&◌, ◌||◌, Option, None, Result, Ok, Err, IfOk, IfErr, is_some, not, codes}
+use Rattle.std.proofs.Common.{◌≡◌, ◌∙◌, ap, sym, subst, refl, inl, inr, ℕ, List, Bool, true, false, ◌&&◌, ◌||◌, Option, None, Result, Ok, Err, is_some, not, codes}
 use Rattle.ledger.specs.Answer.{State}
 use Rattle.http_messages.specs.Requests.{IsRequest, IsTaken}
-use Rattle.http_messages.specs.Heads.{Parts, asks_to_close, is_method, is_unnamed, parts_of}
+use Rattle.http_messages.specs.Heads.{Parts, is_method, is_unnamed, parts_of}
 use Rattle.http_messages.specs.Messages as sent
-use Rattle.http_messages.specs.declared.requests.Message.{Message}
 use Rattle.http_messages.specs.declared.requests.Message.TheVariants as taken
 use Rattle.http_messages.specs.declared.requests.Request.{Request}
 use Rattle.commands.specs.declared.replies.Refusal.{Refusal}
 use Rattle.commands.specs.declared.replies.Refusal.TheVariants.{BadHead}
 use Rattle.http_log.specs.declared.counting.Metrics.{Metrics}
-use Rattle.http_pages.specs.Pages.{Paged, denied_page, page_said, page_text, refused_page}
+use Rattle.http_pages.specs.Pages.{denied_page, page_said, page_text, refused_page}
 use Rattle.http_pages.specs.declared.routes.Denied.{Denied}
 use Rattle.http_pages.specs.declared.answers.Page as shown
-use Rattle.desk_http.specs.Answering.{Answers, Tells}
-use Rattle.desk_http.specs.Demands.{asks_to_stop, demand_of}
+use Rattle.desk_http.specs.Answering.{LaidOut}
+use Rattle.desk_http.specs.Demands.{Demand, asks_to_stop, demand_of}
 use Rattle.desk_http.specs.Hosts.{refusal_at}
-use Rattle.desk_http.specs.Pages.{SaysUnless, closes, command_unless, state_by, stops}
+use Rattle.desk_http.specs.Pages.{IsPage, closes, command_in, stops}
+use Rattle.desk_http.specs.Reasons.{Meets, Obeys, Tells, Views}
 use Rattle.desk_http.specs.Monitored.{AsksForMetrics, GetsCounted, ShowsCounted}
 use Rattle.desk_http.specs.declared.answering.Answer.{Answer}
 use Rattle.desk_http.specs.declared.doors.Door.{Door}
 use Rattle.desk_http.specs.declared.doors.Door.TheVariants.{Port, House, Page}
 use Rattle.streams.specs.declared.serve_faults.ServeFault.{ServeFault}
-use Rattle.streams.specs.declared.serve_faults.ServeFault.TheVariants.{Memory, Read, Store, Write}
-
--- a denied request changes nothing
-pub denied_says : (stands : State → Type 0) (door : Door) (s : State) (parts : Parts) (body : List ℕ) (page : Paged)
-    (denied : Denied) → refusal_at door parts ≡ None → demand_of door parts body ≡ Err denied
-    → page ≡ denied_page denied.refusal denied.allow → stands s
-    → SaysUnless (refusal_at door parts) door s parts body page
-    × stands (state_by s (command_unless (refusal_at door parts) (demand_of door parts body)))
-denied_says stands door s parts body page denied none is said here = rw (none, is) (said, here)
-
--- the page was laid out as bytes, or out of memory
-pub record LaidOut (result : Result Answer ServeFault) (page : Paged) (is_head ends : Bool) : Type 0 where
-  pub bytes : IfOk result (λ answer. answer.bytes.items ≡ page_text is_head ends page)
-  pub closes : IfOk result (λ answer. answer.closes ≡ ends)
-  pub memory : IfErr result (λ fault. fault ≡ Memory)
-
--- a message without a head gets the page that says so
-pub no_head_answered : (stands : State → Type 0) (leaves : State → State → Type 0) (door : Door) (s : State)
-    (m : sent.Message) (result : Result Answer ServeFault) (page : shown.Page) → IsTaken taken.NoHead m
-    → page_said page ≡ refused_page BadHead → LaidOut result (page_said page) false true → stands s
-    → Answers stands leaves s door m result
-no_head_answered stands leaves door s sent.NoHead (Ok answer) page is said out here =
-    ((out.bytes ∙ ap (page_text false true) said, out.closes), here)
-no_head_answered stands leaves door s sent.NoHead (Err fault) page is said out here =
-    subst (λ f. Answers stands leaves s door sent.NoHead (Err f)) (sym out.memory) (inl here)
-no_head_answered stands leaves door s (sent.Asks h body) result page is said out here = absurd is
+use Rattle.streams.specs.declared.serve_faults.ServeFault.TheVariants.{Memory}
+use Rattle.saga_core.specs.Runs.{Asks}
+use Rattle.desk_http.proofs.ReasonLemmas.{view_goes_on}
 
 -- this is what the head of a request is refused for at a door
 abbrev pub IsRefusedAt : Door → Request → Option Refusal → Type 0
 IsRefusedAt door r why =
     (parts : Parts) (body : List ℕ) → IsRequest r parts body → why ≡ refusal_at door parts
-
--- a request gets the page that reports its outcome
-pub request_answered : (stands : State → Type 0) (leaves : State → State → Type 0) (door : Door) (s : State)
-    (r : Request) (why : Option Refusal) (m : sent.Message) (result : Result Answer ServeFault) (page : shown.Page) (closes : Bool)
-    → IsTaken (taken.Asks r) m → IsRefusedAt door r why
-    → ((parts : Parts) (body : List ℕ) → IsRequest r parts body → why ≡ refusal_at door parts → Tells stands leaves s door parts body (Ok page))
-    → closes ≡ (is_some why || r.closes) → LaidOut result (page_said page) r.is_head closes
-    → Answers stands leaves s door m result
-request_answered stands leaves door s r why sent.NoHead result page closes is refused told ends out = absurd is
-request_answered stands leaves door s r why (sent.Asks h body) (Ok answer) page closes is refused told ends out =
-    let parts = parts_of h in
-    let at : why ≡ refusal_at door parts = refused parts body is in
-    let closing : closes ≡ (is_some (refusal_at door parts) || asks_to_close parts) =
-    ends ∙ ap (λ c. is_some c || r.closes) at ∙ ap (λ c. is_some (refusal_at door parts) || c) is.closes in (
-      (
-        record {
-          page = page_said page;
-          says = (told parts body is at).0;
-          text = out.bytes ∙ ap (λ head. page_text head closes (page_said page)) is.is_head
-              ∙ ap (λ c. page_text (is_method (codes "HEAD") parts) c (page_said page)) closing;
-        },
-        out.closes ∙ closing,
-      ),
-      (told parts body is at).1,
-    )
-request_answered stands leaves door s r why (sent.Asks h body) (Err fault) page closes is refused told ends out =
-    subst (λ f. Answers stands leaves s door (sent.Asks h body) (Err f)) (sym out.memory)
-    (inr (told (parts_of h) body is (refused (parts_of h) body is)).1)
-
--- a request that met a fault leaves the states of that fault
-pub request_failed : (stands : State → Type 0) (leaves : State → State → Type 0) (door : Door) (s : State)
-    (r : Request) (why : Option Refusal) (m : sent.Message) (fault : ServeFault) → IsTaken (taken.Asks r) m → IsRefusedAt door r why
-    → ((parts : Parts) (body : List ℕ) → IsRequest r parts body → why ≡ refusal_at door parts → Tells stands leaves s door parts body (Err fault))
-    → Answers stands leaves s door m (Err fault)
-request_failed stands leaves door s r why sent.NoHead fault is refused told = absurd is
-request_failed stands leaves door s r why (sent.Asks h body) Memory is refused told = told (parts_of h) body is (refused (parts_of h) body is)
-request_failed stands leaves door s r why (sent.Asks h body) Store is refused told = told (parts_of h) body is (refused (parts_of h) body is)
-request_failed stands leaves door s r why (sent.Asks h body) Read is refused told = absurd (told (parts_of h) body is (refused (parts_of h) body is))
-request_failed stands leaves door s r why (sent.Asks h body) Write is refused told = absurd (told (parts_of h) body is (refused (parts_of h) body is))
 
 -- Whether a page closes.
 
@@ -108,13 +46,108 @@ request_closes door r why c refused ends (sent.Asks h body) is =
     ends ∙ ap (λ w. is_some w || r.closes) (refused (parts_of h) body is)
     ∙ ap (λ w. is_some (refusal_at door (parts_of h)) || w) is.closes
 
--- a page that was laid out closes as it was to
-pub page_closes : (door : Door) (message : Message) (result : Result Answer ServeFault) (c : Bool)
-    → IfOk result (λ answer. answer.closes ≡ c)
-    → ((m : sent.Message) → IsTaken message m → c ≡ closes door m)
-    → IfOk result (λ answer. (m : sent.Message) → IsTaken message m → answer.closes ≡ closes door m)
-page_closes door message (Ok answer) c is as_said = λ m taken. is ∙ as_said m taken
-page_closes door message (Err fault) c is as_said = tt
+-- What a message gets.
+
+-- these are the bytes of the page of a message, and whether it closes
+abbrev pub IsAnswer : Door → sent.Message → State → Answer → Type 0
+IsAnswer door m s answer = IsPage door s m answer.bytes.items × (answer.closes ≡ closes door m)
+
+module _ {B : Type 0} {is_sound : B → Type 0} {stands : B → State → Type 0} {leaves : B → State → State → Type 0}
+    {may : B → B → State → Asks → Type 0} {reason : B → B → State → State → Type 0} {old new : B} where
+  -- a view executes no command
+  pub view_obeys : {has_failed : B → Bool} {T : Type 0} {So : State → T → Type 0} {result : Result T ServeFault}
+      → Views is_sound stands leaves has_failed may reason old new So result
+      → Obeys is_sound stands leaves may reason old new None So result
+  view_obeys {result = result} views = record {
+    comes = views.shows;
+    may_act = λ sound first. view_goes_on (may first old) (may first new) (reason first new) result (views.may_act sound first);
+  }
+
+  -- a request whose head is not refused gets the outcome of its demand
+  pub met_tells : {result : Result shown.Page ServeFault} (door : Door) (parts : Parts) (body : List ℕ) (demand : Demand)
+      → refusal_at door parts ≡ None → demand_of door parts body ≡ Ok demand
+      → Meets is_sound stands leaves may reason old new demand result
+      → Tells is_sound stands leaves may reason old new door parts body result
+  met_tells door parts body demand none is met = record {
+    comes = λ sound s stood. rw (none, is) (met.comes sound s stood);
+    may_act = λ sound first. rw (none, is) (met.may_act sound first);
+  }
+
+  -- a request gets the page that reports its outcome
+  pub request_obeys : (door : Door) (r : Request) (why : Option Refusal) (m : sent.Message) (result : Result Answer ServeFault)
+      (page : shown.Page) (ends stopped : Bool) → IsTaken (taken.Asks r) m → IsRefusedAt door r why
+      → ((parts : Parts) (body : List ℕ) → IsRequest r parts body → why ≡ refusal_at door parts
+      → Tells is_sound stands leaves may reason old new door parts body (Ok page))
+      → ends ≡ (is_some why || r.closes) → LaidOut result (page_said page) r.is_head ends stopped
+      → Obeys is_sound stands leaves may reason old new (command_in door m) (IsAnswer door m) result
+  request_obeys door r why sent.NoHead result page ends stopped is refused tells closing out = absurd is
+  request_obeys door r why (sent.Asks h body) (Ok answer) page ends stopped is refused tells closing out =
+      let parts = parts_of h in
+      let told = tells parts body is (refused parts body is) in
+      let so = request_closes door r why ends refused closing (sent.Asks h body) is in
+      record {
+        comes = λ sound s stood.
+            let came = told.comes sound s stood in (
+              (
+                record {
+                  page = page_said page;
+                  says = came.0;
+                  text = out.bytes ∙ ap (λ head. page_text head ends (page_said page)) is.is_head
+                      ∙ ap (λ c. page_text (is_method (codes "HEAD") parts) c (page_said page)) so;
+                },
+                out.closes ∙ so,
+              ),
+              came.1,
+            );
+        may_act = told.may_act;
+      }
+  request_obeys door r why (sent.Asks h body) (Err fault) page ends stopped is refused tells closing out =
+      let told = tells (parts_of h) body is (refused (parts_of h) body is) in
+      subst (λ f. Obeys is_sound stands leaves may reason old new (command_in door (sent.Asks h body)) (IsAnswer door (sent.Asks h body)) (Err f))
+      (sym out.memory)
+      (record {
+        comes = λ sound s stood. inr (told.comes sound s stood).1;
+        may_act = λ sound first. inr (λ s later could. inr (told.may_act sound first s later could));
+      })
+
+  -- a request that met a fault leaves the states of that fault
+  pub request_fails : (door : Door) (r : Request) (why : Option Refusal) (m : sent.Message) (fault : ServeFault)
+      → IsTaken (taken.Asks r) m → IsRefusedAt door r why
+      → ((parts : Parts) (body : List ℕ) → IsRequest r parts body → why ≡ refusal_at door parts
+      → Tells is_sound stands leaves may reason old new door parts body (Err fault))
+      → Obeys is_sound stands leaves may reason old new (command_in door m) (IsAnswer door m) (Err fault)
+  request_fails door r why sent.NoHead fault is refused tells = absurd is
+  request_fails door r why (sent.Asks h body) Memory is refused tells =
+      let told = tells (parts_of h) body is (refused (parts_of h) body is) in
+      record { comes = told.comes; may_act = told.may_act }
+  request_fails door r why (sent.Asks h body) _ is refused tells =
+      let told = tells (parts_of h) body is (refused (parts_of h) body is) in
+      record { comes = told.comes; may_act = told.may_act }
+
+module _ {B : Type 0} {is_sound : B → Type 0} {stands : B → State → Type 0} {leaves : B → State → State → Type 0}
+    {may : B → B → State → Asks → Type 0} {reason : B → B → State → State → Type 0} {book : B} where
+  -- a denied request changes nothing
+  pub denied_tells : (door : Door) (parts : Parts) (body : List ℕ) (denied : Denied) (page : shown.Page)
+      → refusal_at door parts ≡ None → demand_of door parts body ≡ Err denied
+      → page_said page ≡ denied_page denied.refusal denied.allow
+      → Tells is_sound stands leaves may reason book book door parts body (Ok page)
+  denied_tells door parts body denied page none is said = record {
+    comes = λ sound s stood. rw (none, is) (said, stood);
+    may_act = λ sound first. rw (none, is) (λ s later could. could);
+  }
+
+  -- a message without a head gets the page that says so
+  pub no_head_obeys : (door : Door) (m : sent.Message) (result : Result Answer ServeFault) (page : shown.Page)
+      → IsTaken taken.NoHead m → page_said page ≡ refused_page BadHead → LaidOut result (page_said page) false true false
+      → Obeys is_sound stands leaves may reason book book (command_in door m) (IsAnswer door m) result
+  no_head_obeys door sent.NoHead (Ok answer) page is said out = record {
+    comes = λ sound s stood. ((out.bytes ∙ ap (page_text false true) said, out.closes), stood);
+    may_act = λ sound first s later could. could;
+  }
+  no_head_obeys door sent.NoHead (Err fault) page is said out =
+      subst (λ f. Obeys is_sound stands leaves may reason book book None (IsAnswer door sent.NoHead) (Err f)) (sym out.memory)
+      (record { comes = λ sound s stood. inl stood; may_act = λ sound first. inl (λ s asks could. could) })
+  no_head_obeys door (sent.Asks h body) result page is said out = absurd is
 
 -- Whether the desk is asked to stop.
 
@@ -137,47 +170,26 @@ house_stops r asked refused c asks why is (sent.Asks h body) it =
     ∙ ap (λ a. is_unnamed parts && a && not refused) (asks parts body it)
     ∙ ap (λ w. is_unnamed parts && asks_to_stop parts && not w) (why ∙ ap is_some it.complaint)
 
--- a page that was laid out stops the desk as it was to
-pub page_stops : (door : Door) (message : Message) (result : Result Answer ServeFault) (c : Bool)
-    → IfOk result (λ answer. answer.stops ≡ c)
-    → ((m : sent.Message) → IsTaken message m → c ≡ stops door m)
-    → IfOk result (λ answer. (m : sent.Message) → IsTaken message m → answer.stops ≡ stops door m)
-page_stops door message (Ok answer) c is as_said = λ m taken. is ∙ as_said m taken
-page_stops door message (Err fault) c is as_said = tt
-
 -- What a monitor reads.
 
 -- bytes that are no head ask for no metrics
-pub no_head_counted : (counted : Metrics) (door : Door) (message : Message) (result : Result Answer ServeFault)
-    → ((m : sent.Message) → IsTaken message m → IsTaken taken.NoHead m)
-    → IfOk result (λ answer. (m : sent.Message) → IsTaken message m → GetsCounted counted door m answer.bytes.items)
-no_head_counted counted door message (Err fault) as_taken = tt
-no_head_counted counted door message (Ok answer) as_taken = λ m is. by_message m (as_taken m is)
-  where
-    by_message : (m : sent.Message) → IsTaken taken.NoHead m → GetsCounted counted door m answer.bytes.items
-    by_message sent.NoHead is = tt
-    by_message (sent.Asks h body) is = absurd is
+pub no_head_counted : (counted : Metrics) (door : Door) (m : sent.Message) (bytes : List ℕ) → IsTaken taken.NoHead m
+    → GetsCounted counted door m bytes
+no_head_counted counted door sent.NoHead bytes is = tt
+no_head_counted counted door (sent.Asks h body) bytes is = absurd is
 
 -- a request that asks for metrics gets the page of what was counted
-pub request_counted : (counted : Metrics) (door : Door) (message : Message) (r : Request) (why : Option Refusal) (result : Result Answer ServeFault)
-    (page : shown.Page) (closing : Bool) → ((m : sent.Message) → IsTaken message m → IsTaken (taken.Asks r) m)
-    → IsRefusedAt door r why → closing ≡ (is_some why || r.closes) → LaidOut result (page_said page) r.is_head closing
+pub request_counted : (counted : Metrics) (door : Door) (r : Request) (why : Option Refusal) (m : sent.Message) (page : shown.Page)
+    (ends : Bool) (bytes : List ℕ) → IsTaken (taken.Asks r) m → IsRefusedAt door r why → ends ≡ (is_some why || r.closes)
+    → bytes ≡ page_text r.is_head ends (page_said page)
     → ((parts : Parts) (body : List ℕ) → IsRequest r parts body → why ≡ None → AsksForMetrics (demand_of door parts body)
     → ShowsCounted counted (page_said page))
-    → IfOk result (λ answer. (m : sent.Message) → IsTaken message m → GetsCounted counted door m answer.bytes.items)
-request_counted counted door message r why (Err fault) page closing as_taken refused ends out shows = tt
-request_counted counted door message r why (Ok answer) page closing as_taken refused ends out shows = λ m is. by_message m (as_taken m is)
-  where
-    by_message : (m : sent.Message) → IsTaken (taken.Asks r) m → GetsCounted counted door m answer.bytes.items
-    by_message sent.NoHead is = absurd is
-    by_message (sent.Asks h body) is = λ none asks.
-        let parts = parts_of h in
-        let at : why ≡ refusal_at door parts = refused parts body is in
-        let closes_as : closing ≡ (is_some (refusal_at door parts) || asks_to_close parts) =
-        ends ∙ ap (λ w. is_some w || r.closes) at ∙ ap (λ c. is_some (refusal_at door parts) || c) is.closes in
-        record {
-          page = page_said page;
-          shows = shows parts body is (at ∙ none) asks;
-          text = out.bytes ∙ ap (λ head. page_text head closing (page_said page)) is.is_head
-              ∙ ap (λ c. page_text (is_method (codes "HEAD") parts) c (page_said page)) closes_as;
-        }
+    → GetsCounted counted door m bytes
+request_counted counted door r why sent.NoHead page ends bytes is refused closing laid shows = absurd is
+request_counted counted door r why (sent.Asks h body) page ends bytes is refused closing laid shows = λ none asks. record {
+  page = page_said page;
+  shows = shows (parts_of h) body is (refused (parts_of h) body is ∙ none) asks;
+  text = laid ∙ ap (λ head. page_text head ends (page_said page)) is.is_head
+      ∙ ap (λ c. page_text (is_method (codes "HEAD") (parts_of h)) c (page_said page))
+      (request_closes door r why ends refused closing (sent.Asks h body) is);
+}

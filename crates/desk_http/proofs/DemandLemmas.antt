@@ -1,7 +1,6 @@
--- A body that is refused, for demand_by; that a report makes no command, for each law over all demands; and which demand shows the
--- metrics, for page_of.
-use Rattle.std.proofs.Common.{◌≡◌, ◌∙◌, refl, sym, ap, ℕ, List, Bool, true, false, Option, Some, None, Result, Ok, Err, if◌then◌else◌}
-use Rattle.commands.specs.Asks.{Asked}
+-- A body that is refused, for demand_by; the tests for a report and of the house, for its demands; and which demand shows the metrics,
+-- for page_of.
+use Rattle.std.proofs.Common.{◌≡◌, ◌∙◌, refl, sym, ap, ℕ, List, Bool, Option, Some, None, Result, Ok, Err, if◌then◌else◌}
 use Rattle.commands.specs.Request.{Request}
 use Rattle.commands.specs.declared.replies.Refusal.{Refusal}
 use Rattle.commands.specs.declared.replies.Refusal.TheVariants.{BadBody, WrongMethod}
@@ -10,7 +9,7 @@ use Rattle.http_pages.specs.Admitting.{plain}
 use Rattle.http_pages.specs.declared.routes.Denied.{Denied}
 use Rattle.http_pages.specs.declared.routes.Verb.TheVariants.{Get}
 use Rattle.saga_core.specs.declared.report.Report.{Report}
-use Rattle.desk_http.specs.Demands.{Carry, Demand, SeeMetrics, Sender, Stop, admitted_of_house, asked_of_house, asked_report, carried, denied_by, report_demand}
+use Rattle.desk_http.specs.Demands.{Demand, SeeMetrics, Sender, Stop, admitted_of_house, asked_of_house, asked_report, carried, denied_by, report_demand}
 use Rattle.desk_http.specs.DemandValues.{AsksFor, Demands, demand_said}
 use Rattle.desk_http.specs.Monitored.{AsksForMetrics}
 use Rattle.desk_http.specs.declared.demands.Demand as values
@@ -44,30 +43,10 @@ none_asked found Memory is denied = tt
 none_asked found (Refused other) is denied =
     let same : other ≡ plain BadBody = cc in ap asked_report is ∙ ap Err (sym same)
 
--- a report makes no command
-pub report_commands_nothing : (gets : Bool) (found : Option Report) (asked : Request) (ask : Option Asked)
-    → report_if gets found ≡ Ok (Carry asked ask) → ⊥
-report_commands_nothing true (Some report) asked ask = λ is. cc
-report_commands_nothing true None asked ask = λ is. cc
-report_commands_nothing false found asked ask = λ is. cc
-
 -- what means that the metrics are shown is that demand
 pub metrics_said : (demand : values.Demand) → demand_said demand ≡ SeeMetrics → demand ≡ demanded.SeeMetrics
-metrics_said (demanded.Carry command ask) = λ is. cc
-metrics_said (demanded.SeeJourney asker id) = λ is. cc
-metrics_said (demanded.SeePlan asker id) = λ is. cc
-metrics_said (demanded.SeeWhy asker id) = λ is. cc
-metrics_said (demanded.SeeBegun asker key) = λ is. cc
-metrics_said (demanded.SeeUnfinished asker) = λ is. cc
-metrics_said (demanded.SeeMine asker after) = λ is. cc
-metrics_said demanded.SeeStock = λ is. cc
-metrics_said (demanded.SeeCells filter) = λ is. cc
-metrics_said demanded.SeeHealth = λ is. cc
 metrics_said demanded.SeeMetrics = λ is. refl
-metrics_said (demanded.SeeAgent asker) = λ is. cc
-metrics_said (demanded.SeePage page) = λ is. cc
-metrics_said (demanded.SeeReport report) = λ is. cc
-metrics_said demanded.Stop = λ is. cc
+metrics_said _ = λ is. cc
 
 -- a demand that is to see the metrics, and that a value represents, is that value
 pub metrics_asked : (said : Result Demand Denied) (demand : values.Demand) → said ≡ Ok (demand_said demand) → AsksForMetrics said

@@ -8,4 +8,4 @@ pub mod AgainLemmas
 pub mod AskLemmas
 pub mod MeantLemmas
 pub mod WorldLemmas
-pub mod HouseLemmas
+pub mod RequestLemmas

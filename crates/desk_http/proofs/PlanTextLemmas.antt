@@ -1,8 +1,6 @@
 -- What is read of a JSON text as a plan is the value of the text. For the readers of plans in texts.
-use Rattle.std.proofs.Common.{◌≡◌, ℕ, ◌+◌, ◌^◌, ◌<◌, Bool, false, List, [], ◌∷◌, ◌++◌, map, length, take, get_or, refl, sym, ap, subst, ◌∙◌, arith, ◌≤◌, Option, Some, None, Ok, Err, Vec, Less, Greater, decimal, if◌then◌else◌, bytes_eq, codes, nat_le, option_map, option_and_then, IfSome}
+use Rattle.std.proofs.Common.{◌≡◌, ℕ, ◌+◌, ◌^◌, ◌<◌, Bool, false, List, [], ◌∷◌, ◌++◌, map, length, take, get_or, refl, sym, ap, subst, ◌∙◌, arith, ◌≤◌, Option, Some, None, Ok, Err, Vec, decimal, if◌then◌else◌, bytes_eq, codes, nat_le, option_map, option_and_then, IfSome}
 use Rattle.std.specs.Borrow.{Bor}
-use Rattle.std.specs.Ordering.{nat_cmp}
-use Rattle.std.specs.Cmp.Lexicographic.{slice_cmp}
 use Rattle.std.proofs.lemmas.List.{map-append, take_more}
 use Rattle.json.specs.Lex.{tokens}
 use Rattle.json.specs.Find.{as_bool, as_number, as_str}
@@ -10,7 +8,7 @@ use Rattle.json.specs.Json as json
 use Rattle.json.specs.Value.{value_view, items_view, members_view}
 use Rattle.json.specs.declared.value.Value.{Value, Array, Object}
 use Rattle.json.proofs.Trees.{view-Array, view-Object}
-use Rattle.serde_json.specs.Data.{Data, number, unsigned, string, boolean, array, object, item, Members, no_members, member, put}
+use Rattle.serde_json.specs.Data.{Data, number, unsigned, string, boolean, array, object, item, Members, no_members, member}
 use Rattle.serde_json.specs.Read.{read, of_json, of_items, of_members, number_of}
 use Rattle.serde_json.specs.View.{items_of}
 use Rattle.serde_json.proofs.Numbers.{number_of-decimal}
@@ -36,7 +34,7 @@ use Rattle.desk_http.specs.Demands.{begin_by, denied_by, value_in}
 use Rattle.desk_http.specs.DemandValues.{AsksFor}
 use Rattle.desk_http.specs.declared.demands.Unmet.{Unmet}
 use Rattle.desk_http.specs.declared.demands.Unmet.TheVariants.{Refused}
-use Rattle.desk_http.specs.PlanTexts.{IsData, AreData, with_part, parts_data}
+use Rattle.desk_http.specs.PlanTexts.{IsData, AreData, parts_data}
 use Rattle.desk_http.specs.declared.plan_texts.Parts.{Parts}
 
 -- what holds of a value that is there, where a stronger fact does
@@ -90,106 +88,6 @@ pub steps_said : (steps : List PlanStep) → map (λ step. step_data (step_said 
 steps_said [] = refl
 steps_said (s ∷ steps) = ap (λ z. step_data (step_said s) ∷ z) (steps_said steps)
 
--- The members of an option.
-
--- a name before that of a part, and before the later ones, goes first
-put_before : (name other : List ℕ) (d : Data) (o : Option Data) (later : Members) → slice_cmp nat_cmp name other ≡ Less
-    → put name d later ≡ member name d later → put name d (with_part other o later) ≡ member name d (with_part other o later)
-put_before name other d None later less e = e
-put_before name other d (Some x) later less e = rw less refl
-
--- a name after that of a part goes among the later ones
-put_after : (name other : List ℕ) (d : Data) (o : Option Data) (later new : Members) → slice_cmp nat_cmp name other ≡ Greater
-    → put name d later ≡ new → put name d (with_part other o later) ≡ with_part other o new
-put_after name other d None later new greater e = e
-put_after name other d (Some x) later new greater e = rw greater (ap (member other x) e)
-
--- a part that is not there yet is put in its place
-put_here : (name : List ℕ) (d : Data) (o : Option Data) (later : Members) → o ≡ None
-    → put name d later ≡ member name d later → put name d (with_part name o later) ≡ with_part name (Some d) later
-put_here name d None later none e = e
-put_here name d (Some x) later none e = cc
-
-module _ (d : Data) (count first kind nights product supplier : Option Data) where
-  abbrev from_supplier : Option Data → Members
-  from_supplier o = with_part (codes "supplier") o no_members
-
-  abbrev from_product : Option Data → Members → Members
-  from_product o later = with_part (codes "product") o later
-
-  abbrev from_nights : Option Data → Members → Members
-  from_nights o later = with_part (codes "nights") o later
-
-  abbrev from_kind : Option Data → Members → Members
-  from_kind o later = with_part (codes "kind") o later
-
-  abbrev from_first : Option Data → Members → Members
-  from_first o later = with_part (codes "first") o later
-
-  abbrev from_count : Option Data → Members → Members
-  from_count o later = with_part (codes "count") o later
-
-  abbrev at_supplier : Members
-  at_supplier = from_supplier supplier
-
-  abbrev at_product : Members
-  at_product = from_product product at_supplier
-
-  abbrev at_nights : Members
-  at_nights = from_nights nights at_product
-
-  abbrev at_kind : Members
-  at_kind = from_kind kind at_nights
-
-  abbrev at_first : Members
-  at_first = from_first first at_kind
-
-  before_supplier : (name : List ℕ) → slice_cmp nat_cmp name (codes "supplier") ≡ Less → put name d at_supplier ≡ member name d at_supplier
-  before_supplier name s = put_before name (codes "supplier") d supplier no_members s refl
-
-  before_product : (name : List ℕ) → slice_cmp nat_cmp name (codes "product") ≡ Less → slice_cmp nat_cmp name (codes "supplier") ≡ Less
-      → put name d at_product ≡ member name d at_product
-  before_product name p s = put_before name (codes "product") d product at_supplier p (before_supplier name s)
-
-  before_nights : (name : List ℕ) → slice_cmp nat_cmp name (codes "nights") ≡ Less → slice_cmp nat_cmp name (codes "product") ≡ Less
-      → slice_cmp nat_cmp name (codes "supplier") ≡ Less → put name d at_nights ≡ member name d at_nights
-  before_nights name n p s = put_before name (codes "nights") d nights at_product n (before_product name p s)
-
-  pub put_supplier : supplier ≡ None
-      → put (codes "supplier") d (from_count count at_first)
-      ≡ from_count count (from_first first (from_kind kind (from_nights nights (from_product product (from_supplier (Some d))))))
-  put_supplier none =
-      put_after (codes "supplier") (codes "count") d count at_first _ refl
-      (put_after (codes "supplier") (codes "first") d first at_kind _ refl
-      (put_after (codes "supplier") (codes "kind") d kind at_nights _ refl
-      (put_after (codes "supplier") (codes "nights") d nights at_product _ refl
-      (put_after (codes "supplier") (codes "product") d product at_supplier _ refl
-      (put_here (codes "supplier") d supplier no_members none refl)))))
-
-  pub put_product : product ≡ None
-      → put (codes "product") d (from_count count at_first)
-      ≡ from_count count (from_first first (from_kind kind (from_nights nights (from_product (Some d) at_supplier))))
-  put_product none =
-      put_after (codes "product") (codes "count") d count at_first _ refl
-      (put_after (codes "product") (codes "first") d first at_kind _ refl
-      (put_after (codes "product") (codes "kind") d kind at_nights _ refl
-      (put_after (codes "product") (codes "nights") d nights at_product _ refl
-      (put_here (codes "product") d product at_supplier none (before_supplier (codes "product") refl)))))
-
-  pub put_kind : kind ≡ None
-      → put (codes "kind") d (from_count count at_first) ≡ from_count count (from_first first (from_kind (Some d) at_nights))
-  put_kind none =
-      put_after (codes "kind") (codes "count") d count at_first _ refl
-      (put_after (codes "kind") (codes "first") d first at_kind _ refl
-      (put_here (codes "kind") d kind at_nights none (before_nights (codes "kind") refl refl refl)))
-
-  pub put_first : first ≡ None
-      → put (codes "first") d (from_count count at_first) ≡ from_count count (from_first (Some d) at_kind)
-  put_first none =
-      put_after (codes "first") (codes "count") d count at_first _ refl
-      (put_here (codes "first") d first at_kind none
-      (put_before (codes "first") (codes "kind") d kind at_nights refl (before_nights (codes "first") refl refl refl)))
-
 -- The parts of a want.
 
 -- a number in digits is read as the number
@@ -208,32 +106,20 @@ found_number text (Some n) found =
 -- a number is read as the number that is found in its text
 pub number_found : (j : json.Json) (text : List ℕ) (r : Option ℕ) → Some text ≡ as_number j
     → Finds (is_between 0 255) decimal text r → IfSome r (λ n. of_json j ≡ Some (number (unsigned n)))
-number_found json.null text r e found = cc
-number_found (json.boolean b) text r e found = cc
 number_found (json.number s) text r e found =
     let same : text ≡ s = cc in
     subst (λ z. IfSome r (λ n. of_json (json.number z) ≡ Some (number (unsigned n)))) same (found_number text r found)
-number_found (json.string s) text r e found = cc
-number_found (json.array js) text r e found = cc
-number_found (json.object ms) text r e found = cc
+number_found _ text r e found = cc
 
 -- a text is read as itself
 pub text_found : (j : json.Json) (text : List ℕ) → Some text ≡ as_str j → of_json j ≡ Some (string text)
-text_found json.null text e = cc
-text_found (json.boolean b) text e = cc
-text_found (json.number s) text e = cc
 text_found (json.string s) text e = let same : text ≡ s = cc in ap (λ z. Some (string z)) (sym same)
-text_found (json.array js) text e = cc
-text_found (json.object ms) text e = cc
+text_found _ text e = cc
 
 -- an answer is read as it
 pub answer_found : (j : json.Json) (b : Bool) → Some b ≡ as_bool j → of_json j ≡ Some (boolean b)
-answer_found json.null b e = cc
 answer_found (json.boolean x) b e = let same : b ≡ x = cc in ap (λ z. Some (boolean z)) (sym same)
-answer_found (json.number s) b e = cc
-answer_found (json.string s) b e = cc
-answer_found (json.array js) b e = cc
-answer_found (json.object ms) b e = cc
+answer_found _ b e = cc
 
 -- an object is read as what its members are
 pub object_is : {A : Type 0} (members : Vec (Bor (List ℕ) × Value A) A) (ms : List (Bor (List ℕ) × Value A)) (known : Members)

@@ -1,17 +1,20 @@
 -- The answer to a message, and the state of the book after it.
-use Rattle.std.specs.Prelude.{◌≡◌, ◌⊎◌, ℕ, List, Result, Ok, Err}
+use Rattle.std.specs.Prelude.{◌≡◌, ◌⊎◌, Bool, IfErr, IfOk, Result, Ok, Err}
 use Rattle.ledger.specs.Answer.{State}
-use Rattle.http_messages.specs.Heads.{Parts}
 use Rattle.http_messages.specs.Messages.{Message}
-use Rattle.http_pages.specs.Pages.{page_said}
-use Rattle.http_pages.specs.declared.answers.Page.{Page}
-use Rattle.desk_http.specs.Demands.{Demand, demand_of}
-use Rattle.desk_http.specs.Hosts.{refusal_at}
-use Rattle.desk_http.specs.Pages.{IsPage, Says, SaysUnless, closes, command_by, command_unless, state_after, state_by}
+use Rattle.http_pages.specs.Pages.{Paged, page_text}
+use Rattle.desk_http.specs.Pages.{IsPage, closes, state_after}
 use Rattle.desk_http.specs.declared.answering.Answer.{Answer}
 use Rattle.desk_http.specs.declared.doors.Door.{Door}
 use Rattle.streams.specs.declared.serve_faults.ServeFault.{ServeFault}
 use Rattle.streams.specs.declared.serve_faults.ServeFault.TheVariants.{Memory, Store}
+
+-- the page was laid out as bytes, closes and stops the desk as it was to; or out of memory
+pub record LaidOut (result : Result Answer ServeFault) (page : Paged) (is_head ends stopped : Bool) : Type 0 where
+  pub bytes : IfOk result (λ answer. answer.bytes.items ≡ page_text is_head ends page)
+  pub closes : IfOk result (λ answer. answer.closes ≡ ends)
+  pub stops : IfOk result (λ answer. answer.stops ≡ stopped)
+  pub memory : IfErr result (λ fault. fault ≡ Memory)
 
 module _ (stands : State → Type 0) (leaves : State → State → Type 0) (s : State) where
   -- the request was executed and its result satisfies `So`; or a fault came before it was executed or after that
@@ -24,17 +27,6 @@ module _ (stands : State → Type 0) (leaves : State → State → Type 0) (s : 
   -- the result is shown, and nothing changes
   abbrev pub Shows : {T : Type 0} → (T → Type 0) → Result T ServeFault → Type 0
   Shows So result = Comes s So result
-
-  -- the page reports the outcome of a demand
-  abbrev pub Meets : Demand → Result Page ServeFault → Type 0
-  Meets demand result =
-      Comes (state_by s (command_by (Ok demand))) (λ page. Says s (Ok demand) (page_said page)) result
-
-  -- the page reports the outcome of a request with these parts and this body, whose head may be refused
-  abbrev pub Tells : Door → Parts → List ℕ → Result Page ServeFault → Type 0
-  Tells door parts body result =
-      Comes (state_by s (command_unless (refusal_at door parts) (demand_of door parts body)))
-      (λ page. SaysUnless (refusal_at door parts) door s parts body (page_said page)) result
 
   -- these are the bytes of the page of a message that came in at a door
   abbrev pub Answers : Door → Message → Result Answer ServeFault → Type 0

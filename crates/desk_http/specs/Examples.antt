@@ -24,8 +24,8 @@ use Rattle.streams.specs.declared.serve_faults.ServeFault.TheVariants.{Memory, S
 use Rattle.saga_core.specs.Runs as runs
 use Rattle.desk_http.specs.Demands.{Carry, SeeStock}
 use Rattle.desk_http.specs.Laws.{MakesEvent}
-use Rattle.desk_http.specs.Pages.{command_in, state_by}
-use Rattle.desk_http.specs.Reasons.{GoesOnAt, GoesOnBy, ViewsOn}
+use Rattle.desk_http.specs.Pages.{command_by, command_in, state_by}
+use Rattle.desk_http.specs.Reasons.{GoesOn, GoesOnAt, ViewsOn}
 use Rattle.desk_http.specs.Worlds.{asks_by}
 use Rattle.desk_http.specs.declared.doors.Door.TheVariants.{Port}
 
@@ -114,17 +114,17 @@ module _ (could can : State → runs.Asks → Type 0) (reason : State → State 
   pub view_fails_for_a_reason : ViewsOn {T = ℕ} could can reason (Err Store) → could start step_asks → reason start start
   view_fails_for_a_reason views may = views start step_asks may
 
-  pub stock_fails_for_a_reason : GoesOnBy {T = ℕ} could can reason (Ok SeeStock) (Err Store) → could start step_asks → reason start start
+  pub stock_fails_for_a_reason : GoesOn {T = ℕ} could can reason (command_by (Ok SeeStock)) (Err Store) → could start step_asks → reason start start
   stock_fails_for_a_reason goes may = goes start step_asks may
 
   pub step_fails_for_a_reason :
-      GoesOnBy {T = ℕ} could can reason (Ok (Carry (Step 1) (Some step_ask))) (Err Store) → could ann_began step_asks
+      GoesOn {T = ℕ} could can reason (command_by (Ok (Carry (Step 1) (Some step_ask)))) (Err Store) → could ann_began step_asks
       → reason ann_began stepped
   step_fails_for_a_reason goes may = goes ann_began [] may
 
   -- out of memory, it was asked for or not
   pub step_out_of_memory :
-      GoesOnBy {T = ℕ} could can reason (Ok (Carry (Step 1) (Some step_ask))) (Err Memory) → could ann_began step_asks
+      GoesOn {T = ℕ} could can reason (command_by (Ok (Carry (Step 1) (Some step_ask)))) (Err Memory) → could ann_began step_asks
       → can ann_began step_asks ⊎ can ann_began [] ⊎ can stepped []
   step_out_of_memory (inl still) may = inl (still ann_began step_asks may)
   step_out_of_memory (inr acts) may = inr (acts ann_began [] may)

@@ -18,6 +18,7 @@ use Rattle.saga_core.specs.declared.records.Record.{Record}
 use Rattle.http_messages.specs.Heads.{Parts, asks_to_close, is_method, is_unnamed, parts_of}
 use Rattle.http_messages.specs.Messages.{Message, NoHead, Asks}
 use Rattle.http_pages.specs.Bodies.{agent_data, brief_data, health_data, journey_data, mine_data, stopping_data, unfinished_data}
+use Rattle.http_pages.specs.declared.bodies.Owners.{Owners}
 use Rattle.http_pages.specs.declared.bodies.Owners.TheVariants.{Hidden, Shown}
 use Rattle.serde_json.specs.Data.{Data}
 use Rattle.plan.specs.PlanData.{plan_data}
@@ -76,14 +77,18 @@ abbrev pub owner_of : Asker → List ℕ
 owner_of (who.Agent agent) = agent
 owner_of who.House = house
 
+-- whether who asks is shown whose each journey is: the house is
+abbrev pub owners_for : Asker → Owners
+owners_for (who.Agent agent) = Hidden
+owners_for who.House = Shown
+
 -- the first hundred of the own journeys of who asks above a number, by rising number
 abbrev pub mine_of : List Event → Asker → ℕ → List Brief
 mine_of l asker after = take 100 (owned_above l (owner_of asker) after)
 
 -- own journeys as they are shown: to the house each with its agent
 abbrev pub mine_shown : Asker → List Brief → Data
-mine_shown (who.Agent agent) briefs = mine_data Hidden briefs
-mine_shown who.House briefs = mine_data Shown briefs
+mine_shown asker briefs = mine_data (owners_for asker) briefs
 
 -- the journey that a reply says was begun
 abbrev pub begun_in : Reply → Option ℕ
@@ -102,8 +107,7 @@ own_begun s asker key =
 
 -- a journey as a list of own journeys shows it
 abbrev pub brief_shown : Asker → Brief → Data
-brief_shown (who.Agent agent) brief = brief_data Hidden brief
-brief_shown who.House brief = brief_data Shown brief
+brief_shown asker brief = brief_data (owners_for asker) brief
 
 -- the page of a journey that was begun under a key; a key under which none was begun gets that of no journey
 abbrev pub begun_page : Asker → Option Brief → Paged
@@ -112,8 +116,7 @@ begun_page asker None = refused_page NoJourney
 
 -- unfinished journeys as they are shown: to the house each with its agent
 abbrev pub unfinished_shown : Asker → List Brief → Data
-unfinished_shown (who.Agent agent) briefs = unfinished_data Hidden briefs
-unfinished_shown who.House briefs = unfinished_data Shown briefs
+unfinished_shown asker briefs = unfinished_data (owners_for asker) briefs
 
 -- the page shows the stock
 pub record ShowsStock (l : List Event) (page : Paged) : Type 0 where

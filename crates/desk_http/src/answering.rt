@@ -1,18 +1,18 @@
 //! The page of a message.
-ghost use Rattle.std.specs.Prelude.{◌≡◌, ◌&&◌, ◌||◌, not, ℕ, List, None, Ok, is_some, IfErr, IfOk};
+ghost use Rattle.std.specs.Prelude.{◌≡◌, ◌&&◌, ◌||◌, not, ℕ, List, None, is_some, IfOk};
 ghost use Rattle.ledger.specs.Answer.{State};
 ghost use Rattle.saga_core.specs.Calls.{Serves};
 ghost use Rattle.http_messages.specs.Requests.{IsRequest, IsTaken};
 ghost use Rattle.http_messages.specs.Heads.{Parts};
 ghost use Rattle.http_messages.specs.Messages as sent;
-ghost use Rattle.http_pages.specs.Pages.{page_said, page_text};
-ghost use Rattle.desk_http.specs.Answering.{Answers, Meets, Tells};
+ghost use Rattle.http_pages.specs.Pages.{page_said};
+ghost use Rattle.desk_http.specs.Answering.{Answers, LaidOut};
 ghost use Rattle.desk_http.specs.DemandValues.{demand_said};
 ghost use Rattle.http_messages.specs.declared.requests.Message.TheVariants as taken;
 ghost use Rattle.desk_http.specs.Hosts.{refusal_at};
 ghost use Rattle.desk_http.specs.Demands.{demand_of};
 ghost use Rattle.desk_http.specs.Pages.{closes, stops};
-ghost use Rattle.desk_http.specs.Reasons.{GoesOnAt, GoesOnBy, GoesOnUnless};
+ghost use Rattle.desk_http.specs.Reasons.{GoesOnAt, Meets, Tells};
 ghost use Rattle.desk_http.specs.Monitored.{AsksForMetrics, GetsCounted, ShowsCounted};
 
 use crate::begun::see_begun;
@@ -54,12 +54,7 @@ impl Answer {
         stops: bool,
         is_head: bool,
     ) -> Result<Answer, ServeFault>
-        ensures bytes { IfOk result (λ answer.
-            answer.bytes.items ≡ page_text is_head closes (page_said page.now)) }
-        ensures closes { IfOk result (λ answer. answer.closes ≡ closes) }
-        ensures stops { IfOk result (λ answer. answer.stops ≡ stops) }
-
-        ensures memory { IfErr result (λ fault. fault ≡ ServeFault.Memory) }
+        ensures laid_out { LaidOut result (page_said page.now) is_head closes stops }
     {
         let bytes = page_bytes(alloc, page, closes, is_head)?;
         Ok(Answer {
@@ -164,21 +159,15 @@ fn page_of<B: Reporting>(
     metrics: &Metrics,
     book: &mut B,
 ) -> Result<Page, ServeFault>
-    ensures page { B.is_sound book.new → (s : State) → B.stands book.old s →
-        (parts : Parts) → (body : List ℕ) → IsRequest request.now parts body →
-        refusal ≡ refusal_at door parts →
-        Tells (B.stands book.new) (B.leaves book.new) s door parts body result }
+    ensures tells { (parts : Parts) → (body : List ℕ) → IsRequest request.now parts body →
+        refusal ≡ refusal_at door parts → Tells B.is_sound B.stands B.leaves B.may_act B.has_reason
+        book.old book.new door parts body result }
     ensures counted { (parts : Parts) → (body : List ℕ) → IsRequest request.now parts body →
         refusal ≡ None → AsksForMetrics (demand_of door parts body) →
         IfOk result (λ page. ShowsCounted metrics.now (page_said page)) }
 
     ensures serves { Serves B.is_sound B.leaves B.has_failed book.old book.new
         ServeFault.Store result }
-    ensures may_act { B.is_sound book.new → (first : B) →
-        (parts : Parts) → (body : List ℕ) → IsRequest request.now parts body →
-        refusal ≡ refusal_at door parts → GoesOnUnless
-        (B.may_act first book.old) (B.may_act first book.new) (B.has_reason first book.new)
-        (refusal_at door parts) (demand_of door parts body) result }
 {
     if let Some(why) = &refusal {
         return Ok(refused_page(alloc, why)?);
@@ -197,16 +186,13 @@ fn meet<B: Reporting>(
     metrics: &Metrics,
     book: &mut B,
 ) -> Result<Page, ServeFault>
-    ensures page { B.is_sound book.new → (s : State) → B.stands book.old s →
-        Meets (B.stands book.new) (B.leaves book.new) s (demand_said demand.now) result }
+    ensures meets { Meets B.is_sound B.stands B.leaves B.may_act B.has_reason
+        book.old book.new (demand_said demand.now) result }
     ensures counted { demand.now ≡ Demand.SeeMetrics →
         IfOk result (λ page. ShowsCounted metrics.now (page_said page)) }
 
     ensures serves { Serves B.is_sound B.leaves B.has_failed book.old book.new
         ServeFault.Store result }
-    ensures may_act { B.is_sound book.new → (first : B) → GoesOnBy
-        (B.may_act first book.old) (B.may_act first book.new) (B.has_reason first book.new)
-        (Ok (demand_said demand.now)) result }
 {
     match demand {
         Demand::Carry(command, ask) => {

@@ -2,14 +2,14 @@
 //! of another site, whose name was made to lead here, asks under that name, and is refused.
 ghost use Rattle.commands.specs.declared.replies.Refusal.TheVariants.{BadHead};
 ghost use Rattle.desk_http.specs.Hosts.{host_text, is_own_host, refusal_at};
-ghost use Rattle.desk_http.specs.Pages.{owner_of, sees};
+ghost use Rattle.desk_http.specs.Pages.{owner_of, owners_for, sees};
 ghost use Rattle.http_messages.specs.Heads.{Parts};
 ghost use Rattle.http_messages.specs.Requests.{IsRequest};
 ghost use Rattle.std.specs.Prelude.{◌≡◌, IfOk, List, ℕ, Some, bytes_eq, if◌then◌else◌};
 
 use commands::{Agent, Refusal};
 use http_messages::Request;
-use http_pages::HtmlPage;
+use http_pages::{HtmlPage, Owners};
 use std::alloc::{AllocError, Global};
 
 /// Where a request comes in.
@@ -51,6 +51,16 @@ impl Asker {
         match self {
             Asker::Agent(agent) => *agent,
             Asker::House => Agent::house(),
+        }
+    }
+
+    /// Whether this is shown whose each journey is.
+    pub(crate) fn owners(&self) -> Owners
+        ensures owners { result ≡ owners_for self.now }
+    {
+        match self {
+            Asker::Agent(_) => Owners::Hidden,
+            Asker::House => Owners::Shown,
         }
     }
 

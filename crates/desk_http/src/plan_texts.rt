@@ -2,9 +2,9 @@
 //!
 //! A text is read as values that borrow it, so that nothing but lists is allocated. `None` says nothing about the text: it may
 //! be no plan, or memory may be out. The caller then makes the value, and reports what is wrong with it.
-ghost use Rattle.std.specs.Prelude.{◌≡◌, ◌≤◌, IfSome, map};
+ghost use Rattle.std.specs.Prelude.{◌≡◌, IfSome, map};
 ghost use Rattle.json.specs.Value.{members_view};
-ghost use Rattle.serde_json.specs.Data.{Data, no_members, number, object, put, unsigned};
+ghost use Rattle.serde_json.specs.Data.{Data, no_members, number, object, put, string, unsigned};
 ghost use Rattle.serde_json.specs.Read.{of_members};
 ghost use Rattle.plan.specs.PlanData.{step_data, want_data};
 ghost use Rattle.plan.specs.PlanModel.{step_said};
@@ -158,11 +158,11 @@ impl<'a> Parts<'a> {
                 ..*self
             }),
             "first" if self.first.is_none() => Some(Parts {
-                first: Some(value.as_str()?),
+                first: Some(text_of(value)?),
                 ..*self
             }),
             "kind" if self.kind.is_none() => Some(Parts {
-                kind: Some(value.as_str()?),
+                kind: Some(text_of(value)?),
                 ..*self
             }),
             "nights" if self.nights.is_none() => Some(Parts {
@@ -170,11 +170,11 @@ impl<'a> Parts<'a> {
                 ..*self
             }),
             "product" if self.product.is_none() => Some(Parts {
-                product: Some(value.as_str()?),
+                product: Some(text_of(value)?),
                 ..*self
             }),
             "supplier" if self.supplier.is_none() => Some(Parts {
-                supplier: Some(value.as_str()?),
+                supplier: Some(text_of(value)?),
                 ..*self
             }),
             _ => None,
@@ -227,7 +227,13 @@ fn pair_in<'v, 'a>(
 /// The number from 0 to 255 that this is.
 fn number_of(value: &Value<'_>) -> Option<usize>
     ensures number { IfSome result (λ n. IsData value.now (number (unsigned n))) }
-    ensures small { IfSome result (λ n. n ≤ 255) }
 {
     number_in(value.as_number()?, 0, MOST_NUMBER)
+}
+
+/// The text that this is.
+fn text_of<'a>(value: &Value<'a>) -> Option<&'a str>
+    ensures text { IfSome result (λ text. IsData value.now (string text.now)) }
+{
+    Some(value.as_str()?)
 }

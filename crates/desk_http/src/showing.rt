@@ -1,21 +1,15 @@
 //! Views of a book for agents and the house, and their bodies. A view changes nothing.
 ghost use Rattle.allotment_csv.specs.Files.{batch_of};
 ghost use Rattle.commands.specs.Orders.{request_of};
-ghost use Rattle.desk_http.specs.Answering.{Shows};
 ghost use Rattle.desk_http.specs.DemandValues.{AsksFor, ReadsAs};
-ghost use Rattle.desk_http.specs.Demands.{bare, begin_by, load_of, value_in};
-ghost use Rattle.desk_http.specs.Pages.{journey_page, owner_of, plan_page, own_journey, own_unfinished, told_page, unfinished_shown, ShowsCells, ShowsMetrics, ShowsStock};
-ghost use Rattle.desk_http.specs.Reasons.{Views};
+ghost use Rattle.desk_http.specs.Demands.{SeeCells, SeeHealth, SeeJourney, SeeMetrics, SeePlan, SeeReport, SeeStock, SeeUnfinished, bare, begin_by, load_of, value_in};
+ghost use Rattle.desk_http.specs.Pages.{owner_of, own_journey, own_unfinished};
+ghost use Rattle.desk_http.specs.Reasons.{Sees, Views};
 ghost use Rattle.desk_http.specs.Monitored.{ShowsCounted};
-ghost use Rattle.http_pages.specs.Bodies.{agent_data, health_data};
+ghost use Rattle.http_pages.specs.Bodies.{agent_data};
 ghost use Rattle.http_pages.specs.Pages.{page_said, value_page};
-ghost use Rattle.ledger.specs.Answer.{State};
-ghost use Rattle.report_kinds.specs.Texts.{OfReport};
-ghost use Rattle.saga_core.specs.Views.{counts_of};
 ghost use Rattle.serde_json.specs.Read.{read};
-ghost use Rattle.serde_json.specs.Written.{compact_text};
 ghost use Rattle.std.specs.Prelude.{◌≡◌, IfOk};
-ghost use Rattle.std.specs.String.{string_bytes};
 
 use crate::demands::Unmet;
 use crate::doors::Asker;
@@ -24,7 +18,7 @@ use allotment_csv::{CsvFault, read_batch};
 use commands::{Command, Name, Refusal};
 use http_log::{Metrics, metrics_text};
 use http_pages::{
-    Body, Owners, Page, agent_body, health_body, journey_body, plan_body, refused_page, shown_page,
+    Body, Page, agent_body, health_body, journey_body, plan_body, refused_page, shown_page,
     unfinished_body,
 };
 use plan::{Plan, PlanFault, json_is_read_back};
@@ -43,12 +37,8 @@ pub(crate) fn see_journey<B: Book>(
     asker: &Asker,
     id: u64,
 ) -> Result<Page, ServeFault>
-    ensures page { B.is_sound book.new → (s : State) → B.stands book.old s →
-        Shows (B.stands book.new) (B.leaves book.new) s (λ page.
-        page_said page ≡ journey_page s.ledger id (own_journey s.ledger asker.now id)) result }
-
-    ensures views { Views B.is_sound B.leaves B.has_failed B.may_act B.has_reason
-        book.old book.new result }
+    ensures sees { Sees B.is_sound B.stands B.leaves B.has_failed B.may_act B.has_reason
+        book.old book.new (SeeJourney asker.now id) result }
 {
     match book.trace(id)? {
         Some(trace) if asker.sees(&trace.brief.agent) => {
@@ -66,12 +56,8 @@ pub(crate) fn see_plan<B: Book>(
     asker: &Asker,
     id: u64,
 ) -> Result<Page, ServeFault>
-    ensures page { B.is_sound book.new → (s : State) → B.stands book.old s →
-        Shows (B.stands book.new) (B.leaves book.new) s (λ page.
-        page_said page ≡ plan_page (own_journey s.ledger asker.now id)) result }
-
-    ensures views { Views B.is_sound B.leaves B.has_failed B.may_act B.has_reason
-        book.old book.new result }
+    ensures sees { Sees B.is_sound B.stands B.leaves B.has_failed B.may_act B.has_reason
+        book.old book.new (SeePlan asker.now id) result }
 {
     let Some(journey) = own_journey(book, asker, id)? else {
         return Ok(refused_page(alloc, &Refusal::NoJourney)?);
@@ -86,12 +72,9 @@ pub(crate) fn own_journey<B: Book>(
     asker: &Asker,
     id: u64,
 ) -> Result<Option<Record>, ServeFault>
-    ensures journey { B.is_sound book.new → (s : State) → B.stands book.old s →
-        Shows (B.stands book.new) (B.leaves book.new) s
-        (λ found. found ≡ own_journey s.ledger asker.now id) result }
-
-    ensures views { Views B.is_sound B.leaves B.has_failed B.may_act B.has_reason
-        book.old book.new result }
+    ensures journey { Views B.is_sound B.stands B.leaves B.has_failed B.may_act B.has_reason
+        book.old book.new
+        (λ s found. found ≡ own_journey s.ledger asker.now id) result }
 {
     match book.journey(id)? {
         Some(journey) if asker.sees(&journey.agent) => Ok(Some(journey)),
@@ -105,38 +88,19 @@ pub(crate) fn see_unfinished<B: Book>(
     book: &mut B,
     asker: &Asker,
 ) -> Result<Page, ServeFault>
-    ensures page { B.is_sound book.new → (s : State) → B.stands book.old s →
-        Shows (B.stands book.new) (B.leaves book.new) s (λ page.
-        page_said page
-        ≡ value_page (unfinished_shown asker.now (own_unfinished s.ledger asker.now))) result }
-
-    ensures views { Views B.is_sound B.leaves B.has_failed B.may_act B.has_reason
-        book.old book.new result }
+    ensures sees { Sees B.is_sound B.stands B.leaves B.has_failed B.may_act B.has_reason
+        book.old book.new (SeeUnfinished asker.now) result }
 {
     let briefs = own_unfinished(book, asker)?;
-    let body = body_of(alloc, asker, &briefs)?;
+    let body = unfinished_body(alloc, asker.owners(), &briefs)?;
     Ok(shown_page(Body::Json(body)))
-}
-
-/// The body that shows unfinished journeys, to the house each with its agent. The only fault is out of memory.
-fn body_of(alloc: Global, asker: &Asker, briefs: &[Brief]) -> Result<String, AllocError>
-    ensures body { IfOk result
-        (λ body. string_bytes body ≡ compact_text (unfinished_shown asker.now briefs.now)) }
-{
-    match asker {
-        Asker::Agent(_) => unfinished_body(alloc, Owners::Hidden, briefs),
-        Asker::House => unfinished_body(alloc, Owners::Shown, briefs),
-    }
 }
 
 /// The unfinished journeys that who asks sees, by rising number.
 fn own_unfinished<B: Book>(book: &mut B, asker: &Asker) -> Result<Vec<Brief>, ServeFault>
-    ensures briefs { B.is_sound book.new → (s : State) → B.stands book.old s →
-        Shows (B.stands book.new) (B.leaves book.new) s
-        (λ briefs. briefs.items ≡ own_unfinished s.ledger asker.now) result }
-
-    ensures views { Views B.is_sound B.leaves B.has_failed B.may_act B.has_reason
-        book.old book.new result }
+    ensures briefs { Views B.is_sound B.stands B.leaves B.has_failed B.may_act B.has_reason
+        book.old book.new
+        (λ s briefs. briefs.items ≡ own_unfinished s.ledger asker.now) result }
 {
     let mut briefs = book.unfinished()?;
     briefs.retain(|brief| asker.sees(&brief.agent));
@@ -145,12 +109,8 @@ fn own_unfinished<B: Book>(book: &mut B, asker: &Asker) -> Result<Vec<Brief>, Se
 
 /// The page of the stock.
 pub(crate) fn see_stock<B: Book>(alloc: Global, book: &mut B) -> Result<Page, ServeFault>
-    ensures page { B.is_sound book.new → (s : State) → B.stands book.old s →
-        Shows (B.stands book.new) (B.leaves book.new) s
-        (λ page. ShowsStock s.ledger (page_said page)) result }
-
-    ensures views { Views B.is_sound B.leaves B.has_failed B.may_act B.has_reason
-        book.old book.new result }
+    ensures sees { Sees B.is_sound B.stands B.leaves B.has_failed B.may_act B.has_reason
+        book.old book.new SeeStock result }
 {
     let rows = book.stock()?;
     let mut text = Vec::new(alloc);
@@ -166,12 +126,8 @@ pub(crate) fn see_cells<B: Reporting>(
     book: &mut B,
     filter: &CellFilter,
 ) -> Result<Page, ServeFault>
-    ensures page { B.is_sound book.new → (s : State) → B.stands book.old s →
-        Shows (B.stands book.new) (B.leaves book.new) s
-        (λ page. ShowsCells filter.now s.ledger (page_said page)) result }
-
-    ensures views { Views B.is_sound B.leaves B.has_failed B.may_act B.has_reason
-        book.old book.new result }
+    ensures sees { Sees B.is_sound B.stands B.leaves B.has_failed B.may_act B.has_reason
+        book.old book.new (SeeCells filter.now) result }
 {
     let report = Report::Stock {
         filter: *filter,
@@ -186,12 +142,8 @@ pub(crate) fn see_report<B: Reporting>(
     book: &mut B,
     report: &Report,
 ) -> Result<Page, ServeFault>
-    ensures page { B.is_sound book.new → (s : State) → B.stands book.old s →
-        Shows (B.stands book.new) (B.leaves book.new) s (λ page.
-        OfReport report.now s.ledger (λ text. page_said page ≡ told_page text)) result }
-
-    ensures views { Views B.is_sound B.leaves B.has_failed B.may_act B.has_reason
-        book.old book.new result }
+    ensures sees { Sees B.is_sound B.stands B.leaves B.has_failed B.may_act B.has_reason
+        book.old book.new (SeeReport report.now) result }
 {
     let found = book.report(report)?;
     match found {
@@ -202,12 +154,8 @@ pub(crate) fn see_report<B: Reporting>(
 
 /// The page of how many events, journeys and unfinished journeys there are.
 pub(crate) fn see_health<B: Book>(alloc: Global, book: &mut B) -> Result<Page, ServeFault>
-    ensures page { B.is_sound book.new → (s : State) → B.stands book.old s →
-        Shows (B.stands book.new) (B.leaves book.new) s
-        (λ page. page_said page ≡ value_page (health_data (counts_of s.ledger))) result }
-
-    ensures views { Views B.is_sound B.leaves B.has_failed B.may_act B.has_reason
-        book.old book.new result }
+    ensures sees { Sees B.is_sound B.stands B.leaves B.has_failed B.may_act B.has_reason
+        book.old book.new SeeHealth result }
 {
     let counts = book.counts()?;
     let body = health_body(alloc, counts)?;
@@ -220,13 +168,9 @@ pub(crate) fn see_metrics<B: Book>(
     metrics: &Metrics,
     book: &mut B,
 ) -> Result<Page, ServeFault>
-    ensures page { B.is_sound book.new → (s : State) → B.stands book.old s →
-        Shows (B.stands book.new) (B.leaves book.new) s
-        (λ page. ShowsMetrics s.ledger (page_said page)) result }
+    ensures sees { Sees B.is_sound B.stands B.leaves B.has_failed B.may_act B.has_reason
+        book.old book.new SeeMetrics result }
     ensures counted { IfOk result (λ page. ShowsCounted metrics.now (page_said page)) }
-
-    ensures views { Views B.is_sound B.leaves B.has_failed B.may_act B.has_reason
-        book.old book.new result }
 {
     let counts = book.counts()?;
     let body = metrics_text(alloc, counts, metrics)?;

@@ -1,19 +1,17 @@
 //! Why a journey goes on or does not: the page of its preview. A view changes nothing.
-ghost use Rattle.std.specs.Prelude.{◌≡◌, IfErr, IfOk, Some};
+ghost use Rattle.std.specs.Prelude.{◌≡◌, Some};
 ghost use Rattle.std.specs.String.{string_bytes};
 ghost use Rattle.serde_json.specs.Written.{compact_text};
-ghost use Rattle.ledger.specs.Answer.{State};
 ghost use Rattle.ledger.specs.Ledger.{history};
 ghost use Rattle.saga_core.specs.Views.{record_of};
-ghost use Rattle.http_pages.specs.Pages.{page_said};
 ghost use Rattle.previews.specs.Previews.{IsTaken, latest_option as latest_option_of, nights_ahead as nights_ahead_of};
-ghost use Rattle.desk_http.specs.Answering.{Shows};
-ghost use Rattle.desk_http.specs.Pages.{own_journey, why_page, why_shown};
-ghost use Rattle.desk_http.specs.Reasons.{Views};
+ghost use Rattle.desk_http.specs.Demands.{SeeWhy};
+ghost use Rattle.desk_http.specs.Pages.{why_shown};
+ghost use Rattle.desk_http.specs.Reasons.{Sees, Views};
 
 use crate::doors::Asker;
 use crate::showing::own_journey;
-use commands::{Item, Phase, Refusal};
+use commands::{Phase, Refusal};
 use http_pages::{Body, Page, refused_page, shown_page};
 use previews::{FreeNight, NextStep, latest_option, look_ahead, next_step, nights_shown, why_body};
 use saga_core::{Book, Listed, Record};
@@ -28,12 +26,8 @@ pub(crate) fn see_why<B: Book>(
     asker: &Asker,
     id: u64,
 ) -> Result<Page, ServeFault>
-    ensures page { B.is_sound book.new → (s : State) → B.stands book.old s →
-        Shows (B.stands book.new) (B.leaves book.new) s (λ page.
-        page_said page ≡ why_page s.ledger id (own_journey s.ledger asker.now id)) result }
-
-    ensures views { Views B.is_sound B.leaves B.has_failed B.may_act B.has_reason
-        book.old book.new result }
+    ensures sees { Sees B.is_sound B.stands B.leaves B.has_failed B.may_act B.has_reason
+        book.old book.new (SeeWhy asker.now id) result }
 {
     let Some(journey) = own_journey(book, asker, id)? else {
         return Ok(refused_page(alloc, &Refusal::NoJourney)?);
@@ -49,13 +43,10 @@ fn why_of_journey<B: Book>(
     id: u64,
     journey: &Record,
 ) -> Result<String, ServeFault>
-    ensures body { B.is_sound book.new → (s : State) → B.stands book.old s →
-        record_of s.ledger id ≡ Some journey.now →
-        Shows (B.stands book.new) (B.leaves book.new) s
-        (λ body. string_bytes body ≡ compact_text (why_shown s.ledger id journey.now)) result }
-
-    ensures views { Views B.is_sound B.leaves B.has_failed B.may_act B.has_reason
-        book.old book.new result }
+    ensures body { Views B.is_sound B.stands B.leaves B.has_failed B.may_act B.has_reason
+        book.old book.new
+        (λ s body. record_of s.ledger id ≡ Some journey.now →
+        string_bytes body ≡ compact_text (why_shown s.ledger id journey.now)) result }
 {
     let taken = read_taken(book, id, journey)?;
     // A journey has the next step that its plan gives, unless the store did not return what was written.
@@ -69,11 +60,9 @@ fn why_of_journey<B: Book>(
 
 /// The option with which the step at the position of a journey was done last, if the journey goes back.
 fn read_taken<B: Book>(book: &mut B, id: u64, journey: &Record) -> Result<Option<usize>, ServeFault>
-    ensures taken { B.is_sound book.new → (s : State) → B.stands book.old s →
-        Shows (B.stands book.new) (B.leaves book.new) s (IsTaken s.ledger id journey.now) result }
-
-    ensures views { Views B.is_sound B.leaves B.has_failed B.may_act B.has_reason
-        book.old book.new result }
+    ensures taken { Views B.is_sound B.stands B.leaves B.has_failed B.may_act B.has_reason
+        book.old book.new
+        (λ s. IsTaken s.ledger id journey.now) result }
 {
     match journey.cursor.phase {
         Phase::Back(_) => read_latest(book, id, journey.cursor.pos),
@@ -83,23 +72,12 @@ fn read_taken<B: Book>(book: &mut B, id: u64, journey: &Record) -> Result<Option
 
 /// The option with which a step of the journey of this number was done last.
 fn read_latest<B: Book>(book: &mut B, id: u64, step: usize) -> Result<Option<usize>, ServeFault>
-    ensures latest { B.is_sound book.new → (s : State) → B.stands book.old s →
-        Shows (B.stands book.new) (B.leaves book.new) s
-        (λ option. option ≡ latest_option_of step (history s.ledger id)) result }
-
-    ensures views { Views B.is_sound B.leaves B.has_failed B.may_act B.has_reason
-        book.old book.new result }
+    ensures latest { Views B.is_sound B.stands B.leaves B.has_failed B.may_act B.has_reason
+        book.old book.new
+        (λ s option. option ≡ latest_option_of step (history s.ledger id)) result }
 {
     let items = book.history(id)?;
-    latest_of(&items, step)
-}
-
-/// The option with which a step was done last, by the items of a journey.
-fn latest_of(items: &[Item], step: usize) -> Result<Option<usize>, ServeFault>
-    ensures latest { IfOk result (λ option. option ≡ latest_option_of step items.now) }
-    ensures memory { IfErr result (λ fault. fault ≡ ServeFault.Memory) }
-{
-    match latest_option(&mut Listed::new(items), step) {
+    match latest_option(&mut Listed::new(&items), step) {
         Ok(option) => Ok(option),
         Err(_) => Err(ServeFault::Memory),
     }
@@ -111,12 +89,9 @@ fn nights_ahead<B: Book>(
     book: &mut B,
     next: &Option<NextStep>,
 ) -> Result<Vec<FreeNight>, ServeFault>
-    ensures nights { B.is_sound book.new → (s : State) → B.stands book.old s →
-        Shows (B.stands book.new) (B.leaves book.new) s
-        (λ nights. nights.items ≡ nights_ahead_of s.ledger next.now) result }
-
-    ensures views { Views B.is_sound B.leaves B.has_failed B.may_act B.has_reason
-        book.old book.new result }
+    ensures nights { Views B.is_sound B.stands B.leaves B.has_failed B.may_act B.has_reason
+        book.old book.new
+        (λ s nights. nights.items ≡ nights_ahead_of s.ledger next.now) result }
 {
     let Some(next) = next else {
         return Ok(Vec::new(alloc));

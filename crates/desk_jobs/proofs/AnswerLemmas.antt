@@ -1,20 +1,18 @@
 -- A run that ends early wrote a prefix of the answers to all lines. For run_over.
-use Rattle.std.proofs.Common.{◌≡◌, ◌∙◌, ap, sym, subst, refl, min, ◌+◌, List, [], ◌∷◌, ◌++◌, ℕ, length, take, append_assoc, arith, Option, IfSome, None, Some}
+use Rattle.std.proofs.Common.{◌≡◌, ◌∙◌, ap, sym, subst, refl, min, ◌+◌, List, [], ◌∷◌, ◌++◌, ℕ, length, take, append_assoc, arith, Option, IfSome}
 use Rattle.std.proofs.lemmas.List.{take_min}
 use Rattle.std.proofs.Math.Seq.{take-append-add, take-append-le}
-use Rattle.std.specs.Prelude.{⊤}
 use Rattle.std.specs.Io.KnownBytes.{Appends}
 use Rattle.ledger.specs.Answer.{State}
 use Rattle.streams.specs.Written.{WroteFront}
 use Rattle.streams.specs.Scenes.{Scene, ended}
 use Rattle.streams.specs.declared.serve_faults.ServeFault.{ServeFault}
 use Rattle.desk_lines.specs.Lines.{answer_line, answer_lines, state_after_lines, written}
-use Rattle.desk_lines.specs.Serving.{AnswersAll, AnswersSome, ForNext, IsCut, WroteAll}
+use Rattle.desk_lines.specs.Serving.{AnswersSome, ForNext, IsCut, WroteAll}
 use Rattle.reports.proofs.FrontLemmas.{front_before, front_whole}
 use Rattle.program_ends.specs.Ends.{EndsBadly, IfDone}
 use Rattle.program_ends.specs.declared.ends.End.{End}
-use Rattle.program_ends.specs.declared.ends.End.TheVariants as finish
-use Rattle.desk_jobs.specs.Running.{Answers, AnswersFront, answers_to}
+use Rattle.desk_jobs.specs.Running.{answers_to}
 use Rattle.desk_jobs.proofs.EndLemmas.{not_done}
 
 -- the answers to lines, and to the lines after them
@@ -62,48 +60,12 @@ front_of_cut x s first (line ∷ later) cut =
     subst (WroteFront x.held x.holds) (sym (written_lines s first (line ∷ later)))
     (front_cut x.held x.holds _ (ended (answer_line (state_after_lines s first) line).text) _ cut.0 cut.1)
 
--- whatever the fault
-front_at : (fault : ServeFault) (x : Scene) (s : State) (input : List ℕ) (some : AnswersSome x s input fault)
-    → WroteFront x.held x.holds (written (answer_lines s (some.answered ++ some.later)))
-front_at fault x s input some = grind (arith, front_of_first, front_of_cut)
-
 -- at a fault a prefix of the answers was written
 pub front_of_some : (fault : ServeFault) (x : Scene) (s : State) (input : List ℕ) → AnswersSome x s input fault
     → WroteFront x.held x.holds (answers_to s input)
 front_of_some fault x s input some =
-    subst (λ all. WroteFront x.held x.holds (written (answer_lines s all))) (sym some.cut) (front_at fault x s input some)
-
--- all answers are a prefix of them
-pub front_of_all : (x : Scene) (s : State) (input : List ℕ) (count : ℕ) → AnswersAll x s input count
-    → WroteFront x.held x.holds (answers_to s input)
-front_of_all x s input count all = front_whole x.held x.holds _ all.sent
-
--- and the state after them is represented
-answers_of_all : (x : Scene) {represents : State → Type 0} (s : State) (input : List ℕ) (count : ℕ)
-    → ((t : State) → x.stands t → represents t)
-    → AnswersAll x s input count → Answers x.held x.holds represents s input
-answers_of_all x s input count on all = record { sent = all.sent; left = on _ all.left }
-
--- the same of an input that may be known
-pub all_for_all : (x : Scene) {represents : State → Type 0} (s : State) (known : Option (List ℕ)) (count : ℕ)
-    → ((t : State) → x.stands t → represents t) → IfSome known (λ input. AnswersAll x s input count)
-    → IfSome known (λ input. IfDone finish.Done (Answers x.held x.holds represents s input))
-all_for_all x s known count on all = grind (arith, answers_of_all)
+    subst (λ all. WroteFront x.held x.holds (written (answer_lines s all))) (sym some.cut) (grind (arith, front_of_first, front_of_cut))
 
 -- a run in which not all was done owes no more
-pub none_owed : {X : Type 0} (known : Option X) → IfSome known (λ _. ⊤)
-none_owed known = grind arith
-
 pub undone_for : (e : End) → EndsBadly e → (P : List ℕ → Type 0) (known : Option (List ℕ)) → IfSome known (λ input. IfDone e (P input))
 undone_for e bad P known = grind (arith, not_done)
-
-pub front_for_all : (x : Scene) (s : State) (known : Option (List ℕ)) (count : ℕ)
-    → IfSome known (λ input. AnswersAll x s input count)
-    → IfSome known (AnswersFront x.held x.holds s)
-front_for_all x s None count all = tt
-front_for_all x s (Some input) count all = front_of_all x s input count all
-
-pub front_for_some : (x : Scene) (s : State) (known : Option (List ℕ)) (fault : ServeFault)
-    → IfSome known (λ input. AnswersSome x s input fault)
-    → IfSome known (AnswersFront x.held x.holds s)
-front_for_some x s known fault some = grind (arith, front_of_some)

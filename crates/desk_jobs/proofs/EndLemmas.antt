@@ -23,8 +23,8 @@ use Rattle.desk_jobs.specs.Executions.{EachMayReopen}
 use Rattle.desk_jobs.proofs.ExecutionLemmas.{not_opened}
 use Rattle.desk_jobs.specs.Connections.{RefusesOtherTables}
 use Rattle.desk_jobs.specs.OpeningEnds.{end_of_open}
-use Rattle.desk_jobs.specs.Ends.{IsFaultOfLoad, IsFaultOfRecovery, IsFaultOfRun, IsOfBook, IsOfWriting}
-use Rattle.desk_jobs.specs.Jobs.{NotReady}
+use Rattle.desk_jobs.specs.Ends.{EndsWriting, IsFaultOfLoad, IsFaultOfRecovery, IsFaultOfRun, IsOfBook, IsOfWriting}
+use Rattle.desk_jobs.specs.Jobs.{EndsOpening, NotReady}
 use Rattle.desk_jobs.proofs.ReasonLemmas.{opening_fails}
 
 -- Faults.
@@ -38,11 +38,8 @@ pub book_fault : (f : Fault) (served : ServeFault) (told : ProgramFault) → ser
 book_fault f served told from into = grind arith
 
 -- a fault of the lines is one of a run, and so is a fault of recovery
-lines_fault : (f : ServeFault) → IsFaultOfRun (fault_of_run f)
+pub lines_fault : (f : ServeFault) → IsFaultOfRun (fault_of_run f)
 lines_fault f = grind arith
-
-pub run_fault : (f : ServeFault) (told : ProgramFault) → told ≡ fault_of_run f → IsFaultOfRun told
-run_fault f told is = subst IsFaultOfRun (sym is) (lines_fault f)
 
 of_run : (f : ProgramFault) → IsFaultOfRecovery f → IsFaultOfRun f
 of_run f is = grind arith
@@ -51,17 +48,11 @@ pub recovery_fault : (e : End) → IfFault e IsFaultOfRecovery → IfFault e IsF
 recovery_fault e is = grind (arith, of_run)
 
 -- a fault of a book, and one of writing, is a fault of a load
-book_loads : (f : ServeFault) → IsOfBook f → IsFaultOfLoad (fault_of_run f)
-book_loads f is = grind arith
-
 pub load_fault : (f : ServeFault) (told : ProgramFault) → told ≡ fault_of_run f → IsOfBook f → IsFaultOfLoad told
-load_fault f told into is = subst IsFaultOfLoad (sym into) (book_loads f is)
-
-writing_loads : (f : ServeFault) → IsOfWriting f → IsFaultOfLoad (fault_of_run f)
-writing_loads f is = grind arith
+load_fault f told into is = grind arith
 
 pub reply_fault : (f : ServeFault) (told : ProgramFault) → told ≡ fault_of_run f → IsOfWriting f → IsFaultOfLoad told
-reply_fault f told into is = subst IsFaultOfLoad (sym into) (writing_loads f is)
+reply_fault f told into is = grind arith
 
 -- Refusals.
 
@@ -141,3 +132,16 @@ not_opening f served told from into is = grind arith
 -- nor is one of the lines
 pub not_of_opening : (f : ServeFault) (told : ProgramFault) → told ≡ fault_of_run f → finish.Fault told ≡ finish.Fault fault.OpeningStore → ⊥
 not_of_opening f told into is = grind arith
+
+-- one of writing is not that of the store, but ends what was written
+pub not_of_store : (f : ServeFault) (told : ProgramFault) → told ≡ fault_of_run f → IsOfWriting f → finish.Fault told ≡ finish.Fault fault.Store → ⊥
+not_of_store f told into of is = grind arith
+
+pub ends_writing : (f : ServeFault) (told : ProgramFault) → told ≡ fault_of_run f → IsOfWriting f → EndsWriting (finish.Fault told)
+ends_writing f told into of = grind arith
+
+-- an end that is not that of an opening
+pub no_opening : {S : Type 0} (g : Ghosts S) (old new : Held S) (e : End) → IfRefused e (RefusesOtherTables g old new)
+    → (e ≡ finish.Fault fault.OpeningStore → ⊥) → EndsOpening g old new e
+no_opening g old new e refused never =
+    record { refused = refused; opening = λ why. absurd (never why); founding = λ why. absurd (never why) }

@@ -1,7 +1,7 @@
 -- What a job follows from: how its desk came up, and what it answered. For the jobs that act.
-use Rattle.std.proofs.Common.{◌≡◌, ℕ, List, [], sym, subst, drop, take, append-nil, inl, inr, Option, Some, IfSome, option_map, Result, Ok, Err, refl, arith}
+use Rattle.std.proofs.Common.{◌≡◌, ℕ, List, [], sym, subst, drop, take, inl, inr, Option, Some, IfSome, option_map, Result, Ok, Err, refl, arith}
 use Rattle.std.proofs.lemmas.List.{take-append-drop}
-use Rattle.std.specs.Io.KnownBytes.{Appends, Keeps}
+use Rattle.std.specs.Io.KnownBytes.{Keeps}
 use Rattle.sqlite.specs.Store.{Ghosts}
 use Rattle.sqlite.specs.Held.{Held, state}
 use Rattle.sqlite.specs.State.{HasCleanDisk}
@@ -12,7 +12,9 @@ use Rattle.allotment_csv.specs.declared.faults.CsvFault.{CsvFault}
 use Rattle.ledger.specs.Answer.{State, start}
 use Rattle.ledger.specs.World.{Moment, after}
 use Rattle.saga_core.specs.Worlds.{StandsAtEnd}
+use Rattle.streams.specs.Written.{WroteFront}
 use Rattle.streams.proofs.ByteLemmas.{appends_none, keeps_same}
+use Rattle.reports.proofs.FrontLemmas.{front_whole}
 use Rattle.sql_model.specs.Keeping.{StoodFor}
 use Rattle.sql_model.specs.Standing.{IsDesk}
 use Rattle.tables.specs.BookTerms.{StandsBook}
@@ -22,9 +24,10 @@ use Rattle.program_ends.specs.Ends.{EndsBadly, IfDone}
 use Rattle.program_ends.specs.declared.ends.End.{End}
 use Rattle.program_ends.specs.declared.ends.End.TheVariants as finish
 use Rattle.desk_jobs.specs.Executions.{EachMayReopen, HasComeUp, HasNotComeUp, LeavesAnswered, StandsAnswered}
-use Rattle.desk_jobs.specs.Openings.{File, Input, HasNoExchange, Lines, Nothing, load_reply}
+use Rattle.desk_jobs.specs.Openings.{File, Input, HasNoExchange, Lines, Nothing, asks_of_file, load_reply}
 use Rattle.desk_jobs.specs.Stages.{Answering, LeavesAnswering, Stood}
-use Rattle.desk_jobs.proofs.FileLemmas.{file_cut, file_loaded, file_unasked, loaded, nothing_asked}
+use Rattle.desk_jobs.proofs.FileLemmas.{file_cut, file_loaded, loaded}
+use Rattle.desk_jobs.proofs.StageLemmas.{unasked}
 use Rattle.desk_jobs.proofs.ExecutionLemmas.{leaves_answered, leaves_unanswered, stands_answered, stands_found, stands_leaves}
 use Rattle.desk_jobs.proofs.KnownLemmas.{if_some_each, if_some_more, of_lines}
 use Rattle.desk_jobs.specs.Following.{Follows, FollowsDesk}
@@ -90,7 +93,7 @@ follows_not_up g old new input held e law left bad unserved = record {
 pub follows_unasked : {S : Type 0} (g : Ghosts S) (b : TableBook S g) (new : Held S) (held : Option (List ℕ)) (e : End)
     → ((s : State) → StandsBook g b s → StoodFor Two (state g new) s) → FollowsDesk g b new (Some Nothing) held held e
 follows_unasked g b new held e found = stands_follows g b new (Some Nothing) held held e (λ clean w here.
-    nothing_asked held held (StandsBook g b) (Stood (state g new)) w here (appends_none held held (keeps_same held))
+    unasked held held (StandsBook g b) w Nothing [] (Stood (state g new)) refl (refl, refl) here (appends_none held held (keeps_same held))
     (Two, found (after start w) here.stands_there))
 
 -- Loads.
@@ -100,57 +103,47 @@ module _ {S : Type 0} (g : Ghosts S) (b : TableBook S g) (new : Held S) (held ho
   stood : (s : State) → Represents g new s → Stood (state g new) s
   stood s is = (Two, is.stood)
 
-  -- the reply, and a prefix of its line
-  module _ (batch : Batched) (is : batch_of name bytes ≡ Ok batch) where
-    whole_reply : (IsThere : State → Type 0) → Appends held holds (load_reply (after start w) batch)
-        → IsThere (loaded (after start w) batch) → Answering held holds w (File name bytes) IsThere
-    whole_reply IsThere sent there =
-        file_loaded held holds (StandsBook g b) w name bytes here batch is IsThere (load_reply (after start w) batch) []
-        (sym (append-nil (load_reply (after start w) batch))) sent there
-
-    some_reply : (IsThere : State → Type 0) (part : ℕ) → Appends held holds (take part (load_reply (after start w) batch))
-        → IsThere (loaded (after start w) batch) → Answering held holds w (File name bytes) IsThere
-    some_reply IsThere part sent there =
-        file_loaded held holds (StandsBook g b) w name bytes here batch is IsThere (take part (load_reply (after start w) batch))
-        (drop part (load_reply (after start w) batch)) (sym (take-append-drop part (load_reply (after start w) batch))) sent there
-
-    no_reply : (IsThere : State → Type 0) → Keeps held holds → IsThere (loaded (after start w) batch)
-        → Answering held holds w (File name bytes) IsThere
-    no_reply IsThere kept there =
-        file_loaded held holds (StandsBook g b) w name bytes here batch is IsThere [] (load_reply (after start w) batch) refl
-        (appends_none held holds kept) there
+  -- its batch was carried out, and a prefix of the line of the reply was written
+  replied : (batch : Batched) → batch_of name bytes ≡ Ok batch → (IsThere : State → Type 0)
+      → WroteFront held holds (load_reply (after start w) batch) → IsThere (loaded (after start w) batch)
+      → Answering held holds w (File name bytes) IsThere
+  replied batch is IsThere front there =
+      let line = load_reply (after start w) batch in
+      file_loaded held holds (StandsBook g b) w name bytes here batch is IsThere (take front.0 line) (drop front.0 line)
+      (sym (take-append-drop front.0 line)) front.1 there
 
   -- nothing was carried out
-  unasked : (IsThere : State → Type 0) → Keeps held holds → IsThere (after start w)
+  not_loaded : (IsThere : State → Type 0) → Keeps held holds → IsThere (after start w)
       → Answering held holds w (File name bytes) IsThere
-  unasked IsThere kept there =
-      file_unasked held holds (StandsBook g b) w name bytes here IsThere (appends_none held holds kept) there
+  not_loaded IsThere kept there =
+      unasked held holds (StandsBook g b) w (File name bytes) (asks_of_file (batch_of name bytes)) IsThere refl (inl (refl, refl)) here
+      (appends_none held holds kept) there
 
   pub load_leaves : (read : Result Batched CsvFault) → batch_of name bytes ≡ read → (e : End)
       → EndsLoad held holds (Represents g new) (MayBeLeft g new) (after start w) read e
       → LeavesAnswering (state g new).may_leave held holds w (File name bytes)
   load_leaves (Ok batch) is finish.Done ends db may =
-      whole_reply batch is _ ends.1 (stands_found g new _ clean (stood _ ends.2) db may)
+      replied batch is _ (front_whole held holds _ ends.1) (stands_found g new _ clean (stood _ ends.2) db may)
   load_leaves (Ok batch) is (finish.Refused why) ends db may =
-      no_reply batch is _ ends.1 (stands_found g new _ clean (stood _ ends.2) db may)
+      replied batch is _ (0, appends_none held holds ends.1) (stands_found g new _ clean (stood _ ends.2) db may)
   load_leaves (Ok batch) is (finish.Fault fault) (inl (kept, there)) db may =
-      unasked _ kept (stands_found g new _ clean (stood _ there) db may)
+      not_loaded _ kept (stands_found g new _ clean (stood _ there) db may)
   load_leaves (Ok batch) is (finish.Fault fault) (inr (inl (front, there))) db may =
-      some_reply batch is _ front.0 front.1 (stands_found g new _ clean (stood _ there) db may)
+      replied batch is _ front (stands_found g new _ clean (stood _ there) db may)
   load_leaves (Ok batch) is (finish.Fault fault) (inr (inr (kept, left))) db may =
       file_cut held holds (StandsBook g b) w name bytes here batch is (state g new) clean (appends_none held holds kept) left db may
   load_leaves (Ok batch) is (finish.Usage text) ends db may = absurd ends
   load_leaves (Err wrong) is finish.Done ends db may = absurd ends
   load_leaves (Err wrong) is (finish.Refused told) ends db may =
-      unasked _ ends.1 (stands_found g new _ clean (stood _ ends.2) db may)
+      not_loaded _ ends.1 (stands_found g new _ clean (stood _ ends.2) db may)
   load_leaves (Err wrong) is (finish.Fault fault) ends db may =
-      unasked _ ends.0 (stands_found g new _ clean (stood _ ends.1) db may)
+      not_loaded _ ends.0 (stands_found g new _ clean (stood _ ends.1) db may)
   load_leaves (Err wrong) is (finish.Usage text) ends db may = absurd ends
 
   pub load_stands : (read : Result Batched CsvFault) → batch_of name bytes ≡ read
       → EndsLoad held holds (Represents g new) (MayBeLeft g new) (after start w) read finish.Done
       → Answering held holds w (File name bytes) (Stood (state g new))
-  load_stands (Ok batch) is ends = whole_reply batch is _ ends.1 (stood _ ends.2)
+  load_stands (Ok batch) is ends = replied batch is _ (front_whole held holds _ ends.1) (stood _ ends.2)
   load_stands (Err wrong) is ends = absurd ends
 
 -- a load that came to this

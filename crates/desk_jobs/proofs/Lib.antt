@@ -2,6 +2,7 @@ pub mod JobLemmas
 pub mod AnswerLemmas
 pub mod LoadLemmas
 pub mod RecoveredLemmas
+mod RunLemmas
 pub mod ReasonLemmas
 pub mod EndLemmas
 pub mod FollowLemmas

@@ -1,5 +1,5 @@
 -- How a load ends, from what it came to and what was written. For load_over.
-use Rattle.std.proofs.Common.{◌≡◌, sym, subst, ℕ, List, Option, Result, arith}
+use Rattle.std.proofs.Common.{ℕ, List, Option, Result, arith}
 use Rattle.commands.specs.BatchData.{Batched}
 use Rattle.commands.specs.declared.replies.Reply.{Reply}
 use Rattle.allotment_csv.specs.declared.faults.CsvFault.{CsvFault}
@@ -27,12 +27,8 @@ module _ (held holds : Option (List ℕ)) {stands after : State → Type 0} {lea
   ends_as read e ends = grind (arith, ends_with_as)
 
 -- the same of the connection of a book that was let go
-pub loaded_over : {S : Type 0} (g : Ghosts S) (now inner : TableBook S g) (new : Held S) → inner ≡ now → LetsGo g inner new
+pub loaded_over : {S : Type 0} (g : Ghosts S) (now : TableBook S g) (new : Held S) → LetsGo g now new
     → (held holds : Option (List ℕ)) (s : State) (read : Result Batched CsvFault) (e : End)
     → EndsLoad held holds (StandsBook g now) (LeavesBook g now) s read e
     → EndsLoad held holds (Represents g new) (MayBeLeft g new) s read e
-loaded_over g now inner new same go held holds s read e ends =
-    ends_as held holds s
-    (λ t stood. represented g inner new go.found t (subst (λ b. StandsBook g b t) (sym same) stood))
-    (λ t u may. go.left t u (subst (λ b. LeavesBook g b t u) (sym same) may))
-    read e ends
+loaded_over g now new gone held holds s read e ends = ends_as held holds s (represented g now new gone) gone.left read e ends

@@ -45,6 +45,7 @@ use Rattle.tables.proofs.OpenKept.{not_bare}
 use Rattle.desk_jobs.specs.Jobs.{OpensBook}
 use Rattle.desk_jobs.specs.Openings.{ask_of_batch}
 use Rattle.desk_jobs.specs.Reasons.{FailsAmongFrom, FailsToLoad, FailsToLoadFor, FailsToRecover, FailsToRun, HasReasonFrom, MayActFrom, MayStart, rowids_of_job}
+use Rattle.desk_jobs.proofs.JobLemmas.{grew_as}
 use Rattle.desk_jobs.proofs.RecoveredLemmas.{recovery_of}
 
 -- Ends.
@@ -157,16 +158,8 @@ module _ {S : Type 0} (g : Ghosts S) (first b : TableBook S g) (stays : StaysUp 
 pub acts_from : {S : Type 0} (g : Ghosts S) (first b : TableBook S g) (later : Asks) (s : State) (made : ℕ)
     → Grew (MayActThen (StandsBook g b) (MayActSince g first b) later) (AreRecovery s.ledger) s made
     → Grew (MayActThen (StandsBook g b) (MayActFrom g first.conn b) later) (AreRecovery s.ledger) s made
-acts_from g first b later s made grew = record {
-  events = grew.events;
-  are = grew.are;
-  counted = grew.counted;
-  within = grew.within;
-  stands_there = record {
-    stands_there = grew.stands_there.stands_there;
-    may = record { first = first; same = refl; may = grew.stands_there.may };
-  };
-}
+acts_from g first b later s made grew =
+    grew_as (λ t may. record { stands_there = may.stands_there; may = record { first = first; same = refl; may = may.may } }) grew
 
 -- At a fault.
 

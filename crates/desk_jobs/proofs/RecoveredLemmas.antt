@@ -1,5 +1,8 @@
 -- The answers of a desk that was recovered are those over the recovery of what its connection represented. For run_over.
 use Rattle.std.proofs.Common.{◌≤◌, inl, inr, sym, subst, ℕ, List, Option, IfSome, arith}
+use Rattle.sqlite.specs.Store.{Ghosts}
+use Rattle.sqlite.specs.Held.{Held, state}
+use Rattle.sqlite.specs.State.{HasCleanDisk}
 use Rattle.ledger.specs.Answer.{State}
 use Rattle.recovery.specs.Growing.{Grew, room_of}
 use Rattle.recovery.specs.Recovers.{AreRecovery, HasOneRecovery, IsRecovery}
@@ -7,8 +10,11 @@ use Rattle.reports.proofs.FrontLemmas.{front_none}
 use Rattle.program_ends.specs.Ends.{IfDone}
 use Rattle.program_ends.specs.declared.ends.End.{End}
 use Rattle.streams.specs.Written.{WroteFront}
-use Rattle.desk_jobs.specs.Notes.{recovered_note, NotesOrKeeps}
-use Rattle.desk_jobs.specs.Running.{Answers, AnswersAfterRecovery, AnswersFront, AnswersFrontAfterRecovery, NotesRecovery}
+use Rattle.streams.proofs.ByteLemmas.{keeps_same}
+use Rattle.tables.specs.declared.books.TableBook.{TableBook}
+use Rattle.desk_jobs.specs.Jobs.{NotesRun, Readies}
+use Rattle.desk_jobs.specs.Notes.{recovered_note, NotesEvents}
+use Rattle.desk_jobs.specs.Running.{AnswersFrontAfterRecovery}
 
 -- what follows where all was done
 pub done_as : {P Q : Type 0} (e : End) → (P → Q) → IfDone e P → IfDone e Q
@@ -20,29 +26,27 @@ pub recovery_of : {stands : State → Type 0} (s : State) (made : ℕ) (grew : G
 recovery_of s made grew =
     record { are = grew.are; within = subst (λ n. n ≤ room_of s) (sym grew.counted) grew.within }
 
-module _ (held holds : Option (List ℕ)) {stands : State → Type 0} (s : State) (made : ℕ)
-    (grew : Grew stands (AreRecovery s.ledger) s made) where
-  -- all lines were answered
-  pub all_after_recovery : (represents : State → Type 0) (known : Option (List ℕ)) (e : End)
-      → ((t : State) → stands t → IfSome known (λ input. IfDone e (Answers held holds represents t input)))
-      → IfSome known (λ input. IfDone e (AnswersAfterRecovery held holds represents s input))
-  all_after_recovery represents known e all = grind (arith, done_as, recovery_of)
+-- the recovery was noted: the note says how many events it has
+pub recovery_noted : {S : Type 0} (g : Ghosts S) (old new : Held S) (b : TableBook S g) (made : ℕ) → Readies g old b made
+    → (HasCleanDisk (state g new) → HasCleanDisk (state g b.conn)) → (noted notes : Option (List ℕ)) → NotesEvents made noted notes
+    → NotesRun g old new noted notes
+recovery_noted g old new b made ready back noted notes events = record {
+  noted = λ clean s was. (
+      let grew = ready.recovered (back clean) s was in
+      elim events.either [
+        | inl kept ↦ inl kept
+        | inr wrote ↦ inr (
+          grew.events,
+          recovery_of s made grew,
+          subst (λ n. WroteFront noted notes (recovered_note n)) (sym grew.counted) wrote,
+        )
+      ]);
+  may = events.some;
+}
 
-  -- a prefix of the answers was written
-  pub front_after_recovery : (known : Option (List ℕ))
-      → ((t : State) → stands t → IfSome known (AnswersFront held holds t))
-      → IfSome known (AnswersFrontAfterRecovery held holds s)
-  front_after_recovery known front = grind (arith, recovery_of, front)
-
-  -- the note says how many events the recovery has
-  pub note_of_recovery : NotesOrKeeps made held holds → NotesRecovery held holds s
-  note_of_recovery (inl kept) = inl kept
-  note_of_recovery (inr wrote) =
-      inr (
-        grew.events,
-        recovery_of s made grew,
-        subst (λ n. WroteFront held holds (recovered_note n)) (sym grew.counted) wrote,
-      )
+-- nothing was noted
+pub unnoted : {S : Type 0} (g : Ghosts S) (old new : Held S) (noted : Option (List ℕ)) → NotesRun g old new noted noted
+unnoted g old new noted = record { noted = λ clean s was. inl (keeps_same noted); may = inl (keeps_same noted) }
 
 -- where nothing was written
 pub front_without_recovery : (held : Option (List ℕ)) (s : State) (known : Option (List ℕ)) → HasOneRecovery s

@@ -1,7 +1,6 @@
 -- Where a stage of an opening leaves the desk. For the jobs.
-use Rattle.std.proofs.Common.{◌⊎◌, ℕ, List, [], ◌∷◌, ◌++◌, Bool, true, false, refl, sym, subst, ◌∙◌, arith, append-nil, inl, inr, Option, None, Some, IfSome}
+use Rattle.std.proofs.Common.{◌⊎◌, ℕ, List, [], ◌∷◌, ◌++◌, Bool, true, false, refl, sym, subst, ◌∙◌, arith, append-nil, inl, inr, Option}
 use Rattle.std.specs.Io.KnownBytes.{Appends}
-use Rattle.std.proofs.KnownBytes.{Appends-nil}
 use Rattle.sqlite.specs.Tree.{Trees}
 use Rattle.sqlite.specs.State.{State as Connected, HasCleanDisk}
 use Rattle.commands.specs.declared.replies.Fault.{Fault}
@@ -9,7 +8,7 @@ use Rattle.ledger.specs.Answer.{State, start}
 use Rattle.ledger.specs.World.{Moment, after, IsWorld}
 use Rattle.saga_core.specs.Chains.{GoesOnTo}
 use Rattle.saga_core.specs.Runs.{Asks}
-use Rattle.saga_core.specs.Worlds.{KeepLimits, Progress, StandsAtEnd, EndsWith, EndsAmong, GoesOnWith, continued, crashed}
+use Rattle.saga_core.specs.Worlds.{KeepLimits, Progress, StandsAtEnd, EndsWith, EndsAmong, continued, crashed}
 use Rattle.sql_model.specs.Keeping.{MayLeave}
 use Rattle.recovery.specs.Recovers.{HasOneRecovery}
 use Rattle.recovery.specs.Worlds.{EndsRecovered, EndsRecovering, orders_of}
@@ -23,7 +22,7 @@ use Rattle.http_conversations.specs.Worlds as by_exchange
 use Rattle.desk_jobs.specs.Openings.{Input, Lines, Connections, AsksFor, IsAnsweredBy}
 use Rattle.desk_jobs.specs.Chains.{StandsAs}
 use Rattle.desk_jobs.specs.Stages.{HasRecovered, LeavesRecovering, Answering, LeavesAnswering}
-use Rattle.desk_jobs.proofs.TellingLemmas.{Tells, lines_tell_all, lines_tell, done_next, done_but_last, exchanges_told}
+use Rattle.desk_jobs.proofs.TellingLemmas.{Tells, lines_tell_all, lines_tell, tells_none, done_next, done_but_last, exchanges_tell}
 
 -- Asks that were carried out.
 
@@ -37,6 +36,9 @@ all_done asks limits = record {
   at_most_one = omega arith;
   limits = subst KeepLimits (sym (append-nil asks)) limits;
 }
+
+abbrev pub goes_all : (w : List Moment) (asks : Asks) → KeepLimits asks → GoesOnTo w asks (continued w asks [])
+goes_all w asks limits = record { progress = all_done asks limits; was_kept = false; goes = refl }
 
 -- none of them
 abbrev none_done : (asks : Asks) → Progress asks
@@ -109,160 +111,76 @@ has_recovered stands leaves w r = record { events = r.events; is = r.is; ends = 
 
 -- Answers.
 
--- all was answered
-module _ (x : Scene) (w : List Moment) (IsThere : State → Type 0) (stays : (s : State) → x.stands s → IsThere s) where
-  all_answered : (input : Input) (asks : Asks) → AsksFor (after start w) input asks → EndsWith x.stands x.leaves w asks
-      → Tells x.held x.holds (after start w) input asks → Answering x.held x.holds w input IsThere
-  all_answered input asks come ends tells = record {
-    told = tells.told;
-    wrote = tells.wrote;
-    end = continued w asks [];
-    answers = record {
-      asks = asks;
-      come = come;
-      goes = record { progress = all_done asks ends.limits; was_kept = false; goes = refl };
-      is_told = tells.is_told;
-    };
-    world = ends.ends.world;
-    there = stays (after start (continued w asks [])) ends.ends.stands_there;
-  }
+-- a world went on with these asks, and this was told of them
+pub answering : (held holds : Option (List ℕ)) (w end : List Moment) (input : Input) (asks : Asks) (IsThere : State → Type 0)
+    → AsksFor (after start w) input asks → (goes : GoesOnTo w asks end) → IsWorld end → IsThere (after start end)
+    → Tells held holds (after start w) input goes.progress.answered → Answering held holds w input IsThere
+answering held holds w end input asks IsThere come goes world there tells = record {
+  told = tells.told;
+  wrote = tells.wrote;
+  end = end;
+  answers = record { asks = asks; come = come; goes = goes; is_told = tells.is_told };
+  world = world;
+  there = there;
+}
 
-  pub lines_answered : (bytes : List ℕ) (count : ℕ) → EndsWith x.stands x.leaves w (by_line.asks_in (lines bytes))
-      → of_lines.AnswersAll x (after start w) bytes count → Answering x.held x.holds w (Lines bytes) IsThere
-  lines_answered bytes count ends all =
-      all_answered (Lines bytes) (by_line.asks_in (lines bytes))
-      (lines bytes, [], sym (append-nil (lines bytes)), refl) ends (lines_tell_all x (after start w) bytes count all)
-
--- the same of lines that are known
-pub lines_answered_if_known : (x : Scene) (known : Option (List ℕ)) (count : ℕ) (stood IsThere : State → Type 0)
-    → ((s : State) → x.stands s → IsThere s)
-    → ((s : State) → stood s → IfSome known (λ bytes. of_lines.AnswersAll x s bytes count))
-    → IfSome known (λ bytes. GoesOnWith stood x.stands x.leaves (by_line.asks_in (lines bytes)))
-    → IfSome known (λ bytes. (w : List Moment) → StandsAtEnd stood w → Answering x.held x.holds w (Lines bytes) IsThere)
-lines_answered_if_known x None count stood IsThere stays all goes = tt
-lines_answered_if_known x (Some bytes) count stood IsThere stays all goes =
-    λ w here. lines_answered x w IsThere stays bytes count (goes w here) (all (after start w) here.stands_there)
+-- all lines were answered
+pub lines_answered : (x : Scene) (w : List Moment) (IsThere : State → Type 0) → ((s : State) → x.stands s → IsThere s)
+    → (bytes : List ℕ) (count : ℕ) → EndsWith x.stands x.leaves w (by_line.asks_in (lines bytes))
+    → of_lines.AnswersAll x (after start w) bytes count → Answering x.held x.holds w (Lines bytes) IsThere
+lines_answered x w IsThere stays bytes count ends all =
+    let asks = by_line.asks_in (lines bytes) in
+    answering x.held x.holds w (continued w asks []) (Lines bytes) asks IsThere (lines bytes, [], sym (append-nil (lines bytes)), refl)
+    (goes_all w asks ends.limits) ends.ends.world (stays _ ends.ends.stands_there) (lines_tell_all x (after start w) bytes count all)
 
 -- nothing was carried out
 pub unasked : (held holds : Option (List ℕ)) (stands : State → Type 0) (w : List Moment) (input : Input) (asks : Asks)
     (IsThere : State → Type 0) → AsksFor (after start w) input asks → IsAnsweredBy (after start w) input [] []
     → StandsAtEnd stands w → Appends held holds [] → IsThere (after start w) → Answering held holds w input IsThere
-unasked held holds stands w input asks IsThere come none here silent there = record {
-  told = [];
-  wrote = silent;
-  end = w;
-  answers = record {
-    asks = asks;
-    come = come;
-    goes = goes_nowhere w asks;
-    is_told = record { answered = []; others = []; done = refl; answers = []; are = none; unsent = []; sent = refl };
-  };
-  world = here.world;
-  there = there;
-}
+unasked held holds stands w input asks IsThere come none here silent there =
+    answering held holds w w input asks IsThere come (goes_nowhere w asks) here.world there
+    (tells_none held holds (after start w) input [] none silent)
 
--- nothing was asked
-pub not_asked : (held : Option (List ℕ)) (stands : State → Type 0) (w : List Moment) (finds : Trees → Type 0)
-    (input : Input) → AsksFor (after start w) input [] → IsAnsweredBy (after start w) input [] [] → StandsAtEnd stands w
-    → ((db : Trees) → finds db → StandsAs db (after start w)) → LeavesAnswering finds held held w input
-not_asked held stands w finds input come none here means db may =
-    unasked held held stands w input [] (StandsAs db) come none here (Appends-nil held) (means db may)
-
--- a fault came
-module _ (x : Scene) (c : Connected) (clean : HasCleanDisk c) (told : (s t : State) → x.leaves s t → MayLeave c s t)
-    (w : List Moment) (bytes : List ℕ) where
-  pub stopped_at_line : (fault : ServeFault) → by_line.EndsAmongLines x w bytes fault
-      → LeavesAnswering c.may_leave x.held x.holds w (Lines bytes)
-  stopped_at_line fault e db may =
-      let l = left_among c x.leaves clean told x.stands w _ _ e.among db may in
-      let tells = lines_tell x (after start w) bytes fault e.some.answered e.some.later e.among.progress.answered
-      e.some.cut e.some.leaves e.carried_out in
-      record {
-        told = tells.told;
-        wrote = tells.wrote;
-        end = crashed w e.among.progress l.was_kept;
-        answers = record {
-          asks = by_line.asks_in (lines bytes);
-          come = (lines bytes, [], sym (append-nil (lines bytes)), refl);
-          goes = record { progress = e.among.progress; was_kept = l.was_kept; goes = refl };
-          is_told = tells.is_told;
-        };
-        world = l.world;
-        there = l.stands;
-      }
-
--- connections were served: all turns were taken, or the store failed
+-- a fault came, and what is left of the book is left of its connection
 module _ (c : Connected) (leaves : State → State → Type 0) (clean : HasCleanDisk c)
-    (told : (s t : State) → leaves s t → MayLeave c s t) (stands : State → Type 0) (w : List Moment)
-    (held : Option (List ℕ)) where
-  all_served : (exchanges : List Exchange) → by_exchange.EndsWithExchanges stands leaves w exchanges
-      → LeavesAnswering c.may_leave held held w (Connections exchanges)
-  all_served exchanges e db may =
-      let asks = by_exchange.asks_of e.messages in
-      record {
-        told = [];
-        wrote = Appends-nil held;
-        end = continued w asks [];
-        answers = record {
-          asks = asks;
-          come = (e.messages, e.done, refl);
-          goes = record { progress = all_done asks e.ends.limits; was_kept = false; goes = refl };
-          is_told = exchanges_told (after start w) exchanges e.messages asks e.done refl;
-        };
-        world = e.ends.left.first;
-        there = elim (either c _ _ clean (told _ _ e.ends.left.left) db may) [
-          | inl m ↦ m
-          | inr m ↦ m
-        ];
-      }
+    (told : (s t : State) → leaves s t → MayLeave c s t) (stands : State → Type 0) (w : List Moment) where
+  pub answering_left : (held holds : Option (List ℕ)) (input : Input) (asks : Asks) (failed : Bool)
+      (among : EndsAmong stands leaves w asks failed) → AsksFor (after start w) input asks
+      → Tells held holds (after start w) input among.progress.answered → LeavesAnswering c.may_leave held holds w input
+  answering_left held holds input asks failed among come tells db may =
+      let l = left_among c leaves clean told stands w asks failed among db may in
+      answering held holds w (crashed w among.progress l.was_kept) input asks (StandsAs db) come
+      (record { progress = among.progress; was_kept = l.was_kept; goes = refl }) l.world l.stands tells
 
-  some_served : (exchanges : List Exchange) → by_exchange.EndsAmongExchanges stands leaves w exchanges
+  -- of the exchanges that were served the last one was not answered
+  pub some_served : (held : Option (List ℕ)) (exchanges : List Exchange) → by_exchange.EndsAmongExchanges stands leaves w exchanges
       → LeavesAnswering c.may_leave held held w (Connections exchanges)
-  some_served exchanges e db may =
+  some_served held exchanges e =
       let s = after start w in
-      let l = left_among c leaves clean told stands w _ _ e.among db may in
-      record {
-        told = [];
-        wrote = Appends-nil held;
-        end = crashed w e.among.progress l.was_kept;
-        answers = record {
-          asks = by_exchange.asks_of (e.messages ++ (e.last.door, e.next.meant) ∷ []);
-          come = (
-            e.messages ++ (e.last.door, e.next.meant) ∷ [],
-            subst (λ xs. by_exchange.AreDone s xs (e.messages ++ (e.last.door, e.next.meant) ∷ [])) (sym e.at_last)
-                (done_next e.last e.next e.is_next e.is_lost s e.before e.messages e.done),
-            refl,
-          );
-          goes = record { progress = e.among.progress; was_kept = l.was_kept; goes = refl };
-          is_told = exchanges_told s exchanges e.messages e.among.progress.answered
-              (subst (λ xs. by_exchange.AreDone s xs e.messages) (sym e.at_last)
-              (done_but_last e.last e.next e.is_next e.is_lost s e.before e.messages e.done))
-              e.answered;
-        };
-        world = l.world;
-        there = l.stands;
-      }
+      let heard = e.messages ++ (e.last.door, e.next.meant) ∷ [] in
+      answering_left held held (Connections exchanges) (by_exchange.asks_of heard) true e.among (
+        heard,
+        subst (λ xs. by_exchange.AreDone s xs heard) (sym e.at_last) (done_next e.last e.next e.is_next e.is_lost s e.before e.messages e.done),
+        refl,
+      )
+      (exchanges_tell held s exchanges e.messages e.among.progress.answered
+      (subst (λ xs. by_exchange.AreDone s xs e.messages) (sym e.at_last)
+      (done_but_last e.last e.next e.is_next e.is_lost s e.before e.messages e.done))
+      e.answered)
 
-  -- all were carried out, and what stands for the end is there
-  pub exchanges_answered : (IsThere : State → Type 0) → ((s : State) → stands s → IsThere s) → (exchanges : List Exchange)
-      → by_exchange.EndsWithExchanges stands leaves w exchanges → Answering held held w (Connections exchanges) IsThere
-  exchanges_answered IsThere stays exchanges e =
-      let asks = by_exchange.asks_of e.messages in
-      record {
-        told = [];
-        wrote = Appends-nil held;
-        end = continued w asks [];
-        answers = record {
-          asks = asks;
-          come = (e.messages, e.done, refl);
-          goes = record { progress = all_done asks e.ends.limits; was_kept = false; goes = refl };
-          is_told = exchanges_told (after start w) exchanges e.messages asks e.done refl;
-        };
-        world = e.ends.ends.world;
-        there = stays (after start (continued w asks [])) e.ends.ends.stands_there;
-      }
+pub stopped_at_line : (x : Scene) (c : Connected) → HasCleanDisk c → ((s t : State) → x.leaves s t → MayLeave c s t) → (w : List Moment)
+    (bytes : List ℕ) (fault : ServeFault) → by_line.EndsAmongLines x w bytes fault → LeavesAnswering c.may_leave x.held x.holds w (Lines bytes)
+stopped_at_line x c clean told w bytes fault e =
+    answering_left c x.leaves clean told x.stands w x.held x.holds (Lines bytes) (by_line.asks_in (lines bytes)) _ e.among
+    (lines bytes, [], sym (append-nil (lines bytes)), refl)
+    (lines_tell x (after start w) bytes fault e.some.answered e.some.later e.among.progress.answered e.some.cut e.some.leaves e.carried_out)
 
-  pub exchanges_served : (failed : Bool) (exchanges : List Exchange)
-      → by_exchange.GoesOnBy failed stands leaves w exchanges
-      → LeavesAnswering c.may_leave held held w (Connections exchanges)
-  exchanges_served failed exchanges e = grind (arith, all_served, some_served)
+-- all exchanges were carried out, and what stands for the end is there
+pub exchanges_answered : (stands : State → Type 0) (leaves : State → State → Type 0) (w : List Moment) (held : Option (List ℕ))
+    (IsThere : State → Type 0) → ((s : State) → stands s → IsThere s) → (exchanges : List Exchange)
+    → by_exchange.EndsWithExchanges stands leaves w exchanges → Answering held held w (Connections exchanges) IsThere
+exchanges_answered stands leaves w held IsThere stays exchanges e =
+    let asks = by_exchange.asks_of e.messages in
+    answering held held w (continued w asks []) (Connections exchanges) asks IsThere (e.messages, e.done, refl)
+    (goes_all w asks e.ends.limits) e.ends.ends.world (stays _ e.ends.ends.stands_there)
+    (exchanges_tell held (after start w) exchanges e.messages asks e.done refl)

@@ -1,12 +1,14 @@
 -- How a job ends, and the lines that it writes.
-use Rattle.std.specs.Prelude.{⊤, ℕ, List, [], ◌∷◌, codes, decimal, Option}
+use Rattle.std.specs.Prelude.{⊤, ℕ, List, [], ◌∷◌, codes, decimal, Option, Result, Ok, Err, IfErr, OnOk}
 use Rattle.std.specs.Io.KnownBytes.{Appends}
 use Rattle.commands.specs.Texts.{reply_line, sentence}
 use Rattle.commands.specs.declared.replies.Reply.{Reply}
 use Rattle.commands.specs.declared.replies.Reply.TheVariants as reply
 use Rattle.streams.specs.Scenes.{ended}
+use Rattle.streams.specs.Written.{WroteFront}
 use Rattle.streams.specs.declared.serve_faults.ServeFault.{ServeFault}
 use Rattle.streams.specs.declared.serve_faults.ServeFault.TheVariants as serve
+use Rattle.program_ends.specs.Ends.{IfDone, fault_of_run}
 use Rattle.program_ends.specs.declared.ends.End.{End}
 use Rattle.program_ends.specs.declared.ends.End.TheVariants as finish
 use Rattle.program_ends.specs.declared.faults.ProgramFault.{ProgramFault}
@@ -38,6 +40,12 @@ IsOfWriting serve.Memory = ⊤
 IsOfWriting serve.Write = ⊤
 IsOfWriting _ = ⊥
 
+-- a line was written; or memory ran out, or the output failed, and a prefix of it was
+pub record SendsLine {T : Type 0} (held holds : Option (List ℕ)) (line : List ℕ) (result : Result T ServeFault) : Type 0 where
+  pub sent : OnOk result (Appends held holds line)
+  pub front : WroteFront held holds line
+  pub fault : IfErr result IsOfWriting
+
 -- The faults of jobs.
 
 -- the fault of a desk that was opened and recovered: of memory or the store, or of these while it was opened
@@ -67,3 +75,14 @@ EndsWriting finish.Done = ⊤
 EndsWriting (finish.Fault fault.Memory) = ⊤
 EndsWriting (finish.Fault fault.Write) = ⊤
 EndsWriting _ = ⊥
+
+-- the same of a line: it was written if all was done, and a prefix of it in any case
+pub record TellsLine (held holds : Option (List ℕ)) (line : List ℕ) (end : End) : Type 0 where
+  pub told : IfDone end (Appends held holds line)
+  pub front : WroteFront held holds line
+  pub writing : EndsWriting end
+
+-- the end of a run over a recovered desk: all lines were answered, or a fault came
+abbrev pub end_of_run : {T : Type 0} → Result T ServeFault → End
+end_of_run (Ok count) = finish.Done
+end_of_run (Err f) = finish.Fault (fault_of_run f)

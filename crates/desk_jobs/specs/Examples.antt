@@ -1,6 +1,6 @@
 -- Worked examples of openings, computed by the definitions: a new desk is opened and asked to step a journey that is not
 -- there, and is then opened again; and a batch of one row is loaded into a new desk, and a crash cuts that off, or does not.
-use Rattle.std.specs.Prelude.{◌≡◌, true, false, ℕ, List, [], ◌∷◌, length, None, Err, refl}
+use Rattle.std.specs.Prelude.{◌≡◌, true, false, List, [], ◌∷◌, length, None, Err, refl}
 use Rattle.allotment.specs.declared.codes.Kind.TheVariants.{Flight}
 use Rattle.allotment_csv.specs.declared.faults.CsvFault.TheVariants.{BadBody}
 use Rattle.commands.specs.BatchData.{Batched}

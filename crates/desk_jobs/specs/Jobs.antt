@@ -28,8 +28,8 @@ use Rattle.tables.specs.declared.faults.OpenFault.TheVariants.{Store}
 use Rattle.desk_jobs.specs.Ends.{IsFaultOfRecovery, IsFaultOfRun}
 use Rattle.desk_jobs.specs.Loading.{EndsLoad}
 use Rattle.desk_jobs.specs.Notes.{MayNote}
-use Rattle.desk_jobs.specs.Reasons.{FailsAmongFrom, FailsToLoadFor, FailsToRecover, FailsToRun, MayActOnceOpened, RecoversToAct}
-use Rattle.desk_jobs.specs.Running.{Answers, AnswersAfterRecovery, AnswersFront, AnswersFrontAfterRecovery, NotesRecovery}
+use Rattle.desk_jobs.specs.Reasons.{FailsToLoadFor, FailsToRecover, FailsToRun, MayActOnceOpened, RecoversToAct}
+use Rattle.desk_jobs.specs.Running.{AnswersAfterRecovery, AnswersFrontAfterRecovery, NotesRecovery}
 
 -- The end of a job over a desk that was opened: it is that of a job, with such a fault, and never that of an opening.
 pub record EndsOpened (IsFault : ProgramFault → Type 0) (end : End) : Type 0 where
@@ -108,16 +108,6 @@ module _ {S : Type 0} (g : Ghosts S) where
   LeavesDesk b new = Leaves g b.conn new
 
   module _ (b : TableBook S g) (new : Held S) where
-    -- What was answered over a recovered desk to an input that may be known, between these contents of the output.
-    pub record RunsDesk (input held holds : Option (List ℕ)) (end : End) : Type 0 where
-      -- where all was done, the answers to all lines were written; a prefix of them in any case
-      pub all : HasCleanDisk (state g new) → (s : State) → StandsBook g b s
-          → IfSome input (λ bytes. IfDone end (Answers held holds (Represents g new) s bytes))
-      pub front : HasCleanDisk (state g new) → (s : State) → StandsBook g b s → IfSome input (AnswersFront held holds s)
-      -- a failed store has a reason, of one of the asks of the lines
-      pub reason : HasCleanDisk (state g new) → end ≡ finish.Fault program.Store
-          → IfSome input (λ bytes. FailsAmongFrom g b new (asks_in (lines bytes)))
-
     -- What a load of a file into a recovered desk came to, between these contents of the output.
     pub record LoadsDesk (read : Result Batched CsvFault) (held holds : Option (List ℕ)) (end : End) : Type 0 where
       pub loaded : HasCleanDisk (state g new) → (s : State) → StandsBook g b s

@@ -1,23 +1,21 @@
 //! The index on the agents of journeys as a job, and the line that reports it.
-ghost use Rattle.std.specs.Prelude.{◌≡◌, codes, if◌then◌else◌, IfErr, IfOk, OnOk};
-ghost use Rattle.std.specs.Io.KnownBytes.{Appends};
+ghost use Rattle.std.specs.Prelude.{◌≡◌, codes, if◌then◌else◌, IfErr, IfOk};
+ghost use Rattle.std.specs.String.{string_bytes};
 ghost use Rattle.sqlite.specs.Held.{state};
 ghost use Rattle.sqlite.specs.State.{HasCleanDisk};
-ghost use Rattle.streams.specs.Written.{WroteFront};
-ghost use Rattle.program_ends.specs.Ends.{EndsJob, IfDone};
 ghost use Rattle.desk_sql.specs.Calls.{Idle};
 ghost use Rattle.tables.specs.Indexing.{HasIndex};
 ghost use Rattle.desk_jobs.specs.Executions.{StandsStill};
-ghost use Rattle.desk_jobs.specs.Ends.{EndsWriting, IsOfWriting};
+ghost use Rattle.desk_jobs.specs.Ends.{TellsLine};
 ghost use Rattle.desk_jobs.specs.Jobs.{Leaves};
 ghost use Rattle.desk_jobs.specs.Migrating.{FailsIndex, indexed_line};
 
 use crate::migrating::end_of_fault;
+use crate::telling::tell_line;
 use program_ends::End;
 use sqlite::{Alter, Connection};
-use std::alloc::Global;
+use std::alloc::{AllocError, Global};
 use std::io::Write;
-use streams::{ServeFault, send};
 use tables::{Indexed, index};
 
 /// Adds the index on the agents of journeys to the tables of a connection, in one commit, unless they have one. Nothing is
@@ -39,28 +37,17 @@ pub fn index_over<S: Alter>(conn: Connection<S>) -> (Connection<S>, Result<Index
 
 /// Writes the line with the number of indexed journeys, and flushes it. At a fault a prefix of the line was written.
 pub fn tell_indexed<O: Write>(alloc: Global, indexed: Indexed, out: &mut O) -> End
-    ensures told { IfDone result (Appends (O.contents out.old) (O.contents out.new)
-        (indexed_line indexed)) }
-    ensures front { WroteFront (O.contents out.old) (O.contents out.new) (indexed_line indexed) }
-    ensures end { EndsJob result }
-    ensures writing { EndsWriting result }
+    ensures tells { TellsLine (O.contents out.old) (O.contents out.new) (indexed_line indexed) result }
 {
-    match send_indexed(alloc, indexed, out) {
-        Ok(()) => End::Done,
-        Err(fault) => End::Fault(fault.into()),
-    }
+    tell_line(line_of(alloc, indexed), out)
 }
 
-/// Writes the line with the number of indexed journeys, and flushes it.
-fn send_indexed<O: Write>(alloc: Global, indexed: Indexed, out: &mut O) -> Result<(), ServeFault>
-    ensures sent { OnOk result (Appends (O.contents out.old) (O.contents out.new)
-        (indexed_line indexed)) }
-    ensures front { WroteFront (O.contents out.old) (O.contents out.new) (indexed_line indexed) }
-    ensures fault { IfErr result IsOfWriting }
+/// The line itself.
+fn line_of(alloc: Global, indexed: Indexed) -> Result<String, AllocError>
+    ensures line { IfOk result (λ line. string_bytes line ≡ indexed_line indexed) }
 {
     let (words, journeys) = (words_of(indexed.is_new), indexed.journeys);
-    let line = format!(in alloc; "{words} {journeys}\n")?;
-    Ok(send(out, line.as_bytes())?)
+    format!(in alloc; "{words} {journeys}\n")
 }
 
 /// The words before the number, where the index was made now, or was there.

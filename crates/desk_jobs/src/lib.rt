@@ -2,8 +2,8 @@
 //! after it.
 //!
 //! A job takes a connection that is in no transaction and has no limit of steps, and returns it so, to be closed, with
-//! its end. `ready_over` opens and recovers the desk for a job that goes on with it. `end_of_opening` is the end of a job whose
-//! desk could not be opened.
+//! its end. `ready_over` opens and recovers the desk for a job that goes on with it, and `let_go` returns its connection.
+//! `end_of_opening` is the end of a job whose desk could not be opened. `send_line` writes a line that says what was done.
 //!
 //! At an *opening* the desk is reopened and recovers, and then answers an *input*: lines, the exchanges with many connections,
 //! an allotment file, or nothing. `specs` says which executions go on from which (`Opening`), and which states are recoverable
@@ -23,6 +23,7 @@ mod notes;
 mod opening;
 mod recovering;
 mod running;
+mod telling;
 
 pub use ends::end_of_opening;
 pub use field_notes::note_wrong_field;
@@ -31,6 +32,7 @@ pub use laws::{reopenings, session_that_crashes_may_reopen};
 pub use loading::load_over;
 pub use migrating::{migrate_over, tell_migrated};
 pub use notes::note_recovered;
-pub use opening::ready_over;
+pub use opening::{let_go, ready_over};
 pub use recovering::{Recovered, recover_over};
 pub use running::run_over;
+pub use telling::send_line;

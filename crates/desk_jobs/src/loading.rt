@@ -1,19 +1,18 @@
 //! Loads of allotment files into a recovered desk.
-ghost use Rattle.std.specs.Prelude.{◌≡◌, ◌≢◌, None, Some, IfErr, IsErrOf, OnOk};
-ghost use Rattle.std.specs.Io.KnownBytes.{Appends};
+ghost use Rattle.std.specs.Prelude.{◌≡◌, ◌≢◌, None, Some, IfErr, IsErrOf};
 ghost use Rattle.commands.specs.Texts.{reply_line};
 ghost use Rattle.allotment_csv.specs.Files.{batch_of};
 ghost use Rattle.desk_jobs.specs.Openings.{File};
 ghost use Rattle.ledger.specs.Answer.{State};
-ghost use Rattle.streams.specs.Written.{WroteFront};
 ghost use Rattle.streams.specs.Scenes.{ended};
 ghost use Rattle.program_ends.specs.Ends.{IfDone};
-ghost use Rattle.desk_jobs.specs.Ends.{IsFaultOfLoad, IsOfBook, IsOfWriting, TellsAccepted};
+ghost use Rattle.desk_jobs.specs.Ends.{IsFaultOfLoad, IsOfBook, SendsLine, TellsAccepted};
 ghost use Rattle.desk_jobs.specs.Following.{FollowsDesk};
 ghost use Rattle.desk_jobs.specs.Jobs.{EndsOpened, LeavesDesk, LoadsDesk};
 ghost use Rattle.desk_jobs.specs.Loading.{EndsLoad, LoadsFile, TellsLoaded};
 ghost use Rattle.desk_jobs.specs.Reasons.{FailsToLoad};
 
+use crate::opening::let_go;
 use allotment_csv::{CsvFault, read_batch};
 use commands::{Command, Refusal, Reply};
 use program_ends::{End, ProgramFault};
@@ -45,7 +44,7 @@ pub fn load_over<S: Alter + Drop, O: Write>(
 {
     let mut desk = desk;
     let end = load_into(alloc, name, bytes, &mut desk, out);
-    (desk.into_inner().into_store(), end)
+    (let_go(desk), end)
 }
 
 /// Does the same into any book.
@@ -116,12 +115,8 @@ fn tell_loaded<O: Write>(alloc: Global, reply: Reply, out: &mut O) -> End
 
 /// Writes the line of a reply, and flushes it.
 fn send_reply<O: Write>(alloc: Global, reply: &Reply, out: &mut O) -> Result<(), ServeFault>
-    ensures sent { OnOk result (Appends (O.contents out.old) (O.contents out.new)
-        (ended (reply_line reply.now))) }
-    ensures front { WroteFront (O.contents out.old) (O.contents out.new)
-        (ended (reply_line reply.now)) }
-    ensures no_store { IfErr result (λ fault. fault ≢ ServeFault.Store) }
-    ensures fault { IfErr result IsOfWriting }
+    ensures sends { SendsLine (O.contents out.old) (O.contents out.new)
+        (ended (reply_line reply.now)) result }
 {
     let mut line = reply.line(alloc)?;
     line.push('\n')?;

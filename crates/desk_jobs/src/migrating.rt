@@ -1,23 +1,22 @@
 //! The migration of the tables of a connection as a job, and the line that reports it.
-ghost use Rattle.std.specs.Prelude.{◌≡◌, IfErr, IfOk, OnOk};
-ghost use Rattle.std.specs.Io.KnownBytes.{Appends};
+ghost use Rattle.std.specs.Prelude.{◌≡◌, IfErr, IfOk};
+ghost use Rattle.std.specs.String.{string_bytes};
 ghost use Rattle.sqlite.specs.Held.{state};
 ghost use Rattle.sqlite.specs.State.{HasCleanDisk};
-ghost use Rattle.streams.specs.Written.{WroteFront};
-ghost use Rattle.program_ends.specs.Ends.{EndsBadly, EndsJob, IfDone};
+ghost use Rattle.program_ends.specs.Ends.{EndsBadly};
 ghost use Rattle.desk_sql.specs.Calls.{Idle};
 ghost use Rattle.tables.specs.Outcomes.{Migrates};
 ghost use Rattle.desk_jobs.specs.Executions.{StandsStill};
-ghost use Rattle.desk_jobs.specs.Ends.{EndsWriting, IsOfWriting};
+ghost use Rattle.desk_jobs.specs.Ends.{TellsLine};
 ghost use Rattle.desk_jobs.specs.Jobs.{Leaves};
 ghost use Rattle.desk_jobs.specs.Migrating.{end_of_migration, FailsMigration, migrated_line};
 
+use crate::telling::tell_line;
 use commands::Refusal;
 use program_ends::{End, ProgramFault};
 use sqlite::{Alter, Connection};
-use std::alloc::Global;
+use std::alloc::{AllocError, Global};
 use std::io::Write;
-use streams::{ServeFault, send};
 use tables::{MigrateFault, Migrated, migrate};
 
 /// Migrates the tables of a connection from version 1 to version 2, in one commit. Nothing is recovered. Returns the
@@ -52,26 +51,15 @@ pub(crate) fn end_of_fault(fault: MigrateFault) -> End
 
 /// Writes the line with the number of migrated events, and flushes it. At a fault a prefix of the line was written.
 pub fn tell_migrated<O: Write>(alloc: Global, migrated: Migrated, out: &mut O) -> End
-    ensures told { IfDone result (Appends (O.contents out.old) (O.contents out.new)
-        (migrated_line migrated.events)) }
-    ensures front { WroteFront (O.contents out.old) (O.contents out.new)
-        (migrated_line migrated.events) }
-    ensures end { EndsJob result }
-    ensures writing { EndsWriting result }
+    ensures tells { TellsLine (O.contents out.old) (O.contents out.new)
+        (migrated_line migrated.events) result }
 {
-    match send_migrated(alloc, migrated.events, out) {
-        Ok(()) => End::Done,
-        Err(fault) => End::Fault(fault.into()),
-    }
+    tell_line(line_of(alloc, migrated.events), out)
 }
 
-/// Writes the line with the number of migrated events, and flushes it.
-fn send_migrated<O: Write>(alloc: Global, events: u64, out: &mut O) -> Result<(), ServeFault>
-    ensures sent { OnOk result (Appends (O.contents out.old) (O.contents out.new)
-        (migrated_line events)) }
-    ensures front { WroteFront (O.contents out.old) (O.contents out.new) (migrated_line events) }
-    ensures fault { IfErr result IsOfWriting }
+/// The line itself.
+fn line_of(alloc: Global, events: u64) -> Result<String, AllocError>
+    ensures line { IfOk result (λ line. string_bytes line ≡ migrated_line events) }
 {
-    let line = format!(in alloc; "migrated 1 to 2 events {events}\n")?;
-    Ok(send(out, line.as_bytes())?)
+    format!(in alloc; "migrated 1 to 2 events {events}\n")
 }

@@ -2,6 +2,7 @@
 ghost use Rattle.std.specs.Prelude.{IfErr, IfOk};
 ghost use Rattle.desk_sql.specs.Calls.{Idle};
 ghost use Rattle.desk_jobs.specs.Jobs.{NotReady, OpensBook, Readies};
+ghost use Rattle.tables.specs.Making.{LetsGo};
 
 use crate::ends::end_of_opening;
 use crate::reopenings;
@@ -36,6 +37,13 @@ pub fn ready_over<S: Alter + Drop>(
             End::Fault(ServeFault::from(fault).into()),
         )),
     }
+}
+
+/// The connection of a recovered desk, as it is.
+pub fn let_go<S: Alter + Drop>(desk: Ready<TableBook<S>>) -> Connection<S>
+    ensures gone { LetsGo S.Store desk result }
+{
+    desk.into_inner().into_store()
 }
 
 /// Opens the desk of a connection for commands.

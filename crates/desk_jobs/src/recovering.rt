@@ -1,26 +1,24 @@
 //! Recovery as a job, and the line that reports it.
-ghost use Rattle.std.specs.Prelude.{ℕ, List, Option, Some, IfErr, IfOk, OnOk};
-ghost use Rattle.std.specs.Io.KnownBytes.{Appends};
+ghost use Rattle.std.specs.Prelude.{◌≡◌, ℕ, List, Option, Some, IfErr, IfOk};
+ghost use Rattle.std.specs.String.{string_bytes};
 ghost use Rattle.sqlite.specs.Held.{state};
 ghost use Rattle.sqlite.specs.State.{HasCleanDisk};
-ghost use Rattle.streams.specs.Written.{WroteFront};
 ghost use Rattle.recovery.specs.Recovers.{Recovers};
-ghost use Rattle.program_ends.specs.Ends.{EndsJob, IfDone};
 ghost use Rattle.desk_jobs.specs.Connections.{Represents};
 ghost use Rattle.desk_sql.specs.Calls.{Idle};
-ghost use Rattle.desk_jobs.specs.Ends.{EndsWriting, IsOfWriting, recovered_line};
+ghost use Rattle.desk_jobs.specs.Ends.{TellsLine, recovered_line};
 ghost use Rattle.desk_jobs.specs.Following.{Follows, end_of_recovery};
 ghost use Rattle.desk_jobs.specs.Jobs.{Leaves, NotReady};
 ghost use Rattle.desk_jobs.specs.Openings.{Nothing};
 
-use crate::opening::ready_over;
+use crate::opening::{let_go, ready_over};
 use crate::reopenings;
+use crate::telling::tell_line;
 use program_ends::End;
 use sqlite::{Alter, Connection};
-use std::alloc::Global;
+use std::alloc::{AllocError, Global};
 use std::io::Write;
 use std::marker::Model;
-use streams::{ServeFault, send};
 
 /// How many events a recovery made. Only `recover_over` makes one. In a contract it is that number.
 #[derive(Clone, Copy, Debug)]
@@ -41,16 +39,9 @@ impl Model for Recovered {
 impl Recovered {
     /// Writes the line with the number of events, and flushes it. At a fault a prefix of the line was written.
     pub fn tell<O: Write>(self, alloc: Global, out: &mut O) -> End
-        ensures told { IfDone result (Appends (O.contents out.old) (O.contents out.new)
-            (recovered_line self)) }
-        ensures front { WroteFront (O.contents out.old) (O.contents out.new) (recovered_line self) }
-        ensures end { EndsJob result }
-        ensures writing { EndsWriting result }
+        ensures tells { TellsLine (O.contents out.old) (O.contents out.new) (recovered_line self) result }
     {
-        match send_recovered(alloc, self.made, out) {
-            Ok(()) => End::Done,
-            Err(fault) => End::Fault(fault.into()),
-        }
+        tell_line(line_of(alloc, self.made), out)
     }
 }
 
@@ -70,18 +61,14 @@ pub fn recover_over<S: Alter + Drop>(
 {
     reopenings();
     match ready_over(alloc, conn) {
-        Ok((desk, made)) => (desk.into_inner().into_store(), Ok(Recovered { made })),
+        Ok((desk, made)) => (let_go(desk), Ok(Recovered { made })),
         Err((conn, end)) => (conn, Err(end)),
     }
 }
 
-/// Writes the line with the number of recovery's events, and flushes it.
-fn send_recovered<O: Write>(alloc: Global, made: u64, out: &mut O) -> Result<(), ServeFault>
-    ensures sent { OnOk result (Appends (O.contents out.old) (O.contents out.new)
-        (recovered_line made)) }
-    ensures front { WroteFront (O.contents out.old) (O.contents out.new) (recovered_line made) }
-    ensures fault { IfErr result IsOfWriting }
+/// The line with the number of recovery's events.
+fn line_of(alloc: Global, made: u64) -> Result<String, AllocError>
+    ensures line { IfOk result (λ line. string_bytes line ≡ recovered_line made) }
 {
-    let line = format!(in alloc; "recovered {made}\n")?;
-    Ok(send(out, line.as_bytes())?)
+    format!(in alloc; "recovered {made}\n")
 }

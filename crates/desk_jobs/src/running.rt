@@ -1,23 +1,23 @@
 //! The answers to the lines of a reader, over a recovered desk.
 ghost use Rattle.std.specs.Io.KnownBytes.{IsAtEnd};
-ghost use Rattle.std.specs.Prelude.{option_map};
-ghost use Rattle.program_ends.specs.Ends.{IfDone, IsNotRefused};
+ghost use Rattle.std.specs.Prelude.{◌≡◌, option_map};
+ghost use Rattle.program_ends.specs.Ends.{IfDone};
 ghost use Rattle.desk_sql.specs.Calls.{Idle};
-ghost use Rattle.desk_jobs.specs.Ends.{IsFaultOfRun};
-ghost use Rattle.desk_jobs.specs.Following.{Follows, FollowsDesk};
+ghost use Rattle.desk_jobs.specs.Ends.{end_of_run};
+ghost use Rattle.desk_jobs.specs.Following.{Follows};
 ghost use Rattle.desk_jobs.specs.Openings.{Lines};
-ghost use Rattle.desk_jobs.specs.Jobs.{EndsOpened, EndsRun, Leaves, LeavesDesk, NotesRun, RunsDesk, RunsOver};
+ghost use Rattle.desk_jobs.specs.Jobs.{EndsRun, Leaves, NotesRun, RunsOver};
 
 use crate::notes::note_recovered;
-use crate::opening::ready_over;
+use crate::opening::{let_go, ready_over};
 use crate::reopenings;
 use desk_lines::run_lines;
 use program_ends::End;
-use recovery::{Ready, one_recovery};
+use recovery::one_recovery;
 use sqlite::{Alter, Connection};
 use std::alloc::Global;
 use std::io::{Read, Write};
-use tables::TableBook;
+use streams::ServeFault;
 
 /// Recovers the desk of a connection, and answers the lines of a reader. Returns the connection, and the end. If recovery
 /// made events, a note says so first. It is refused only for tables of a version other than the newest.
@@ -45,34 +45,21 @@ pub fn run_over<S: Alter + Drop, R: Read, O: Write, N: Write>(
     match ready_over(alloc, conn) {
         Ok((desk, made)) => {
             note_recovered(alloc, made, notes);
-            run_desk(alloc, desk, reader, out)
+            let mut desk = desk;
+            let answered = run_lines(alloc, reader, out, &mut desk);
+            let conn = let_go(desk);
+            (conn, end_of_run(answered))
         }
         Err((conn, end)) => (conn, end),
     }
 }
 
-/// Answers the lines of a reader over a recovered desk. Returns its connection, and the end.
-fn run_desk<S: Alter + Drop, R: Read, O: Write>(
-    alloc: Global,
-    desk: Ready<TableBook<S>>,
-    reader: &mut R,
-    out: &mut O,
-) -> (Connection<S>, End)
-    ensures answers { RunsDesk S.Store desk result.0 (R.remaining reader.old)
-        (O.contents out.old) (O.contents out.new) result.1 }
-    ensures read { IfDone result.1 (IsAtEnd (R.remaining reader.new)) }
-    ensures follows { FollowsDesk S.Store desk result.0 (option_map Lines (R.remaining reader.old))
-        (O.contents out.old) (O.contents out.new) result.1 }
-
-    ensures ends { EndsOpened IsFaultOfRun result.1 }
-    ensures taken { IsNotRefused result.1 }
-    ensures leaves { LeavesDesk S.Store desk result.0 }
+/// The end of a run over a recovered desk.
+fn end_of_run(answered: Result<u64, ServeFault>) -> End
+    ensures end { result ≡ end_of_run answered }
 {
-    let mut desk = desk;
-    let answered = run_lines(alloc, reader, out, &mut desk);
-    let conn = desk.into_inner().into_store();
     match answered {
-        Ok(_) => (conn, End::Done),
-        Err(fault) => (conn, End::Fault(fault.into())),
+        Ok(_) => End::Done,
+        Err(fault) => End::Fault(fault.into()),
     }
 }

@@ -1,41 +1,43 @@
 //! The line of a holder with its cell and journey, in each format.
-ghost use Rattle.std.specs.Prelude.{◌≡◌, [], ◌∷◌, codes, decimal, IfOk, string_bytes};
+ghost use Rattle.std.specs.Prelude.{◌≡◌, [], ◌∷◌, ◌++◌, codes, decimal, IfOk, string_bytes};
 ghost use Rattle.allotment.specs.Nights.{night_text};
 ghost use Rattle.allotment.specs.Texts.{kind_word};
-ghost use Rattle.csv.specs.Records.{partial_of};
 ghost use Rattle.saga_core.specs.JourneyFilters.{state_word};
-ghost use Rattle.holder_reports.specs.HoldingLayouts.{cell_columns, holding_data, holding_fields, holding_line, holding_names, holding_row, holdings_head};
+ghost use Rattle.holder_reports.specs.HoldingLayouts.{cell_columns, holding_data, holding_fields, holding_line, holding_row, holdings_head};
 ghost use Rattle.reports.specs.Columns.{left};
 ghost use Rattle.reports.specs.Objects.{json_line};
-ghost use Rattle.reports.specs.Records.{Adds, csv_line};
+ghost use Rattle.reports.specs.Records.{csv_line};
 ghost use Rattle.serde_json.specs.View.{view};
 
 use crate::holdings::Holding;
-use crate::writing::Laid;
 use allotment::Cell;
 use commands::{put_text, put_whole};
-use csv::ByteRecord;
-use reports::{csv_line, json_line, night_text, put_field, put_number};
+use reports::{Fields, Layout, ReportFault, json_line, night_text, send};
 use saga_core::{Format, JourneyState};
 use serde_json::{Map, Value};
 use std::alloc::{AllocError, Global};
+use std::io::Write;
 
-impl Laid for Holding {
-    ghost heading = { holdings_head };
+impl Layout<Holding> for Format {
+    ghost shown = { λ format holding. holding_row format holding };
 
-    ghost shown = { holding_row };
-
-    fn head(format: Format) -> &'static str {
-        holdings_head(format)
-    }
-
-    fn row(&self, alloc: Global, format: Format) -> Result<Vec<u8>, AllocError> {
-        holding_row(alloc, format, self)
+    fn send_row<W: Write>(
+        &self,
+        alloc: Global,
+        row: &Holding,
+        out: &mut W,
+    ) -> Result<(), ReportFault> {
+        match self {
+            Format::Text => send(out, holding_line(alloc, row)?.as_bytes()),
+            Format::Json => send(out, holding_object(alloc, row)?.as_bytes()),
+            Format::Csv => send(out, &holding_record(alloc, row)?),
+        }
     }
 }
 
 /// The heading of the report in this format.
-fn holdings_head(format: Format) -> &'static str
+#[tactic(auto, unfolding(csv::specs::Writing::escaped, csv::specs::Writing::fields_text, csv::specs::Writing::is_blank))]
+pub(crate) fn holdings_head(format: Format) -> &'static str
     ensures head { result.now ≡ holdings_head format }
 {
     match format {
@@ -43,25 +45,7 @@ fn holdings_head(format: Format) -> &'static str
             "night      kind     supplier product       journey agent            state  places\n"
         }
         Format::Json => "",
-        Format::Csv => record_heading(),
-    }
-}
-
-/// The heading of the report as CSV.
-fn record_heading() -> &'static str
-    ensures heading { result.now ≡ csv_line holding_names }
-{
-    "night,kind,supplier,product,journey,agent,state,places\r\n"
-}
-
-/// The line of a holder in this format.
-fn holding_row(alloc: Global, format: Format, holding: &Holding) -> Result<Vec<u8>, AllocError>
-    ensures row { IfOk result (λ bytes. bytes.items ≡ holding_row format holding.now) }
-{
-    match format {
-        Format::Text => Ok(holding_line(alloc, holding)?.into_bytes()),
-        Format::Json => Ok(holding_object(alloc, holding)?.into_bytes()),
-        Format::Csv => holding_record(alloc, holding),
+        Format::Csv => "night,kind,supplier,product,journey,agent,state,places\r\n",
     }
 }
 
@@ -141,35 +125,30 @@ fn holding_record(alloc: Global, holding: &Holding) -> Result<Vec<u8>, AllocErro
     ensures fields { IfOk result (λ bytes. bytes.items ≡ csv_line (holding_fields holding.now)) }
 {
     let night = night_text(alloc, holding.cell.night)?;
-    let mut row = ByteRecord::new(alloc);
-    put_cell(&mut row, &holding.cell, night.as_str())?;
-    put_holder(alloc, &mut row, holding)?;
-    csv_line(alloc, &row)
+    let fields = put_cell(Fields::new(alloc), &holding.cell, night.as_str())?;
+    put_holder(alloc, fields, holding)?.line(alloc)
 }
 
 /// Adds the fields of a holder: journey, agent, state and places.
-fn put_holder(alloc: Global, row: &mut ByteRecord, holding: &Holding) -> Result<(), AllocError>
-    requires whole { partial_of row.old ≡ [] }
-
-    ensures adds { Adds row.old row.new
-        (decimal holding.now.journey ∷ holding.now.agent ∷ state_word holding.now.state
-        ∷ decimal holding.now.places ∷ []) result }
+fn put_holder(alloc: Global, fields: Fields, holding: &Holding) -> Result<Fields, AllocError>
+    ensures adds { IfOk result (λ all. all ≡ fields
+        ++ (decimal holding.now.journey ∷ holding.now.agent ∷ state_word holding.now.state
+        ∷ decimal holding.now.places ∷ [])) }
 {
-    put_number(alloc, row, holding.journey)?;
-    put_field(row, holding.agent.as_str())?;
-    put_field(row, holding.state.word())?;
-    put_number(alloc, row, holding.places)
+    let fields = fields.with_number(alloc, holding.journey)?;
+    let fields = fields.with(holding.agent.as_str())?;
+    let fields = fields.with(holding.state.word())?;
+    fields.with_number(alloc, holding.places)
 }
 
 /// Adds the fields of a cell, whose night has this text: night, kind, supplier and product.
-fn put_cell(row: &mut ByteRecord, cell: &Cell, night: &str) -> Result<(), AllocError>
-    requires whole { partial_of row.old ≡ [] }
-
-    ensures adds { Adds row.old row.new
-        (night.now ∷ kind_word cell.now.kind ∷ cell.now.supplier ∷ cell.now.product ∷ []) result }
+#[tactic(auto, using(std::proofs::Common::append_assoc))]
+fn put_cell(fields: Fields, cell: &Cell, night: &str) -> Result<Fields, AllocError>
+    ensures adds { IfOk result (λ all. all ≡ fields
+        ++ (night.now ∷ kind_word cell.now.kind ∷ cell.now.supplier ∷ cell.now.product ∷ [])) }
 {
-    put_field(row, night)?;
-    put_field(row, cell.kind.word())?;
-    put_field(row, cell.supplier.as_str())?;
-    put_field(row, cell.product.as_str())
+    let fields = fields.with(night)?;
+    let fields = fields.with(cell.kind.word())?;
+    let fields = fields.with(cell.supplier.as_str())?;
+    fields.with(cell.product.as_str())
 }

@@ -1,58 +1,43 @@
 //! The line of a holder, in each format.
 ghost use Rattle.std.specs.Prelude.{◌≡◌, IfOk, string_bytes};
-ghost use Rattle.holder_reports.specs.Layouts.{holder_data, holder_fields, holder_line, holder_names, holder_row, holders_head};
+ghost use Rattle.holder_reports.specs.Layouts.{holder_data, holder_fields, holder_line, holder_row, holders_head};
 ghost use Rattle.reports.specs.Objects.{json_line};
 ghost use Rattle.reports.specs.Records.{csv_line};
 ghost use Rattle.serde_json.specs.View.{view};
 
 use crate::holders::Holder;
-use crate::writing::Laid;
-use csv::ByteRecord;
-use reports::{csv_line, json_line, put_number};
+use reports::{Fields, Layout, ReportFault, json_line, send};
 use saga_core::Format;
 use serde_json::{Value, json};
 use std::alloc::{AllocError, Global};
+use std::io::Write;
 
-impl Laid for Holder {
-    ghost heading = { holders_head };
+impl Layout<Holder> for Format {
+    ghost shown = { λ format holder. holder_row format holder };
 
-    ghost shown = { holder_row };
-
-    fn head(format: Format) -> &'static str {
-        holders_head(format)
-    }
-
-    fn row(&self, alloc: Global, format: Format) -> Result<Vec<u8>, AllocError> {
-        holder_row(alloc, format, self)
+    fn send_row<W: Write>(
+        &self,
+        alloc: Global,
+        row: &Holder,
+        out: &mut W,
+    ) -> Result<(), ReportFault> {
+        match self {
+            Format::Text => send(out, holder_line(alloc, row)?.as_bytes()),
+            Format::Json => send(out, holder_object(alloc, row)?.as_bytes()),
+            Format::Csv => send(out, &holder_record(alloc, row)?),
+        }
     }
 }
 
 /// The heading of the report in this format.
-fn holders_head(format: Format) -> &'static str
+#[tactic(auto, unfolding(csv::specs::Writing::escaped, csv::specs::Writing::fields_text, csv::specs::Writing::is_blank))]
+pub(crate) fn holders_head(format: Format) -> &'static str
     ensures head { result.now ≡ holders_head format }
 {
     match format {
         Format::Text => "     journey   step option places\n",
         Format::Json => "",
-        Format::Csv => record_heading(),
-    }
-}
-
-/// The heading of the report as CSV.
-fn record_heading() -> &'static str
-    ensures heading { result.now ≡ csv_line holder_names }
-{
-    "journey,step,option,places\r\n"
-}
-
-/// The line of a holder in this format.
-fn holder_row(alloc: Global, format: Format, holder: &Holder) -> Result<Vec<u8>, AllocError>
-    ensures row { IfOk result (λ bytes. bytes.items ≡ holder_row format holder.now) }
-{
-    match format {
-        Format::Text => Ok(holder_line(alloc, holder)?.into_bytes()),
-        Format::Json => Ok(holder_object(alloc, holder)?.into_bytes()),
-        Format::Csv => holder_record(alloc, holder),
+        Format::Csv => "journey,step,option,places\r\n",
     }
 }
 
@@ -94,10 +79,8 @@ fn holder_value(alloc: Global, holder: &Holder) -> Result<Value, AllocError>
 fn holder_record(alloc: Global, holder: &Holder) -> Result<Vec<u8>, AllocError>
     ensures fields { IfOk result (λ bytes. bytes.items ≡ csv_line (holder_fields holder.now)) }
 {
-    let mut row = ByteRecord::new(alloc);
-    put_number(alloc, &mut row, holder.journey)?;
-    put_number(alloc, &mut row, holder.step)?;
-    put_number(alloc, &mut row, holder.option)?;
-    put_number(alloc, &mut row, holder.places)?;
-    csv_line(alloc, &row)
+    let fields = Fields::new(alloc).with_number(alloc, holder.journey)?;
+    let fields = fields.with_number(alloc, holder.step)?;
+    let fields = fields.with_number(alloc, holder.option)?;
+    fields.with_number(alloc, holder.places)?.line(alloc)
 }

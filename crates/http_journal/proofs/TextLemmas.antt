@@ -1,8 +1,9 @@
 -- What follows a name in a text, where the text is looked through byte by byte, and what stands before a place.
-use Rattle.std.proofs.Common.{◌≡◌, ◌<◌, ◌+◌, ℕ, zero, suc, Bool, true, false, cond, List, [], ◌∷◌, Some, None, add-one, ap, arith, bytes_eq, drop, length, nat_lt, position, refl, sym, take}
+use Rattle.std.proofs.Common.{◌≡◌, ◌<◌, ◌≤◌, ◌+◌, ℕ, zero, suc, Bool, true, false, cond, List, [], ◌∷◌, Some, None, add-one, arith, bytes_eq, drop, length, nat_lt, not, position, refl, take}
 use Rattle.std.proofs.lemmas.Bool.{ltb-false}
-use Rattle.std.proofs.lemmas.List.{take_all}
-use Rattle.std.specs.List.{before_first, position_or_len}
+use Rattle.std.proofs.lemmas.List.Sums.{prefix_len-le-length}
+use Rattle.std.specs.List.{position_or_len}
+use Rattle.std.specs.Option.{unwrap_or}
 use Rattle.http_journal.specs.Requests.{after_name}
 
 -- where the name is not, it is looked for from the next byte on
@@ -17,21 +18,16 @@ after_name-missed name text at within missed = rw add-one (next name text at wit
     next name (byte ∷ text) zero within missed = rw missed refl
     next name (byte ∷ text) (suc at) within missed = next name text at (omega arith) missed
 
--- the first place that passes is where what stands before it ends
-pub before_first-found : (p : ℕ → Bool) (xs : List ℕ) (end : ℕ) → position p xs ≡ Some end → take end xs ≡ before_first p xs
-before_first-found p xs end found =
-    ap (λ (k : ℕ). take k xs) (place (nat_lt (position_or_len p xs) (length xs)) (position_or_len p xs) end found)
+-- the first place that passes, or the end where none does, is how much stands before it
+pub end_is : (p : ℕ → Bool) (xs : List ℕ) → unwrap_or (position p xs) (length xs) ≡ position_or_len p xs
+end_is p xs = at (nat_lt (position_or_len p xs) (length xs)) refl
   where
-    place : (is_within : Bool) (at end : ℕ) → cond is_within (Some at) None ≡ Some end → end ≡ at
-    place true at end found = cc
-    place false at end found = cc
+    at : (is : Bool) → nat_lt (position_or_len p xs) (length xs) ≡ is
+        → unwrap_or (cond is (Some (position_or_len p xs)) None) (length xs) ≡ position_or_len p xs
+    at true is = refl
+    at false is =
+        let past : length xs ≤ position_or_len p xs = ltb-false _ _ is in
+        omega (arith, past, prefix_len-le-length (λ x. not (p x)) xs)
 
--- where none passes, all stands before it
-pub before_first-none : (p : ℕ → Bool) (xs : List ℕ) → position p xs ≡ None → xs ≡ before_first p xs
-before_first-none p xs none =
-    let past : nat_lt (position_or_len p xs) (length xs) ≡ false = fails _ _ none in
-    sym (take_all (position_or_len p xs) xs (ltb-false _ _ past))
-  where
-    fails : (is_within : Bool) (at : ℕ) → cond is_within (Some at) None ≡ None → is_within ≡ false
-    fails true at none = cc
-    fails false at none = refl
+pub end_within : (p : ℕ → Bool) (xs : List ℕ) → unwrap_or (position p xs) (length xs) ≤ length xs
+end_within p xs = rw (end_is p xs) (prefix_len-le-length (λ x. not (p x)) xs)

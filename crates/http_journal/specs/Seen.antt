@@ -1,5 +1,5 @@
 -- What is kept of a slot, and counted, as its turn is seen.
-use Rattle.std.specs.Prelude.{ℕ, ◌-◌, ◌/◌, ◌==◌, ◌&&◌, min, Bool, true, false, List, bytes_eq, codes, if◌then◌else◌, Option, Some, None, is_some, slice_get, slice_set}
+use Rattle.std.specs.Prelude.{◌≡◌, ℕ, ◌-◌, ◌/◌, ◌==◌, ◌&&◌, min, Bool, true, false, List, bytes_eq, codes, if◌then◌else◌, Option, Some, None, is_some, slice_get, slice_set}
 use Rattle.std.specs.Option.{option_map_or}
 use Rattle.std.specs.Time.{instant_nanos}
 use Rattle.std.specs.declared.time.Instant.{Instant}
@@ -12,13 +12,13 @@ use Rattle.http_messages.specs.declared.requests.Message.{Message}
 use Rattle.http_conversations.specs.declared.modes.Arrived.{Arrived}
 use Rattle.http_journal.specs.Ends.{why_of}
 use Rattle.http_journal.specs.Requests.{is_post, status_of}
+use Rattle.http_journal.specs.declared.journal.Journal.{Journal}
 use Rattle.http_journal.specs.declared.known.Known.{Known}
 
 -- how many microseconds lie between two times, as far as a count has them; 0 where the clock was not read
 abbrev pub micros_between : Option Instant → Option Instant → ℕ
 micros_between (Some from) (Some to) = min ((instant_nanos to - instant_nanos from) / 1_000) most_times
-micros_between (Some from) None = 0
-micros_between None to = 0
+micros_between _ _ = 0
 
 -- Of a slot.
 
@@ -26,6 +26,11 @@ micros_between None to = 0
 abbrev pub with_slot : (Known → Known) → ℕ → List Known → List Known
 with_slot change at slots =
     option_map_or (λ (known : Known). slice_set slots at (change known)) (slice_get slots at) slots
+
+-- a slot is changed so, if it is there, and nothing else of the journal, but perhaps when its turn began
+pub record ChangesSlot (change : Known → Known) (at : ℕ) (old new : Journal) : Type 0 where
+  pub same : new ≡ record old { slots = new.slots; began = new.began }
+  pub slot : new.slots.items ≡ with_slot change at old.slots.items
 
 -- a message, or part of one, waits to be answered, or does not
 abbrev pub with_part : Bool → Known → Known
@@ -61,8 +66,7 @@ counted_message status micros message metrics =
 abbrev pub counted_answer : Option Known → Option Arrived → (status : List ℕ) → ℕ → Metrics → Metrics
 counted_answer (Some known) (Some arrived) status micros metrics =
     counted_message status micros arrived.message metrics
-counted_answer (Some known) None status micros metrics = metrics
-counted_answer None seen status micros metrics = metrics
+counted_answer _ _ status micros metrics = metrics
 
 -- a connection ended in its turn, and the page of a message that was taken in it is lost
 abbrev pub counted_over : Option Known → Option Arrived → ℕ → Metrics → Metrics

@@ -1,19 +1,17 @@
 //! What is counted of connections and requests, and which lines of the log are written, and when.
-ghost use Rattle.std.specs.Prelude.{◌≡◌, ◌≢◌, ◌<◌, ◌&&◌, ℕ, All, IfOk, IfSome, IsTrue, None, Option, Some, false, if◌then◌else◌, is_some, length, nat_lt, option_map, slice_get, vec_len};
-ghost use Rattle.std.specs.List.{list_all};
+ghost use Rattle.std.specs.Prelude.{◌≡◌, ◌≢◌, ◌<◌, ◌&&◌, ℕ, All, IfOk, IsTrue, None, Option, Some, false, if◌then◌else◌, is_some, length, nat_lt, option_map, slice_get, vec_len};
 ghost use Rattle.std.specs.Option.{option_copied};
 ghost use Rattle.std.specs.declared.time.Instant.{Instant};
 ghost use Rattle.std.specs.String.{string_bytes};
 ghost use Rattle.http_log.specs.Counted.{with_connection};
 ghost use Rattle.http_log.specs.Lines.{request_text};
-ghost use Rattle.http_log.specs.Shown.{is_printable};
 ghost use Rattle.http_journal.specs.Ends.{counted_end, counted_ends, is_taken, IsNobody};
 ghost use Rattle.http_journal.specs.Logging.{IsRecordOf, log_of};
 ghost use Rattle.http_journal.specs.Requests.{is_again};
-ghost use Rattle.http_journal.specs.Seen.{counted_answer, counted_over, counted_turn, is_busy, micros_between, with_answer, with_page, with_part, with_rest, with_slot};
+ghost use Rattle.http_journal.specs.Seen.{ChangesSlot, counted_answer, counted_over, counted_turn, is_busy, micros_between, with_answer, with_page, with_part, with_rest, with_slot};
 
 use crate::clocks::{micros_between, millis_of};
-use crate::known::Known;
+use crate::known::{Known, Line};
 use crate::texts::{ask_of, asked_by, is_post, refusal_in, status_in};
 use http_conversations::Arrived;
 use http_live::Standing;
@@ -27,21 +25,17 @@ use std::time::{Instant, SystemTime};
 /// Writes how many events an opening recovered, on standard error. Which line that is, is proved; that it is written, no clause
 /// sees.
 pub fn log_opening(rt: &HostRuntime, alloc: Global, form: LogForm, recovered: u64) {
-    if let Ok(line) = opened_line(alloc, recovered) {
-        write_line(rt, alloc, Some(form), Some(line));
+    if let Ok(text) = opened_line(alloc, recovered) {
+        write_line(rt, alloc, Some(form), Some(Line { text }));
     }
 }
 
-/// Writes a line, if there is one, and a log is written. It has printable bytes of ASCII alone, so that one line is one record.
-/// What it is, is proved; no clause sees what standard error gets.
-fn write_line(rt: &HostRuntime, alloc: Global, form: Option<LogForm>, line: Option<String>)
-    requires printable { IfSome line
-        (λ text. IsTrue (list_all is_printable (string_bytes text))) }
-{
+/// Writes a line, if there is one, and a log is written. What it is, is proved; no clause sees what standard error gets.
+fn write_line(rt: &HostRuntime, alloc: Global, form: Option<LogForm>, line: Option<Line>) {
     let (Some(form), Some(line)) = (form, line) else {
         return;
     };
-    match record_of(alloc, form, SystemTime::now(rt), line) {
+    match record_of(alloc, form, SystemTime::now(rt), line.text) {
         Record::Plain(line) => info!(rt; target: "desk", "{line}"),
         Record::Timed(line) => {
             let _ = eprintln!(rt; "{line}");
@@ -97,8 +91,12 @@ impl<'a> Journal<'a> {
         ensures counted { IfOk result (λ journal. journal.metrics.connections ≡ 0) }
     {
         let mut slots = Vec::with_capacity(alloc, count)?;
+        let nobody = Peer {
+            number: 0,
+            is_house: false,
+        };
         for _ in 0..count {
-            slots.push(Known::new())?;
+            slots.push(Known::new(false, nobody))?;
         }
         Ok(Journal {
             rt,
@@ -114,8 +112,7 @@ impl<'a> Journal<'a> {
 
     /// The log is written from now on, and its lines begin so.
     pub fn log(&mut self, form: LogForm)
-        ensures logged { log_of self.new ≡ Some form }
-        ensures counted { self.new.metrics ≡ self.old.metrics }
+        ensures logged { self.new ≡ record self.old { form = Some form } }
     {
         self.form = Some(form);
     }
@@ -134,16 +131,14 @@ impl<'a> Journal<'a> {
         let Some(known) = self.slots.get_mut(at) else {
             return displaced;
         };
-        *known = Known::of(peer);
+        *known = Known::new(true, peer);
         self.metrics.comes();
         displaced
     }
 
     /// A turn of a slot begins, at which a message, or part of one, waits to be answered, or does not. Nothing is written.
     pub fn sees_received(&mut self, at: usize, has_part: bool)
-        ensures counted { self.new.metrics ≡ self.old.metrics }
-        ensures slot { self.new.slots.items
-            ≡ with_slot (with_part has_part) at self.old.slots.items }
+        ensures slot { ChangesSlot (with_part has_part) at self.old self.new }
     {
         self.began = Instant::now(self.rt).ok();
         if let Some(known) = self.slots.get_mut(at) {
@@ -205,9 +200,8 @@ impl<'a> Journal<'a> {
 
     /// This is left of the page of a slot after a turn in which no message was answered.
     fn keep_rest(&mut self, at: usize, standing: Standing, page: &[u8], now: Option<Instant>)
-        ensures counted { self.new.metrics ≡ self.old.metrics }
-        ensures slot { self.new.slots.items
-            ≡ with_slot (with_rest (is_busy standing) (length page.now) now) at self.old.slots.items }
+        ensures slot { ChangesSlot (with_rest (is_busy standing) (length page.now) now) at
+            self.old self.new }
     {
         if let Some(known) = self.slots.get_mut(at) {
             known.goes_on(matches!(standing, Standing::Busy), page.len(), now);
@@ -216,9 +210,7 @@ impl<'a> Journal<'a> {
 
     /// This is the page of a slot, after which the connection ends, or does not.
     fn keep_page(&mut self, at: usize, page: &[u8], closes: bool)
-        ensures slot { self.new ≡ record self.old { slots = self.new.slots } }
-        ensures page { self.new.slots.items
-            ≡ with_slot (with_page (length page.now) closes) at self.old.slots.items }
+        ensures slot { ChangesSlot (with_page (length page.now) closes) at self.old self.new }
     {
         if let Some(known) = self.slots.get_mut(at) {
             known.unsent = page.len();
@@ -235,7 +227,7 @@ impl<'a> Journal<'a> {
         status: &[u8],
         page: &[u8],
         now: Option<Instant>,
-    ) -> Result<Option<String>, AllocError>
+    ) -> Result<Option<Line>, AllocError>
         ensures counted { self.new.metrics
             ≡ counted_answer (slice_get self.old.slots.items at) (option_copied seen.entry) status.now
             (micros_between self.old.began now) self.old.metrics }
@@ -244,8 +236,6 @@ impl<'a> Journal<'a> {
             else self.old.slots.items) }
         ensures written { IfOk result (λ line. is_some line
             ≡ (is_some self.old.form && is_some seen.entry && nat_lt at (vec_len self.old.slots))) }
-        ensures printable { IfOk result (λ line. IfSome line (λ text.
-            IsTrue (list_all is_printable (string_bytes text)))) }
     {
         let Some(known) = self.slots.get_mut(at) else {
             return Ok(None);
@@ -260,29 +250,13 @@ impl<'a> Journal<'a> {
         if is_accepted && is_post(&arrived.message) {
             self.metrics.carries(micros_between(self.began, now));
         }
-        let again = is_accepted && self.is_again(&arrived.message);
+        let again = is_accepted && is_again(self.form, &mut self.recent, &arrived.message);
         let refused = if is_accepted {
             b"".as_slice()
         } else {
             refusal_in(page)
         };
         self.line_of(peer, &asked_by(arrived, status, refused, again, millis))
-    }
-
-    /// Whether the page of a message that was accepted was a kept one: that of a request under a key, which was accepted before.
-    /// Where no log is written, nothing is remembered.
-    fn is_again(&mut self, message: &Message) -> bool
-        ensures kept { self.new ≡ record self.old { recent = self.new.recent } }
-        ensures again { IsTrue result
-            → IsTrue (is_again self.old.form self.old.recent message.now) }
-        ensures unlogged { self.old.form ≡ None → self.new.recent ≡ self.old.recent }
-    {
-        match ask_of(message) {
-            Some((agent, key)) if self.form.is_some() => {
-                self.recent.put(agent, key).unwrap_or(false)
-            }
-            _ => false,
-        }
     }
 
     /// The connection of a slot ended, if one was here. Out of memory, its line is left out.
@@ -318,15 +292,26 @@ impl<'a> Journal<'a> {
     }
 
     /// The line of a message of a peer, if a log is written. The only fault is out of memory.
-    fn line_of(&self, peer: Peer, asked: &Asked<'_>) -> Result<Option<String>, AllocError>
-        ensures line { IfOk result (λ line. option_map string_bytes line
+    fn line_of(&self, peer: Peer, asked: &Asked<'_>) -> Result<Option<Line>, AllocError>
+        ensures line { IfOk result (λ line. option_map (λ line. string_bytes line.text) line
             ≡ option_map (λ form. request_text peer asked.now) self.now.form) }
-        ensures printable { IfOk result (λ line. IfSome line (λ text.
-            IsTrue (list_all is_printable (string_bytes text)))) }
     {
         if self.form.is_none() {
             return Ok(None);
         }
-        Ok(Some(request_line(self.alloc, peer, asked)?))
+        let text = request_line(self.alloc, peer, asked)?;
+        Ok(Some(Line { text }))
+    }
+}
+
+/// Whether the page of a message that was accepted was a kept one: that of a request under a key, which was accepted before.
+/// Where no log is written, nothing is remembered.
+fn is_again(form: Option<LogForm>, recent: &mut Recent, message: &Message) -> bool
+    ensures again { IsTrue result → IsTrue (is_again form recent.old message.now) }
+    ensures unlogged { form ≡ None → recent.new ≡ recent.old }
+{
+    match ask_of(message) {
+        Some((agent, key)) if form.is_some() => recent.put(agent, key).unwrap_or(false),
+        _ => false,
     }
 }

@@ -1,5 +1,5 @@
 //! What the log knows of a slot.
-ghost use Rattle.std.specs.Prelude.{◌≡◌, ◌/◌, IfOk, IfSome, IsTrue, false, option_map, true};
+ghost use Rattle.std.specs.Prelude.{◌≡◌, ◌/◌, IfOk, IsTrue, false, option_map};
 ghost use Rattle.std.specs.List.{list_all};
 ghost use Rattle.std.specs.String.{string_bytes};
 ghost use Rattle.http_log.specs.Shown.{is_printable};
@@ -8,6 +8,13 @@ use crate::clocks::micros_between;
 use http_log::{Peer, Why, ended_line};
 use std::alloc::{AllocError, Global};
 use std::time::Instant;
+
+/// A line of printable ASCII alone, so that one line is one record.
+#[derive(Drop)]
+pub(crate) struct Line {
+    pub(crate) text: String,
+    ghost printable: { IsTrue (list_all is_printable (string_bytes text)) },
+}
 
 /// What the log knows of a slot.
 #[derive(Drop)]
@@ -31,27 +38,20 @@ impl Known {
     ghost use Rattle.http_journal.specs.Ends.{end_line, why_of};
     ghost use Rattle.http_journal.specs.Seen.{micros_between, with_rest};
 
-    /// Nobody is here.
-    pub(crate) fn new() -> Known
-        ensures nobody { result.is_here ≡ false }
-    {
-        let peer = Peer {
-            number: 0,
-            is_house: false,
-        };
-        let mut known = Known::of(peer);
-        known.is_here = false;
-        known
-    }
-
-    /// A connection came by a door. Nothing was received of it.
-    pub(crate) fn of(peer: Peer) -> Known
-        ensures here { result.is_here ≡ true }
-        ensures peer { result.peer ≡ peer }
-        ensures none { result.requests ≡ 0 }
+    /// A connection, of which nothing was received, is here, or nobody is.
+    pub(crate) fn new(is_here: bool, peer: Peer) -> Known
+        ensures known { result ≡ record {
+          is_here = is_here;
+          peer = peer;
+          requests = 0;
+          has_part = false;
+          unsent = 0;
+          closes = false;
+          read_at = None;
+        } }
     {
         Known {
-            is_here: true,
+            is_here,
             peer,
             requests: 0,
             has_part: false,
@@ -80,18 +80,17 @@ impl Known {
     }
 
     /// The connection ended so. Returns its line, if one was here. The only fault is out of memory.
-    pub(crate) fn end(&mut self, alloc: Global, why: Why) -> Result<Option<String>, AllocError>
-        ensures line { IfOk result (λ line. option_map string_bytes line ≡ end_line self.old why) }
-        ensures printable { IfOk result (λ line. IfSome line (λ text.
-            IsTrue (list_all is_printable (string_bytes text)))) }
+    pub(crate) fn end(&mut self, alloc: Global, why: Why) -> Result<Option<Line>, AllocError>
+        ensures line { IfOk result (λ line.
+            option_map (λ line. string_bytes line.text) line ≡ end_line self.old why) }
         ensures gone { self.new ≡ record self.old { is_here = false } }
     {
         if !self.is_here {
             return Ok(None);
         }
         self.is_here = false;
-        let line = ended_line(alloc, self.peer, self.requests, why)?;
-        Ok(Some(line))
+        let text = ended_line(alloc, self.peer, self.requests, why)?;
+        Ok(Some(Line { text }))
     }
 
     /// Why the connection ended in its turn, in which a page was lost, or was not.

@@ -1,7 +1,7 @@
 //! What the line of a request says, from its message and its page.
-ghost use Rattle.std.specs.Prelude.{◌≡◌, ◌<◌, [], length, not, position, unwrap_or, IfSome};
+ghost use Rattle.std.specs.Prelude.{◌≡◌, [], not, position, unwrap_or};
 ghost use Rattle.std.specs.Char.{is_ascii_digit};
-ghost use Rattle.http_journal.specs.Requests.{ask_of, both, digits_of, is_post, is_post_of, method_by, method_of, refusal_of, status_of, text_of};
+ghost use Rattle.http_journal.specs.Requests.{Says, ask_of, digits_of, is_post, method_by, refusal_of, status_of};
 
 use commands::{Agent, Key};
 use http_conversations::{Arrived, Layout};
@@ -31,19 +31,17 @@ pub(crate) fn refusal_in(page: &[u8]) -> &[u8]
 }
 
 /// The digits at the front of a text.
+#[tactic(auto, using(crate::proofs::TextLemmas::end_is, crate::proofs::TextLemmas::end_within))]
 fn digits_in(text: &[u8]) -> &[u8]
     ensures digits { result.now ≡ digits_of text.now }
 {
-    match end_of_digits(text) {
-        Some(end) => &text[..end],
-        None => text,
-    }
+    let end = end_of_digits(text).unwrap_or(text.len());
+    &text[..end]
 }
 
 /// Where the digits at the front of a text end, if more follows.
 fn end_of_digits(text: &[u8]) -> Option<usize>
     ensures end { result ≡ position (λ byte. not (is_ascii_digit byte)) text.now }
-    ensures within { IfSome result (λ end. end < length text.now) }
 {
     text.iter().position(|byte| !byte.is_ascii_digit())
 }
@@ -55,8 +53,8 @@ pub(crate) fn ask_of(message: &Message) -> Option<(Agent, Key)>
     match message {
         Message::NoHead => None,
         Message::Asks(request) => {
-            if is_post_of(request) {
-                both(request.agent, request.key)
+            if is_post(message) {
+                request.agent.zip(request.key)
             } else {
                 None
             }
@@ -70,25 +68,7 @@ pub(crate) fn is_post(message: &Message) -> bool
 {
     match message {
         Message::NoHead => false,
-        Message::Asks(request) => is_post_of(request),
-    }
-}
-
-/// Whether a request asks for something to be carried out.
-fn is_post_of(request: &Request) -> bool
-    ensures post { result ≡ is_post_of request.now }
-{
-    request.method.as_slice() == b"POST".as_slice()
-}
-
-/// An agent and a key, where there are both.
-fn both(agent: Option<Agent>, key: Option<Key>) -> Option<(Agent, Key)>
-    ensures both { result ≡ both agent key }
-{
-    match (agent, key) {
-        (Some(agent), Some(key)) => Some((agent, key)),
-        (Some(_), None) => None,
-        (None, _) => None,
+        Message::Asks(request) => request.method.as_slice() == b"POST".as_slice(),
     }
 }
 
@@ -101,15 +81,7 @@ pub(crate) fn asked_by<'m>(
     again: bool,
     millis: u64,
 ) -> Asked<'m>
-    ensures agent { result.agent.now ≡ text_of (λ r. unwrap_or r.agent []) arrived.now.message }
-    ensures method { result.method.now
-        ≡ text_of (method_by arrived.now.layout) arrived.now.message }
-    ensures target { result.target.now ≡ text_of (λ r. r.target.items) arrived.now.message }
-    ensures status { result.status.now ≡ status.now }
-    ensures key { result.key.now ≡ text_of (λ r. unwrap_or r.key []) arrived.now.message }
-    ensures again { result.again ≡ again }
-    ensures refused { result.refused.now ≡ refused.now }
-    ensures millis { result.millis ≡ millis }
+    ensures says { Says arrived.now status.now refused.now again millis result }
 {
     match &arrived.message {
         Message::NoHead => Asked {
@@ -140,18 +112,11 @@ fn method_by(layout: Layout, request: &Request) -> &[u8]
     ensures method { result.now ≡ method_by layout request.now }
 {
     match layout {
-        Layout::Wide(kind) => method_of(kind, request),
-        Layout::Profile | Layout::Denied(_) | Layout::Nothing => &request.method,
-    }
-}
-
-/// The method of a request that asks for this, as it was sent.
-fn method_of(kind: AskedKind, request: &Request) -> &[u8]
-    ensures method { result.now ≡ method_of kind request.now }
-{
-    match kind {
-        AskedKind::Head => b"HEAD",
-        AskedKind::Get | AskedKind::Post | AskedKind::Options | AskedKind::Other => &request.method,
+        Layout::Wide(AskedKind::Head) => b"HEAD",
+        Layout::Wide(AskedKind::Get | AskedKind::Post | AskedKind::Options | AskedKind::Other)
+        | Layout::Profile
+        | Layout::Denied(_)
+        | Layout::Nothing => &request.method,
     }
 }
 

@@ -1,17 +1,14 @@
 -- Each line of the log has printable bytes alone. For the lines, and for what they show.
-use Rattle.std.proofs.Common.{◌≡◌, ◌∙◌, ℕ, ◌+◌, ◌/◌, ◌%◌, ◌<◌, ◌≤◌, ◌^◌, ◌==◌, Bool, true, false, List, [], ◌∷◌, ◌++◌, length, take, get_or, ap, sym, refl, arith, subst, not, codes, decimal, nat_le, if◌then◌else◌}
+use Rattle.std.proofs.Common.{◌≡◌, ◌∙◌, ℕ, ◌/◌, ◌%◌, ◌<◌, ◌^◌, Bool, true, false, List, [], ◌∷◌, ◌++◌, ap, sym, refl, arith, subst, codes, decimal, if◌then◌else◌}
 use Rattle.std.specs.List.{list_all}
 use Rattle.std.proofs.lemmas.Bool.Decides.{nat_tests}
-use Rattle.std.proofs.lemmas.Bool.{leb-true, le-leb}
-use Rattle.std.proofs.lemmas.Grind.{flat_map-append}
-use Rattle.std.proofs.lemmas.List.{append-nil, append_assoc, take_more}
+use Rattle.std.proofs.lemmas.List.{append_assoc}
 use Rattle.std.proofs.lemmas.List.Folds.{list_all-append}
 use Rattle.allotment.proofs.PlainLemmas.{decimal_plain, is_plain_byte}
 use Rattle.allotment.proofs.TestLemmas.{and_both, and_make, list_all_weaker}
-use Rattle.allotment.specs.Limits.{is_between}
 use Rattle.commands.specs.Texts.{sentence}
 use Rattle.http_log.specs.Lines.{again_word, asked_words, door_word, ended_text, named, opened_text, page_words, peer_words, request_text, request_words, why_word}
-use Rattle.http_log.specs.Shown.{hex_digit, is_printable, is_shown, shown_byte, shown_bytes, shown_within}
+use Rattle.http_log.specs.Shown.{hex_digit, is_printable, is_shown, shown_byte, shown_within}
 use Rattle.http_log.specs.declared.endings.Why.{Why}
 use Rattle.http_log.specs.declared.endings.Why.TheVariants.{Left, CutOff, NotTaken, Closed, LateRequest, LatePage, Displaced, Memory, Stopped}
 use Rattle.http_log.specs.declared.lines.Asked.{Asked}
@@ -25,14 +22,6 @@ prints = list_all is_printable
 pub both_print : (xs ys : List ℕ) → prints xs ≡ true → prints ys ≡ true → prints (xs ++ ys) ≡ true
 both_print xs ys first second = list_all-append is_printable xs ys ∙ and_make (prints xs) (prints ys) first second
 
--- one more byte is shown after the others
-pub shown_more : (bs : List ℕ) (k : ℕ) → k < length bs
-    → shown_bytes (take (k + 1) bs) ≡ shown_bytes (take k bs) ++ shown_byte (get_or bs k 0)
-shown_more bs k lt =
-    ap shown_bytes (take_more bs k 0 lt)
-    ∙ flat_map-append shown_byte (take k bs) (get_or bs k 0 ∷ [])
-    ∙ ap (λ z. shown_bytes (take k bs) ++ z) (append-nil (shown_byte (get_or bs k 0)))
-
 -- words that print, with a blank between each two
 sentence_prints : (words : List (List ℕ)) → list_all prints words ≡ true → prints (sentence words) ≡ true
 sentence_prints [] all = refl
@@ -45,14 +34,6 @@ sentence_prints (w ∷ v ∷ words) all =
 named_prints : (name value : List ℕ) → prints name ≡ true → prints value ≡ true → prints (named name value) ≡ true
 named_prints name value first second =
     both_print (name ++ codes "=") value (both_print name (codes "=") first refl) second
-
--- a byte between two numbers is between lower and higher ones
-between_wider : (low high least most b : ℕ) → least ≤ low → high ≤ most → is_between low high b ≡ true → is_between least most b ≡ true
-between_wider low high least most b below above is =
-    let both = and_both (nat_le low b) (nat_le b high) is in
-    let from = leb-true low b both.0 in
-    let to = leb-true b high both.1 in
-    and_make (nat_le least b) (nat_le b most) (le-leb least b (omega (arith, from, below))) (le-leb b most (omega (arith, to, above)))
 
 -- a digit, a capital or a dash prints
 plain_prints : (b : ℕ) → is_plain_byte b ≡ true → is_printable b ≡ true
@@ -158,8 +139,7 @@ opened_prints recovered few =
 
 -- a byte that is shown as it is prints
 whole_prints : (b : ℕ) → is_shown b ≡ true → is_printable b ≡ true
-whole_prints b is =
-    between_wider 33 126 32 126 b (omega arith) (omega arith) (and_both (is_between 33 126 b) (not (b == 92)) is).0
+whole_prints b is = grind (arith, nat_tests)
 
 -- a digit prints
 digit_prints : (d : ℕ) → d < 16 → is_printable (hex_digit d) ≡ true

@@ -57,7 +57,6 @@ fn is_shown(byte: u8) -> bool
 fn hex_digit(digit: u8) -> char
     requires { digit < 16 }
     ensures digit { result ≡ hex_digit digit }
-    ensures ascii { result < 128 }
 {
     let glyph = if digit < 10 {
         b'0' + digit

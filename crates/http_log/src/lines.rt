@@ -3,7 +3,7 @@ ghost use Rattle.std.specs.Prelude.{◌≡◌, IfOk, IsTrue};
 ghost use Rattle.std.specs.String.{string_bytes};
 ghost use Rattle.std.specs.List.{list_all};
 ghost use Rattle.commands.specs.Texts.{sentence};
-ghost use Rattle.http_log.specs.Lines.{again_word, door_word, ended_text, opened_text, page_words, request_text, request_words};
+ghost use Rattle.http_log.specs.Lines.{door_word, ended_text, opened_text, page_words, request_text, request_words};
 ghost use Rattle.http_log.specs.Shown.{is_printable};
 
 use crate::endings::Why;
@@ -77,7 +77,8 @@ fn page_part(alloc: Global, asked: &Asked<'_>) -> Result<String, AllocError>
 {
     let status = shown(alloc, asked.status, MOST_NAME)?;
     let key = shown(alloc, asked.key, MOST_NAME)?;
-    let (again, millis) = (again_word(asked.again), asked.millis);
+    let again = if asked.again { "yes" } else { "no" };
+    let millis = asked.millis;
     let refused = shown(alloc, asked.refused, MOST_NAME)?;
     format!(in alloc; "status={status} key={key} again={again} refused={refused} ms={millis}")
 }
@@ -106,11 +107,4 @@ fn door_word(is_house: bool) -> &'static str
     ensures word { result.now ≡ door_word is_house }
 {
     if is_house { "house" } else { "port" }
-}
-
-/// Whether a page was a kept one, in a word.
-fn again_word(again: bool) -> &'static str
-    ensures word { result.now ≡ again_word again }
-{
-    if again { "yes" } else { "no" }
 }

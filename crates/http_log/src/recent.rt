@@ -47,7 +47,7 @@ impl Recent {
 
         ensures memory { OnErr result (self.new ≡ self.old) }
     {
-        if self.has(agent, key) {
+        if self.pairs.contains(&(agent, key)) {
             return Ok(true);
         }
         self.pairs.push_back((agent, key))?;
@@ -55,12 +55,5 @@ impl Recent {
             let _ = self.pairs.pop_front();
         }
         Ok(false)
-    }
-
-    /// Whether the agent's key is remembered.
-    fn has(&self, agent: Agent, key: Key) -> bool
-        ensures among { result ≡ is_among self.now (agent, key) }
-    {
-        self.pairs.contains(&(agent, key))
     }
 }

@@ -1,5 +1,5 @@
 -- Bytes begin with one head and are one page at most. For the functions of `answers`.
-use Rattle.std.proofs.Common.{◌≡◌, ◌≢◌, ◌∙◌, ◌≤◌, ℕ, List, Ok, Result, length, map, take, drop, ap, sym, subst, arith}
+use Rattle.std.proofs.Common.{◌≡◌, ◌≢◌, ◌∙◌, ℕ, List, Ok, Result, length, map, take, drop, ap, sym, arith}
 use Rattle.std.proofs.lemmas.List.{length-map, length-take}
 use Rattle.http1.specs.Fields.{known_fields}
 use Rattle.http1.specs.Framing.{response_framing}
@@ -13,7 +13,7 @@ use Rattle.httparse.specs.Grammar.{ResponseHead, status_code as code_of}
 use Rattle.httparse.specs.Spans.{IsResponseAt, IsResponseWithin, header_bytes, name_and_value}
 use Rattle.httparse.specs.declared.spans.HeaderSpan.{HeaderSpan}
 use Rattle.httparse.specs.declared.spans.ResponseSpans.{ResponseSpans}
-use Rattle.http_pages.specs.Answers.{absence_text, most_fields, HasNoAnswer, IsHead, IsHeadOf, IsPage}
+use Rattle.http_pages.specs.Answers.{absence_text, most_fields, HasNoAnswer, IsHeadOf, IsPage}
 use Rattle.http_pages.specs.declared.answer_pages.Answer.TheVariants.{Report, NoJourney}
 
 -- the framing of a response, by its status, its minor version and its fields

@@ -1,5 +1,5 @@
 -- What answers a request for a report: a whole page, by the grammar of HTTP/1.1 (RFC 9112, sections 4 to 6).
-use Rattle.std.specs.Prelude.{◌≡◌, ◌≤◌, ℕ, List, length, map, drop, Ok, Result}
+use Rattle.std.specs.Prelude.{◌≡◌, ◌≤◌, ℕ, List, length, map, drop, None, Ok, Option, Result, Some}
 use Rattle.commands.specs.declared.replies.Refusal.TheVariants as refusal
 use Rattle.http1.specs.Fields.{known_fields}
 use Rattle.http1.specs.Framing.{response_framing}
@@ -14,6 +14,8 @@ use Rattle.httparse.specs.Grammar.{ReadsResponse, ResponseHead, status_code as c
 use Rattle.httparse.specs.Spans.{name_and_value}
 use Rattle.serde_json.specs.Written.{compact_text}
 use Rattle.http_pages.specs.declared.answer_pages.Answer.{Answer}
+use Rattle.http_pages.specs.declared.answer_pages.Head.{Head}
+use Rattle.http_pages.specs.declared.answer_pages.Page.{Page}
 use Rattle.http_pages.specs.declared.answer_pages.Answer.TheVariants.{Report, NoJourney}
 
 -- how many fields a page may have
@@ -38,6 +40,20 @@ pub record IsPage (came : List ℕ) (status : ℕ) (body : List ℕ) : Type 0 wh
   pub head : ResponseHead
   pub reads : ReadsResponse came head body
   pub is : IsHead head status (Ok (framed.Length (length body)))
+
+-- the bytes are no page
+abbrev pub IsNoPage : List ℕ → Type 0
+IsNoPage came = (status : ℕ) (body : List ℕ) → ¬ (IsPage came status body)
+
+-- the page that the bytes are, if they are one
+abbrev pub FindsPage : List ℕ → Option Page → Type 0
+FindsPage came (Some page) = IsPage came page.status page.body.now
+FindsPage came None = IsNoPage came
+
+-- the head with which the bytes begin; none is found only where they are no page
+abbrev pub FindsHead : List ℕ → Option Head → Type 0
+FindsHead came (Some head) = IsHeadOf came head.status head.framing head.len
+FindsHead came None = IsNoPage came
 
 -- the body of the refusal of an absent journey
 abbrev pub absence_text : List ℕ

@@ -47,13 +47,17 @@ abbrev pub brief_data : Owners → Brief → Data
 brief_data owners brief =
     json (owner_member owners brief ++ standing_members brief.id brief.cursor.pos brief.cursor.phase)
 
+-- journeys under this name
+abbrev pub listed_data : List ℕ → Owners → List Brief → Data
+listed_data name owners briefs = json ((name, list (map (brief_data owners) briefs)) ∷ [])
+
 -- journeys that are not finished
 abbrev pub unfinished_data : Owners → List Brief → Data
-unfinished_data owners briefs = json ((codes "unfinished", list (map (brief_data owners) briefs)) ∷ [])
+unfinished_data owners briefs = listed_data (codes "unfinished") owners briefs
 
 -- journeys of one agent, finished ones too
 abbrev pub mine_data : Owners → List Brief → Data
-mine_data owners briefs = json ((codes "mine", list (map (brief_data owners) briefs)) ∷ [])
+mine_data owners briefs = listed_data (codes "mine") owners briefs
 
 -- The desk.
 

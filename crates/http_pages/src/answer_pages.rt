@@ -1,6 +1,6 @@
 //! What answers a request for a report.
-ghost use Rattle.std.specs.Prelude.{◌≡◌, ◌≢◌, ◌↔◌, ℕ, List, length, Err, IfOk, IfSome, IsNone, IsTrue, Ok};
-ghost use Rattle.http_pages.specs.Answers.{absence_text, HasNoAnswer, IsAnswer, IsHeadOf, IsPage};
+ghost use Rattle.std.specs.Prelude.{◌≡◌, ◌≢◌, ◌↔◌, length, Err, IfOk, IsTrue, Ok};
+ghost use Rattle.http_pages.specs.Answers.{absence_text, FindsHead, FindsPage, HasNoAnswer, IsAnswer};
 
 use crate::asking::Unanswered;
 use crate::bodies::refusal_body;
@@ -76,8 +76,7 @@ fn absence_in(alloc: Global, body: &[u8]) -> Result<Answer, Unanswered>
 
 /// The page that these bytes are, if they are one whole page and nothing else.
 fn page_in(came: &[u8]) -> Option<Page<'_>>
-    ensures page { IfSome result (λ page. IsPage came.now page.status page.body.now) }
-    ensures none { IsNone result → (status : ℕ) (body : List ℕ) → ¬ IsPage came.now status body }
+    ensures page { FindsPage came.now result }
 {
     let head = head_in(came)?;
     let body = &came[head.len..];
@@ -99,8 +98,7 @@ fn is_whole(framing: Result<Framing, FramingError>, body: &[u8]) -> bool
 
 /// The head with which these bytes begin, if they begin with one of few enough fields.
 fn head_in(came: &[u8]) -> Option<Head>
-    ensures head { IfSome result (λ head. IsHeadOf came.now head.status head.framing head.len) }
-    ensures none { IsNone result → (status : ℕ) (body : List ℕ) → ¬ IsPage came.now status body }
+    ensures head { FindsHead came.now result }
 {
     let mut fields = [EMPTY_HEADER_SPAN; MOST_FIELDS];
     match parse_response(came, &mut fields) {

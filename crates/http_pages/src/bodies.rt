@@ -8,8 +8,8 @@ ghost use Rattle.plan.specs.PlanData.{plan_data};
 
 use crate::plans::plan_value;
 use crate::values::{
-    agent_value, brief_value, health_value, journey_value, mine_value, refusal_value, reply_value,
-    stopping_value, unfinished_value,
+    agent_value, brief_value, health_value, journey_value, listed_value, refusal_value,
+    reply_value, stopping_value,
 };
 use commands::{Agent, Cursor, Item, Refusal, Reply};
 use plan::Plan;
@@ -34,6 +34,7 @@ pub fn refusal_body(alloc: Global, refusal: &Refusal) -> Result<String, AllocErr
 }
 
 /// The body that shows a journey with its history, oldest item first. The only fault is out of memory.
+#[tactic(auto, using(crate::proofs::FloatLemmas::no_float_items))]
 pub fn journey_body(
     alloc: Global,
     id: u64,
@@ -49,6 +50,7 @@ pub fn journey_body(
 
 /// The body that shows a plan: its steps, each with its options, and its tries, in the form in which a plan is sent. The only
 /// fault is out of memory.
+#[tactic(auto, using(crate::proofs::PlanLemmas::no_float_plan))]
 pub fn plan_body(alloc: Global, plan: &Plan) -> Result<String, AllocError>
     ensures body { IfOk result (λ body. string_bytes body ≡ compact_text (plan_data plan.now)) }
 {
@@ -67,6 +69,7 @@ pub enum Owners {
 
 /// The body that shows journeys that are not finished, in the order in which they are given. The only fault is out of
 /// memory.
+#[tactic(auto, using(crate::proofs::FloatLemmas::no_float_briefs))]
 pub fn unfinished_body(
     alloc: Global,
     owners: Owners,
@@ -75,21 +78,23 @@ pub fn unfinished_body(
     ensures body { IfOk result
         (λ body. string_bytes body ≡ compact_text (unfinished_data owners briefs.now)) }
 {
-    let value = unfinished_value(alloc, owners, briefs)?;
+    let value = listed_value(alloc, "unfinished", owners, briefs)?;
     value.to_string(alloc)
 }
 
 /// The body that shows journeys of one agent, finished ones too, in the order in which they are given. The only fault is
 /// out of memory.
+#[tactic(auto, using(crate::proofs::FloatLemmas::no_float_briefs))]
 pub fn mine_body(alloc: Global, owners: Owners, briefs: &[Brief]) -> Result<String, AllocError>
     ensures body { IfOk result
         (λ body. string_bytes body ≡ compact_text (mine_data owners briefs.now)) }
 {
-    let value = mine_value(alloc, owners, briefs)?;
+    let value = listed_value(alloc, "mine", owners, briefs)?;
     value.to_string(alloc)
 }
 
 /// The body that shows a journey without its history, as a list of journeys does. The only fault is out of memory.
+#[tactic(auto, using(crate::proofs::FloatLemmas::no_float_brief))]
 pub fn brief_body(alloc: Global, owners: Owners, brief: &Brief) -> Result<String, AllocError>
     ensures body { IfOk result
         (λ body. string_bytes body ≡ compact_text (brief_data owners brief.now)) }

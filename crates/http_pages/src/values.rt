@@ -3,7 +3,7 @@ ghost use Rattle.std.specs.Prelude.{◌≡◌, IfOk, OnOk, map};
 ghost use Rattle.serde_json.specs.Data.{object, no_members};
 ghost use Rattle.serde_json.specs.View.{view, members_view};
 ghost use Rattle.http_pages.specs.Bodies.{item_data, moved_data, refusal_data, reply_data, list};
-ghost use Rattle.http_pages.specs.Bodies.{journey_data, brief_data, mine_data, unfinished_data};
+ghost use Rattle.http_pages.specs.Bodies.{journey_data, brief_data, listed_data};
 ghost use Rattle.http_pages.specs.Bodies.{agent_data, begun_data, health_data, loaded_data, stopping_data};
 
 use crate::bodies::Owners;
@@ -114,27 +114,18 @@ pub fn journey_value(
     Ok(Value::Object(members))
 }
 
-/// The value of journeys that are not finished, in the order in which they are given.
-pub fn unfinished_value(
+/// The value of journeys under this name, in the order in which they are given.
+pub fn listed_value(
     alloc: Global,
+    name: &str,
     owners: Owners,
     briefs: &[Brief],
 ) -> Result<Value, AllocError>
-    ensures value { IfOk result (λ value. view value ≡ unfinished_data owners briefs.now) }
+    ensures value { IfOk result (λ value. view value ≡ listed_data name.now owners briefs.now) }
 {
     let mut members = Map::new(alloc);
     let listed = briefs_value(alloc, owners, briefs)?;
-    put(&mut members, alloc, "unfinished", listed)?;
-    Ok(Value::Object(members))
-}
-
-/// The value of journeys of one agent, in the order in which they are given.
-pub fn mine_value(alloc: Global, owners: Owners, briefs: &[Brief]) -> Result<Value, AllocError>
-    ensures value { IfOk result (λ value. view value ≡ mine_data owners briefs.now) }
-{
-    let mut members = Map::new(alloc);
-    let listed = briefs_value(alloc, owners, briefs)?;
-    put(&mut members, alloc, "mine", listed)?;
+    put(&mut members, alloc, name, listed)?;
     Ok(Value::Object(members))
 }
 

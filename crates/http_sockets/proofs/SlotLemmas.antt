@@ -15,9 +15,9 @@ pub found : (slots : List Place) (at : ℕ) (slot : Place) → at < length slots
 found slots at slot within is = slice_get_read slots (length slots) at slot refl within is
 
 -- a change to it is all that changes
-pub changed : (change : Place → Place) (slots : List Place) (at : ℕ) (slot new : Place) → slice_get slots at ≡ Some slot
-    → new ≡ change slot → Changes change at slots (slice_set slots at new)
-changed change slots at slot new is same = rw (is, same) refl
+pub changed : (change : Place → Place) (slots : List Place) (at : ℕ) (slot new : Place) → at < length slots
+    → slot ≡ get_or slots at slot → new ≡ change slot → Changes change at slots (slice_set slots at new)
+changed change slots at slot new within is same = rw (found slots at slot within is, same) refl
 
 -- what a slot is after a change to one: to this one, and to another
 pub slice_get-same : (slots : List Place) (at : ℕ) (slot new : Place) → slice_get slots at ≡ Some slot
@@ -40,8 +40,9 @@ times-append k (turn ∷ later) at = rw (times-append k later at) (omega arith)
 
 -- a change that lets a slot wait as it did leaves it the turns that it had
 pub turns_kept : (slots : List Place) (at : ℕ) (slot new : Place) (round next : List ℕ) → HaveTurns slots round next
-    → slice_get slots at ≡ Some slot → new.is_queued ≡ slot.is_queued → HaveTurns (slice_set slots at new) round next
-turns_kept slots at slot new round next have is same = record {
+    → at < length slots → slot ≡ get_or slots at slot → new.is_queued ≡ slot.is_queued
+    → HaveTurns (slice_set slots at new) round next
+turns_kept slots at slot new round next have within value same = let is = found slots at slot within value in record {
   each = λ k. elim (eqb_tells k at) [
     | inl here ↦ let had = have.each k in rw (here.1, slice_get-same slots at slot new is, same) (rw (here.1, is) at had)
     | inr there ↦ rw (slice_get-other slots at k new there.1) (have.each k)

@@ -30,8 +30,7 @@ positive (suc n) some = omega arith
 
 -- where some may come, one fewer of no more than those is fewer
 pub fewer_of : (old mid new : Option ℕ) → IsNoMore old mid → mid ≢ Some 0 → new ≡ one_fewer mid → IsFewer old new
-fewer_of None None new one some fewer = fewer
-fewer_of None (Some m) new one some fewer = cc
+fewer_of None mid new one some fewer = rw one at fewer
 fewer_of (Some o) None new one some fewer = absurd one
 fewer_of (Some o) (Some m) new one some fewer = rw fewer (omega (arith, positive m some))
 
@@ -44,12 +43,8 @@ pub no_more_same : (count : Option ℕ) → IsNoMore count count
 no_more_same None = refl
 no_more_same (Some n) = omega arith
 
-no_more_of_none : (mid new : Option ℕ) → mid ≡ None → IsNoMore mid new → new ≡ None
-no_more_of_none None new none other = other
-no_more_of_none (Some m) new none other = cc
-
 no_more_both : (old mid new : Option ℕ) → IsNoMore old mid → IsNoMore mid new → IsNoMore old new
-no_more_both None mid new one other = no_more_of_none mid new one other
+no_more_both None mid new one other = rw one at other
 no_more_both (Some o) None new one other = absurd one
 no_more_both (Some o) (Some m) None one other = absurd other
 no_more_both (Some o) (Some m) (Some n) one other = omega arith
@@ -60,7 +55,6 @@ turned_away_both old mid new one other = record {
   slots = other.slots ∙ one.slots;
   no_more = no_more_both (still_to_come old) (still_to_come mid) (still_to_come new) one.no_more other.no_more;
   round = other.round ∙ one.round;
-  to_begin = other.to_begin ∙ one.to_begin;
   tick = other.tick ∙ one.tick;
 }
 
@@ -68,10 +62,10 @@ turned_away_both old mid new one other = record {
 pub admitted_after : (old mid new : Sockets) (turn : Turn ReadEnd WriteEnd) → IsTurnedAway old mid → IsAdmitted mid new turn
     → IsAdmitted old new turn
 admitted_after old mid new turn one other = record {
+  peer = other.peer;
   comes = other.comes;
   slots = rw (one.tick, one.slots) at other.slots;
   round = other.round ∙ one.round;
-  to_begin = other.to_begin ∙ one.to_begin;
 }
 
 pub turned_away_same : (now : Sockets) → IsTurnedAway now now
@@ -79,6 +73,5 @@ turned_away_same now = record {
   slots = refl;
   no_more = no_more_same (still_to_come now);
   round = refl;
-  to_begin = refl;
   tick = refl;
 }

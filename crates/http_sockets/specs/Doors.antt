@@ -7,7 +7,7 @@ use Rattle.desk_http.specs.declared.doors.Site.{Site}
 use Rattle.http_conversations.specs.declared.modes.Mode.{Mode}
 use Rattle.http_live.specs.Doors.{ComesByItsDoor, ComesInItsMode, ComesWithBoth, EndsOnlyIf}
 use Rattle.http_live.specs.declared.serving.Turn.{Turn}
-use Rattle.http_live.specs.declared.serving.Turn.TheVariants.{Comes, Ready, Leaves, End}
+use Rattle.http_live.specs.declared.serving.Turn.TheVariants.{Comes}
 use Rattle.http_sockets.specs.declared.places.ReadEnd.{ReadEnd}
 use Rattle.http_sockets.specs.declared.places.WriteEnd.{WriteEnd}
 use Rattle.http_sockets.specs.declared.places.Socket.{Socket}
@@ -32,30 +32,20 @@ door_of (Path stream) page = House
 door_of (Port stream) (Some site) = doors.Page site
 door_of (Port stream) None = doors.Port
 
--- who comes in this turn, if anybody does, comes by the door of its socket, where this page is served at the port
-abbrev pub ComesAt : {W : Type 0} → Option Site → Turn ReadEnd W → Type 0
-ComesAt page (Comes at door mode reader writer) = door ≡ door_of reader.0.value page
-ComesAt page (Ready at) = ⊤
-ComesAt page (Leaves at) = ⊤
-ComesAt page End = ⊤
-
--- who comes in this turn, if anybody does, has this socket
-abbrev pub ComesOver : {W : Type 0} → Socket → Turn ReadEnd W → Type 0
-ComesOver socket (Comes at door mode reader writer) = reader.0.value ≡ socket
-ComesOver socket (Ready at) = ⊤
-ComesOver socket (Leaves at) = ⊤
-ComesOver socket End = ⊤
-
 -- what the end of a socket gives is read in its mode
 abbrev pub IsReadBy : ReadEnd → Mode → Type 0
 IsReadBy end mode = end.1 ≡ mode
 
--- who comes in this turn, if anybody does, is read in this mode
-abbrev pub ComesBy : {R W : Type 0} → Mode → Turn R W → Type 0
-ComesBy by (Comes at door mode reader writer) = mode ≡ by
-ComesBy by (Ready at) = ⊤
-ComesBy by (Leaves at) = ⊤
-ComesBy by End = ⊤
+-- a peer has this socket and its door, where this page is served at the port, and is read in this mode
+pub record IsPeerOf (socket : Socket) (site : Option Site) (by : Mode) (door : Door) (mode : Mode) (reader : ReadEnd) : Type 0 where
+  pub same : reader.0.value ≡ socket
+  pub page : door ≡ door_of socket site
+  pub now : mode ≡ by
+
+-- so has who comes in this turn, if anybody does
+abbrev pub ComesOver : {W : Type 0} → Socket → Option Site → Mode → Turn ReadEnd W → Type 0
+ComesOver socket page by (Comes at door mode reader writer) = IsPeerOf socket page by door mode reader
+ComesOver socket page by _ = ⊤
 
 -- a turn: who comes in it, if anybody does, comes by the door and in the mode of its socket, and has both ends of it
 pub record IsTurn (turn : Turn ReadEnd WriteEnd) : Type 0 where

@@ -10,9 +10,7 @@ use Rattle.http_sockets.specs.declared.places.Owed.TheVariants.{Nothing, Message
 -- by a byte, where nothing was owed, a message begins
 abbrev pub owed_by_byte : Owed → Owed
 owed_by_byte Nothing = Message
-owed_by_byte Message = Message
-owed_by_byte Page = Page
-owed_by_byte End = End
+owed_by_byte owed = owed
 
 -- what it owes after a turn that ended so, by what it owed before
 abbrev pub owed_after : Owed → Standing → Owed
@@ -46,7 +44,6 @@ shows_life _ = false
 
 -- why a slot is ended whose peer owes this for too long
 abbrev pub why_owing : Owed → Why
-why_owing Nothing = Closed
 why_owing Message = LateRequest
 why_owing Page = LatePage
-why_owing End = Closed
+why_owing _ = Closed

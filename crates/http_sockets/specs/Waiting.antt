@@ -46,26 +46,23 @@ may_wait waiting = waiting.at_port || may_wait_at_path waiting
 -- no connection was taken
 abbrev pub IsNoSocket : Accepted → Type 0
 IsNoSocket (Came socket) = ⊥
-IsNoSocket Lost = ⊤
-IsNoSocket Nobody = ⊤
+IsNoSocket _ = ⊤
 
 -- what an error of accepting comes to: that nobody is there now, or that who waited is lost
-pub record IsEndedBy (error : Error) (accepted : Accepted) (may_wait : Bool) : Type 0 where
+pub record IsEndedBy (error : Error) (accepted : Accepted) : Type 0 where
   pub none : IsNoSocket accepted
   pub later : IsForLater error → accepted ≡ Nobody
   pub lost : (IsForLater error → ⊥) → accepted ≡ Lost
-  pub waits : IsTrue may_wait ↔ IsOfOne error
 
--- what accepting gave at a listener: after a connection one more may wait
+-- what accepting gave at a listener: after a connection one more may wait, and after an error that one of them alone met
 abbrev pub IsTaken : Result Socket Error → Accepted → (may_wait : Bool) → Type 0
 IsTaken (Ok socket) accepted may_wait = (accepted ≡ Came socket) × (may_wait ≡ true)
-IsTaken (Err error) accepted may_wait = IsEndedBy error accepted may_wait
+IsTaken (Err error) accepted may_wait = IsEndedBy error accepted × (IsTrue may_wait ↔ IsOfOne error)
 
 -- who comes, if anybody does, comes by this door, and one more may wait there
 abbrev pub ComesTo : Door → Accepted → (may_wait : Bool) → Type 0
 ComesTo door (Came socket) may_wait = IsDoorOf socket door × (may_wait ≡ true)
-ComesTo door Lost may_wait = ⊤
-ComesTo door Nobody may_wait = ⊤
+ComesTo door _ may_wait = ⊤
 
 -- who is accepted, where somebody may wait at the path, or else at the port, or nowhere, and what changes
 abbrev pub AcceptsAt : (at_path at_port : Bool) → Waiting → Waiting → Accepted → Type 0

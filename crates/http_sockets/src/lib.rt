@@ -11,7 +11,6 @@ mod files;
 mod limits;
 mod listeners;
 mod places;
-mod rounds;
 mod sockets;
 
 pub use files::is_socket_at;

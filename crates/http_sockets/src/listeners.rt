@@ -1,8 +1,8 @@
 //! The listeners: a port of 127.0.0.1, and perhaps the path of a Unix socket.
-ghost use Rattle.std.specs.Prelude.{◌≡◌, ◌↔◌, false, is_some, option_map, IfOk, IsTrue, MatchResult};
+ghost use Rattle.std.specs.Prelude.{◌≡◌, false, is_some, option_map, IfOk};
 ghost use Rattle.desk_http.specs.declared.doors.Door.{Door};
 ghost use Rattle.http_sockets.specs.Doors.{IsDoorOf};
-ghost use Rattle.http_sockets.specs.Listening.{IsForLater, IsOfOne, IsPortHere};
+ghost use Rattle.http_sockets.specs.Listening.{IsPortHere};
 
 use crate::files::listen_at;
 use crate::places::{Places, Socket};
@@ -54,14 +54,11 @@ pub(crate) enum Accepted {
 }
 
 impl Accepted {
-    ghost use Rattle.http_sockets.specs.Waiting.{IsNoSocket};
-    ghost use Rattle.http_sockets.specs.declared.listeners.Accepted.TheVariants.{Lost, Nobody};
+    ghost use Rattle.http_sockets.specs.Waiting.{IsEndedBy};
 
     /// What an error of a listener comes to.
     fn from_error(error: &io::Error) -> Accepted
-        ensures nobody { IsForLater error.now → result ≡ Nobody }
-        ensures lost { (IsForLater error.now → ⊥) → result ≡ Lost }
-        ensures none { IsNoSocket result }
+        ensures ended { IsEndedBy error.now result }
     {
         let is_later = matches!(
             error.kind(),
@@ -91,15 +88,22 @@ impl<T: Source + Drop> Listener<T> {
         })
     }
 
-    /// What accepting gave here. After a connection one more may wait.
+    /// What accepting gave here. After a connection one more may wait; where none can be taken, the next tick asks again.
     fn take(&mut self, accepted: io::Result<Socket>) -> Accepted
         ensures taken { IsTaken accepted result self.new.may_wait }
-        ensures socket { self.new.socket ≡ self.old.socket }
     {
-        self.may_wait = may_wait_after(&accepted);
         match accepted {
-            Ok(socket) => Accepted::Came(socket),
-            Err(error) => Accepted::from_error(&error),
+            Ok(socket) => {
+                self.may_wait = true;
+                Accepted::Came(socket)
+            }
+            Err(error) => {
+                self.may_wait = matches!(
+                    error.kind(),
+                    ErrorKind::Interrupted | ErrorKind::ConnectionAborted
+                );
+                Accepted::from_error(&error)
+            }
         }
     }
 }
@@ -232,22 +236,6 @@ fn come_to_port(listener: &TcpListener) -> io::Result<Socket>
     let (stream, _) = listener.accept()?;
     let _ = stream.set_nodelay(true);
     Ok(Socket::Port(stream))
-}
-
-/// Whether one more may wait after this. Where none can be taken, the next tick asks again.
-fn may_wait_after<T>(accepted: &io::Result<T>) -> bool
-    ensures waits { MatchResult accepted.now (λ _. IsTrue result)
-        (λ error. IsTrue result ↔ IsOfOne error) }
-{
-    match accepted {
-        Ok(_) => true,
-        Err(error) => {
-            matches!(
-                error.kind(),
-                ErrorKind::Interrupted | ErrorKind::ConnectionAborted
-            )
-        }
-    }
 }
 
 /// The address of a port of 127.0.0.1.

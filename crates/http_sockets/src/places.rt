@@ -1,8 +1,6 @@
 //! The two ends of a connection over a socket, and what is known of each slot: its socket, what its peer owes, and since when.
 
-ghost use Rattle.std.specs.Prelude.{◌≡◌, ◌++◌, All, IfNone, IfOk, MatchOption, OnErr, OnOk, ◌↔◌, IsTrue, if◌then◌else◌, [], length, option_to_list, take, true, ◌<◌};
-ghost use Rattle.std.specs.Io.{ReadsAtMost, WritesAtMost};
-ghost use Rattle.std.specs.Io.KnownBytes.{Appends, Consumes, IsAtEnd, Keeps};
+ghost use Rattle.std.specs.Prelude.{◌≡◌, ◌++◌, All, IfOk, OnErr, OnOk, ◌↔◌, IsTrue, if◌then◌else◌, [], length, true};
 ghost use Rattle.http_sockets.specs.Owed.{is_owed_anew, owed_after, shows_life};
 ghost use Rattle.http_sockets.specs.Slots.{HaveTurns};
 
@@ -60,8 +58,8 @@ pub(crate) struct Places {
 
 impl Places {
     ghost use Rattle.http_sockets.specs.Ends.{are_free};
-    ghost use Rattle.http_sockets.specs.Places.{next_of, round_of, slots_of};
-    ghost use Rattle.http_sockets.specs.Slots.{AddWaiting, Changes, IsChosen, cleared, heard_so, is_free, overdue_from, queued, served, taken, why_overdue};
+    ghost use Rattle.http_sockets.specs.Places.{Serves, next_of, round_of, slots_of};
+    ghost use Rattle.http_sockets.specs.Slots.{AddWaiting, Changes, IsChosen, cleared, heard_so, is_free, overdue_from, queued, taken, why_overdue};
 
     /// So many slots, all free.
     #[tactic(auto, using(crate::proofs::SlotLemmas::turns_none))]
@@ -113,6 +111,7 @@ impl Places {
     }
 
     /// A peer takes the slot at this tick.
+    #[tactic(auto, using(crate::proofs::SlotLemmas::changed, crate::proofs::SlotLemmas::turns_kept))]
     pub(crate) fn take(&mut self, at: usize, socket: Rc<Socket>, tick: u64)
         ensures taken { Changes (taken socket tick) at (slots_of self.old) (slots_of self.new) }
         ensures round { round_of self.new ≡ round_of self.old }
@@ -126,6 +125,7 @@ impl Places {
     }
 
     /// The slot is free.
+    #[tactic(auto, using(crate::proofs::SlotLemmas::changed, crate::proofs::SlotLemmas::turns_kept))]
     pub(crate) fn clear(&mut self, at: usize)
         ensures cleared { Changes cleared at (slots_of self.old) (slots_of self.new) }
     {
@@ -136,6 +136,7 @@ impl Places {
     }
 
     /// What the connection of a slot waits for at this tick.
+    #[tactic(auto, using(crate::proofs::SlotLemmas::changed, crate::proofs::SlotLemmas::turns_kept))]
     pub(crate) fn hear(&mut self, at: usize, standing: Standing, tick: u64)
         ensures heard { Changes (heard_so standing tick) at (slots_of self.old) (slots_of self.new) }
     {
@@ -175,10 +176,7 @@ impl Places {
 
     /// The next slot of this round has its turn.
     pub(crate) fn serve(&mut self) -> Option<usize>
-        ensures first { round_of self.old ≡ option_to_list result ++ round_of self.new }
-        ensures none { IfNone result (round_of self.old ≡ []) }
-        ensures slots { MatchOption result (slots_of self.new ≡ slots_of self.old)
-            (λ at. Changes served at (slots_of self.old) (slots_of self.new)) }
+        ensures served { Serves result self.old self.new }
     {
         let at = self.round.pop_front()?;
         if let Some(place) = self.places.get_mut(at) {
@@ -301,11 +299,11 @@ pub(crate) enum Socket {
 
 /// The end that is read, and the mode in which that is read.
 #[derive(Drop)]
-pub struct ReadEnd(Rc<Socket>, Mode);
+pub struct ReadEnd(pub(crate) Rc<Socket>, pub(crate) Mode);
 
 /// The end that is written to.
 #[derive(Drop)]
-pub struct WriteEnd(Rc<Socket>);
+pub struct WriteEnd(pub(crate) Rc<Socket>);
 
 impl Socket {
     ghost use Rattle.http_sockets.specs.Doors.{IsDoorOf, door_of};
@@ -342,25 +340,16 @@ impl Socket {
     }
 }
 
-/// The two ends of a socket, whose messages are read in this mode.
-pub(crate) fn ends_of(socket: &Rc<Socket>, mode: Mode) -> Result<(ReadEnd, WriteEnd), AllocError>
-    ensures read { IfOk result (λ ends. ends.0.0.value ≡ socket.now.value) }
-    ensures mode { IfOk result (λ ends. ends.0.1 ≡ mode) }
-    ensures write { IfOk result (λ ends. ends.1.0.value ≡ socket.now.value) }
-{
-    Ok((ReadEnd(socket.clone()?, mode), WriteEnd(socket.clone()?)))
-}
-
 impl Read for ReadEnd {
     fn read(&mut self, buffer: &mut [u8]) -> io::Result<usize> {
         match &*self.0 {
             Socket::Port(stream) => {
                 let mut stream = stream;
-                read_from(&mut stream, buffer)
+                stream.read(buffer)
             }
             Socket::Path(stream) => {
                 let mut stream = stream;
-                read_from(&mut stream, buffer)
+                stream.read(buffer)
             }
         }
     }
@@ -371,11 +360,11 @@ impl Write for WriteEnd {
         match &*self.0 {
             Socket::Port(stream) => {
                 let mut stream = stream;
-                write_to(&mut stream, bytes)
+                stream.write(bytes)
             }
             Socket::Path(stream) => {
                 let mut stream = stream;
-                write_to(&mut stream, bytes)
+                stream.write(bytes)
             }
         }
     }
@@ -383,26 +372,4 @@ impl Write for WriteEnd {
     fn flush(&mut self) -> io::Result<()> {
         Ok(())
     }
-}
-
-/// Reads once. Of what the reader gives, nothing is lost.
-fn read_from<R: Read>(reader: &mut R, buffer: &mut [u8]) -> io::Result<usize>
-    ensures bound { ReadsAtMost result buffer.new }
-    ensures consumed { IfOk result (λ count.
-        Consumes (R.remaining reader.old) (R.remaining reader.new) (take count buffer.new)) }
-    ensures end { IfOk result (λ count.
-        count ≡ 0 → 0 < length buffer.new → IsAtEnd (R.remaining reader.new)) }
-    ensures err { OnErr result (Keeps (R.remaining reader.old) (R.remaining reader.new)) }
-{
-    reader.read(buffer)
-}
-
-/// Writes once. So many bytes as are told were taken.
-fn write_to<W: Write>(writer: &mut W, bytes: &[u8]) -> io::Result<usize>
-    ensures bound { WritesAtMost result bytes.now }
-    ensures appended { IfOk result (λ count.
-        Appends (W.contents writer.old) (W.contents writer.new) (take count bytes.now)) }
-    ensures err { OnErr result (Keeps (W.contents writer.old) (W.contents writer.new)) }
-{
-    writer.write(bytes)
 }

@@ -1,14 +1,13 @@
 //! Turns from the system: what epoll reports, and who comes and goes.
-ghost use Rattle.std.specs.Prelude.{◌≡◌, ◌≢◌, ◌-◌, ◌/◌, ◌<◌, ◌≤◌, ◌+◌, ◌↔◌, true, None, Some, IfOk, IfSome, IsSome, IsTrue, MatchOption, MatchResult, OnErr, OnOk, OnSome, option_map};
+ghost use Rattle.std.specs.Prelude.{◌≡◌, ◌≢◌, ◌/◌, ◌≤◌, ◌+◌, ◌↔◌, None, Some, IfOk, IsSomeAnd, IsTrue, MatchOption, MatchResult, OnErr, OnOk, OnSome};
 ghost use Rattle.std.specs.Time.{system_time_nanos};
 ghost use Rattle.http_sockets.specs.Counts.{IsFewer, one_fewer};
-ghost use Rattle.http_sockets.specs.Doors.{IsAt, IsPair, IsReadBy, IsTurn};
+ghost use Rattle.http_sockets.specs.Doors.{IsAt, IsPair, IsReadBy};
 ghost use Rattle.http_sockets.specs.Ends.{IsOver};
 
 use crate::limits::Limits;
 use crate::listeners::{Accepted, FIRST, Listeners};
-use crate::places::{Places, ReadEnd, Socket, WriteEnd, ends_of};
-use crate::rounds::{Rounds, turn_of_rounds};
+use crate::places::{Places, ReadEnd, Socket, WriteEnd};
 use desk_http::{Door, Site};
 use http_conversations::{Arrived, Mode};
 use http_journal::Journal;
@@ -62,8 +61,6 @@ pub struct Sockets<'a> {
     places: Places,
     /// The slots that are ended.
     leaving: VecDeque<usize>,
-    /// How many rounds may still begin.
-    to_begin: u64,
     /// Whether the system has failed to report what happens.
     has_failed: bool,
     /// What is counted, and the log, if one is written.
@@ -71,12 +68,12 @@ pub struct Sockets<'a> {
 }
 
 impl<'a> Sockets<'a> {
-    ghost use Rattle.http_sockets.specs.Ends.{HasWaited, HaveLeft, is_failed};
-    ghost use Rattle.http_sockets.specs.Doors.{ComesAt, ComesBy, ComesOver};
+    ghost use Rattle.http_sockets.specs.Ends.{HasWaited, HaveLeft, IsAtEnd, is_failed};
+    ghost use Rattle.http_sockets.specs.Doors.{ComesOver};
     ghost use Rattle.http_sockets.specs.Options.{AddsPage, options_of, options_within, page_at_port, still_to_come, mode_to_come};
     ghost use Rattle.http_sockets.specs.Slots.{AddWaiting};
-    ghost use Rattle.http_sockets.specs.Turns.{EndsLate, IsAdmitted, IsTurnedAway, slots_in};
-    ghost use Rattle.http_sockets.specs.Waiting.{all_heard, may_wait, waiting_at};
+    ghost use Rattle.http_sockets.specs.Turns.{EndsLate, IsAdmitted, IsTurnedAway, IsWelcome, TurnTaken, slots_in};
+    ghost use Rattle.http_sockets.specs.Waiting.{all_heard, waiting_at};
 
     /// Listens on a port of 127.0.0.1, and on a path if there is one, which its owner alone may open. Who comes is served
     /// within these limits.
@@ -112,7 +109,6 @@ impl<'a> Sockets<'a> {
             mode: Mode::Strict,
             places,
             leaving,
-            to_begin: u64::MAX,
             has_failed: false,
             journal,
         })
@@ -167,9 +163,7 @@ impl<'a> Sockets<'a> {
 
     /// Whether one more peer may take a slot in this round.
     fn welcomes(&self) -> bool
-        ensures waits { IsTrue result → may_wait (waiting_at self.now.listeners) ≡ true }
-        ensures round { IsTrue result → self.now.welcomed < WELCOMES }
-        ensures limit { IsTrue result → still_to_come self.now ≢ Some 0 }
+        ensures welcome { IsTrue result → IsWelcome self.now }
     {
         self.welcomed < WELCOMES && self.to_come != Some(0) && self.listeners.may_wait()
     }
@@ -177,7 +171,6 @@ impl<'a> Sockets<'a> {
     /// The next peer takes a slot, if one waits.
     #[tactic(auto, using(crate::proofs::TurnLemmas::turned_away_same, crate::proofs::TurnLemmas::turned_away_both, crate::proofs::TurnLemmas::admitted_after, crate::proofs::TurnLemmas::fewer_of))]
     fn welcome(&mut self) -> Option<Turn<ReadEnd, WriteEnd>>
-        ensures turn { IfSome result IsTurn }
         ensures admitted { MatchOption result (IsTurnedAway self.old self.new)
             (IsAdmitted self.old self.new) }
         ensures limit { OnSome result (IsFewer (still_to_come self.old) (still_to_come self.new)) }
@@ -196,7 +189,6 @@ impl<'a> Sockets<'a> {
     /// Who waits takes a slot. A peer that finds no memory is let go.
     #[tactic(auto, using(crate::proofs::TurnLemmas::one_no_more, crate::proofs::TurnLemmas::no_more_same))]
     fn greet(&mut self) -> Option<Turn<ReadEnd, WriteEnd>>
-        ensures turn { IfSome result IsTurn }
         ensures admitted { MatchOption result (IsTurnedAway self.old self.new)
             (IsAdmitted self.old self.new) }
         ensures limit { OnSome result
@@ -220,10 +212,8 @@ impl<'a> Sockets<'a> {
     /// one is. It is read in the mode that is set now. One peer fewer may come after it.
     #[tactic(auto, using(crate::proofs::TurnLemmas::one_no_more))]
     fn admitted(&mut self, socket: Socket) -> io::Result<Turn<ReadEnd, WriteEnd>>
-        ensures turn { IfOk result IsTurn }
-        ensures now { IfOk result (ComesBy (mode_to_come self.old)) }
-        ensures page { IfOk result (ComesAt (page_at_port self.old)) }
-        ensures same { IfOk result (ComesOver socket) }
+        ensures same { IfOk result
+            (ComesOver socket (page_at_port self.old) (mode_to_come self.old)) }
         ensures admitted { IfOk result (IsAdmitted self.old self.new) }
         ensures limit { still_to_come self.new ≡ one_fewer (still_to_come self.old) }
         ensures err { OnErr result (IsTurnedAway self.old self.new) }
@@ -234,7 +224,8 @@ impl<'a> Sockets<'a> {
         socket.register(self.poll.registry(), Token(at.saturating_add(FIRST)))?;
         let socket = Rc::new(self.alloc, socket)?;
         let door = socket.door(self.page);
-        let (reader, writer) = ends_of(&socket, self.mode)?;
+        let reader = ReadEnd(socket.clone()?, self.mode);
+        let writer = WriteEnd(socket.clone()?);
         self.places.take(at, socket, self.tick);
         let _ = self.journal.comes(at, matches!(door, Door::House));
         Ok(Turn::Comes(at, door, self.mode, reader, writer))
@@ -244,7 +235,6 @@ impl<'a> Sockets<'a> {
     #[tactic(auto, using(crate::proofs::SlotLemmas::waiting_same, crate::proofs::SlotLemmas::waiting_both))]
     fn hear_system(&mut self) -> io::Result<()>
         ensures slots { AddWaiting (slots_in self.old) (slots_in self.new) }
-        ensures rounds { self.new.to_begin ≡ self.old.to_begin }
     {
         let is_idle = self.places.is_idle() && !self.welcomes();
         let most = Duration::from_millis(if is_idle { TICK } else { 0 });
@@ -259,10 +249,7 @@ impl<'a> Sockets<'a> {
     #[tactic(auto, using(crate::proofs::SlotLemmas::waiting_same, crate::proofs::SlotLemmas::waiting_both))]
     fn begin_round(&mut self) -> io::Result<()>
         ensures slots { AddWaiting (slots_in self.old) (slots_in self.new) }
-        ensures begun { OnOk result (self.new.to_begin < self.old.to_begin) }
     {
-        let to_begin = self.to_begin.checked_sub(1);
-        self.to_begin = to_begin.ok_or(io::Error::from(ErrorKind::Other))?;
         self.welcomed = 0;
         self.hear_system()?;
         self.places.begin_round();
@@ -272,7 +259,6 @@ impl<'a> Sockets<'a> {
     /// At each tick the listeners are asked again, and the slots whose peers owe something for too long are ended.
     fn count_ticks(&mut self) -> io::Result<()>
         ensures slots { slots_in self.new ≡ slots_in self.old }
-        ensures rounds { self.new.to_begin ≡ self.old.to_begin }
         ensures late { OnOk result (EndsLate self.old self.new) }
         ensures asked { self.new.tick ≢ self.old.tick → waiting_at self.new.listeners
             ≡ all_heard (waiting_at self.old.listeners) }
@@ -314,25 +300,17 @@ impl<'a> Sockets<'a> {
             _ => false,
         }
     }
-}
 
-impl Rounds for Sockets<'_> {
-    ghost use Rattle.http_sockets.specs.Ends.{IsAtEnd};
-    ghost use Rattle.http_sockets.specs.Slots.{AddWaiting};
-    ghost use Rattle.http_sockets.specs.Turns.{TurnTaken, slots_in};
+    /// Whether no turn comes any more.
+    fn is_at_end(&self) -> bool
+        ensures end { IsTrue result ↔ IsAtEnd self.now }
+    {
+        self.has_waited() || self.have_left()
+    }
 
-    type Turn = Turn<ReadEnd, WriteEnd>;
-
-    ghost is_turn = { IsTurn };
-
-    ghost is_over = { IsOver };
-
-    ghost to_begin = { λ sockets. sockets.to_begin };
-
+    /// The next turn of this round, if there is one: that of a slot that is ended, of who comes, or of a slot that waits for it.
     #[tactic(auto, using(crate::proofs::TurnLemmas::first_of_coming))]
     fn turn_of_round(&mut self) -> Option<Turn<ReadEnd, WriteEnd>>
-        ensures turn { IfSome result IsTurn }
-        ensures kept { self.new.to_begin ≤ self.old.to_begin }
         ensures taken { TurnTaken self.old self.new result }
     {
         if let Some(at) = self.leaving.pop_front() {
@@ -346,24 +324,6 @@ impl Rounds for Sockets<'_> {
         }
         let at = self.places.serve()?;
         Some(Turn::Ready(at))
-    }
-
-    fn is_at_end(&self) -> bool
-        ensures over { IsTrue result → IsOver self.now }
-        ensures end { IsTrue result ↔ IsAtEnd self.now }
-    {
-        self.has_waited() || self.have_left()
-    }
-
-    #[tactic(auto, using(crate::proofs::SlotLemmas::waiting_same, crate::proofs::SlotLemmas::waiting_both))]
-    fn wait(&mut self) -> io::Result<()>
-        ensures begun { OnOk result (self.new.to_begin < self.old.to_begin) }
-        ensures err { OnErr result (IsOver self.new) }
-        ensures slots { AddWaiting (slots_in self.old) (slots_in self.new) }
-    {
-        let begun = self.begin_round();
-        self.has_failed = self.has_failed || begun.is_err();
-        begun
     }
 }
 
@@ -386,19 +346,28 @@ impl Turns for Sockets<'_> {
 
     ghost counted = { λ sockets metrics. metrics ≡ sockets.journal.metrics };
 
+    /// The next turn, of this round or of the first one in which somebody has a turn. There is one unless no turn comes any more.
     fn next_turn(&mut self) -> Turn<ReadEnd, WriteEnd> {
-        match turn_of_rounds(self) {
-            Some(turn) => turn,
-            None => Turn::End,
+        for _ in 0..u64::MAX {
+            if let Some(turn) = self.turn_of_round() {
+                return turn;
+            }
+            if self.is_at_end() {
+                return Turn::End;
+            }
+            if self.begin_round().is_err() {
+                break;
+            }
         }
+        self.has_failed = true;
+        Turn::End
     }
 
     /// Each connection has a turn, in which its page may go out. After five seconds no turn comes.
     #[tactic(auto, using(crate::proofs::SlotLemmas::waiting_same, crate::proofs::SlotLemmas::waiting_both))]
     fn stop(&mut self)
         ensures nobody { still_to_come self.new ≡ Some 0 }
-        ensures last { IfSome self.new.last (λ last. last ≤ self.old.tick + STOPPING) }
-        ensures ends { IsSome self.new.last }
+        ensures last { IsSomeAnd self.new.last (λ last. last ≤ self.old.tick + STOPPING) }
         ensures slots { AddWaiting (slots_in self.old) (slots_in self.new) }
     {
         self.to_come = Some(0);

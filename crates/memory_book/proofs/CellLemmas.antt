@@ -1,9 +1,8 @@
 -- Cells as keys, and places of cells that change one by one. For the stock of a book in memory.
-use Rattle.std.proofs.Common.{◌≡◌, ℕ, zero, suc, ◌-◌, ◌<◌, Bool, true, false, cond, List, [], ◌∷◌, refl, ap, ◌∙◌, map, arith, ◌&&◌, ◌||◌, not, if◌then◌else◌, Option, Some, option_map, nat_le, sym, None}
-use Rattle.std.specs.Prelude.{unwrap_or}
-use Rattle.std.specs.List.{list_any, list_all}
+use Rattle.std.proofs.Common.{◌≡◌, ℕ, zero, suc, ◌<◌, Bool, true, false, cond, List, [], ◌∷◌, refl, ap, ◌∙◌, map, arith, ◌&&◌, ◌||◌, not, if◌then◌else◌, Option, Some, option_map, sym, None}
+use Rattle.std.specs.List.{list_any}
 use Rattle.std.specs.BTreeMap as tree
-use Rattle.std.proofs.lemmas.Bool.{and_parts, and_right, or_parts, not-true, le-leb, ne_eqb}
+use Rattle.std.proofs.lemmas.Bool.{and_parts, and_right, not-true, le-leb, ne_eqb}
 use Rattle.allotment.specs.Want.{Wanted}
 use Rattle.allotment.specs.Cells.{is_cell, cell_at, cells_of, numbers_from}
 use Rattle.allotment.specs.declared.cells.Cell.{Cell}
@@ -11,7 +10,8 @@ use Rattle.allotment.specs.declared.places.Held.{Held}
 pub use Rattle.commands.proofs.CellKeyLemmas.{key_of, is_eq-then, is_eq-texts, is_eq-cells, is_cell-swap}
 use Rattle.ledger.proofs.Cells.{is_cell-same}
 use Rattle.saga_core.specs.Views.{Places, places_said}
-use Rattle.memory_book.specs.MemoryStock.{cell_key_cmp, stock_at, with_less, with_back}
+use Rattle.memory_book.specs.MemoryStock.{cell_key_cmp, stock_at, changed_by}
+use Rattle.memory_book.specs.declared.stock.Change.{Change}
 use Rattle.memory_book.specs.declared.stock.Stock.{Stock}
 
 -- Places of cells.
@@ -48,6 +48,10 @@ pub apart-parts : (k : Cell) (cells : List Cell) → are_apart (k ∷ cells) ≡
     → (list_any (is_cell k) cells ≡ false) × (are_apart cells ≡ true)
 apart-parts k cells apart = grind (arith, and_parts, not-true)
 
+-- a change by 0 changes nothing
+pub none_changed : (by : Change) (p : Places) → changed_by by 0 p ≡ p
+none_changed by p = grind (arith, le-leb)
+
 -- after the first cell has changed, the others are still to change: the first cell does not change again, and its
 -- change left the others the same
 pub changed-step : (change : ℕ → Places → Places) → ((p : Places) → change 0 p ≡ p)
@@ -74,29 +78,6 @@ changed-step change none n k cells old new apart one x =
         ∙ same (option_map (change n) (old k)) ∙ ap (λ y. option_map (change n) (old y)) (sym is)
     go false e = refl
 
--- so many places of a cell are free
-abbrev pub has_free_at : (Cell → Option Places) → ℕ → Cell → Bool
-has_free_at places n x =
-    unwrap_or (option_map (λ (p : Places). nat_le n p.free) (places x)) false
-
--- a change of another cell's places leaves the free places of these cells the same
-pub free-step : (change : Places → Places) (n : ℕ) (k : Cell) (cells : List Cell)
-    (old new : Cell → Option Places)
-    → ((x : Cell) → new x ≡ (if is_cell x k then option_map change (old k) else old x))
-    → list_any (is_cell k) cells ≡ false
-    → list_all (has_free_at old n) cells ≡ true → list_all (has_free_at new n) cells ≡ true
-free-step change n k [] old new one apart free = refl
-free-step change n k (x ∷ cells) old new one apart free =
-    let both = and_parts (has_free_at old n x) (list_all (has_free_at old n) cells) free in
-    let others = or_parts (is_cell k x) (list_any (is_cell k) cells) apart in
-    let kept : new x ≡ old x =
-    one x
-    ∙ ap (λ b. if b then option_map change (old k) else old x) (is_cell-swap x k ∙ others.0) in
-    ap (λ (o : Option Places). unwrap_or (option_map (λ (p : Places). nat_le n p.free) o) false
-    && list_all (has_free_at new n) cells) kept
-    ∙ ap (λ b. b && list_all (has_free_at new n) cells) both.0
-    ∙ free-step change n k cells old new one others.1 both.1
-
 -- The cells of a want.
 
 -- the cell of a night is not among those of later nights
@@ -114,13 +95,3 @@ nights_apart want first (suc n) = grind (arith, later_nights, nights_apart want 
 -- no cell of a want occurs twice
 pub cells_of-apart : (want : Wanted) → are_apart (cells_of want) ≡ true
 cells_of-apart want = nights_apart want want.first want.nights
-
--- Changes by 0.
-
--- taking 0 places changes nothing
-pub none_less : (p : Places) → with_less 0 p ≡ p
-none_less p = grind arith
-
--- giving 0 places back changes nothing
-pub none_back : (p : Places) → with_back 0 p ≡ p
-none_back p = grind (arith, le-leb)

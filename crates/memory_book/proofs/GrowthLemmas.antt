@@ -1,6 +1,6 @@
 -- How one more event changes the parts that a book in memory keeps. For each command.
 use Rattle.std.proofs.Common.{◌≡◌, ℕ, ◌+◌, ◌-◌, ◌<◌, ◌≤◌, Bool, true, false, List, [], ◌∷◌, ◌++◌, length, map, ap, sym, ◌∙◌, subst, inl, inr, ◌&&◌, ◌↔◌, if◌then◌else◌, suc, slice_set, Option, Some, is_some, option_map, Result, Ok, Err, IsTrue, arith}
-use Rattle.std.specs.declared.alloc.AllocError.{AllocError}
+use Rattle.std.specs.Prelude.{IsErr, MatchResult}
 use Rattle.std.specs.List.{cons_option}
 use Rattle.std.proofs.lemmas.Bool.{lt-leb, le-leb, and_right, cases_lt}
 use Rattle.std.proofs.lemmas.List.Elements.{filter_map-append}
@@ -15,7 +15,7 @@ use Rattle.ledger.specs.Ledger.{Event, allotment, held, history, journeys, is_al
 use Rattle.ledger.proofs.Growing.{IsLegal-append}
 use Rattle.ledger.proofs.Events.{length-more}
 use Rattle.saga_core.specs.Views.{Places, places_of}
-use Rattle.memory_book.specs.Memory.{begun_as, batch_of, Tells, TellEach, StandsFor, IsCarriedOut, KeepsBook}
+use Rattle.memory_book.specs.Memory.{begun_as, batch_of, Tells, TellEach, StandsFor, IsCarriedOut}
 use Rattle.memory_book.specs.MemoryAnswers.{kept_in, AreKeptAlike}
 use Rattle.memory_book.specs.MemoryStock.{stock_at}
 use Rattle.memory_book.specs.declared.journeys.Journey.{Journey}
@@ -61,13 +61,13 @@ room_left full most events tells not_full = grind (arith, cases_lt)
 -- after one journey was replaced, a ledger tells each journey if it tells the new one, and the
 -- others as before
 pub TellEach-set : (ks : List Journey) (place : ℕ) (new : Journey) (l after : List Event)
-    → TellEach ks l → Tells new (history after (suc place))
+    → TellEach ks l → Tells new (suc place) (history after (suc place))
     → ((i : ℕ) → (i ≡ place → ⊥) → history after (suc i) ≡ history l (suc i))
     → TellEach (slice_set ks place new) after
 TellEach-set ks place new l after each own others i k at = elim (place_of-set ks place new i k at) [
-  | inl is ↦ subst (λ (j : ℕ). Tells k (history after (suc j))) (sym is.0)
-      (subst (λ (j : Journey). Tells j (history after (suc place))) (sym is.1) own)
-  | inr other ↦ subst (Tells k) (sym (others i other.0)) (each i k other.1)
+  | inl is ↦ subst (λ (j : ℕ). Tells k (suc j) (history after (suc j))) (sym is.0)
+      (subst (λ (j : Journey). Tells j (suc place) (history after (suc place))) (sym is.1) own)
+  | inr other ↦ subst (Tells k (suc i)) (sym (others i other.0)) (each i k other.1)
 ]
 
 -- the batches, the kept replies and the count of the book grew by this event, whose reply is kept
@@ -96,16 +96,19 @@ stands-grown m n s ask r e here may g begun told stock = record {
   legal = IsLegal-append s.ledger e here.legal may;
 }
 
--- at a fault the book is kept, if its journeys are told as they were and no other part changed
-pub keeps_book : {T : Type 0} (m n : MemBook) (r : Result T AllocError)
-    → map begun_as n.journeys.items ≡ map begun_as m.journeys.items
-    → ((l : List Event) → TellEach m.journeys.items l → TellEach n.journeys.items l)
-    → n.stock ≡ m.stock → n.batches.items ≡ m.batches.items
-    → AreKeptAlike (kept_in n.answers) (kept_in m.answers) → n.events ≡ m.events → KeepsBook m n r
-keeps_book m n (Ok x) begun told stock batches kept events = tt
-keeps_book m n (Err e) begun told stock batches kept events = λ s here. record {
+-- of a result that is an error, what is said of an error is enough
+pub at_error : {T E : Type 0} (Given : T → Type 0) (Left : Type 0) (result : Result T E) → IsErr result → Left
+    → MatchResult result Given (λ _. Left)
+at_error Given Left (Ok x) is left = cc
+at_error Given Left (Err e) is left = left
+
+-- the book represents the same state, if its journeys are told as they were and no other part changed
+pub keeps_book : (m n : MemBook) (s : State) → StandsFor m s → map begun_as n.journeys.items ≡ map begun_as m.journeys.items
+    → TellEach n.journeys.items s.ledger → n.stock ≡ m.stock → n.batches.items ≡ m.batches.items
+    → AreKeptAlike (kept_in n.answers) (kept_in m.answers) → n.events ≡ m.events → StandsFor n s
+keeps_book m n s here begun told stock batches kept events = record {
   begun = begun ∙ here.begun;
-  told = told s.ledger here.told;
+  told = told;
   stock = λ x. ap (λ st. stock_at st x) stock ∙ here.stock x;
   batches = batches ∙ here.batches;
   kept = λ agent key. kept agent key ∙ here.kept agent key;

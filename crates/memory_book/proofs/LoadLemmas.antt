@@ -1,9 +1,8 @@
 -- How a load changes a book in memory. For `MemBook::load`.
-use Rattle.std.proofs.Common.{◌≡◌, ℕ, suc, ◌+◌, ◌-◌, ◌<◌, Bool, true, false, cond, List, [], ◌∷◌, ◌++◌, length, map, refl, ap, sym, ◌∙◌, subst, arith, ◌&&◌, not, bytes_eq, nat_le, nat_lt, if◌then◌else◌, slice_get, find, filter_map, position, Option, Some, None, option_map}
+use Rattle.std.proofs.Common.{◌≡◌, ℕ, suc, ◌-◌, ◌<◌, Bool, true, false, cond, List, [], ◌∷◌, ◌++◌, length, map, refl, ap, sym, ◌∙◌, subst, arith, not, bytes_eq, nat_le, nat_lt, if◌then◌else◌, slice_get, find, filter_map, position, Option, Some, None, option_map}
 use Rattle.std.specs.Prelude.{unwrap_or}
-use Rattle.std.specs.List.{list_all, cons_option, position_from}
+use Rattle.std.specs.List.{cons_option}
 use Rattle.std.specs.Cmp.Lexicographic.{nat_list_eq_equiv}
-use Rattle.std.proofs.lemmas.Iterator.Adapters.{position_from-zero}
 use Rattle.std.proofs.lemmas.Option.{same_Some}
 use Rattle.std.proofs.lemmas.Bool.Decides.{nat_tests}
 use Rattle.allotment.specs.declared.cells.Cell.{Cell}
@@ -12,7 +11,7 @@ use Rattle.commands.specs.Asks.{Asked}
 use Rattle.commands.specs.BatchData.{Batched}
 use Rattle.commands.specs.declared.replies.Reply.{Reply}
 use Rattle.commands.specs.Request as request
-use Rattle.ledger.specs.Answer.{State, answer, asker, limited, most_events}
+use Rattle.ledger.specs.Answer.{State, answer, asker, limited, most_events, state_with}
 use Rattle.ledger.specs.Replies.{Answer, answer_known, answer_load, answer_new, loaded}
 use Rattle.ledger.proofs.Answers.{IsAllowedEvent, answer-allowed}
 use Rattle.ledger.specs.Ledger.{Event, Loaded, Began, Did, batches_named, allotment, held, is_not_below_held, is_batch, IsLegal}
@@ -100,22 +99,6 @@ first_below-held m s here rows =
     ap (λ test. position test rows)
     (λ i r. below_by s.ledger m.stock here.legal here.stock r i)
 
--- where no element passes, each fails
-none_passes : {X : Type 0} (test : X → Bool) (i : ℕ) (xs : List X)
-    → position_from test i xs ≡ None → list_all (λ x. not (test x)) xs ≡ true
-none_passes test i [] none = refl
-none_passes test i (x ∷ xs) none = go (test x) none (none_passes test (i + 1) xs)
-  where
-    go : (v : Bool) → cond v (Some i) (position_from test (i + 1) xs) ≡ None
-        → (position_from test (i + 1) xs ≡ None → list_all (λ y. not (test y)) xs ≡ true)
-        → (not v && list_all (λ y. not (test y)) xs) ≡ true
-    go v none later = grind arith
-
--- where no position is found, each element fails
-pub none_at : {X : Type 0} (test : X → Bool) (xs : List X) → None ≡ position test xs
-    → list_all (λ x. not (test x)) xs ≡ true
-none_at test xs none = none_passes test 0 xs (sym (none ∙ position_from-zero test xs))
-
 -- Places.
 
 -- a row sets its cell to its places, less those that are held
@@ -165,20 +148,20 @@ answer-new m s who name rows o here none first =
     ∙ ap (λ p. limited s.ledger (answer_new name rows p))
     (sym (first ∙ first_below-held m s here rows))
 
--- the batch was loaded in the book, and its reply is kept
-pub record LoadsIn (m n : MemBook) (ask : Option Asked) (b : Batched) : Type 0 where
+-- the batch was loaded in the book, and this reply is kept
+pub record LoadsIn (m n : MemBook) (ask : Option Asked) (b : Batched) (r : Reply) : Type 0 where
+  pub replied : r ≡ loaded b.name b.rows
   pub journeys : n.journeys.items ≡ m.journeys.items
   pub stock : LoadsRows m.stock n.stock b.rows
-  pub parts : Grows m n ask (loaded b.name b.rows) (Loaded b.name b.rows)
+  pub parts : Grows m n ask r (Loaded b.name b.rows)
 
 -- the load is answered where the ledger has room
 pub carried_out-loaded : (m n : MemBook) (s : State) (ask : Option Asked) (b : Batched) (r : Reply)
     → StandsFor m s → m.events < most_events → is_batch b.name b.rows ≡ true
     → answer s.ledger (asker ask) (request.Load b.name b.rows)
     ≡ limited s.ledger (answer_new b.name b.rows None)
-    → LoadsIn m n ask b → r ≡ loaded b.name b.rows
-    → IsCarriedOut n s ask (answer s.ledger (asker ask) (request.Load b.name b.rows)) r
-carried_out-loaded m n s ask b r here room good due k is =
+    → LoadsIn m n ask b r → IsCarriedOut n s ask (answer s.ledger (asker ask) (request.Load b.name b.rows)) r
+carried_out-loaded m n s ask b r here room good due k =
     let event = Loaded b.name b.rows in
     let small : length s.ledger < most_events = omega (arith, here.events) in
     let told = due ∙ limited-room s.ledger (answer_new b.name b.rows None) small in
@@ -186,10 +169,11 @@ carried_out-loaded m n s ask b r here room good due k is =
     (answer-allowed s.ledger (asker ask) (request.Load b.name b.rows) good) in
     subst (λ (a : Answer). IsCarriedOut n s ask a r) (sym told)
     (record {
-      replied = is;
-      stands = stands-grown m n s ask (loaded b.name b.rows) event here may k.parts
+      replied = k.replied;
+      stands = subst (λ q. StandsFor n (state_with s ask q (Some event))) k.replied
+          (stands-grown m n s ask r event here may k.parts
           (ap (map begun_as) k.journeys ∙ here.begun ∙ sym (journeys-loaded s.ledger b.name b.rows))
-          (λ i j at. subst (Tells j) (sym (history-loaded s.ledger b.name b.rows (suc i)))
+          (λ i j at. subst (Tells j (suc i)) (sym (history-loaded s.ledger b.name b.rows (suc i)))
           (here.told i j (ap (λ js. slice_get js i) (sym k.journeys) ∙ at)))
-          (stock-loaded s.ledger b.name b.rows here.legal m.stock n.stock here.stock k.stock);
+          (stock-loaded s.ledger b.name b.rows here.legal m.stock n.stock here.stock k.stock));
     })

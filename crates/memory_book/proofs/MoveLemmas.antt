@@ -1,5 +1,5 @@
 -- How one more item changes a book in memory. For `MemBook::make` and `carry_out`.
-use Rattle.std.proofs.Common.{◌≡◌, ℕ, suc, ◌+◌, ◌-◌, ◌≤◌, List, [], ◌∷◌, ◌++◌, map, refl, ap, sym, ◌∙◌, subst, arith, slice_get, slice_set, Option, Some, option_map, IsTrue}
+use Rattle.std.proofs.Common.{◌≡◌, ℕ, suc, ◌+◌, ◌≤◌, List, [], ◌∷◌, ◌++◌, map, refl, ap, sym, ◌∙◌, subst, arith, slice_get, slice_set, Option, Some, option_map, IsTrue}
 use Rattle.std.proofs.lemmas.Bool.{le-leb}
 use Rattle.allotment.specs.declared.cells.Cell.{Cell}
 use Rattle.plan.specs.PlanModel.{want_at}
@@ -9,7 +9,7 @@ use Rattle.commands.specs.declared.items.Item.TheVariants.{Transaction, Compensa
 use Rattle.commands.specs.declared.items.Cursor.{Cursor}
 use Rattle.commands.specs.declared.replies.Reply.{Reply}
 use Rattle.commands.specs.declared.replies.Reply.TheVariants as reply
-use Rattle.ledger.specs.Answer.{State}
+use Rattle.ledger.specs.Answer.{State, state_with}
 use Rattle.ledger.specs.Ledger as l
 use Rattle.ledger.specs.Ledger.{Event, Did, journey_at, history, allotment, held, places_in, is_allowed, fits, IsLegal}
 use Rattle.ledger.specs.History.{next_want}
@@ -21,14 +21,14 @@ use Rattle.ledger.proofs.Histories.{follows, may_come-allowed}
 use Rattle.ledger.proofs.PlacesMoved.{held-transaction, held-compensation, held-turn, held-save, held_within}
 use Rattle.saga_core.specs.Views.{places_of}
 use Rattle.memory_book.specs.MemoryStock.{with_less, with_back, stock_at, ChangesFor}
-use Rattle.memory_book.specs.Memory.{begun_as, Tells, TellEach, StandsFor, IsCarriedOut, IsSameJourney}
+use Rattle.memory_book.specs.Memory.{begun_as, Tells, TellEach, StandsFor, IsCarriedOut, IsSameJourney, MakesOne}
 use Rattle.memory_book.specs.declared.stock.Stock.{Stock}
 use Rattle.memory_book.specs.declared.journeys.Journey.{Journey}
 use Rattle.memory_book.specs.declared.mem_book.MemBook.{MemBook}
 use Rattle.memory_book.proofs.PlaceLemmas.{map-set}
 use Rattle.memory_book.proofs.StandLemmas.{journey_at-kept}
 use Rattle.memory_book.proofs.GrowthLemmas.{Grows, TellEach-set, places_left, places_of-parts, stands-grown}
-use Rattle.memory_book.proofs.TellLemmas.{MakesOne, tells-same, tells-more}
+use Rattle.memory_book.proofs.TellLemmas.{tells-same, tells-more}
 
 -- Places.
 
@@ -64,29 +64,30 @@ stock-did s j a (Save p) legal at may old new here changed y = grind (arith, pla
 
 -- The book.
 
--- the reply to an item of the journey at this place, which is then at this cursor
+-- the reply to an item of the journey with this number, which is then at this cursor
 abbrev pub moved : ℕ → Item → Cursor → Reply
-moved place x c = reply.Moved (suc place) x c.pos c.phase
+moved j x c = reply.Moved j x c.pos c.phase
 
--- the journey at this place was given capacity and made an item in the book, and its reply is kept
-pub record MakesIn (m n : MemBook) (ask : Option Asked) (place : ℕ) (old kept new : Journey) (x : Item)
+-- the journey at this place was given capacity and made an item in the book, and this reply is kept
+pub record MakesIn (m n : MemBook) (ask : Option Asked) (place : ℕ) (old kept new : Journey) (x : Item) (r : Reply)
     : Type 0 where
   pub at : slice_get m.journeys.items place ≡ Some old
   pub written : n.journeys.items ≡ slice_set m.journeys.items place new
   pub same : IsSameJourney old kept
   pub made : MakesOne kept new x
   pub stock : ChangesFor kept.plan x m.stock n.stock
-  pub parts : Grows m n ask (moved place x (cursor_after old.plan old.cursor x)) (Did (suc place) x)
+  pub parts : Grows m n ask r (Did (suc place) x)
+  pub replied : r ≡ moved old.id x (cursor_after old.plan old.cursor x)
 
--- so the reply to the item has the journey's cursor after it
+-- so the item is made
 pub carried_out-made : (m n : MemBook) (s : State) (ask : Option Asked) (place : ℕ)
     (old kept new : Journey) (x : Item) (r : Reply) → StandsFor m s
-    → IsTrue (is_allowed s.ledger (Did (suc place) x)) → MakesIn m n ask place old kept new x
-    → r ≡ moved place x (cursor_after old.plan old.cursor x)
+    → IsTrue (is_allowed s.ledger (Did (suc place) x)) → MakesIn m n ask place old kept new x r
     → IsCarriedOut n s ask (moves (suc place) old.plan old.cursor x) r
-carried_out-made m n s ask place old kept new x r here may b is = record {
+carried_out-made m n s ask place old kept new x r here may b = record {
   replied = is;
-  stands = stands-grown m n s ask _ (Did (suc place) x) here may b.parts
+  stands = subst (λ q. StandsFor n (state_with s ask q (Some (Did (suc place) x)))) is
+      (stands-grown m n s ask r (Did (suc place) x) here may b.parts
       (ap (map begun_as) b.written
       ∙ map-set begun_as m.journeys.items place new old b.at (b.made.begun ∙ b.same.begun)
       ∙ here.begun ∙ sym (journeys-did s.ledger (suc place) x))
@@ -96,17 +97,20 @@ carried_out-made m n s ask place old kept new x r here may b is = record {
       (λ i other. history-did_other s.ledger (suc place) x (suc i)
       (λ (e : suc i ≡ suc place). other (omega arith)))))
       (stock-did s.ledger (suc place) (begun_as kept) x here.legal there may m.stock n.stock
-      here.stock b.stock);
+      here.stock b.stock));
 }
   where
+    is : r ≡ moved (suc place) x (cursor_after old.plan old.cursor x)
+    is = b.replied ∙ ap (λ j. moved j x (cursor_after old.plan old.cursor x)) (here.told place old b.at).number
+
     there : journey_at s.ledger (suc place) ≡ Some (begun_as kept)
     there = journey_at-kept m s here place old b.at ∙ ap Some (sym b.same.begun)
 
-    own : Tells new (history (s.ledger ++ Did (suc place) x ∷ []) (suc place))
+    own : Tells new (suc place) (history (s.ledger ++ Did (suc place) x ∷ []) (suc place))
     own =
         let h = history s.ledger (suc place) in
-        subst (Tells new) (sym (history-did_same s.ledger (suc place) x))
-        (tells-more kept new x h (fits s.ledger (next_want kept.plan h))
-        (tells-same old kept h b.same (here.told place old b.at)) b.made
+        subst (Tells new (suc place)) (sym (history-did_same s.ledger (suc place) x))
+        (tells-more kept new x (suc place) h (fits s.ledger (next_want kept.plan h))
+        (tells-same old kept (suc place) h b.same (here.told place old b.at)) b.made
         (follows s.ledger here.legal (suc place) (begun_as kept) there)
         (may_come-allowed s.ledger (suc place) (begun_as kept) x there may))

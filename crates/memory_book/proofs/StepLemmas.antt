@@ -1,5 +1,5 @@
 -- The result of a journey's move in a book in memory is what the rules answer. For steps, turns and save-points.
-use Rattle.std.proofs.Common.{◌≡◌, ℕ, suc, ◌-◌, ◌<◌, Bool, true, false, List, [], ◌∷◌, length, get_or, map, refl, ap, sym, ◌∙◌, subst, arith, nat_le, slice_get, slice_index, Option, Some, None, option_map, Result}
+use Rattle.std.proofs.Common.{◌≡◌, ℕ, suc, ◌-◌, ◌<◌, Bool, true, false, List, [], ◌∷◌, length, get_or, map, refl, ap, sym, ◌∙◌, subst, arith, nat_le, slice_get, slice_index, Option, Some, None, option_map, Result, IsTrue}
 use Rattle.std.specs.Prelude.{unwrap_or}
 use Rattle.std.proofs.lemmas.Option.{same_Some, slice_get_read}
 use Rattle.allotment.specs.Want.{Wanted}
@@ -13,11 +13,11 @@ use Rattle.commands.specs.declared.items.Item.TheVariants as item
 use Rattle.commands.specs.declared.items.Phase.{Phase}
 use Rattle.commands.specs.declared.items.Phase.TheVariants.{Run, Back, Ended, Undone}
 use Rattle.commands.specs.declared.replies.Refusal.{Refusal}
-use Rattle.commands.specs.declared.replies.Refusal.TheVariants.{NoSavePoint}
-use Rattle.ledger.specs.Answer.{State}
-use Rattle.ledger.specs.Replies.{Answer, answer_move, seen_journey, step_choices}
+use Rattle.commands.specs.declared.replies.Refusal.TheVariants.{NoJourney, NoSave, NoSavePoint}
+use Rattle.ledger.specs.Answer.{State, answer, answer_within, is_request}
+use Rattle.ledger.specs.Replies.{Answer, abort_choices, answer_move, refused, save_choices, seen_journey, step_choices, stop_choices}
 use Rattle.ledger.specs.Ledger as l
-use Rattle.ledger.specs.Ledger.{journey_at, history, allotment, held, fits, has_free}
+use Rattle.ledger.specs.Ledger.{Event, journey_at, history, allotment, held, fits, has_free}
 use Rattle.ledger.specs.History.{net, last_of, position_of, refusals, phase, is_finished}
 use Rattle.ledger.specs.AnswerChanges.{moves}
 use Rattle.ledger.specs.Cursors.{cursor_of, marks_of}
@@ -29,7 +29,11 @@ use Rattle.ledger.proofs.Positions.{last_standing, back_above}
 use Rattle.ledger.proofs.Taken.{refused_target_by-marks}
 use Rattle.saga_core.specs.Views.{Places}
 use Rattle.memory_book.specs.MemoryStock.{has_free_in, fits_in_stock, fits_some}
-use Rattle.memory_book.specs.MemoryNext.{step_said}
+use Rattle.memory_book.specs.MemoryNext.{motion_said, request_for, save_said, step_said, turn_said}
+use Rattle.memory_book.specs.declared.next.Motion.{Motion}
+use Rattle.memory_book.specs.declared.next.Motion.TheVariants.{Step, Abort, Stop, Save}
+use Rattle.plan.specs.declared.turns.Turn.TheVariants as turn
+use Rattle.saga_core.proofs.RulingLemmas.{abort_ruled, save_ruled, stop_ruled}
 use Rattle.saga_core.specs.Rulings.{Fits}
 use Rattle.std.specs.FinSet as set
 use Rattle.std.specs.Ordering.{nat_cmp}
@@ -123,7 +127,7 @@ pub seen-move : (m : MemBook) (who : Option (List ℕ)) (s : State) (id place : 
     (said : Planned → Cursor → set.FinSet nat_cmp → List ℕ → Result Item Refusal)
     → StandsFor m s → IsSeenAt m who id place → k ≡ get_or m.journeys.items place k
     → next ≡ said k.plan k.cursor k.marks k.taken.items
-    → (journey_at s.ledger (suc place) ≡ Some (begun_as k) → Tells k (history s.ledger (suc place))
+    → (journey_at s.ledger (suc place) ≡ Some (begun_as k) → Tells k (suc place) (history s.ledger (suc place))
     → Fits (suc place) k.plan (cursor_of k.plan (history s.ledger (suc place)))
     (answer_move s.ledger (suc place) choices otherwise (Some (begun_as k)))
     (said k.plan (cursor_of k.plan (history s.ledger (suc place)))
@@ -149,16 +153,15 @@ seen-move m who s id place k next choices otherwise said here is read kept ruled
     (subst (λ (f : Cursor × Answer × Result Item Refusal). Fits (suc place) k.plan f.0 f.1 f.2)
     (λ i. (sym told.cursor i, sym answered i, sym made i)) (ruled begun told))
 
--- a step
-pub step-move : (m : MemBook) (who : Option (List ℕ)) (s : State) (id place : ℕ) (k : Journey)
+-- the ruling on a motion of the journey at a place is what the rules answer to who sees it
+pub motion-move : (m : MemBook) (who : Option (List ℕ)) (s : State) (id place : ℕ) (k : Journey) (motion : Motion)
     (next : Result Item Refusal) (fit : Bool) → StandsFor m s → IsSeenAt m who id place
     → k ≡ get_or m.journeys.items place k
-    → next ≡ step_said k.plan k.cursor k.marks k.taken.items fit
+    → next ≡ motion_said motion k.plan k.cursor k.marks k.taken.items fit
     → ((o : Journey) → slice_get m.journeys.items place ≡ Some o → o.cursor.phase ≡ Run
     → fit ≡ fits_some m.stock (rules.next_want o.plan o.cursor.pos o.cursor.used))
-    → IsMove m place
-    (answer_move s.ledger id step_choices NoSavePoint (seen_journey s.ledger who id)) next
-step-move m who s id place k next fit here is read said tests =
+    → IsMove m place (answer_within s.ledger who (request_for motion id)) next
+motion-move m who s id place k Step next fit here is read said tests =
     seen-move m who s id place k next step_choices NoSavePoint
     (λ p c ms ts. step_said p c ms ts fit) here is read said
     (λ there told.
@@ -168,3 +171,21 @@ step-move m who s id place k next fit here is read said tests =
     (ap (λ (c : Cursor). c.phase) told.cursor ∙ run)
     ∙ ap (λ (c : Cursor). fits_some m.stock (rules.next_want k.plan c.pos c.used)) told.cursor
     ∙ fits_some-stock m s here (rules.next_want k.plan (position_of h) (refusals h))))
+motion-move m who s id place k (Abort q) next fit here is read said tests =
+    seen-move m who s id place k next (abort_choices q) NoSavePoint (λ p c ms ts. turn_said p c ms (turn.Asked q) cause.Asked)
+    here is read said (λ there told. abort_ruled s.ledger here.legal (suc place) (begun_as k) there q)
+motion-move m who s id place k Stop next fit here is read said tests =
+    seen-move m who s id place k next stop_choices NoSavePoint (λ p c ms ts. turn_said p c ms turn.Stop cause.Stop)
+    here is read said (λ there told. stop_ruled s.ledger here.legal (suc place) (begun_as k) there)
+motion-move m who s id place k Save next fit here is read said tests =
+    seen-move m who s id place k next save_choices NoSave (λ p c ms ts. save_said p c ms)
+    here is read said (λ there told. save_ruled s.ledger here.legal (suc place) (begun_as k) there)
+
+-- a motion of a journey that the asker does not see is refused
+pub motion-unseen : (l : List Event) (who : Option (List ℕ)) (id : ℕ) (motion : Motion) → seen_journey l who id ≡ None
+    → answer l who (request_for motion id) ≡ refused NoJourney
+motion-unseen l who id motion none = grind arith
+
+-- a request for a motion keeps the limits
+pub motion-good : (motion : Motion) (id : ℕ) → IsTrue (is_request (request_for motion id))
+motion-good motion id = grind arith

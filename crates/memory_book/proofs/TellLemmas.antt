@@ -18,7 +18,7 @@ use Rattle.ledger.proofs.Histories.{Follows}
 use Rattle.ledger.proofs.Items.{cursor_of-more, net-compensation}
 use Rattle.ledger.proofs.Taken.{marks_of-save, marks_of-compensation, marks_of-transaction, marks_of-turn}
 use Rattle.memory_book.specs.MemoryJourneys.{taken_after, stands_after}
-use Rattle.memory_book.specs.Memory.{begun_as, Tells, IsSameJourney}
+use Rattle.memory_book.specs.Memory.{Tells, IsSameJourney, MakesOne}
 use Rattle.memory_book.specs.declared.journeys.Journey.{Journey}
 
 -- the option of a step that stands
@@ -69,23 +69,15 @@ marks-more plan h may_fit (Save p) old new pos f may is at each =
     marks_of-save plan h may_fit p new f may
     (λ q. each q ∙ ap (λ ms. (q == p) || is_taken_in ms q) is)
 
--- one more item was made in a journey
-pub record MakesOne (old new : Journey) (x : Item) : Type 0 where
-  pub begun : begun_as new ≡ begun_as old
-  pub items : new.items.items ≡ old.items.items ++ x ∷ []
-  pub cursor : new.cursor ≡ cursor_after old.plan old.cursor x
-  pub taken : new.taken.items ≡ taken_after x old.taken.items
-  pub marks : (q : ℕ)
-      → is_taken_in new.marks q ≡ stands_after x new.cursor.pos (is_taken_in old.marks) q
-
--- what is then kept agrees with the history with that item
-pub tells-more : (old new : Journey) (x : Item) (h : List Item) (may_fit : Bool)
-    → Tells old h → MakesOne old new x → Follows old.plan h
-    → IsTrue (may_come old.plan h may_fit x) → Tells new (h ++ x ∷ [])
-tells-more old new x h may_fit told made f may =
+-- after one more item what is kept of a journey agrees with the history with that item
+pub tells-more : (old new : Journey) (x : Item) (j : ℕ) (h : List Item) (may_fit : Bool)
+    → Tells old j h → MakesOne old new x → Follows old.plan h
+    → IsTrue (may_come old.plan h may_fit x) → Tells new j (h ++ x ∷ [])
+tells-more old new x j h may_fit told made f may =
     let cursor : new.cursor ≡ cursor_after old.plan (cursor_of old.plan h) x =
     made.cursor ∙ ap (λ c. cursor_after old.plan c x) told.cursor in
     record {
+      number = made.number ∙ told.number;
       items = made.items ∙ ap (λ k. k ++ x ∷ []) told.items;
       cursor =
           cursor ∙ sym (cursor_of-more old.plan h may_fit x f may)
@@ -97,6 +89,6 @@ tells-more old new x h may_fit told made f may =
     }
 
 -- what is kept of the same journey agrees with the same history
-pub tells-same : (old new : Journey) (h : List Item) → IsSameJourney old new → Tells old h
-    → Tells new h
-tells-same old new h same told = grind arith
+pub tells-same : (old new : Journey) (j : ℕ) (h : List Item) → IsSameJourney old new → Tells old j h
+    → Tells new j h
+tells-same old new j h same told = grind arith

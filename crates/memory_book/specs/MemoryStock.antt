@@ -1,5 +1,5 @@
 -- The places of all cells, as a book in memory keeps them, and how its calls change them.
-use Rattle.std.specs.Prelude.{◌≡◌, ℕ, ◌+◌, ◌-◌, ◌≤◌, ⊤, Bool, true, false, List, filter, nat_le, nat_lt, if◌then◌else◌, Option, Some, option_map, unwrap_or}
+use Rattle.std.specs.Prelude.{◌≡◌, ℕ, ◌+◌, ◌-◌, ◌≤◌, ⊤, Bool, false, List, filter, nat_le, nat_lt, if◌then◌else◌, Option, Some, option_map, unwrap_or}
 use Rattle.std.specs.List.{list_all}
 use Rattle.std.specs.BTreeMap as tree
 use Rattle.allotment.specs.Want.{Wanted}
@@ -14,6 +14,8 @@ use Rattle.ledger.specs.History.{last_of}
 use Rattle.ledger.specs.Ledger.{places_in}
 use Rattle.saga_core.specs.Views.{Places, places_said}
 use Rattle.memory_book.specs.declared.stock.Stock.{Stock}
+use Rattle.memory_book.specs.declared.stock.Change.{Change}
+use Rattle.memory_book.specs.declared.stock.Change.TheVariants.{Take, GiveBack}
 
 -- the places of a cell in the stock
 abbrev pub stock_at : Stock → Cell → Option Places
@@ -29,7 +31,7 @@ has_free_in stock count x =
 abbrev pub fits_in_stock : Stock → Wanted → Bool
 fits_in_stock stock want = list_all (has_free_in stock want.count) (cells_of want)
 
--- with so many fewer free places
+-- with so many fewer free places, or none
 abbrev pub with_less : ℕ → Places → Places
 with_less n p = record { allot = p.allot; free = p.free - n }
 
@@ -37,6 +39,11 @@ with_less n p = record { allot = p.allot; free = p.free - n }
 abbrev pub with_back : ℕ → Places → Places
 with_back n p =
     if nat_le n (p.allot - p.free) then record { allot = p.allot; free = p.free + n } else p
+
+-- the places of a cell after such a change of so many
+abbrev pub changed_by : Change → ℕ → Places → Places
+changed_by Take = with_less
+changed_by GiveBack = with_back
 
 -- the places of this cell change so, if it was loaded; those of other cells stay the same
 abbrev pub ChangesOne : (Places → Places) → Cell → Stock → Stock → Type 0
@@ -87,11 +94,6 @@ IsInPlan plan _ = ⊤
 -- there is a want, and it fits
 abbrev pub fits_some : Stock → Option Wanted → Bool
 fits_some stock want = unwrap_or (option_map (fits_in_stock stock) want) false
-
--- what the item takes fits, if it takes anything
-abbrev pub fits_where_taken : Stock → Planned → Item → Bool
-fits_where_taken stock plan (Transaction i c) = fits_some stock (want_at plan i c)
-fits_where_taken stock plan _ = true
 
 -- the item takes the places of its want, gives them back, or changes no places
 abbrev pub ChangesFor : Planned → Item → Stock → Stock → Type 0

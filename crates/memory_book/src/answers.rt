@@ -52,7 +52,7 @@ impl Answers {
 
     /// The reply to a request whose key is known. Returns `None` if its key is new, or if it has none.
     pub fn again(&self, ask: Option<&Ask>) -> Option<Reply>
-        ensures known { (s : State) → result
+        ensures { (s : State) → result
             ≡ option_map (λ k. (answered_again s (text_of (option_copied ask.entry)) k).reply)
             (found_for (kept_in self.now) (option_copied ask.entry)) }
     {
@@ -64,7 +64,7 @@ impl Answers {
 
     /// The reply to a request with a key. Returns `None` if the key is new.
     fn again_to(&self, ask: &Ask) -> Option<Reply>
-        ensures known { (s : State) → result
+        ensures { (s : State) → result
             ≡ option_map (λ k. (answered_again s ask.now.text k).reply)
             (kept_in self.now ask.now.agent ask.now.key) }
     {

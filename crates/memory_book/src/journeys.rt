@@ -15,9 +15,10 @@ const AT_START: Cursor = Cursor {
     used: 0,
 };
 
-/// A journey: its agent, its plan, its items in order, and the state that follows from them.
+/// A journey: its number, its agent, its plan, its items in order, and the state that follows from them.
 #[derive(Drop)]
 pub struct Journey {
+    pub id: u64,
     pub agent: Agent,
     pub plan: Plan,
     pub cursor: Cursor,
@@ -30,29 +31,27 @@ pub struct Journey {
 }
 
 impl Journey {
-    ghost use Rattle.std.specs.Prelude.{◌≡◌, ◌+◌, ◌-◌, ◌<◌, ◌≤◌, [], ◌∷◌, ◌++◌, length, slice_index, OnOk, IfOk, IsTrue, Some, ℕ};
+    ghost use Rattle.std.specs.Prelude.{◌≡◌, ◌+◌, ◌-◌, ◌<◌, ◌≤◌, [], length, slice_index, OnOk, IfOk, IsTrue, Some};
     ghost use Rattle.std.specs.Option.{option_copied};
-    ghost use Rattle.plan.specs.PlanModel.{is_plan, want_at};
+    ghost use Rattle.plan.specs.PlanModel.{is_plan};
     ghost use Rattle.plan.specs.Rules as rules;
-    ghost use Rattle.plan.specs.Marks.{is_taken_in};
     ghost use Rattle.commands.specs.declared.items.Phase.{Phase};
     ghost use Rattle.ledger.specs.History.{is_going_back};
     ghost use Rattle.ledger.specs.Answer.{asker};
     ghost use Rattle.ledger.specs.Replies.{sees};
-    ghost use Rattle.ledger.specs.JourneyChanges.{cursor_after};
-    ghost use Rattle.memory_book.specs.Memory.{begun_as, Tells};
-    ghost use Rattle.memory_book.specs.MemoryJourneys.{IsOptionAt, taken_after, stands_after, IsNext};
-    ghost use Rattle.memory_book.specs.Memory.{HasRoom, IsSameJourney};
+    ghost use Rattle.memory_book.specs.Memory.{begun_as, brief_kept, record_kept, Tells};
+    ghost use Rattle.memory_book.specs.MemoryJourneys.{IsOptionAt, IsNext};
+    ghost use Rattle.memory_book.specs.Memory.{HasRoom, IsSameJourney, MakesOne};
 
     /// A journey that has made no item.
-    pub fn new(alloc: Global, agent: Agent, plan: Plan) -> Journey
-        ensures agent { result.agent ≡ agent }
-        ensures plan { result.plan ≡ plan }
+    pub fn new(alloc: Global, id: u64, agent: Agent, plan: Plan) -> Journey
+        ensures begun { begun_as result ≡ record { agent = agent; plan = plan } }
         ensures limits { IsTrue (is_plan plan) }
-        ensures told { Tells result [] }
+        ensures told { Tells result id [] }
     {
         let _steps = plan.steps();
         Journey {
+            id,
             agent,
             plan,
             cursor: AT_START,
@@ -74,10 +73,7 @@ impl Journey {
 
     /// The journey, as a book shows it. The only fault is out of memory.
     pub fn record(&self, alloc: Global) -> Result<Record, AllocError>
-        ensures agent { IfOk result (λ r. r.agent ≡ self.now.agent) }
-        ensures plan { IfOk result (λ r. r.plan ≡ self.now.plan) }
-        ensures cursor { IfOk result (λ r. r.cursor ≡ self.now.cursor) }
-        ensures marks { IfOk result (λ r. r.marks ≡ self.now.marks) }
+        ensures shown { IfOk result (λ r. r ≡ record_kept self.now) }
     {
         Ok(Record {
             agent: self.agent,
@@ -87,14 +83,12 @@ impl Journey {
         })
     }
 
-    /// The summary of the journey, under this number.
-    pub fn brief(&self, id: u64) -> Brief
-        ensures number { result.id ≡ id }
-        ensures agent { result.agent ≡ self.now.agent }
-        ensures cursor { result.cursor ≡ self.now.cursor }
+    /// The summary of the journey.
+    pub fn brief(&self) -> Brief
+        ensures brief { result ≡ brief_kept self.now }
     {
         Brief {
-            id,
+            id: self.id,
             agent: self.agent,
             cursor: self.cursor,
         }
@@ -148,12 +142,7 @@ impl Journey {
         requires room { HasRoom self.old }
         requires next { IsNext self.old.plan self.old.cursor item }
 
-        ensures items { self.new.items.items ≡ self.old.items.items ++ item ∷ [] }
-        ensures cursor { self.new.cursor ≡ cursor_after self.old.plan self.old.cursor item }
-        ensures taken { self.new.taken.items ≡ taken_after item self.old.taken.items }
-        ensures marks { (q : ℕ) → is_taken_in self.new.marks q
-            ≡ stands_after item self.new.cursor.pos (is_taken_in self.old.marks) q }
-        ensures begun { begun_as self.new ≡ begun_as self.old }
+        ensures made { MakesOne self.old self.new item }
     {
         self.cursor = cursor_after(&self.plan, self.cursor, item);
         match item {

@@ -5,12 +5,12 @@ mod reporting;
 
 use crate::answers::Answers;
 use crate::journeys::Journey;
-use crate::next::{is_owned_above, is_unfinished_above};
+use crate::next::{Motion, is_owned_above, is_unfinished_above};
 use crate::stock::Stock;
 use allotment::{Cell, Held, Night, Want};
 use commands::{Agent, Ask, Batch, Command, Fault, Item, Key, MOST_EVENTS, Refusal, Reply};
 use plan::Plan;
-use saga_core::{Book, Brief, Counts, Record, Trace, is_finished};
+use saga_core::{Book, Brief, Counts, Record, Trace};
 use std::alloc::{AllocError, Global};
 
 /// The desk in memory.
@@ -28,12 +28,13 @@ pub struct MemBook {
 }
 
 impl MemBook {
-    ghost use Rattle.std.specs.Prelude.{◌≡◌, ◌≤◌, ◌<◌, ◌⊎◌, ◌↔◌, suc, length, filter, IfSome, IfNone, IsTrue};
+    ghost use Rattle.std.specs.Prelude.{◌≡◌, ◌≤◌, ◌<◌, ◌⊎◌, ◌↔◌, suc, length, filter, find, map, take, IfOk, IfSome, IfNone, IsTrue};
     ghost use Rattle.std.specs.Option.{option_copied};
     ghost use Rattle.commands.specs.Orders.{request_of};
     ghost use Rattle.commands.specs.Request as request;
-    ghost use Rattle.ledger.specs.Answer.{start};
-    ghost use Rattle.memory_book.specs.Memory.{StandsFor, CarriesOut, KeepsBook, is_unfinished};
+    ghost use Rattle.ledger.specs.Answer.{State, outcome, start};
+    ghost use Rattle.memory_book.specs.Memory.{StandsFor, CarriesOut, Comes, Finds, brief_kept};
+    ghost use Rattle.saga_core.specs.Views.{is_owned_above as is_owned_above_rule, is_unfinished_above as is_unfinished_above_rule};
 
     /// A new desk: no event, and no reply kept. Allocates nothing.
     pub fn new(alloc: Global) -> MemBook
@@ -69,21 +70,69 @@ impl MemBook {
         Some(id as usize - 1)
     }
 
-    /// How many of the journeys are unfinished. Looks at each of them.
-    fn unfinished_count(&self) -> usize
-        ensures number { result ≡ length (filter is_unfinished self.now.journeys.items) }
+    /// The journey with this number. Returns `None` if there is none.
+    fn journey_of(&self, id: u64) -> Option<&Journey>
+        ensures { Finds self.now id (option_copied result) }
+    {
+        match self.place_of(id) {
+            Some(place) => Some(&self.journeys[place]),
+            None => None,
+        }
+    }
+
+    /// How many of the journeys above this number are unfinished. Looks at each journey.
+    fn unfinished_count(&self, after: u64) -> usize
+        ensures number { result ≡ length (filter (is_unfinished_above_rule after)
+            (map brief_kept self.now.journeys.items)) }
     {
         self.journeys
             .iter()
-            .filter(|journey| !is_finished(journey.cursor.phase))
+            .map(|journey| journey.brief())
+            .filter(|brief| is_unfinished_above(brief, after))
             .count()
+    }
+
+    /// The summaries of the unfinished journeys above this number.
+    fn unfinished_briefs(&self, after: u64) -> Result<Vec<Brief>, AllocError>
+        ensures briefs { IfOk result (λ briefs. briefs.items ≡ filter (is_unfinished_above_rule after)
+            (map brief_kept self.now.journeys.items)) }
+    {
+        self.journeys
+            .iter()
+            .map(|journey| journey.brief())
+            .filter(|brief| is_unfinished_above(brief, after))
+            .collect(self.alloc)
+    }
+
+    /// The summary of the first unfinished journey above this number, if there is one.
+    fn unfinished_above(&self, after: u64) -> Option<Brief>
+        ensures first { result ≡ find (is_unfinished_above_rule after)
+            (map brief_kept self.now.journeys.items) }
+    {
+        self.journeys
+            .iter()
+            .map(|journey| journey.brief())
+            .find(|brief| is_unfinished_above(brief, after))
+    }
+
+    /// The summaries of the agent's journeys above this number, at most so many.
+    fn owned_briefs(&self, agent: &Agent, after: u64, most: usize) -> Result<Vec<Brief>, AllocError>
+        ensures briefs { IfOk result (λ briefs. briefs.items
+            ≡ take most (filter (is_owned_above_rule agent.now after)
+            (map brief_kept self.now.journeys.items))) }
+    {
+        self.journeys
+            .iter()
+            .map(|journey| journey.brief())
+            .filter(|brief| is_owned_above(brief, agent, after))
+            .take(most)
+            .collect(self.alloc)
     }
 
     /// Begins a journey of the asker.
     fn begin(&mut self, plan: &Plan, ask: Option<&Ask>) -> Result<Reply, AllocError>
-        ensures answer { CarriesOut self.old self.new (option_copied ask.entry)
+        ensures { CarriesOut self.old self.new (option_copied ask.entry)
             (request.Begin plan.now) result }
-        ensures memory { KeepsBook self.old self.new result }
     {
         if self.is_full() {
             return Ok(Reply::Refused(Refusal::Limit));
@@ -96,7 +145,7 @@ impl MemBook {
         let id = self.journeys.len() as u64 + 1;
         self.journeys.reserve(1)?;
         self.answers.keep(self.alloc, ask, Reply::Begun { id })?;
-        let journey = Journey::new(self.alloc, agent, plan);
+        let journey = Journey::new(self.alloc, id, agent, plan);
         self.journeys.push_reserved(journey);
         self.events += 1;
         Ok(Reply::Begun { id })
@@ -104,17 +153,27 @@ impl MemBook {
 
     /// Answers a request whose key is not known.
     fn answer(&mut self, command: &Command, ask: Option<&Ask>) -> Result<Reply, AllocError>
-        ensures answer { CarriesOut self.old self.new (option_copied ask.entry)
+        ensures { CarriesOut self.old self.new (option_copied ask.entry)
             (request_of command.now) result }
-        ensures memory { KeepsBook self.old self.new result }
     {
         match command {
             Command::Load(batch) => self.load(batch, ask),
             Command::Begin(plan) => self.begin(plan, ask),
-            Command::Step(id) => self.step(*id, ask),
-            Command::Abort(id, p) => self.abort(*id, *p, ask),
-            Command::Stop(id) => self.stop(*id, ask),
-            Command::Save(id) => self.save(*id, ask),
+            Command::Step(id) => self.go(*id, Motion::Step, ask),
+            Command::Abort(id, p) => self.go(*id, Motion::Abort(*p), ask),
+            Command::Stop(id) => self.go(*id, Motion::Stop, ask),
+            Command::Save(id) => self.go(*id, Motion::Save, ask),
+        }
+    }
+
+    /// Answers a request, by the kept reply if its key is known.
+    fn execute(&mut self, command: &Command, ask: Option<&Ask>) -> Result<Reply, AllocError>
+        ensures { (s : State) → StandsFor self.old s → Comes self.new s
+            (outcome s (option_copied ask.entry) (request_of command.now)) result }
+    {
+        match self.answers.again(ask) {
+            Some(reply) => Ok(reply),
+            None => self.answer(command, ask),
         }
     }
 }
@@ -137,19 +196,16 @@ impl Book for MemBook {
     ghost settled = { λ m s h. inl h };
 
     fn act(&mut self, command: &Command, ask: Option<&Ask>) -> Result<Reply, Fault> {
-        match self.answers.again(ask) {
-            Some(reply) => Ok(reply),
-            None => match self.answer(command, ask) {
-                Ok(reply) => Ok(reply),
-                Err(_) => Err(Fault::Memory),
-            },
+        match self.execute(command, ask) {
+            Ok(reply) => Ok(reply),
+            Err(_) => Err(Fault::Memory),
         }
     }
 
     fn journey(&mut self, id: u64) -> Result<Option<Record>, Fault> {
-        match self.place_of(id) {
+        match self.journey_of(id) {
             None => Ok(None),
-            Some(place) => match self.journeys[place].record(self.alloc) {
+            Some(journey) => match journey.record(self.alloc) {
                 Ok(record) => Ok(Some(record)),
                 Err(_) => Err(Fault::Memory),
             },
@@ -157,9 +213,9 @@ impl Book for MemBook {
     }
 
     fn history(&mut self, id: u64) -> Result<Vec<Item>, Fault> {
-        match self.place_of(id) {
+        match self.journey_of(id) {
             None => Ok(Vec::new(self.alloc)),
-            Some(place) => match Vec::from_slice(self.alloc, &self.journeys[place].items) {
+            Some(journey) => match Vec::from_slice(self.alloc, &journey.items) {
                 Ok(items) => Ok(items),
                 Err(_) => Err(Fault::Memory),
             },
@@ -167,27 +223,14 @@ impl Book for MemBook {
     }
 
     fn first_unfinished(&mut self, after: u64) -> Result<Option<Brief>, Fault> {
-        for place in 0..self.journeys.len() {
-            let brief = self.journeys[place].brief(place as u64 + 1);
-            if is_unfinished_above(&brief, after) {
-                return Ok(Some(brief));
-            }
-        }
-        Ok(None)
+        Ok(self.unfinished_above(after))
     }
 
     fn owned(&mut self, agent: &Agent, after: u64, most: usize) -> Result<Vec<Brief>, Fault> {
-        let mut briefs = Vec::new(self.alloc);
-        for place in 0..self.journeys.len() {
-            if briefs.len() == most {
-                return Ok(briefs);
-            }
-            let brief = self.journeys[place].brief(place as u64 + 1);
-            if is_owned_above(&brief, agent, after) && briefs.push(brief).is_err() {
-                return Err(Fault::Memory);
-            }
+        match self.owned_briefs(agent, after, most) {
+            Ok(briefs) => Ok(briefs),
+            Err(_) => Err(Fault::Memory),
         }
-        Ok(briefs)
     }
 
     fn kept(&mut self, agent: &Agent, key: &Key) -> Result<Option<Reply>, Fault> {
@@ -198,7 +241,7 @@ impl Book for MemBook {
         Ok(Counts {
             events: self.events,
             journeys: self.journeys.as_slice().len() as u64,
-            unfinished: self.unfinished_count() as u64,
+            unfinished: self.unfinished_count(0) as u64,
         })
     }
 
@@ -217,11 +260,11 @@ impl Book for MemBook {
     }
 
     fn trace(&mut self, id: u64) -> Result<Option<Trace>, Fault> {
-        match self.place_of(id) {
+        match self.journey_of(id) {
             None => Ok(None),
-            Some(place) => {
-                let brief = self.journeys[place].brief(id);
-                match Vec::from_slice(self.alloc, &self.journeys[place].items) {
+            Some(journey) => {
+                let brief = journey.brief();
+                match Vec::from_slice(self.alloc, &journey.items) {
                     Ok(items) => Ok(Some(Trace { brief, items })),
                     Err(_) => Err(Fault::Memory),
                 }
@@ -230,13 +273,9 @@ impl Book for MemBook {
     }
 
     fn unfinished(&mut self) -> Result<Vec<Brief>, Fault> {
-        let mut briefs = Vec::new(self.alloc);
-        for place in 0..self.journeys.len() {
-            let brief = self.journeys[place].brief(place as u64 + 1);
-            if is_unfinished_above(&brief, 0) && briefs.push(brief).is_err() {
-                return Err(Fault::Memory);
-            }
+        match self.unfinished_briefs(0) {
+            Ok(briefs) => Ok(briefs),
+            Err(_) => Err(Fault::Memory),
         }
-        Ok(briefs)
     }
 }

@@ -1,8 +1,35 @@
 //! The places of all cells, by cell.
-use allotment::{Cell, Held, Night, Row, Want, give, set, take};
+ghost use Rattle.std.specs.Prelude.{◌≡◌};
+ghost use Rattle.saga_core.specs.Views.{places_said};
+ghost use Rattle.memory_book.specs.MemoryStock.{changed_by};
+
+use allotment::{Cell, Held, Night, Row, Want, give};
 use commands::CellKey;
 use std::alloc::{AllocError, Global};
 use std::collections::BTreeMap;
+
+/// How an item changes the places of its want's cells.
+#[derive(Clone, Copy)]
+pub enum Change {
+    /// Takes so many, or as many as are free.
+    Take,
+    /// Gives so many back, if so many are held.
+    GiveBack,
+}
+
+/// The places of a cell after a change.
+fn changed(held: Held, count: u32, change: Change) -> Held
+    ensures changed { places_said result ≡ changed_by change count (places_said held) }
+{
+    match change {
+        Change::Take => Held {
+            allot: held.allot,
+            free: held.free.saturating_sub(count),
+        },
+        Change::GiveBack if count <= held.held() => give(held, count),
+        Change::GiveBack => held,
+    }
+}
 
 /// The places of each cell that was ever loaded.
 #[derive(Drop)]
@@ -11,14 +38,13 @@ pub struct Stock {
 }
 
 impl Stock {
-    ghost use Rattle.std.specs.Prelude.{◌≡◌, ◌≤◌, not, None, IfOk, option_map, position, map, filter_map, IsSome, IsTrue, if◌then◌else◌, Some};
-    ghost use Rattle.std.specs.List.{list_all};
+    ghost use Rattle.std.specs.Prelude.{◌≡◌, None, IfOk, option_map, position, map, filter_map, IsSome, if◌then◌else◌, Some};
     ghost use Rattle.std.specs.BTreeMap.{IsOrdered};
     ghost use Rattle.allotment.specs.Cells.{is_cell, cells_of};
     ghost use Rattle.allotment.specs.declared.cells.Cell.{Cell};
     ghost use Rattle.saga_core.specs.Views.{places_said, night_said, at_night};
     ghost use Rattle.memory_book.specs.MemoryStock.{cell_key_cmp, stock_at, has_free_in, fits_in_stock};
-    ghost use Rattle.memory_book.specs.MemoryStock.{with_less, with_back, ChangesOne, ChangesEach};
+    ghost use Rattle.memory_book.specs.MemoryStock.{changed_by, ChangesOne, ChangesEach};
     ghost use Rattle.memory_book.specs.MemoryStock.{is_below_in, set_to, LoadsRows};
 
     /// A stock in which no cell was loaded.
@@ -68,51 +94,23 @@ impl Stock {
         }
     }
 
-    /// Takes so many places of a cell. The precondition says that so many are free.
-    fn take_one(&mut self, cell: &Cell, count: u32)
-        requires free { IsTrue (has_free_in self.old count cell.now) }
-
-        ensures taken { ChangesOne (with_less count) cell.now self.old self.new }
+    /// Changes the places of a cell, if it was loaded.
+    fn change_one(&mut self, cell: &Cell, count: u32, change: Change)
+        ensures changed { ChangesOne (changed_by change count) cell.now self.old self.new }
     {
         let Some(held) = self.get(cell) else {
             return;
         };
-        let left = take(held, count);
-        self.put(cell, left);
+        self.put(cell, changed(held, count, change));
     }
 
-    /// Takes the places of a want. The precondition says that the want fits.
-    pub fn take(&mut self, want: &Want)
-        requires fits { IsTrue (fits_in_stock self.old want.now) }
-
-        ensures taken { ChangesEach with_less want.now self.old self.new }
+    /// Changes the places of each cell of a want by its count.
+    pub fn change(&mut self, want: &Want, change: Change)
+        ensures changed { ChangesEach (changed_by change) want.now self.old self.new }
     {
         let count = u32::from(want.count());
         for cell in want.cells() {
-            self.take_one(&cell, count);
-        }
-    }
-
-    /// Gives so many places of a cell back, if so many are held.
-    fn give_one(&mut self, cell: &Cell, count: u32)
-        ensures given { ChangesOne (with_back count) cell.now self.old self.new }
-    {
-        let Some(held) = self.get(cell) else {
-            return;
-        };
-        if count <= held.held() {
-            let more = give(held, count);
-            self.put(cell, more);
-        }
-    }
-
-    /// Gives the places of a want back.
-    pub fn give(&mut self, want: &Want)
-        ensures given { ChangesEach with_back want.now self.old self.new }
-    {
-        let count = u32::from(want.count());
-        for cell in want.cells() {
-            self.give_one(&cell, count);
+            self.change_one(&cell, count, change);
         }
     }
 
@@ -133,10 +131,8 @@ impl Stock {
         rows.iter().position(|row| self.is_below_held(row))
     }
 
-    /// The places of a row's cell after the row is loaded. Places that journeys hold stay held.
+    /// The places of a row's cell after the row is loaded. Places that journeys hold stay held, if the row has as many.
     fn set_to(&self, row: &Row) -> Held
-        requires held { IsTrue (not (is_below_in self.now row.now)) }
-
         ensures set { places_said result ≡ set_to self.now row.now.cell row.now.places }
     {
         let places = row.places();
@@ -145,17 +141,15 @@ impl Stock {
                 allot: places,
                 free: places,
             },
-            Some(held) => match set(held, places) {
-                Ok(held) => held,
-                Err(_) => unreachable!(),
+            Some(held) => Held {
+                allot: places,
+                free: places.saturating_sub(held.held()),
             },
         }
     }
 
     /// The stock after these rows are loaded. The only fault is out of memory.
     pub fn loaded(&self, rows: &[Row]) -> Result<Stock, AllocError>
-        requires held { IsTrue (list_all (λ row. not (is_below_in self.now row)) rows.now) }
-
         ensures loaded { IfOk result (λ stock. LoadsRows self.now stock rows.now) }
     {
         let mut places = self.places.clone()?;

@@ -64,6 +64,10 @@ pub line_parts : (product month marks : List ℕ)
     ≡ line (product ∷ month ∷ (bar ∷ marks ++ bar ∷ []) ∷ [])
 line_parts product month marks = simp append_assoc
 
+-- the line of a month in a summary, in its parts too
+pub summary_parts : (product month sums : List ℕ) → product ++ (32 ∷ (month ++ (32 ∷ (sums ++ 10 ∷ [])))) ≡ line (product ∷ month ∷ sums ∷ [])
+summary_parts product month sums = simp append_assoc
+
 -- the line of a month is that of its first cell
 pub row_by_first : (month : List Places) (row : Places) → Some row ≡ slice_get month 0
     → calendar_row month ≡ calendar_line row.0 (marks_of month)

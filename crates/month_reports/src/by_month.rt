@@ -1,20 +1,18 @@
 //! The reports by month.
-ghost use Rattle.std.specs.Prelude.{◌≡◌, ◌≤◌, length, string_bytes, IfErr, IfOk, OnOk};
+ghost use Rattle.std.specs.Prelude.{◌≡◌, ℕ};
 ghost use Rattle.std.specs.List.{flat_map};
-ghost use Rattle.std.specs.Io.KnownBytes.{Appends};
 ghost use Rattle.month_reports.specs.MonthReports.{month_shown, months_end, months_head, months_in, WritesMonths};
-ghost use Rattle.streams.specs.Written.{WroteFront};
+ghost use Rattle.reports.specs.Parts.{ending_text};
+ghost use Rattle.reports.specs.Writing.{Sends};
 
 use crate::calendars::{calendar_head, calendar_row};
-use crate::months::{next_asked, read_month};
+use crate::months::{MonthRead, next_asked, read_month};
 use crate::summaries::{summary_head, summary_row};
-use crate::sums::MOST_NIGHTS;
 use allotment::{Cell, Held};
-use reports::ReportFault;
+use reports::{Ending, ReportFault, send};
 use saga_core::{CellFilter, Format, MonthReport, RowSource};
-use std::alloc::{AllocError, Global};
+use std::alloc::Global;
 use std::io::Write;
-use streams::send_all;
 
 /// What comes before the months.
 fn head_of(report: MonthReport) -> &'static str
@@ -26,27 +24,29 @@ fn head_of(report: MonthReport) -> &'static str
     }
 }
 
-/// The text of a month.
-fn show(alloc: Global, report: MonthReport, month: &[(Cell, Held)]) -> Result<Vec<u8>, AllocError>
-    requires few { length month.now ≤ MOST_NIGHTS }
-
-    ensures text { IfOk result (λ bytes. bytes.items ≡ month_shown report month.now) }
+/// Writes the text of a month. After a fault a prefix of it was written.
+fn send_month<W: Write>(
+    alloc: Global,
+    report: MonthReport,
+    month: &MonthRead,
+    out: &mut W,
+) -> Result<(), ReportFault>
+    ensures sends { Sends (W.contents out.old) (W.contents out.new)
+        (month_shown report month.now.cells.items) result }
 {
     match report {
-        MonthReport::Summary(format) => summary_row(alloc, format, month),
-        MonthReport::Calendar => calendar_row(alloc, month),
+        MonthReport::Summary(format) => send(out, &summary_row(alloc, format, month)?),
+        MonthReport::Calendar => send(out, &calendar_row(alloc, &month.cells)?),
     }
 }
 
-/// What comes after so many months.
-fn ending_of(alloc: Global, report: MonthReport, count: u64) -> Result<String, AllocError>
-    ensures ending { IfOk result (λ text. string_bytes text ≡ months_end report count) }
+/// What comes after the months.
+fn ending_of<'a>(report: MonthReport) -> Ending<'a>
+    ensures ending { (count : ℕ) → ending_text result count ≡ months_end report count }
 {
     match report {
-        MonthReport::Summary(Format::Text) | MonthReport::Calendar => {
-            format!(in alloc; "months {count}\n")
-        }
-        MonthReport::Summary(Format::Json | Format::Csv) => Ok(String::new(alloc)),
+        MonthReport::Summary(format) => Ending::of_list(format, "months"),
+        MonthReport::Calendar => Ending::of_list(Format::Text, "months"),
     }
 }
 
@@ -68,8 +68,7 @@ pub fn months_text<R: RowSource<(Cell, Held)>, W: Write>(
 {
     send(out, head_of(report).as_bytes())?;
     let count = send_months(alloc, report, filter, rows, out)?;
-    let text = ending_of(alloc, report, count)?;
-    send(out, text.as_bytes())?;
+    ending_of(report).send(alloc, count, out)?;
     Ok(count)
 }
 
@@ -88,21 +87,9 @@ fn send_months<R: RowSource<(Cell, Held)>, W: Write>(
     let mut next = next_asked(filter, rows)?;
     while let Some(first) = next {
         let month = read_month(alloc, filter, &first, rows)?;
-        let bytes = show(alloc, report, &month.cells)?;
-        send(out, &bytes)?;
+        send_month(alloc, report, &month, out)?;
         count += 1;
         next = month.after;
     }
     Ok(count)
-}
-
-/// Writes all bytes. After a fault a prefix of them was written.
-fn send<W: Write>(out: &mut W, bytes: &[u8]) -> Result<(), ReportFault>
-    ensures sent { OnOk result (Appends (W.contents out.old) (W.contents out.new) bytes.now) }
-
-    ensures front { WroteFront (W.contents out.old) (W.contents out.new) bytes.now }
-    ensures write { IfErr result (λ fault. fault ≡ ReportFault.Write) }
-{
-    send_all(out, bytes)?;
-    Ok(())
 }

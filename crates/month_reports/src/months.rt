@@ -2,6 +2,7 @@
 ghost use Rattle.std.specs.Prelude.{◌≡◌, ◌+◌, ◌<◌, ◌≤◌, ◌^◌, ◌++◌, [], ◌∷◌, List, Some, length, IfOk, OnOk};
 ghost use Rattle.saga_core.specs.RowSources.{count_of, Hands};
 ghost use Rattle.month_reports.specs.Months.{AskedRest, MonthsRest};
+ghost use Rattle.month_reports.specs.declared.sums.TheConstants.{MOST_NIGHTS};
 ghost use Rattle.reports.specs.Faults.{reported};
 ghost use Rattle.reports.specs.Writing.{Takes};
 
@@ -13,11 +14,12 @@ use reports::ReportFault;
 use saga_core::{CellFilter, RowSource};
 use std::alloc::{AllocError, Global};
 
-/// A month that was read, and the first cell after it.
+/// A month that was read, of at most 31 nights, and the first cell after it.
 #[derive(Drop)]
 pub(crate) struct MonthRead {
     pub(crate) cells: Vec<(Cell, Held)>,
     pub(crate) after: Option<(Cell, Held)>,
+    ghost few: { length cells.items ≤ MOST_NIGHTS },
 }
 
 /// Returns the next cell of the source that the filter lets through; `None` after the last one.
@@ -51,7 +53,6 @@ pub(crate) fn read_month<R: RowSource<(Cell, Held)>>(
     ensures month { R.is_sound rows.new → IfOk result (λ read.
         Hands (MonthsRest (AskedRest filter.now (R.rests rows.old)) (Some first.now))
         (MonthsRest (AskedRest filter.now (R.rests rows.new)) read.after) (Some read.cells.items)) }
-    ensures few { IfOk result (λ read. length read.cells.items ≤ MOST_NIGHTS) }
     ensures counted { IfOk result
         (λ read. count_of read.after + R.given rows.old ≤ R.given rows.new) }
     ensures given { OnOk result (R.given rows.new < 2 ^ 64) }

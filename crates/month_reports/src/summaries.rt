@@ -1,50 +1,41 @@
 //! The line of a month in a summary, in each format.
-ghost use Rattle.std.specs.Prelude.{◌≡◌, ◌≤◌, [], ◌∷◌, decimal, length, IfOk, string_bytes};
+ghost use Rattle.std.specs.Prelude.{◌≡◌, [], ◌∷◌, ◌++◌, decimal, IfOk, string_bytes};
 ghost use Rattle.allotment.specs.Texts.{kind_word};
-ghost use Rattle.csv.specs.Records.{partial_of};
 ghost use Rattle.reports.specs.Objects.{json_line};
-ghost use Rattle.reports.specs.Records.{Adds, csv_line};
+ghost use Rattle.reports.specs.Records.{csv_line};
 ghost use Rattle.serde_json.specs.View.{view};
-ghost use Rattle.month_reports.specs.Summaries.{month_text, product_columns, summary_data, summary_fields, summary_head, summary_line, summary_names, summary_row, sums_columns};
+ghost use Rattle.month_reports.specs.Summaries.{month_text, product_columns, summary_data, summary_fields, summary_head, summary_line, summary_row, sums_columns};
 
-use crate::sums::{MOST_NIGHTS, Sums, sums_of};
-use allotment::{Cell, Held, Night};
+use crate::months::MonthRead;
+use crate::sums::{Sums, sums_of};
+use allotment::{Cell, Night};
 use commands::{put_text, put_whole};
-use csv::ByteRecord;
-use reports::{csv_line, json_line, put_field, put_number};
+use reports::{Fields, json_line};
 use saga_core::Format;
 use serde_json::{Map, Value};
 use std::alloc::{AllocError, Global};
 
 /// The heading of a summary in this format.
+#[tactic(auto, unfolding(csv::specs::Writing::escaped, csv::specs::Writing::fields_text, csv::specs::Writing::is_blank))]
 pub(crate) fn summary_head(format: Format) -> &'static str
     ensures head { result.now ≡ summary_head format }
 {
     match format {
         Format::Text => { "kind     supplier product  month   nights    allot     held     free\n" }
         Format::Json => "",
-        Format::Csv => record_heading(),
+        Format::Csv => "kind,supplier,product,month,nights,allot,held,free\r\n",
     }
-}
-
-/// The heading of a summary as CSV.
-fn record_heading() -> &'static str
-    ensures heading { result.now ≡ csv_line summary_names }
-{
-    "kind,supplier,product,month,nights,allot,held,free\r\n"
 }
 
 /// The line of a month in this format.
 pub(crate) fn summary_row(
     alloc: Global,
     format: Format,
-    month: &[(Cell, Held)],
+    month: &MonthRead,
 ) -> Result<Vec<u8>, AllocError>
-    requires few { length month.now ≤ MOST_NIGHTS }
-
-    ensures row { IfOk result (λ bytes. bytes.items ≡ summary_row format month.now) }
+    ensures row { IfOk result (λ bytes. bytes.items ≡ summary_row format month.now.cells.items) }
 {
-    let Some((cell, _)) = month.first() else {
+    let Some((cell, _)) = month.cells.first() else {
         return Ok(Vec::new(alloc));
     };
     let sums = sums_of(month);
@@ -56,6 +47,7 @@ pub(crate) fn summary_row(
 }
 
 /// The line of a month with these sums, of which a cell is this one.
+#[tactic(auto, using(std::proofs::Common::string_bytes, crate::proofs::CalendarLemmas::summary_parts))]
 fn summary_line(alloc: Global, cell: &Cell, sums: &Sums) -> Result<String, AllocError>
     ensures line { IfOk result (λ text. string_bytes text ≡ summary_line cell.now sums.now) }
 {
@@ -66,6 +58,7 @@ fn summary_line(alloc: Global, cell: &Cell, sums: &Sums) -> Result<String, Alloc
 }
 
 /// The columns of a product: its kind, supplier and name.
+#[tactic(auto, using(std::proofs::Common::string_bytes, std::proofs::Common::append_assoc, reports::proofs::FillLemmas::kind_left, reports::proofs::FillLemmas::code_left))]
 pub(crate) fn product_columns(alloc: Global, cell: &Cell) -> Result<String, AllocError>
     ensures columns { IfOk result (λ text. string_bytes text ≡ product_columns cell.now) }
 {
@@ -76,6 +69,7 @@ pub(crate) fn product_columns(alloc: Global, cell: &Cell) -> Result<String, Allo
 }
 
 /// The columns of sums: nights, and allotted, held and free places.
+#[tactic(auto, using(reports::proofs::FillLemmas::laid_out))]
 fn sums_columns(alloc: Global, sums: &Sums) -> Result<String, AllocError>
     ensures columns { IfOk result (λ text. string_bytes text ≡ sums_columns sums.now) }
 {
@@ -130,35 +124,30 @@ fn summary_record(alloc: Global, cell: &Cell, sums: &Sums) -> Result<Vec<u8>, Al
         (λ bytes. bytes.items ≡ csv_line (summary_fields cell.now sums.now)) }
 {
     let month = month_text(alloc, cell.night)?;
-    let mut row = ByteRecord::new(alloc);
-    put_month(&mut row, cell, month.as_str())?;
-    put_sums(alloc, &mut row, sums)?;
-    csv_line(alloc, &row)
+    let fields = put_month(Fields::new(alloc), cell, month.as_str())?;
+    put_sums(alloc, fields, sums)?.line(alloc)
 }
 
 /// Adds the fields of a month with this text, of which a cell is this one: kind, supplier, product and month.
-fn put_month(row: &mut ByteRecord, cell: &Cell, month: &str) -> Result<(), AllocError>
-    requires whole { partial_of row.old ≡ [] }
-
-    ensures adds { Adds row.old row.new
-        (kind_word cell.now.kind ∷ cell.now.supplier ∷ cell.now.product ∷ month.now ∷ []) result }
+#[tactic(auto, using(std::proofs::Common::append_assoc))]
+fn put_month(fields: Fields, cell: &Cell, month: &str) -> Result<Fields, AllocError>
+    ensures adds { IfOk result (λ all. all ≡ fields
+        ++ (kind_word cell.now.kind ∷ cell.now.supplier ∷ cell.now.product ∷ month.now ∷ [])) }
 {
-    put_field(row, cell.kind.word())?;
-    put_field(row, cell.supplier.as_str())?;
-    put_field(row, cell.product.as_str())?;
-    put_field(row, month)
+    let fields = fields.with(cell.kind.word())?;
+    let fields = fields.with(cell.supplier.as_str())?;
+    let fields = fields.with(cell.product.as_str())?;
+    fields.with(month)
 }
 
 /// Adds the fields of sums: nights, and allotted, held and free places.
-fn put_sums(alloc: Global, row: &mut ByteRecord, sums: &Sums) -> Result<(), AllocError>
-    requires whole { partial_of row.old ≡ [] }
-
-    ensures adds { Adds row.old row.new
-        (decimal sums.now.nights ∷ decimal sums.now.allot ∷ decimal sums.now.held
-        ∷ decimal sums.now.free ∷ []) result }
+fn put_sums(alloc: Global, fields: Fields, sums: &Sums) -> Result<Fields, AllocError>
+    ensures adds { IfOk result (λ all. all ≡ fields
+        ++ (decimal sums.now.nights ∷ decimal sums.now.allot ∷ decimal sums.now.held
+        ∷ decimal sums.now.free ∷ [])) }
 {
-    put_number(alloc, row, sums.nights)?;
-    put_number(alloc, row, sums.allot)?;
-    put_number(alloc, row, sums.held)?;
-    put_number(alloc, row, sums.free)
+    let fields = fields.with_number(alloc, sums.nights)?;
+    let fields = fields.with_number(alloc, sums.allot)?;
+    let fields = fields.with_number(alloc, sums.held)?;
+    fields.with_number(alloc, sums.free)
 }

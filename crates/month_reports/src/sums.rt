@@ -1,8 +1,8 @@
 //! The sums of the places of a month.
-ghost use Rattle.std.specs.Prelude.{◌≡◌, ◌≤◌, length};
+ghost use Rattle.std.specs.Prelude.{◌≡◌};
 ghost use Rattle.month_reports.specs.Summaries.{sums_of};
 
-use allotment::{Cell, Held};
+use crate::months::MonthRead;
 
 /// The most cells that a month may have: each is of a later day than the one before it.
 pub(crate) const MOST_NIGHTS: usize = 31;
@@ -17,18 +17,17 @@ pub(crate) struct Sums {
 }
 
 /// The sums of a month.
-pub(crate) fn sums_of(month: &[(Cell, Held)]) -> Sums
-    requires few { length month.now ≤ MOST_NIGHTS }
-
-    ensures sums { result ≡ sums_of month.now }
+pub(crate) fn sums_of(month: &MonthRead) -> Sums
+    ensures sums { result ≡ sums_of month.now.cells.items }
 {
+    let cells = month.cells.as_slice();
     let mut sums = Sums {
         nights: 0,
         allot: 0,
         held: 0,
         free: 0,
     };
-    for row in month {
+    for row in cells {
         let places = row.1;
         sums.nights += 1;
         sums.allot += u64::from(places.allot);

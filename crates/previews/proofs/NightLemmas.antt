@@ -19,9 +19,9 @@ room-free : (l : List Event) (count : ℕ) (x : Cell) → IsLegal l
 room-free l count x legal = grind (arith, has_free-by_held)
 
 -- a want fits if each of its nights has its count of free places
-pub fits-nights : (l : List Event) (w : Wanted) (nights : List FreeNight) → IsLegal l → nights ≡ nights_of l w
+pub fits_by_nights : (l : List Event) (w : Wanted) (nights : List FreeNight) → IsLegal l → nights ≡ nights_of l w
     → list_all (has_room w.count) nights ≡ fits l (Some w)
-fits-nights l w nights legal is =
+fits_by_nights l w nights legal is =
     ap (list_all (has_room w.count)) is
     ∙ list_all-map (has_room w.count) (λ x. night_with x (places_of l x)) (cells_of w)
     ∙ fits-by_test l w (λ x. has_room w.count (night_with x (places_of l x))) (λ x. room-free l w.count x legal)
@@ -94,6 +94,6 @@ module _ (l : List Event) (w : Wanted) where
       (all_shown places shows (suc first) more (omega (arith, low)) (omega (arith, high)))
 
   -- so have all nights of the want
-  pub nights-shown : (places : List (ℕ × Held)) → map night_said places ≡ places_shown l w
+  pub nights_by_shown : (places : List (ℕ × Held)) → map night_said places ≡ places_shown l w
       → nights_among places w ≡ nights_of l w
-  nights-shown places shows = all_shown places shows w.first w.nights (omega arith) (omega arith)
+  nights_by_shown places shows = all_shown places shows w.first w.nights (omega arith) (omega arith)

@@ -1,5 +1,5 @@
 -- The next step of a journey, and the item that a step makes, by the journey's cursor. For the preview.
-use Rattle.std.proofs.Common.{◌≡◌, ℕ, zero, suc, ◌+◌, ◌<◌, ◌≤◌, List, [], ◌∷◌, length, refl, ap, sym, ◌∙◌, arith, eq-eqb, Bool, true, false, nat_le, slice_get, find, Option, Some, None, option_map, option_and_then}
+use Rattle.std.proofs.Common.{◌≡◌, ℕ, zero, suc, ◌+◌, ◌<◌, ◌≤◌, List, [], ◌∷◌, length, refl, ap, sym, ◌∙◌, arith, eq-eqb, Bool, true, false, nat_le, slice_get, find, Option, Some, None, option_map, option_and_then, subst}
 use Rattle.std.proofs.lemmas.Bool.{and_parts, leb-true}
 use Rattle.std.specs.Prelude.{unwrap_or}
 use Rattle.std.specs.List.{list_all}
@@ -29,7 +29,7 @@ use Rattle.saga_core.specs.Views.{record_of, record_of_journey}
 use Rattle.saga_core.specs.declared.records.Record.{Record}
 use Rattle.saga_core.specs.declared.deciding.Move.{Move}
 use Rattle.saga_core.specs.declared.deciding.Move.TheVariants as move
-use Rattle.previews.specs.Previews.{begun_as, FitsNext, HasOption, IsJourneyOf, IsStepDown, IsStepUp, latest_option, next_of, preview_of, step_of, the_next, with_want}
+use Rattle.previews.specs.Previews.{begun_as, FitsNext, HasOption, IsJourneyOf, IsStepDown, IsStepUp, item_made, latest_option, next_of, preview_of, step_of, the_next, with_want}
 use Rattle.previews.specs.declared.steps.NextStep.{NextStep}
 use Rattle.previews.specs.declared.steps.Preview.{Preview}
 use Rattle.previews.proofs.LatestLemmas.{latest-standing}
@@ -80,10 +80,6 @@ record_is l j r e = grind (arith, record_of_some, one_journey)
 -- the same value, if there is one
 some_same : {X : Type 0} (x y : X) → Some x ≡ Some y → x ≡ y
 some_same x y e = cc
-
--- the target of a turn
-same_target : (p q : ℕ) → move.Turn p ≡ move.Turn q → p ≡ q
-same_target p q e = cc
 
 -- the preview of these parts
 abbrev the_preview : ℕ → List ℕ → Cursor → Option NextStep → Option Item → Preview
@@ -255,45 +251,25 @@ module _ (l : List Event) (j : ℕ) (r : Record) (of : IsJourneyOf l j r) where
     pub undoes : (p : ℕ) → r.cursor.phase ≡ Back p → m ≡ move.Undo r.cursor.pos
     pub ends : is_finished r.cursor.phase ≡ true → m ≡ move.Nothing
 
-  module _ (next : Option NextStep) (fitting : Bool) (m : Move) (decides : Decides fitting m)
-      (is_next : next ≡ next_of r.plan h) (is_fit : FitsNext l next fitting) where
-    -- a turn is that of a running journey whose next want does not fit
-    pub turn_made : (p : ℕ) → m ≡ move.Turn p → Some (Turn p Refused) ≡ step_of l j
-    turn_made p m_is = go r.cursor.phase refl fitting refl
-      where
-        go : (q : Phase) → r.cursor.phase ≡ q → (b : Bool) → fitting ≡ b → Some (Turn p Refused) ≡ step_of l j
-        go Run e true f = grind arith
-        go Run e false f =
-            let target : move.Turn p ≡ move.Turn (rules.refused_target r.plan (is_taken_in r.marks) r.cursor.pos r.cursor.used) =
-            sym m_is ∙ decides.turns e f in
-            step_turns p e (sym (fits_next next fitting e is_next is_fit) ∙ f) (same_target p _ target)
-        go (Back q) e b f = let bad : move.Turn p ≡ move.Undo r.cursor.pos = sym m_is ∙ decides.undoes q e in cc
-        go Ended e b f = let bad : move.Turn p ≡ move.Nothing = sym m_is ∙ decides.ends (ap is_finished e) in cc
-        go Undone e b f = let bad : move.Turn p ≡ move.Nothing = sym m_is ∙ decides.ends (ap is_finished e) in cc
+  -- the item of that move is what a step makes
+  pub step_decided : (next : Option NextStep) (fitting : Bool) (m : Move) → Decides fitting m → next ≡ next_of r.plan h → FitsNext l next fitting
+      → item_made next m ≡ step_of l j
+  step_decided next fitting m decides is_next is_fit = go r.cursor.phase refl fitting refl
+    where
+      taken : (o : Option NextStep) → r.cursor.phase ≡ Run → o ≡ next_of r.plan h → FitsNext l o true
+          → option_map (λ (n : NextStep). n.item) o ≡ step_of l j
+      taken None run is_o fit = cc
+      taken (Some n) run is_o fit = step_fits n run is_o (sym fit)
 
-    -- a transaction is that of a running journey whose next want fits
-    pub take_made : (i c : ℕ) → m ≡ move.Take i c → option_map (λ (n : NextStep). n.item) next ≡ step_of l j
-    take_made i c m_is = grind (arith, step_fits)
+      undone : (o : Option NextStep) (p : ℕ) → r.cursor.phase ≡ Back p → o ≡ next_of r.plan h → option_map (λ (n : NextStep). n.item) o ≡ step_of l j
+      undone o p back is_o = grind (arith, none_goes_back, step_backs)
 
-    -- a compensation is that of a journey that goes back
-    pub undo_made : (i : ℕ) → m ≡ move.Undo i → option_map (λ (n : NextStep). n.item) next ≡ step_of l j
-    undo_made i m_is = go r.cursor.phase refl fitting refl
-      where
-        undone : (o : Option NextStep) (p : ℕ) → r.cursor.phase ≡ Back p → o ≡ next_of r.plan h
-            → option_map (λ (n : NextStep). n.item) o ≡ step_of l j
-        undone o p e is_o = grind (arith, none_goes_back, step_backs)
-
-        go : (q : Phase) → r.cursor.phase ≡ q → (b : Bool) → fitting ≡ b
-            → option_map (λ (n : NextStep). n.item) next ≡ step_of l j
-        go Run e true f = grind arith
-        go Run e false f = grind arith
-        go (Back p) e b f = undone next p e is_next
-        go Ended e b f = let bad : move.Undo i ≡ move.Nothing = sym m_is ∙ decides.ends (ap is_finished e) in cc
-        go Undone e b f = let bad : move.Undo i ≡ move.Nothing = sym m_is ∙ decides.ends (ap is_finished e) in cc
-
-    -- nothing is made of a finished journey
-    pub none_made : m ≡ move.Nothing → None ≡ step_of l j
-    none_made m_is = grind (arith, step_ends)
+      go : (q : Phase) → r.cursor.phase ≡ q → (b : Bool) → fitting ≡ b → item_made next m ≡ step_of l j
+      go Run e true f = ap (item_made next) (decides.takes e f) ∙ taken next e is_next (subst (FitsNext l next) f is_fit)
+      go Run e false f = ap (item_made next) (decides.turns e f) ∙ step_turns _ e (sym (fits_next next fitting e is_next is_fit) ∙ f) refl
+      go (Back p) e b f = ap (item_made next) (decides.undoes p e) ∙ undone next p e is_next
+      go Ended e b f = ap (item_made next) (decides.ends (ap is_finished e)) ∙ step_ends (ap is_finished e)
+      go Undone e b f = ap (item_made next) (decides.ends (ap is_finished e)) ∙ step_ends (ap is_finished e)
 
   -- the preview of its record, its next step and what a step makes
   pub preview_is : (next : Option NextStep) (step : Option Item) → next ≡ next_of r.plan h → step ≡ step_of l j

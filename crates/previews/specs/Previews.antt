@@ -1,17 +1,22 @@
 -- The preview of a journey: what a step of the house would do with it now, and the want on which that depends.
-use Rattle.std.specs.Prelude.{◌≡◌, ◌+◌, ◌≤◌, ℕ, ◌==◌, Bool, true, false, List, [], filter_map, find, if◌then◌else◌, Option, Some, None, option_map, option_and_then}
+use Rattle.std.specs.Prelude.{◌≡◌, ◌+◌, ◌<◌, ◌≤◌, ℕ, ◌==◌, Bool, true, false, List, [], filter_map, find, if◌then◌else◌, IfSome, IsSome, Option, Some, None, option_map, option_and_then, Result, Ok, Err}
 use Rattle.allotment.specs.Want.{Wanted}
 use Rattle.plan.specs.PlanModel.{Planned, option_count, step_count, want_at}
 use Rattle.plan.specs.Rules.{next_option}
 use Rattle.commands.specs.Request.{Step}
+use Rattle.commands.specs.declared.items.Cause.TheVariants.{Refused}
 use Rattle.commands.specs.declared.items.Item.{Item}
 use Rattle.commands.specs.declared.items.Item.TheVariants.{Transaction, Compensation, Turn, Save}
 use Rattle.commands.specs.declared.items.Phase.TheVariants.{Back}
+use Rattle.commands.specs.declared.replies.Fault.{Fault}
+use Rattle.commands.specs.declared.replies.Fault.TheVariants.{Store}
 use Rattle.ledger.specs.Answer.{answer_within}
 use Rattle.ledger.specs.History.{last_of, may_come}
 use Rattle.ledger.specs.Ledger.{Event, Journey, fits, history, item_of, IsLegal}
 use Rattle.ledger.specs.Replies.{step_choices}
 use Rattle.saga_core.specs.Views.{brief_of_journey, record_of}
+use Rattle.saga_core.specs.declared.deciding.Move.{Move}
+use Rattle.saga_core.specs.declared.deciding.Move.TheVariants as move
 use Rattle.saga_core.specs.declared.records.Record.{Record}
 use Rattle.previews.specs.Nights.{nights_of}
 use Rattle.previews.specs.declared.nights.FreeNight.{FreeNight}
@@ -51,8 +56,14 @@ preview_of l j a = record {
 
 -- the next transaction of a journey at this position, of which so many steps were refused, with its want
 pub record IsStepUp (plan : Planned) (pos used : ℕ) (next : NextStep) : Type 0 where
+  pub in_plan : pos < step_count plan
   pub item_is : next.item ≡ Transaction (pos + 1) (next_option plan pos used)
   pub want_is : want_at plan (pos + 1) (next_option plan pos used) ≡ Some next.want
+
+-- that transaction was returned if the plan has a step after this position; else the fault is the store's
+abbrev pub StepsUp : Planned → ℕ → ℕ → Result NextStep Fault → Type 0
+StepsUp plan pos used (Ok next) = IsStepUp plan pos used next
+StepsUp plan pos used (Err fault) = (step_count plan ≤ pos) × (fault ≡ Store)
 
 -- the compensation of this step, which took this option, with its want
 pub record IsStepDown (plan : Planned) (step option : ℕ) (next : NextStep) : Type 0 where
@@ -65,6 +76,18 @@ pub record HasOption (plan : Planned) (step option : ℕ) : Type 0 where
   pub in_plan : step ≤ step_count plan
   pub first : 1 ≤ option
   pub last : option ≤ option_count plan step
+
+-- that compensation was returned if the step took an option that the plan has; else the fault is the store's
+abbrev pub StepsDown : Planned → ℕ → Option ℕ → Result NextStep Fault → Type 0
+StepsDown plan step taken (Ok next) = IfSome taken (λ option. IsStepDown plan step option next)
+StepsDown plan step taken (Err fault) = (IfSome taken (HasOption plan step) → IsSome taken → ⊥) × (fault ≡ Store)
+
+-- the item that a move makes of the next step
+abbrev pub item_made : Option NextStep → Move → Option Item
+item_made next (move.Turn target) = Some (Turn target Refused)
+item_made next (move.Take step option) = option_map (λ (n : NextStep). n.item) next
+item_made next (move.Undo step) = option_map (λ (n : NextStep). n.item) next
+item_made next move.Nothing = None
 
 -- `fitting` says whether the want of the next step fits
 abbrev pub FitsNext : List Event → Option NextStep → Bool → Type 0

@@ -21,6 +21,7 @@ use std::alloc::{AllocError, Global};
 /// of memory.
 ///
 /// Its members are those of the lines of the report, and `nights` is the list of the objects of the nights.
+#[tactic(auto, using(crate::proofs::FloatLemmas::no_float_in_why))]
 pub fn why_body(
     alloc: Global,
     preview: &Preview,

@@ -9,6 +9,7 @@ use saga_core::Brief;
 use std::alloc::{AllocError, Global};
 
 /// The lines of a journey with its agent, and of where it is.
+#[tactic(auto, using(std::proofs::Common::string_bytes, std::proofs::Common::decimal, crate::proofs::FloatLemmas::brief_parts))]
 pub(crate) fn brief_lines(alloc: Global, brief: &Brief) -> Result<String, AllocError>
     ensures lines { IfOk result (λ text. string_bytes text ≡ brief_lines brief.now) }
 {
@@ -29,6 +30,7 @@ pub(crate) fn next_line(alloc: Global, next: &Option<NextStep>) -> Result<String
 }
 
 /// The line of a next step and its want.
+#[tactic(auto, using(std::proofs::Common::string_bytes, crate::proofs::FloatLemmas::next_parts))]
 fn line_of(alloc: Global, next: &NextStep) -> Result<String, AllocError>
     ensures line { IfOk result (λ text. string_bytes text ≡ next_line (Some next.now)) }
 {

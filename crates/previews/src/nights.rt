@@ -104,6 +104,7 @@ fn nights_among(
 
 /// The nights of a want in order, each with what is free of it, by the places that a book shows of the want: those of its
 /// nights that are allotted. The only fault is out of memory.
+#[tactic(auto, using(crate::proofs::NightLemmas::nights_by_shown))]
 pub fn nights_shown(
     alloc: Global,
     want: &Want,
@@ -151,6 +152,7 @@ fn have_room(nights: &[FreeNight], count: u32) -> bool
 }
 
 /// Whether a want fits, by what is free of its nights.
+#[tactic(auto, using(crate::proofs::NightLemmas::fits_by_nights))]
 pub(crate) fn fits_nights(want: &Want, nights: &[FreeNight]) -> bool
     ensures fits { (l : List Event) → IsLegal l → nights.now ≡ nights_of l want.now →
         result ≡ fits l (Some want.now) }

@@ -1,17 +1,16 @@
 //! The lines of a preview as CSV records (RFC 4180).
-ghost use Rattle.std.specs.Prelude.{◌≡◌, [], ◌∷◌, IfOk, string_bytes};
-ghost use Rattle.csv.specs.Records.{partial_of};
-ghost use Rattle.reports.specs.Records.{Adds, csv_line};
+ghost use Rattle.std.specs.Prelude.{◌≡◌, [], ◌∷◌, ◌++◌, IfOk, string_bytes};
+ghost use Rattle.reports.specs.Records.{csv_line};
 ghost use Rattle.previews.specs.Layouts.{free_field, next_fields, night_fields, why_fields, why_names};
 
 use crate::lines::step_word;
 use crate::nights::FreeNight;
 use crate::steps::{NextStep, Preview};
-use csv::ByteRecord;
-use reports::{csv_line, night_text, put_field, put_journey};
+use reports::{Fields, night_text, put_journey};
 use std::alloc::{AllocError, Global};
 
 /// The heading.
+#[tactic(auto, unfolding(csv::specs::Writing::escaped, csv::specs::Writing::fields_text, csv::specs::Writing::is_blank))]
 pub(crate) fn why_heading() -> &'static str
     ensures heading { result.now ≡ csv_line why_names }
 {
@@ -28,47 +27,37 @@ pub(crate) fn why_record(
         (λ text. text.items ≡ csv_line (why_fields preview.now night.now)) }
 {
     let step = step_word(alloc, &preview.step)?;
-    let mut row = ByteRecord::new(alloc);
-    put_journey(alloc, &mut row, &preview.brief)?;
-    put_next(alloc, &mut row, &preview.next)?;
-    put_night(alloc, &mut row, night)?;
-    put_field(&mut row, step.as_str())?;
-    csv_line(alloc, &row)
+    let fields = put_journey(alloc, Fields::new(alloc), &preview.brief)?;
+    let fields = put_next(alloc, fields, &preview.next)?;
+    let fields = put_night(alloc, fields, night)?;
+    fields.with(step.as_str())?.line(alloc)
 }
 
 /// Adds the next step and its want; empty fields if there is none.
-fn put_next(alloc: Global, row: &mut ByteRecord, next: &Option<NextStep>) -> Result<(), AllocError>
-    requires whole { partial_of row.old ≡ [] }
-
-    ensures adds { Adds row.old row.new (next_fields next.now) result }
+fn put_next(alloc: Global, fields: Fields, next: &Option<NextStep>) -> Result<Fields, AllocError>
+    ensures adds { IfOk result (λ all. all ≡ fields ++ next_fields next.now) }
 {
     match next {
         Some(next) => {
             let item = next.item.text(alloc)?;
             let want = next.want.text(alloc)?;
-            put_two(row, item.as_str(), want.as_str())
+            put_two(fields, item.as_str(), want.as_str())
         }
-        None => put_two(row, "", ""),
+        None => put_two(fields, "", ""),
     }
 }
 
 /// Adds a night and what is free of it; empty fields if there is no night, and one if the night is not allotted.
-fn put_night(
-    alloc: Global,
-    row: &mut ByteRecord,
-    night: &Option<FreeNight>,
-) -> Result<(), AllocError>
-    requires whole { partial_of row.old ≡ [] }
-
-    ensures adds { Adds row.old row.new (night_fields night.now) result }
+fn put_night(alloc: Global, fields: Fields, night: &Option<FreeNight>) -> Result<Fields, AllocError>
+    ensures adds { IfOk result (λ all. all ≡ fields ++ night_fields night.now) }
 {
     match night {
         Some(night) => {
             let text = night_text(alloc, night.night)?;
             let free = free_text(alloc, night.free)?;
-            put_two(row, text.as_str(), free.as_str())
+            put_two(fields, text.as_str(), free.as_str())
         }
-        None => put_two(row, "", ""),
+        None => put_two(fields, "", ""),
     }
 }
 
@@ -83,11 +72,8 @@ fn free_text(alloc: Global, free: Option<u32>) -> Result<String, AllocError>
 }
 
 /// Adds two fields.
-fn put_two(row: &mut ByteRecord, first: &str, second: &str) -> Result<(), AllocError>
-    requires whole { partial_of row.old ≡ [] }
-
-    ensures adds { Adds row.old row.new (first.now ∷ second.now ∷ []) result }
+fn put_two(fields: Fields, first: &str, second: &str) -> Result<Fields, AllocError>
+    ensures adds { IfOk result (λ all. all ≡ fields ++ (first.now ∷ second.now ∷ [])) }
 {
-    put_field(row, first)?;
-    put_field(row, second)
+    fields.with(first)?.with(second)
 }

@@ -1,11 +1,10 @@
 //! The next step of a journey, and what a step makes of it now.
-ghost use Rattle.std.specs.Prelude.{◌≡◌, ◌+◌, ◌<◌, ℕ, List, [], IfErr, IfOk, IfSome, IsOk, IsSome, OnOk, option_map};
+ghost use Rattle.std.specs.Prelude.{◌≡◌, ◌<◌, ℕ, List, [], IfErr, IfOk, IsOk, OnOk};
 ghost use Rattle.commands.specs.declared.items.Phase.TheVariants.{Run};
 ghost use Rattle.ledger.specs.Ledger.{Event, history, IsLegal};
 ghost use Rattle.ledger.specs.JourneyChanges.{newer};
-ghost use Rattle.previews.specs.declared.steps.NextStep.{NextStep};
 ghost use Rattle.plan.specs.PlanModel.{step_count};
-ghost use Rattle.previews.specs.Previews.{begun_as, FitsNext, HasOption, IsStepDown, IsStepUp, latest_option as latest_option_of, next_of, nights_ahead, option_done, preview_of, step_of, IsJourneyOf, IsTaken};
+ghost use Rattle.previews.specs.Previews.{begun_as, FitsNext, IsJourneyOf, IsTaken, item_made, latest_option as latest_option_of, next_of, nights_ahead, option_done, preview_of, StepsDown, StepsUp};
 ghost use Rattle.reports.specs.Faults.{reported};
 ghost use Rattle.reports.specs.Writing.{Takes};
 
@@ -94,11 +93,7 @@ pub fn next_step(journey: &Record, taken: Option<usize>) -> Result<Option<NextSt
 
 /// The next transaction of a plan's journey at this position, of which so many steps were refused.
 fn step_up(plan: &Plan, pos: usize, used: usize) -> Result<NextStep, Fault>
-    ensures up { IfOk result (IsStepUp plan.now pos used) }
-    ensures there { pos < step_count plan.now → IsOk result }
-    ensures short { OnOk result (pos < step_count plan.now) }
-
-    ensures fault { IfErr result (λ fault. fault ≡ Fault.Store) }
+    ensures steps { StepsUp plan.now pos used result }
 {
     if pos >= plan.steps() {
         return Err(Fault::Store);
@@ -113,11 +108,7 @@ fn step_up(plan: &Plan, pos: usize, used: usize) -> Result<NextStep, Fault>
 
 /// The compensation of this step of a plan, which took this option.
 fn step_down(plan: &Plan, step: usize, taken: Option<usize>) -> Result<NextStep, Fault>
-    ensures down { IfOk result
-        (λ next. IfSome taken (λ option. IsStepDown plan.now step option next)) }
-    ensures there { IfSome taken (HasOption plan.now step) → IsSome taken → IsOk result }
-
-    ensures fault { IfErr result (λ fault. fault ≡ Fault.Store) }
+    ensures steps { StepsDown plan.now step taken result }
 {
     let Some(option) = taken else {
         return Err(Fault::Store);
@@ -131,32 +122,19 @@ fn step_down(plan: &Plan, step: usize, taken: Option<usize>) -> Result<NextStep,
     })
 }
 
-/// The item of a next step, if there is one.
-fn item_of(next: &Option<NextStep>) -> Option<Item>
-    ensures item { result ≡ option_map (λ (n : NextStep). n.item) next.now }
+/// The item that a move makes of the next step of its journey.
+fn item_made(next: &Option<NextStep>, chosen: Move) -> Option<Item>
+    ensures item { result ≡ item_made next.now chosen }
 {
-    match next {
-        Some(next) => Some(next.item),
-        None => None,
-    }
-}
-
-/// The item that a step makes, by the next step of a journey and whether its want fits.
-fn step_now(journey: &Record, next: &Option<NextStep>, fitting: bool) -> Option<Item>
-    requires short { journey.now.cursor.phase ≡ Run →
-        journey.now.cursor.pos < step_count journey.now.plan }
-
-    ensures step { (l : List Event) (j : ℕ) → IsJourneyOf l j journey.now →
-        next.now ≡ next_of journey.now.plan (history l j) → FitsNext l next.now fitting →
-        result ≡ step_of l j }
-{
-    match decide(&journey.plan, &journey.marks, &journey.cursor, fitting) {
+    match chosen {
         Move::Turn(target) => Some(Item::Turn {
             target,
             cause: Cause::Refused,
         }),
-        Move::Take(_, _) => item_of(next),
-        Move::Undo(_) => item_of(next),
+        Move::Take(_, _) | Move::Undo(_) => match next {
+            Some(next) => Some(next.item),
+            None => None,
+        },
         Move::Nothing => None,
     }
 }
@@ -187,7 +165,8 @@ pub fn look_ahead(
         result ≡ preview_of l id (begun_as journey.now) }
 {
     let fitting = fits_next(&next, nights);
-    let step = step_now(journey, &next, fitting);
+    let chosen = decide(&journey.plan, &journey.marks, &journey.cursor, fitting);
+    let step = item_made(&next, chosen);
     Preview {
         brief: Brief {
             id,

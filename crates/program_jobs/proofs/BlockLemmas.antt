@@ -1,5 +1,5 @@
 -- What reached a writer to which bytes are passed on in blocks. For `blocks` and `showing`.
-use Rattle.std.proofs.Common.{◌≡◌, ◌≤◌, ◌+◌, ◌-◌, ◌∙◌, ap, sym, refl, subst, arith, ℕ, List, [], ◌∷◌, ◌++◌, length, take, drop, append-nil, append_assoc, length-append, length-take, drop_of_length-le, min, Option, Some, None}
+use Rattle.std.proofs.Common.{◌≡◌, ◌≤◌, ◌+◌, ◌-◌, ◌∙◌, ap, sym, subst, arith, ℕ, List, [], ◌∷◌, ◌++◌, length, take, drop, append-nil, append_assoc, length-append, length-take, drop_of_length-le, min, Option, Some, None}
 use Rattle.std.proofs.lemmas.List.{take-append-drop, take-append-le, take-take, take_rest, drop-drop, drop-append-le}
 use Rattle.std.proofs.Math.Seq.{take-append-add, take-length}
 use Rattle.std.specs.Io.KnownBytes.{Appends, Keeps}
@@ -42,10 +42,7 @@ gathers name passed at items bytes (Some xs) within =
 
 -- what was kept twice
 pub keeps_then : (x y z : Option (List ℕ)) → Keeps x y → Keeps y z → Keeps x z
-keeps_then None y z first second = tt
-keeps_then (Some xs) None z first second = absurd first
-keeps_then (Some xs) (Some ys) None first second = absurd second
-keeps_then (Some xs) (Some ys) (Some zs) first second = second ∙ first
+keeps_then x y z first second = grind arith
 
 -- all was passed on
 pub emptied : (name passed at : ℕ) (items : List ℕ) (held : Option (List ℕ)) → length items ≤ at
@@ -56,9 +53,7 @@ emptied name passed at items (Some xs) all = ap (λ l. name ∷ (length xs - pas
 -- the writer was flushed
 pub flushes : (name passed : ℕ) (unsent : List ℕ) (before after : Option (List ℕ)) → Keeps before after
     → Keeps (blocks_known name passed unsent before) (blocks_known name passed unsent after)
-flushes name passed unsent None after kept = tt
-flushes name passed unsent (Some xs) None kept = absurd kept
-flushes name passed unsent (Some xs) (Some ys) kept = ap (λ l. name ∷ (length l - passed) ∷ l ++ unsent) kept
+flushes name passed unsent before after kept = grind arith
 
 -- the first of the bytes, and the second
 abbrev first_of : List ℕ → ℕ

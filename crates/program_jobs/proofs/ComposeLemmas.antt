@@ -1,5 +1,5 @@
 -- A job between an opening and a closing of its files. For the invocations, whatever the job.
-use Rattle.std.proofs.Common.{ℕ, List, [], ◌∷◌, Option, Some, None, refl, sym, subst, ◌∙◌, inl, inr, IfSome}
+use Rattle.std.proofs.Common.{ℕ, List, [], Option, Some, None, refl, sym, subst, ◌∙◌, inl, inr, IfSome}
 use Rattle.std.proofs.Math.Logic.{∥∥₁_map}
 use Rattle.std.proofs.KnownBytes.{Appends-nil}
 use Rattle.sqlite_disk.specs.declared.Disk as disk
@@ -125,28 +125,19 @@ empty_means_new db empty = inr (record {
 
 -- A job over a connection that was opened over an image and closed.
 module _ {D : Type 0} {g : disk.Ghosts D} (first : Image) (old : Held (FileStore D g)) (openings : StandsAsOpened over_files old) (opens : HasCleanDisk (file_state old) → OpensOver first old) where
-  -- what the files held, the connection stands for
+  -- the connection stands for what its trees mean
+  stands_now : HasCleanDisk (file_state old) → (v : Version) (s : State) → MeansOf v (file_state old).now.trees s → Stood (file_state old) s
+  stands_now clean v s means =
+      let at = opens clean in (v, openings v s (λ _. record { opens = at.opens; live = at.live; means = means; only = at.only }))
+
+  -- which is what the files held
   stood_over : HasCleanDisk (file_state old) → (w : List Moment) → StandsIn first w → Stood (file_state old) (after start w)
-  stood_over clean w (inl (db, held, means)) = (
-    means.0,
-    openings means.0 (after start w) (λ _.
-        record {
-          opens = (opens clean).opens;
-          live = (opens clean).live;
-          means = subst (λ (t : Trees). MeansOf means.0 t (after start w)) (sym ((opens clean).holds db held)) means.1;
-          only = (opens clean).only;
-        }),
-  )
-  stood_over clean w (inr (none, same)) = (
-    Two,
-    openings Two (after start w) (λ _.
-        record {
-          opens = (opens clean).opens;
-          live = (opens clean).live;
-          means = subst (MeansOf Two (file_state old).now.trees) (sym same) (empty_means_new _ ((opens clean).new none));
-          only = (opens clean).only;
-        }),
-  )
+  stood_over clean w (inl (db, held, means)) =
+      stands_now clean means.0 (after start w)
+      (subst (λ (t : Trees). MeansOf means.0 t (after start w)) (sym ((opens clean).holds db held)) means.1)
+  stood_over clean w (inr (none, same)) =
+      stands_now clean Two (after start w)
+      (subst (MeansOf Two (file_state old).now.trees) (sym same) (empty_means_new _ ((opens clean).new none)))
 
   pub ran_over : (new : Held (FileStore D g)) (rest : Left D g) (it : Invocation)
       → (HasCleanDisk (file_state new) → HasCleanDisk (file_state old))

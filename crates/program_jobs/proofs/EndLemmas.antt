@@ -1,5 +1,5 @@
 -- How a report ends, and what was written where it could not be begun. For the job of a report.
-use Rattle.std.proofs.Common.{◌≡◌, ◌∙◌, arith, inl, inr, sym, subst, ℕ, List, Option}
+use Rattle.std.proofs.Common.{◌≡◌, ◌∙◌, arith, false, inl, inr, refl, sym, subst, true, ℕ, Bool, List, Option, Result, Ok, Err}
 use Rattle.sqlite.specs.Store.{Ghosts}
 use Rattle.sqlite.specs.Held.{Held, state}
 use Rattle.sqlite.specs.State.{HasCleanDisk}
@@ -8,6 +8,7 @@ use Rattle.desk_sql.specs.declared.versions.Version.{Version}
 use Rattle.ledger.specs.Answer.{State}
 use Rattle.reports.specs.declared.faults.ReportFault.{ReportFault}
 use Rattle.reports.specs.declared.faults.ReportFault.TheVariants as report
+use Rattle.report_kinds.specs.Texts.{IsOfJourney}
 use Rattle.tables.specs.Keeping.{StoodFor}
 use Rattle.tables.specs.Opening.{FailsOpening, FailsToFound, FailsToOpen, Tells}
 use Rattle.tables.specs.declared.faults.OpenFault.{OpenFault}
@@ -20,22 +21,30 @@ use Rattle.program_ends.specs.declared.faults.ProgramFault.TheVariants as progra
 use Rattle.desk_jobs.specs.OpeningEnds.{end_of_open}
 use Rattle.desk_jobs.proofs.ReasonLemmas.{opening_fails}
 use Rattle.program_jobs.specs.Jobs.{EndsReport, FailsReport, RefusesAbsent, RefusesToShow}
-use Rattle.program_jobs.specs.Reporting.{IsFaultOfReport, Reports}
+use Rattle.program_jobs.specs.Reporting.{IsFaultOfReport, Reports, end_of_report}
 use Rattle.saga_core.specs.declared.report.Report.{Report}
 use Rattle.program_jobs.proofs.ReportLemmas.{failed_report}
 
 -- a fault of a report that was begun is one of a report
-pub begun_fault : (f : ReportFault) → IsFaultOfReport (fault_of_report f)
-begun_fault report.Memory = tt
-begun_fault report.Store = tt
-begun_fault report.Write = tt
+begun_fault : (f : ReportFault) → IsFaultOfReport (fault_of_report f)
+begun_fault f = grind arith
+
+-- a report that was written so, or was not
+pub written_ends : (asked : Report) (r : Result Bool ReportFault) → (r ≡ Ok false → IsOfJourney asked)
+    → EndsReport (RefusesAbsent asked) (end_of_report r)
+written_ends asked (Ok true) absent = record { refused = tt; fault = tt; job = tt }
+written_ends asked (Ok false) absent = record { refused = (absent refl, refl); fault = tt; job = tt }
+written_ends asked (Err f) absent = record { refused = tt; fault = begun_fault f; job = tt }
+
+pub written_fails : (r : Result Bool ReportFault) → end_of_report r ≡ finish.Fault program.Store → r ≡ Err report.Store
+written_fails r is = grind arith
+
+pub not_opening : (r : Result Bool ReportFault) → end_of_report r ≡ finish.Fault program.OpeningStore → ⊥
+not_opening r is = grind arith
 
 -- what may be refused for a reason, may be for a weaker one
 refused_weaker : (So Also : Refusal → Type 0) → ((why : Refusal) → So why → Also why) → (e : End) → IfRefused e So → IfRefused e Also
-refused_weaker So Also weaker finish.Done refused = tt
-refused_weaker So Also weaker (finish.Refused why) refused = weaker why refused
-refused_weaker So Also weaker (finish.Fault f) refused = tt
-refused_weaker So Also weaker (finish.Usage text) refused = tt
+refused_weaker So Also weaker e refused = grind (arith, weaker)
 
 ends_weaker : (So Also : Refusal → Type 0) → ((why : Refusal) → So why → Also why) → (e : End) → EndsReport So e → EndsReport Also e
 ends_weaker So Also weaker e ends =

@@ -8,7 +8,7 @@ use Rattle.allotment.specs.Cells.{numbers_from}
 use Rattle.plan.specs.PlanModel.{Planned}
 use Rattle.commands.specs.declared.items.Item.{Item}
 use Rattle.commands.specs.declared.items.Phase.{Phase}
-use Rattle.commands.specs.declared.items.Phase.TheVariants.{Run, Back, Ended, Undone}
+use Rattle.commands.specs.declared.items.Phase.TheVariants.{Ended, Undone}
 use Rattle.ledger.specs.Answer.{start}
 use Rattle.ledger.specs.History.{is_open, phase}
 use Rattle.ledger.specs.Laws.{IsSound, NoCellIsOverfull, EveryJourneyIsUpAndDown, EachPlainJourneyIsAllOrNothing, IsUpAndDownSoFar, HasNoSavePoint, IsAllOrNothing}
@@ -36,8 +36,7 @@ free_and_held l within x p is = adds_up (allotment l x) (held l x) p (within x) 
 -- Journeys of a recovered ledger.
 
 or_none : (a b : Bool) → (a || b) ≡ false → (a ≡ false) × (b ≡ false)
-or_none true b e = cc
-or_none false b e = (refl, e)
+or_none a b e = grind arith
 
 -- a test that none of consecutive numbers passes fails at each of them
 none_numbered : (test : ℕ → Bool) (first n j : ℕ) → list_any test (numbers_from first n) ≡ false → first ≤ j
@@ -52,8 +51,7 @@ none_numbered test first (suc n) j none low high =
     go fails rest false e = let ne = eqb-false _ _ e in rest (omega arith)
 
 not_true : (b : Bool) → not b ≡ true → b ≡ false
-not_true true e = cc
-not_true false e = refl
+not_true b e = grind arith
 
 -- where no journey is open, this one is not
 not_open : (r : List Event) (j : ℕ) (a : Journey) → journey_at r j ≡ Some a → has_none is_open r ≡ true
@@ -70,10 +68,7 @@ not_open r (suc i) a is none = go (nat_lt i (length (journeys r))) refl
 
 -- it has ended or is undone
 is_done : (p : Phase) → is_open p ≡ false → (p ≡ Ended) ⊎ (p ≡ Undone)
-is_done Run e = cc
-is_done (Back target) e = cc
-is_done Ended e = inl refl
-is_done Undone e = inr refl
+is_done p e = grind arith
 
 whole_if_done : (plan : Planned) (h : List Item) → IsUpAndDownSoFar plan h
     → (HasNoSavePoint plan h → IsAllOrNothing plan h) → (phase plan h ≡ Ended) ⊎ (phase plan h ≡ Undone)

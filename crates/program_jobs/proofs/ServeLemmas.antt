@@ -1,16 +1,14 @@
 -- What serving comes to, from how its desk came up and who was served. For `serving`.
-use Rattle.std.proofs.Common.{◌≡◌, ◌∙◌, refl, ap, sym, subst, inl, inr, ℕ, List, [], Bool, true, false, map, get_or, Option, Some, Result, Ok, Err, IfOk}
+use Rattle.std.proofs.Common.{◌≡◌, ◌∙◌, arith, refl, ap, sym, subst, inl, inr, ℕ, List, [], Bool, true, false, map, get_or, Option, Some, Result, IfOk}
 use Rattle.std.specs.Io.KnownBytes.{Appends}
 use Rattle.std.specs.declared.io.traits.Read as Read
 use Rattle.std.specs.declared.io.traits.Write as Write
 use Rattle.std.proofs.KnownBytes.{Appends-nil}
 use Rattle.streams.specs.Written.{WroteFront}
-use Rattle.streams.proofs.ByteLemmas.{keeps_same}
 use Rattle.sqlite.specs.Store.{Ghosts}
 use Rattle.sqlite.specs.Held.{Held, state}
 use Rattle.sqlite.specs.State.{State as Connected, HasCleanDisk}
 use Rattle.commands.specs.declared.replies.Fault.{Fault}
-use Rattle.commands.specs.declared.replies.Fault.TheVariants as fault
 use Rattle.desk_sql.specs.declared.versions.Version.TheVariants.{Two}
 use Rattle.ledger.specs.Answer.{State}
 use Rattle.ledger.specs.World.{Moment}
@@ -24,17 +22,15 @@ use Rattle.http_live.specs.declared.slots.Slot.{Slot}
 use Rattle.http_live.specs.Whole.{EndsOver, GoOnByTurns}
 use Rattle.http_conversations.specs.Worlds as by_exchange
 use Rattle.http_live.specs.declared.serving.Ending.{Ending}
-use Rattle.http_live.specs.declared.serving.Ending.TheVariants.{NoTurn, Stopped, Spent}
 use Rattle.http_live.specs.declared.serving.Turns as Turns
+use Rattle.desk_jobs.specs.Chains.{StandsAs}
 use Rattle.desk_jobs.specs.Executions.{EachMayReopen}
 use Rattle.desk_jobs.specs.Openings.{Connections, Nothing}
 use Rattle.desk_jobs.specs.Stages.{Stood}
-use Rattle.desk_jobs.proofs.StageLemmas.{either, exchanges_answered, exchanges_served, not_asked}
+use Rattle.desk_jobs.proofs.StageLemmas.{either, exchanges_answered, some_served, unasked}
 use Rattle.program_ends.specs.Ends.{EndsBadly, EndsJob}
 use Rattle.program_ends.specs.declared.ended.Ended.{Ended}
 use Rattle.program_ends.specs.declared.ends.End.{End}
-use Rattle.program_ends.specs.declared.ends.End.TheVariants as finish
-use Rattle.program_ends.specs.declared.faults.ProgramFault.TheVariants as program
 use Rattle.tables.specs.Acting.{HasReasonSince, MayActSince}
 use Rattle.tables.specs.BookTerms.{LeavesBook, StandsBook}
 use Rattle.tables.specs.Making.{LetsGo}
@@ -43,45 +39,24 @@ use Rattle.desk_jobs.specs.Following.{FollowsDesk}
 use Rattle.desk_jobs.specs.Jobs.{NotReady, Readies}
 use Rattle.desk_jobs.specs.Notes.{NotesEvents}
 use Rattle.desk_jobs.proofs.FollowLemmas.{follows_not_up, follows_up, leaves_follows, stands_follows}
+use Rattle.desk_jobs.proofs.RecoveredLemmas.{recovery_noted, unnoted}
 use Rattle.program_jobs.specs.Serving.{AreSentTheirPages, CameFrom, IsFrom, IsUnheard, IsUnserved, Serves, ServesDesk, end_of_serving, ready_line}
-use Rattle.program_jobs.proofs.LoadLemmas.{recovery_noted}
 
 -- where nobody could come, not all was done
 unserved_bad : (e : End) → IsUnserved e → EndsBadly e
-unserved_bad finish.Done is = absurd is
-unserved_bad (finish.Refused why) is = absurd is
-unserved_bad (finish.Fault f) is = tt
-unserved_bad (finish.Usage text) is = absurd is
+unserved_bad e is = grind arith
 
 -- who cannot be listened for cannot come
 pub unheard_unserved : (e : End) → IsUnheard e → IsUnserved e
-unheard_unserved finish.Done is = absurd is
-unheard_unserved (finish.Refused why) is = absurd is
-unheard_unserved (finish.Fault program.Memory) is = tt
-unheard_unserved (finish.Fault program.Net) is = tt
-unheard_unserved (finish.Fault program.Store) is = absurd is
-unheard_unserved (finish.Fault program.Write) is = absurd is
-unheard_unserved (finish.Fault program.Read) is = absurd is
-unheard_unserved (finish.Fault program.File) is = absurd is
-unheard_unserved (finish.Fault program.OpeningStore) is = absurd is
-unheard_unserved (finish.Fault program.OpeningMemory) is = absurd is
-unheard_unserved (finish.Usage text) is = absurd is
+unheard_unserved e is = grind arith
 
 -- where the store failed, not all was done
 broken_bad : (failed : Bool) (served : Result Ending Fault) → has_broken served ≡ true → EndsBadly (end_of_serving failed served)
-broken_bad failed (Ok ending) is = cc
-broken_bad failed (Err fault.Memory) is = cc
-broken_bad failed (Err fault.Store) is = tt
+broken_bad failed served is = grind arith
 
 -- serving ends as a job
 serving_job : (failed : Bool) (served : Result Ending Fault) → EndsJob (end_of_serving failed served)
-serving_job true (Ok NoTurn) = tt
-serving_job true (Ok Stopped) = tt
-serving_job false (Ok NoTurn) = tt
-serving_job false (Ok Stopped) = tt
-serving_job failed (Ok Spent) = tt
-serving_job failed (Err fault.Memory) = tt
-serving_job failed (Err fault.Store) = tt
+serving_job failed served = grind arith
 
 -- a crash leaves just what the connection stands for
 pub stood_leaves : (c : Connected) (s : State) → StoodFor Two c s → MayLeave c s s
@@ -104,9 +79,9 @@ module _ {S : Type 0} (g : Ghosts S) (b : TableBook S g) (new : Held S) where
         why = why;
         bad = bad;
         told = told;
-        goes = λ any. leaves_follows g b new (Some Nothing) any any ended.end bad (λ clean w here.
-            not_asked any (StandsBook g b) w (state g new).may_leave Nothing refl (refl, refl) here (λ db may.
-            elim (either (state g new) _ _ clean (left clean _ here.stands_there) db may) [
+        goes = λ any. leaves_follows g b new (Some Nothing) any any ended.end bad (λ clean w here db may.
+            unasked any any (StandsBook g b) w Nothing [] (StandsAs db) refl (refl, refl) here (Appends-nil any)
+            (elim (either (state g new) _ _ clean (left clean _ here.stands_there) db may) [
               | inl m ↦ m
               | inr m ↦ m
             ]));
@@ -120,11 +95,11 @@ module _ {S : Type 0} (g : Ghosts S) (b : TableBook S g) (new : Held S) where
         → FollowsDesk g b new (Some (Connections exchanges)) held held e
     follows_exchanges false bad goes =
         stands_follows g b new (Some (Connections exchanges)) held held e (λ clean w here.
-        exchanges_answered (state g new) (LeavesBook g last) clean gone.left (StandsBook g last) w held (Stood (state g new))
+        exchanges_answered (StandsBook g last) (LeavesBook g last) w held (Stood (state g new))
         (λ s stands. (Two, gone.found s stands)) exchanges (goes clean w here))
     follows_exchanges true bad goes =
         leaves_follows g b new (Some (Connections exchanges)) held held e (bad refl) (λ clean w here.
-        exchanges_served (state g new) (LeavesBook g last) clean gone.left (StandsBook g last) w held true exchanges (goes clean w here))
+        some_served (state g new) (LeavesBook g last) clean gone.left (StandsBook g last) w held exchanges (goes clean w here))
 
   pub guests_served : {T R W : Type 0} (r : Read.Ghosts R) (w : Write.Ghosts W) (t : Turns.Ghosts T R W) (has_failed : T → Bool)
       (listened_for : T → Type 0) (began : T) → listened_for began → (port : ℕ) (held holds : Option (List ℕ)) (first last : TableBook S g) (guests : T) (served : Result Ending Fault) (failed : Bool)
@@ -215,5 +190,5 @@ serves_not_ready law g Came port old new held noted end ended is failed =
         told = (0, Appends-nil held);
         goes = λ any. follows_not_up g old new (Some Nothing) any end law failed.left failed.bad tt;
       });
-      note = record { noted = λ clean s was. inl (keeps_same noted); may = inl (keeps_same noted) };
+      note = unnoted g old new noted;
     })

@@ -5,13 +5,21 @@ use Rattle.sqlite.specs.Held.{Held, state}
 use Rattle.sqlite.specs.State.{HasCleanDisk}
 use Rattle.desk_sql.specs.Calls.{Quiet}
 use Rattle.desk_sql.specs.Causes.{HasFaulted, IsUp}
+use Rattle.desk_sql.specs.declared.versions.Version.{Version}
 use Rattle.ledger.specs.Answer.{State}
 use Rattle.sql_model.proofs.Quieting.{quiet_keeps}
 use Rattle.tables.specs.Keeping.{KeepsIn}
 use Rattle.tables.specs.Lending.{IsOnlyRead}
+use Rattle.tables.specs.Opening.{Opens}
 use Rattle.tables.specs.declared.opening.Opened.{Opened}
+use Rattle.desk_jobs.specs.Connections.{RepresentsIn}
 use Rattle.report_writers.specs.Writing.{AnyDesk, ShowsIn}
 use Rattle.program_jobs.specs.Reporting.{IsDeskIn, ShowsOpened}
+
+-- what was opened keeps the state that the connection represented
+pub found_in : {S : Type 0} (g : Ghosts S) (old : Held S) (o : Opened S) (v : Version) (s : State) → Opens g old o.conn o.version → RepresentsIn g old v s
+    → IsDeskIn g o s
+found_in g old o v s opens was = record { desk = was.desk; keeps = λ at. opens.finds at v s was.stood }
 
 -- what was only read still keeps the state
 pub still_in : {S : Type 0} (g : Ghosts S) (old new : Opened S) (s : State) → IsOnlyRead g old new → IsDeskIn g old s → IsDeskIn g new s

@@ -1,15 +1,14 @@
 -- What a report that was written in blocks wrote to the writer behind them. For `showing`.
-use Rattle.std.proofs.Common.{◌≡◌, ◌∙◌, ap, refl, sym, subst, ℕ, zero, suc, List, [], take, append-nil, Option, None, Some}
+use Rattle.std.proofs.Common.{◌≡◌, ap, arith, sym, subst, ℕ, List, [], take, append-nil, Option, None, Some}
+use Rattle.std.proofs.Math.Seq.{take-nil}
 use Rattle.std.specs.Io.KnownBytes.{Appends, Keeps}
 use Rattle.streams.specs.Written.{WroteFront}
 use Rattle.streams.proofs.ByteLemmas.{appends_before, appends_none}
-use Rattle.commands.specs.declared.replies.Refusal.{Refusal}
 use Rattle.program_ends.specs.Ends.{end_of_both}
 use Rattle.desk_jobs.proofs.RecoveredLemmas.{done_as}
 use Rattle.program_ends.specs.declared.ends.End.{End}
 use Rattle.program_ends.specs.declared.ends.End.TheVariants as finish
 use Rattle.program_ends.specs.declared.faults.ProgramFault.TheVariants as fault
-use Rattle.program_jobs.specs.Jobs.{EndsReport}
 use Rattle.program_jobs.specs.Blocks.{blocks_contents, blocks_known, unsent}
 use Rattle.program_jobs.specs.Reporting.{ReportsIfThere}
 use Rattle.program_jobs.specs.declared.blocks.Blocks.{Blocks}
@@ -17,13 +16,7 @@ use Rattle.program_jobs.proofs.BlockLemmas.{reached, reached_front}
 
 -- where no byte was written, the bytes are kept
 kept_of : (x y : Option (List ℕ)) → Appends x y [] → Keeps x y
-kept_of None y wrote = tt
-kept_of (Some xs) None wrote = absurd wrote
-kept_of (Some xs) (Some ys) wrote = wrote ∙ append-nil xs
-
-take_none : (part : ℕ) → ◌≡◌ {A = List ℕ} (take part []) []
-take_none zero = refl
-take_none (suc part) = refl
+kept_of x y wrote = grind (arith, append-nil)
 
 -- `before` and `after` are the contents of the blocks, and `held` and `holds` those of the writer behind them
 module _ (before after held holds : Option (List ℕ)) where
@@ -33,10 +26,7 @@ module _ (before after held holds : Option (List ℕ)) where
     kept_all kept = kept_of held holds (all [] (appends_none before after kept))
 
     pub shown_all : (text : Option (List ℕ)) (e : End) → ReportsIfThere before after text e → ReportsIfThere held holds text e
-    shown_all None finish.Done told = absurd told
-    shown_all None (finish.Refused why) told = (told.0, kept_all told.1)
-    shown_all None (finish.Fault f) told = kept_all told
-    shown_all None (finish.Usage usage) told = kept_all told
+    shown_all None e told = grind (arith, kept_all)
     shown_all (Some text) e told = (
       told.0,
       record {
@@ -50,14 +40,11 @@ module _ (before after held holds : Option (List ℕ)) where
     kept_some : Keeps before after → Keeps held holds
     kept_some kept =
         let front = some [] (0, appends_none before after kept) in
-        kept_of held holds (subst (Appends held holds) (take_none front.0) front.1)
+        kept_of held holds (subst (Appends held holds) (take-nil front.0) front.1)
 
     pub shown_some : (text : Option (List ℕ)) (e : End) → ReportsIfThere before after text e
         → ReportsIfThere held holds text (end_of_both e (finish.Fault fault.Write))
-    shown_some None finish.Done told = absurd told
-    shown_some None (finish.Refused why) told = (told.0, kept_some told.1)
-    shown_some None (finish.Fault f) told = kept_some told
-    shown_some None (finish.Usage usage) told = kept_some told
+    shown_some None e told = grind (arith, kept_some)
     shown_some (Some text) finish.Done told = (tt, record { whole = tt; front = some text told.1.front })
     shown_some (Some text) (finish.Refused why) told = absurd told.0
     shown_some (Some text) (finish.Fault f) told = (tt, record { whole = tt; front = some text told.1.front })

@@ -1,5 +1,5 @@
 -- What a task over a file came to, as an invocation. For `do_over_file`.
-use Rattle.std.proofs.Common.{◌≡◌, sym, subst, inl, inr, ℕ, List, Option, Some, IfSome}
+use Rattle.std.proofs.Common.{sym, subst, inl, inr, ℕ, List, Option, Some}
 use Rattle.std.specs.Prelude.{◌⊎◌, option_map}
 use Rattle.std.specs.String.{string_bytes}
 use Rattle.sqlite_disk.specs.declared.Disk as disk
@@ -20,7 +20,7 @@ use Rattle.desk_jobs.specs.Jobs.{Leaves}
 use Rattle.desk_jobs.proofs.FollowLemmas.{lines_unserved}
 use Rattle.program_jobs.specs.Jobs.{KeepsDesk}
 use Rattle.program_jobs.specs.Loads.{Loads}
-use Rattle.program_jobs.specs.Outcomes.{HasEnded, end_of}
+use Rattle.program_jobs.specs.Outcomes.{end_of}
 use Rattle.program_jobs.specs.Streams.{IsUntouched, Streams}
 use Rattle.program_jobs.specs.Tasks.{CountsRecovery, Does, HasServed, Runs}
 use Rattle.http_conversations.specs.Worlds.{Exchange}
@@ -31,6 +31,7 @@ use Rattle.program_jobs.specs.declared.tasks.Task.{Task}
 use Rattle.program_jobs.specs.declared.tasks.Task.TheVariants as task
 use Rattle.program_jobs.specs.Invocations.{asked, unasked, RanTo}
 use Rattle.program_jobs.specs.InvokedTasks.{RanBytes, RanExchanges, RanTask}
+use Rattle.program_jobs.proofs.OutcomeLemmas.{ended_only}
 use Rattle.program_jobs.proofs.ComposeLemmas.{follows_ran, late_ran, ran_over, ran_still, shown_over, still_over}
 
 module _ {D : Type 0} {g : disk.Ghosts D} (law : EachMayReopen) (first : Image) (rest : Left D g)
@@ -55,26 +56,16 @@ module _ {D : Type 0} {g : disk.Ghosts D} (law : EachMayReopen) (first : Image) 
     asked_ran input held holds e follows =
         follows_ran first old openings opens new rest (Some input) held holds leaves.sound follows.left closes
 
-    run_ran : (o : Outcome) → HasEnded cause_of_end (Runs over_files old new t) o
-        → IfSome (option_map Lines t.input) (λ lines. RanTo (asked lines t.held t.holds) first rest)
-    run_ran (outcome.Ended ended) has =
-        follows_ran first old openings opens new rest (option_map Lines t.input) t.held t.holds leaves.sound has.1.follows.left closes
-    run_ran outcome.Shown has = absurd has
-    run_ran (outcome.Counted c) has = absurd has
-
-    load_ran : (source : Source) (name : List ℕ) (o : Outcome)
-        → HasEnded cause_of_load (Loads over_files old new t files source name) o
+    load_ran : (source : Source) (name : List ℕ) (e : End) → Loads over_files old new t files source name e
         → RanTo (asked Nothing t.held t.holds) first rest ⊎ RanBytes first rest files Came t source name
-    load_ran source name (outcome.Ended ended) has = elim has.1.either [
-      | inl nothing ↦ inl (asked_ran Nothing t.held t.holds ended.end nothing.follows)
+    load_ran source name e loads = elim loads.either [
+      | inl nothing ↦ inl (asked_ran Nothing t.held t.holds e nothing.follows)
       | inr loaded ↦ inr (record {
         bytes = loaded.bytes;
         read = loaded.read;
-        ran = asked_ran (File name loaded.bytes) t.held t.holds ended.end loaded.follows;
+        ran = asked_ran (File name loaded.bytes) t.held t.holds e loaded.follows;
       })
     ]
-    load_ran source name outcome.Shown has = absurd has
-    load_ran source name (outcome.Counted c) has = absurd has
 
     serve_ran : (port : ℕ) (o : Outcome) → HasServed over_files old new t files Came port o
         → RanTo (asked Nothing t.held t.held) first rest ⊎ RanExchanges first rest files Came t
@@ -108,9 +99,12 @@ module _ {D : Type 0} {g : disk.Ghosts D} (law : EachMayReopen) (first : Image) 
 
     pub task_ran : (work : Task) (o : Outcome) → Does over_files old new t files Came work o → RanTask first rest files Came t work
     task_ran (task.Serve port) o does = serve_ran port o does
-    task_ran task.Run o does = run_ran o does
+    task_ran task.Run o does = ended_only cause_of_end (Runs over_files old new t) (λ _. RanTask first rest files Came t task.Run) o does (λ ended runs.
+        follows_ran first old openings opens new rest (option_map Lines t.input) t.held t.holds leaves.sound runs.follows.left closes)
     task_ran task.Recover o does = recover_ran o does.0 does.1
-    task_ran (task.Load source batch) o does = load_ran source (string_bytes batch) o does
+    task_ran (task.Load source batch) o does =
+        ended_only cause_of_load (Loads over_files old new t files source (string_bytes batch))
+        (λ _. RanTask first rest files Came t (task.Load source batch)) o does (λ ended. load_ran source (string_bytes batch) ended.end)
     task_ran (task.Report report) o does = shown_ran does.keeps
     task_ran task.Migrate o does = still_ran does.0.follows
     task_ran task.Index o does = still_ran does.0.follows

@@ -17,12 +17,11 @@ use Rattle.program_ends.specs.declared.ends.End.{End}
 use Rattle.program_ends.specs.declared.ends.End.TheVariants as finish
 use Rattle.program_ends.specs.declared.faults.ProgramFault.{ProgramFault}
 use Rattle.program_ends.specs.declared.faults.ProgramFault.TheVariants as fault
-use Rattle.tables.specs.declared.books.TableBook.{TableBook}
 use Rattle.desk_jobs.specs.Ends.{IsFaultOfLoad, TellsAccepted}
-use Rattle.desk_jobs.specs.Following.{Follows, FollowsDesk}
-use Rattle.desk_jobs.specs.Jobs.{EndsOpened, LoadsDesk, NotReady, NotesRun}
+use Rattle.desk_jobs.specs.Following.{Follows}
+use Rattle.desk_jobs.specs.Jobs.{EndsOpened, NotReady, NotesRun}
 use Rattle.desk_jobs.specs.Loading.{EndsLoad}
-use Rattle.desk_jobs.specs.Notes.{MayNoteAll, NotesField, NotesSome, refused_field}
+use Rattle.desk_jobs.specs.Notes.{NotesField, refused_field}
 use Rattle.desk_jobs.specs.Reasons.{FailsToRun}
 use Rattle.program_jobs.specs.Sources.{AreReadFrom, IsFaultOfSource}
 use Rattle.program_jobs.specs.Streams.{Streams, IsOnlyWritten}
@@ -39,30 +38,6 @@ pub record IsUnread (t : Streams) (from : Source) (end : End) : Type 0 where
 -- a load that is read from a file reads nothing of the input
 abbrev pub ReadsSource : Streams → Source → Type 0
 ReadsSource t from = from ≢ source.Input → t.rest ≡ t.input
-
--- A load into a recovered desk.
-module _ {S : Type 0} (g : Ghosts S) (b : TableBook S g) (new : Held S) (t : Streams) (files : List ℕ → Option (List ℕ))
-    (from : Source) (name : List ℕ) where
-  -- the file was not read, and nothing was asked
-  pub record UnreadReady (end : End) : Type 0 where
-    pub unread : IsUnread t from end
-    pub follows : FollowsDesk g b new (Some Nothing) t.held t.holds end
-    pub unnoted : t.notes ≡ t.noted
-
-  -- these bytes of the file were read, and loaded
-  pub record LoadsReadyBytes (end : End) : Type 0 where
-    pub bytes : List ℕ
-    pub read : AreReadFrom files t.input from bytes
-    pub loads : LoadsDesk g b new (batch_of name bytes) t.held t.holds end
-    pub told : IfDone end (TellsAccepted t.held t.holds)
-    pub follows : FollowsDesk g b new (Some (File name bytes)) t.held t.holds end
-    pub ends : EndsOpened IsFaultOfLoad end
-    pub noted : NotesField (refused_field bytes end) t.noted t.notes
-
-  -- the one or the other
-  pub record LoadsReady (end : End) : Type 0 where
-    pub either : UnreadReady end ⊎ LoadsReadyBytes end
-    pub read : ReadsSource t from
 
 -- A load over a connection.
 module _ {S : Type 0} (g : Ghosts S) (old new : Held S) (t : Streams) (files : List ℕ → Option (List ℕ)) (from : Source)

@@ -1,5 +1,5 @@
 -- What a job came to, and its end once its connection was closed.
-use Rattle.std.specs.Prelude.{◌≡◌, ⊤, ℕ, List, Option, None}
+use Rattle.std.specs.Prelude.{◌≡◌, ⊤, ℕ, List, Option, None, Result, Ok, Err}
 use Rattle.std.specs.Option.{option_or}
 use Rattle.std.specs.Io.KnownBytes.{Appends}
 use Rattle.streams.specs.Written.{WroteFront}
@@ -21,6 +21,11 @@ abbrev pub count_line : Count → List ℕ
 count_line (count.Recovered made) = recovered_line made
 count_line (count.Migrated migrated) = migrated_line migrated.events
 count_line (count.Indexed indexed) = indexed_line indexed
+
+-- this was counted, or the job ended so, with the cause of that end
+abbrev pub outcome_of : {T : Type 0} → (T → Count) → Result T End → Outcome
+outcome_of counted (Ok made) = outcome.Counted (counted made)
+outcome_of counted (Err end) = outcome.Ended (record { end = end; cause = cause_of_end end })
 
 -- the end of a job before its connection is closed: where something was shown or counted, all was done
 abbrev pub end_of : Outcome → End

@@ -1,5 +1,5 @@
 -- What a report writes of a desk, and how it ends.
-use Rattle.std.specs.Prelude.{◌≡◌, ⊤, ℕ, List, Option, None, Some, Result, Ok, Err}
+use Rattle.std.specs.Prelude.{◌≡◌, ⊤, ℕ, Bool, true, false, List, Option, None, Some, Result, Ok, Err}
 use Rattle.std.specs.Io.KnownBytes.{Appends, Keeps}
 use Rattle.sqlite.specs.Store.{Ghosts}
 use Rattle.sqlite.specs.Held.{Held, state}
@@ -49,9 +49,10 @@ module _ {S : Type 0} (g : Ghosts S) (old new : Held S) where
   RefusesVersion (refusal.UnknownSchema n) = Tells g old new (opening.UnknownSchema n)
   RefusesVersion _ = ⊥
 
--- the end of a report that was begun: it was written, or a fault came
-abbrev pub end_of_report : {T : Type 0} → Result T ReportFault → End
-end_of_report (Ok done) = finish.Done
+-- the end of a report: it was written, there is no such journey, or a fault came
+abbrev pub end_of_report : Result Bool ReportFault → End
+end_of_report (Ok true) = finish.Done
+end_of_report (Ok false) = finish.Refused refusal.NoJourney
 end_of_report (Err f) = finish.Fault (fault_of_report f)
 
 -- the fault is one of a report: of memory, the store or the output, or of memory or the store while it was opened

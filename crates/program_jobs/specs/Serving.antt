@@ -24,7 +24,7 @@ use Rattle.http_live.specs.declared.connection.Connection.{Connection}
 use Rattle.http_live.specs.Whole.{EndsOver, StopsAs}
 use Rattle.http_live.specs.declared.slots.Slot.{Slot}
 use Rattle.http_live.specs.declared.serving.Ending.{Ending}
-use Rattle.http_live.specs.declared.serving.Ending.TheVariants.{NoTurn, Stopped, Spent}
+use Rattle.http_live.specs.declared.serving.Ending.TheVariants.{Spent}
 use Rattle.http_live.specs.declared.serving.Turns as Turns
 use Rattle.desk_jobs.specs.Openings.{Connections, Input, Nothing}
 use Rattle.program_ends.specs.Causes.{cause_of_end}

@@ -3,11 +3,11 @@ ghost use Rattle.desk_sql.specs.Calls.{Idle};
 ghost use Rattle.desk_jobs.specs.Jobs.{Leaves};
 ghost use Rattle.program_jobs.specs.Serving.{CameFrom};
 ghost use Rattle.program_jobs.specs.Streams.{streams};
-ghost use Rattle.program_jobs.specs.Tasks.{Does, CountsIndex, CountsMigration, CountsRecovery};
+ghost use Rattle.program_jobs.specs.Tasks.{Does};
 
 use crate::environment::Environment;
 use crate::loading::load_from;
-use crate::outcomes::{Count, Outcome};
+use crate::outcomes::Outcome;
 use crate::serving::serve_over;
 use crate::showing::show_over;
 use crate::tasks::Task;
@@ -49,7 +49,10 @@ pub fn do_job<S: Alter + Drop, E: Environment, R: Read, O: Write, N: Write>(
             let (conn, ended) = serve_over(alloc, conn, *port, environment, out, notes);
             (conn, Outcome::Ended(ended))
         }
-        Task::Recover => recover(alloc, conn),
+        Task::Recover => {
+            let (conn, recovered) = recover_over(alloc, conn);
+            (conn, Outcome::of_recovery(recovered))
+        }
         Task::Load { source, batch } => {
             let batch = batch.as_str();
             let (conn, end) = load_from(
@@ -68,47 +71,13 @@ pub fn do_job<S: Alter + Drop, E: Environment, R: Read, O: Write, N: Write>(
             let (conn, end) = show_over(alloc, conn, report, out);
             (conn, Outcome::of_report(end))
         }
-        Task::Migrate => migrate_tables(conn),
-        Task::Index => add_index(conn),
-    }
-}
-
-/// Recovers the desk, and counts what that made.
-fn recover<S: Alter + Drop>(alloc: Global, conn: Connection<S>) -> (Connection<S>, Outcome)
-    requires idle { Idle conn }
-
-    ensures counts { CountsRecovery S.Store conn result.0 result.1 }
-    ensures leaves { Leaves S.Store conn result.0 }
-{
-    let (conn, recovered) = recover_over(alloc, conn);
-    match recovered {
-        Ok(made) => (conn, Outcome::Counted(Count::Recovered(made))),
-        Err(end) => (conn, Outcome::Ended(Ended::from(end))),
-    }
-}
-
-/// Migrates the tables, and counts the events.
-fn migrate_tables<S: Alter + Drop>(conn: Connection<S>) -> (Connection<S>, Outcome)
-    requires idle { Idle conn }
-
-    ensures counts { CountsMigration S.Store conn result.0 result.1 }
-    ensures leaves { Leaves S.Store conn result.0 }
-{
-    match migrate_over(conn) {
-        (conn, Ok(migrated)) => (conn, Outcome::Counted(Count::Migrated(migrated))),
-        (conn, Err(end)) => (conn, Outcome::Ended(Ended::from(end))),
-    }
-}
-
-/// Adds the index, and counts the journeys.
-fn add_index<S: Alter + Drop>(conn: Connection<S>) -> (Connection<S>, Outcome)
-    requires idle { Idle conn }
-
-    ensures counts { CountsIndex S.Store conn result.0 result.1 }
-    ensures leaves { Leaves S.Store conn result.0 }
-{
-    match index_over(conn) {
-        (conn, Ok(indexed)) => (conn, Outcome::Counted(Count::Indexed(indexed))),
-        (conn, Err(end)) => (conn, Outcome::Ended(Ended::from(end))),
+        Task::Migrate => {
+            let (conn, migrated) = migrate_over(conn);
+            (conn, Outcome::of_migration(migrated))
+        }
+        Task::Index => {
+            let (conn, indexed) = index_over(conn);
+            (conn, Outcome::of_index(indexed))
+        }
     }
 }

@@ -1,21 +1,20 @@
 //! Loads of allotment files, each after the recovery of its desk.
 ghost use Rattle.std.specs.Prelude.{◌≢◌, ◌≡◌, IfErr, IfOk};
 ghost use Rattle.desk_sql.specs.Calls.{Idle};
-ghost use Rattle.desk_jobs.specs.Jobs.{Leaves, LeavesDesk};
-ghost use Rattle.program_jobs.specs.Loads.{Loads, LoadsReady};
+ghost use Rattle.desk_jobs.specs.Jobs.{Leaves};
+ghost use Rattle.program_jobs.specs.Loads.{Loads};
 ghost use Rattle.program_jobs.specs.Sources.{ArePrefixOf, AreReadFrom, IsFaultOfInput, IsFaultOfSource};
 ghost use Rattle.program_jobs.specs.Streams.{streams};
 
 use crate::environment::Environment;
 use crate::tasks::Source;
 use commands::MOST_BYTES;
-use desk_jobs::{load_over, note_recovered, note_wrong_field, ready_over, reopenings};
+use desk_jobs::{let_go, load_over, note_recovered, note_wrong_field, ready_over, reopenings};
 use program_ends::{End, ProgramFault};
-use recovery::{Ready, one_recovery};
+use recovery::one_recovery;
 use sqlite::{Alter, Connection};
 use std::alloc::Global;
 use std::io::{ErrorKind, Read, Write};
-use tables::TableBook;
 
 /// The most bytes that are read of an allotment file: one more than it may have.
 const MOST_READ: u64 = MOST_BYTES as u64 + 1;
@@ -45,36 +44,17 @@ pub(crate) fn load_from<S: Alter + Drop, E: Environment, R: Read, O: Write, N: W
     match ready_over(alloc, conn) {
         Ok((desk, made)) => {
             note_recovered(alloc, made, notes);
-            load_ready(alloc, desk, source, batch, environment, reader, out, notes)
+            match read_source(alloc, source, environment, reader) {
+                Ok(bytes) => {
+                    let bytes = bytes.as_slice();
+                    let (conn, end) = load_over(alloc, desk, batch, bytes, out);
+                    note_wrong_field(alloc, bytes, &end, notes);
+                    (conn, end)
+                }
+                Err(fault) => (let_go(desk), End::Fault(fault)),
+            }
         }
         Err((conn, end)) => (conn, end),
-    }
-}
-
-/// Does the same into a recovered desk. Returns its connection, and the end.
-fn load_ready<S: Alter + Drop, E: Environment, R: Read, O: Write, N: Write>(
-    alloc: Global,
-    desk: Ready<TableBook<S>>,
-    source: &Source,
-    batch: &str,
-    environment: &mut E,
-    reader: &mut R,
-    out: &mut O,
-    notes: &mut N,
-) -> (Connection<S>, End)
-    ensures loads { LoadsReady S.Store desk result.0
-        (streams (R.remaining reader.old) (R.remaining reader.new) (O.contents out.old)
-        (O.contents out.new) (N.contents notes.old) (N.contents notes.new))
-        (E.bytes_of environment.old) source.now batch.now result.1 }
-    ensures leaves { LeavesDesk S.Store desk result.0 }
-{
-    match read_source(alloc, source, environment, reader) {
-        Ok(bytes) => {
-            let (conn, end) = load_over(alloc, desk, batch, bytes.as_slice(), out);
-            note_wrong_field(alloc, bytes.as_slice(), &end, notes);
-            (conn, end)
-        }
-        Err(fault) => (desk.into_inner().into_store(), End::Fault(fault)),
     }
 }
 

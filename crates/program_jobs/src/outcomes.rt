@@ -1,10 +1,7 @@
 //! What a job came to, and its end once the connection was closed.
 ghost use Rattle.std.specs.Prelude.{◌≡◌};
-ghost use Rattle.std.specs.Io.KnownBytes.{Appends};
-ghost use Rattle.streams.specs.Written.{WroteFront};
-ghost use Rattle.program_ends.specs.Ends.{EndsJob, IfDone};
-ghost use Rattle.desk_jobs.specs.Ends.{EndsWriting};
-ghost use Rattle.program_jobs.specs.Outcomes.{Closes, IsReported, count_line, end_of, end_or};
+ghost use Rattle.desk_jobs.specs.Ends.{TellsLine};
+ghost use Rattle.program_jobs.specs.Outcomes.{Closes, IsReported, count_line, end_of, end_or, outcome_of};
 
 use desk_jobs::{Recovered, tell_indexed, tell_migrated};
 use program_ends::{End, Ended};
@@ -37,11 +34,7 @@ pub enum Outcome {
 impl Count {
     /// Writes the line of the count, and flushes it. At a fault a prefix of it was written.
     fn tell<O: Write>(self, alloc: Global, out: &mut O) -> End
-        ensures told { IfDone result (Appends (O.contents out.old) (O.contents out.new)
-            (count_line self)) }
-        ensures front { WroteFront (O.contents out.old) (O.contents out.new) (count_line self) }
-        ensures end { EndsJob result }
-        ensures writing { EndsWriting result }
+        ensures tells { TellsLine (O.contents out.old) (O.contents out.new) (count_line self) result }
     {
         match self {
             Count::Recovered(made) => made.tell(alloc, out),
@@ -52,6 +45,36 @@ impl Count {
 }
 
 impl Outcome {
+    /// What a recovery counted, or why it failed.
+    pub(crate) fn of_recovery(recovered: Result<Recovered, End>) -> Outcome
+        ensures outcome { result ≡ outcome_of (λ made. Count.Recovered made) recovered }
+    {
+        match recovered {
+            Ok(made) => Outcome::Counted(Count::Recovered(made)),
+            Err(end) => Outcome::Ended(Ended::from(end)),
+        }
+    }
+
+    /// What a migration counted, or why it failed.
+    pub(crate) fn of_migration(migrated: Result<Migrated, End>) -> Outcome
+        ensures outcome { result ≡ outcome_of (λ events. Count.Migrated events) migrated }
+    {
+        match migrated {
+            Ok(events) => Outcome::Counted(Count::Migrated(events)),
+            Err(end) => Outcome::Ended(Ended::from(end)),
+        }
+    }
+
+    /// What an index counted, or why there is none.
+    pub(crate) fn of_index(indexed: Result<Indexed, End>) -> Outcome
+        ensures outcome { result ≡ outcome_of (λ journeys. Count.Indexed journeys) indexed }
+    {
+        match indexed {
+            Ok(journeys) => Outcome::Counted(Count::Indexed(journeys)),
+            Err(end) => Outcome::Ended(Ended::from(end)),
+        }
+    }
+
     /// The end of a report: one that was written whole was shown.
     pub(crate) fn of_report(end: End) -> Outcome
         ensures end { end_of result ≡ end }

@@ -1,17 +1,15 @@
 //! The job of a report, of a desk that is not recovered.
-ghost use Rattle.std.specs.Prelude.{◌≡◌, ◌≢◌, ℕ, false, List, Option, Ok, Err, IfErr};
-ghost use Rattle.std.specs.Io.KnownBytes.{Keeps};
+ghost use Rattle.std.specs.Prelude.{◌≡◌, ◌≢◌, ℕ, false, List, Option, Ok, Err};
 ghost use Rattle.sqlite.specs.Held.{state};
 ghost use Rattle.sqlite.specs.State.{HasCleanDisk};
 ghost use Rattle.desk_sql.specs.Calls.{Idle};
 ghost use Rattle.desk_sql.specs.declared.versions.Version.{Version};
 ghost use Rattle.ledger.specs.Answer.{State};
 ghost use Rattle.desk_jobs.specs.Connections.{RepresentsIn};
-ghost use Rattle.report_kinds.specs.Texts.{IsOfJourney};
 ghost use Rattle.saga_core.specs.declared.report.Report.{Report};
 ghost use Rattle.report_writers.specs.Writing.{WritesIfThere};
 ghost use Rattle.program_jobs.specs.Jobs.{EndsReport, FailsReport, KeepsDesk, RefusesAbsent, RefusesToShow};
-ghost use Rattle.program_jobs.specs.Reporting.{end_of_report, Reports, ReportsIfThere, ShowsOpened};
+ghost use Rattle.program_jobs.specs.Reporting.{end_of_report, Reports, ShowsOpened};
 
 use commands::Refusal;
 use desk_jobs::end_of_opening;
@@ -66,44 +64,37 @@ pub fn tell_report<S: Alter, O: Write>(
 {
     let version = opened.version();
     let done = write_report(alloc, report, version, opened.connection(), out);
-    finish(done, out)
+    end_of_report(flush_written(done, out))
 }
 
-/// Flushes the writer after a report that was written so, if there was one, and returns its end.
-fn finish<O: Write>(done: Result<bool, ReportFault>, out: &mut O) -> End
-    ensures told { (held : Option (List ℕ)) → (text : Option (List ℕ)) →
+/// Flushes the writer after a report that was written.
+#[tactic(auto, using(crate::proofs::ReportLemmas::flushed, crate::proofs::ReportLemmas::unflushed))]
+fn flush_written<O: Write>(
+    done: Result<bool, ReportFault>,
+    out: &mut O,
+) -> Result<bool, ReportFault>
+    ensures written { (held : Option (List ℕ)) → (text : Option (List ℕ)) →
         WritesIfThere held (O.contents out.old) text done →
-        ReportsIfThere held (O.contents out.new) text result }
-    ensures ends { (report : Report) → (done ≡ Ok false → IsOfJourney report) →
-        EndsReport (RefusesAbsent report) result }
-    ensures fails { result ≡ End.Fault ProgramFault.Store → done ≡ Err ReportFault.Store }
-    ensures opened { result ≢ End.Fault ProgramFault.OpeningStore }
+        WritesIfThere held (O.contents out.new) text result }
+    ensures absent { result ≡ Ok false → done ≡ Ok false }
+    ensures store { result ≡ Err ReportFault.Store → done ≡ Err ReportFault.Store }
 {
     match done {
-        Ok(true) => end_of_report(flush(out)),
-        Ok(false) => End::Refused(Refusal::NoJourney),
-        Err(fault) => end_of_report(Err(fault)),
+        Ok(true) => match out.flush() {
+            Ok(()) => Ok(true),
+            Err(_) => Err(ReportFault::Write),
+        },
+        done => done,
     }
 }
 
-/// The end of a report that was begun: it was written, or a fault came.
-fn end_of_report(done: Result<(), ReportFault>) -> End
+/// The end of a report that was written so, if there was one.
+fn end_of_report(done: Result<bool, ReportFault>) -> End
     ensures end { result ≡ end_of_report done }
-    ensures ends { EndsReport (λ _. ⊥) result }
 {
     match done {
-        Ok(()) => End::Done,
+        Ok(true) => End::Done,
+        Ok(false) => End::Refused(Refusal::NoJourney),
         Err(fault) => End::Fault(fault.into()),
-    }
-}
-
-/// Flushes the writer.
-fn flush<O: Write>(out: &mut O) -> Result<(), ReportFault>
-    ensures same { Keeps (O.contents out.old) (O.contents out.new) }
-    ensures write { IfErr result (λ fault. fault ≡ ReportFault.Write) }
-{
-    match out.flush() {
-        Ok(()) => Ok(()),
-        Err(_) => Err(ReportFault::Write),
     }
 }

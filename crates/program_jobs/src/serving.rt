@@ -1,16 +1,15 @@
 //! Serving who comes, after the recovery of a desk.
-ghost use Rattle.std.specs.Prelude.{◌≡◌, IfErr, IfOk, OnOk};
+ghost use Rattle.std.specs.Prelude.{◌≡◌, OnOk};
 ghost use Rattle.std.specs.Io.KnownBytes.{Appends};
 ghost use Rattle.streams.specs.Written.{WroteFront};
 ghost use Rattle.desk_sql.specs.Calls.{Idle};
-ghost use Rattle.desk_jobs.specs.Ends.{IsOfWriting};
+ghost use Rattle.desk_jobs.specs.Ends.{SendsLine};
 ghost use Rattle.desk_jobs.specs.Jobs.{Leaves, LeavesDesk};
-ghost use Rattle.tables.specs.Making.{LetsGo};
-ghost use Rattle.program_jobs.specs.Serving.{CameFrom, IsFrom, OpensTo, Serves, ServesDesk, end_of_serving, ready_line};
+ghost use Rattle.program_jobs.specs.Serving.{CameFrom, OpensTo, Serves, ServesDesk, end_of_serving, ready_line};
 
 use crate::environment::Environment;
 use commands::Fault;
-use desk_jobs::{note_recovered, ready_over, reopenings};
+use desk_jobs::{let_go, note_recovered, ready_over, reopenings, send_line};
 use http_live::{Ending, Turns, serve_to_end};
 use program_ends::{End, Ended, ProgramFault};
 use recovery::{Ready, one_recovery};
@@ -18,7 +17,7 @@ use saga_core::Book;
 use sqlite::{Alter, Connection};
 use std::alloc::Global;
 use std::io::{Read, Write};
-use streams::{ServeFault, send};
+use streams::ServeFault;
 use tables::TableBook;
 
 /// Recovers the desk of a connection, and serves who comes until there is a reason to end. Once somebody may come, the line
@@ -76,24 +75,17 @@ fn serve_ready<S: Alter + Drop, E: Environment, O: Write>(
                 Ok(()) => {
                     let served = serve_to_end(alloc, &mut guests, &mut desk);
                     let has_failed = environment.dismiss(guests);
-                    let_go(desk, end_of_serving(has_failed, served))
+                    let end = end_of_serving(has_failed, served);
+                    (let_go(desk), Ended::from(end))
                 }
                 Err(fault) => {
                     let _ = environment.dismiss(guests);
-                    let_go(desk, End::Fault(fault))
+                    (let_go(desk), Ended::from(End::Fault(fault)))
                 }
             }
         }
-        Err(ended) => (desk.into_inner().into_store(), ended),
+        Err(ended) => (let_go(desk), ended),
     }
-}
-
-/// The connection of a desk, as it is, and this end.
-fn let_go<S: Alter>(desk: Ready<TableBook<S>>, end: End) -> (Connection<S>, Ended)
-    ensures gone { LetsGo S.Store desk result.0 }
-    ensures ended { IsFrom end result.1 }
-{
-    (desk.into_inner().into_store(), Ended::from(end))
 }
 
 /// Counts what the book has, which it then knows, and writes the line that reports that somebody may come.
@@ -119,13 +111,9 @@ fn open_to_guests<B: Book, O: Write>(
 
 /// Writes the line that reports that connections to a port are accepted, and flushes it.
 fn send_ready<O: Write>(alloc: Global, port: u16, out: &mut O) -> Result<(), ServeFault>
-    ensures sent { OnOk result (Appends (O.contents out.old) (O.contents out.new)
-        (ready_line port)) }
-    ensures front { WroteFront (O.contents out.old) (O.contents out.new) (ready_line port) }
-    ensures fault { IfErr result IsOfWriting }
+    ensures sends { SendsLine (O.contents out.old) (O.contents out.new) (ready_line port) result }
 {
-    let line = format!(in alloc; "ready {port}\n")?;
-    Ok(send(out, line.as_bytes())?)
+    send_line(format!(in alloc; "ready {port}\n"), out)
 }
 
 /// The end of serving that came to this, where the system failed meanwhile, or did not.

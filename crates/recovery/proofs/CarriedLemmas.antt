@@ -86,15 +86,12 @@ module _ {p : Pass} {stood : State → Type 0} {s : State} {after made rounds : 
     pub carried-further : {stands : State → Type 0} → goes_on p b.cursor.phase ≡ false → stands (with_events s t.grew.events)
         → CarriedSoFar p stands s b.id made (rounds + 1)
     carried-further rests here =
-        let higher = found.above in
         let treated = t.treated in
-        let inside = found.within in
-        let fewer = journeys-fewer (s.ledger ++ t.grew.events) in
         record {
           grew = grew-as t.grew (reached-past (makes p) (goes_on p) s.ledger t.grew.events b.id come-to
               (first-in (goes_on p) (s.ledger ++ t.grew.events) after b found ∙ rests)) here;
-          treated = omega (arith, higher, treated);
-          below = omega (arith, inside, fewer);
+          treated = grind (arith, found, treated);
+          below = grind (arith, found, journeys-fewer);
         }
 
     -- the pass is done with it
@@ -102,20 +99,13 @@ module _ {p : Pass} {stood : State → Type 0} {s : State} {after made rounds : 
         → Grew stands (CarryOut p b.id (s.ledger ++ t.grew.events)) (with_events s t.grew.events) more
         → total ≡ made + more → CarriedSoFar p stands s b.id total (rounds + 1)
     carried-more g sum =
-        let higher = found.above in
         let treated = t.treated in
-        let inside = found.within in
-        let fewer = journeys-fewer (s.ledger ++ t.grew.events) in
-        let all : length (s.ledger ++ t.grew.events) ≡ length s.ledger + length t.grew.events = length-append s.ledger t.grew.events in
-        let longer : length (t.grew.events ++ g.events) ≡ length t.grew.events + length g.events = length-append t.grew.events g.events in
-        let whole : length (s.ledger ++ (t.grew.events ++ g.events)) ≡ length s.ledger + length (t.grew.events ++ g.events) =
-        length-append s.ledger (t.grew.events ++ g.events) in
         record {
           grew = grew-join t.grew g (reached-past (makes p) (goes_on p) s.ledger (t.grew.events ++ g.events) b.id
               (under-more g.events g.are.carry)
               (ap (λ m. is_in (goes_on p) m b.id) (sym (append_assoc s.ledger t.grew.events g.events)) ∙ g.are.done)) sum;
-          treated = omega (arith, higher, treated);
-          below = omega (arith, inside, fewer, all, longer, whole);
+          treated = grind (arith, found, treated);
+          below = grind (arith, found, journeys-fewer, length-append);
         }
 
     -- the ledger was full within it

@@ -1,6 +1,6 @@
 -- The requests of recovery make its events. For the executions of `recover`.
-use Rattle.std.proofs.Common.{◌≡◌, ℕ, ◌+◌, ◌<◌, ◌≤◌, List, [], ◌∷◌, ◌++◌, length, refl, ap, sym, ◌∙◌, arith, append_assoc, length-append, eqb-true, Bool, true, false, filter, map, Option, Some, None, option_to_list, IsTrue}
-use Rattle.std.proofs.lemmas.Bool.{and_parts, and_from, false_from_ne_true}
+use Rattle.std.proofs.Common.{◌≡◌, ℕ, ◌+◌, ◌<◌, ◌≤◌, List, [], ◌∷◌, ◌++◌, length, refl, ap, sym, ◌∙◌, arith, append_assoc, length-append, eqb-true, Bool, true, false, filter, map, Some, None, option_to_list, IsTrue}
+use Rattle.std.proofs.lemmas.Bool.{and_parts, and_from}
 use Rattle.std.proofs.lemmas.List.{append_cancel_left}
 use Rattle.std.proofs.lemmas.List.Folds.{list_all-append}
 use Rattle.std.specs.List.{list_all}
@@ -12,12 +12,11 @@ use Rattle.commands.specs.declared.items.Item.TheVariants.{Transaction, Compensa
 use Rattle.commands.specs.declared.items.Phase.{Phase}
 use Rattle.ledger.specs.Answer.{State, outcome, most_events, is_request}
 use Rattle.ledger.specs.History.{is_running, is_open, is_finished, is_compensation}
-use Rattle.ledger.specs.Ledger.{Event, Loaded, Began, Did, Journey, journey_at, numbers, history, is_in, is_allowed, is_item_allowed, AreAllowedAfter, IsLegal}
+use Rattle.ledger.specs.Ledger.{Event, Loaded, Began, Did, numbers, is_in, is_allowed, is_item_allowed, AreAllowedAfter, IsLegal}
 use Rattle.ledger.specs.Recovery.{stops, last_save_of, are_items, is_forward, IsRecovered}
 use Rattle.ledger.specs.World.{events_of}
 use Rattle.ledger.proofs.Deciding.{each_open_has_one, no_finished_goes_on}
 use Rattle.ledger.proofs.Growing.{is_item_allowed-may_do, is_item_allowed-none, AreAllowedAfter-join}
-use Rattle.ledger.proofs.Phases.{passing}
 use Rattle.ledger.proofs.Recovering.{AreAllowedAfter-split}
 use Rattle.saga_core.specs.Runs.{state_after}
 use Rattle.saga_core.specs.Worlds.{dones, KeepLimits}
@@ -104,15 +103,7 @@ unfinished-open p e = grind arith
 
 allowed-open : (l : List Event) (j : ℕ) (item : Item) → is_item_allowed l j item ≡ true
     → is_in is_open l j ≡ true
-allowed-open l j item may = go (journey_at l j) refl
-  where
-    go : (o : Option Journey) → journey_at l j ≡ o → is_in is_open l j ≡ true
-    go None at = clash (sym may ∙ is_item_allowed-none l j item at)
-    go (Some a) at =
-        ap (passing is_open (history l j)) at
-        ∙ unfinished-open _ (false_from_ne_true _ (λ ended.
-        clash (sym may ∙ no_finished_goes_on l j item
-        (ap (passing is_finished (history l j)) at ∙ ended))))
+allowed-open l j item may = grind (arith, clash, is_item_allowed-none, no_finished_goes_on, unfinished-open)
 
 -- a stop that is allowed is the one that recovery makes
 stop-made : (s : State) (j p : ℕ) → is_item_allowed s.ledger j (Turn p cause.Stop) ≡ true

@@ -25,41 +25,36 @@ turns-begin l events legal first =
 pub back-begins : (l turned back : List Event) → IsLegal l → turned ≡ stops l
     → IsUnderWay Back (l ++ turned) back → AreBeginning l (turned ++ back)
 back-begins l turned back legal is under =
-    subst (λ t. IsUnderWay Back (l ++ t) back → AreBeginning l (t ++ back)) (sym is)
-    (λ (u : IsUnderWay Back (l ++ stops l) back).
-    subst (BeginsRecovered l) (append_assoc l (stops l) back)
+    let u : IsUnderWay Back (l ++ stops l) back = rw is at under in
+    rw is (subst (BeginsRecovered l) (append_assoc l (stops l) back)
     (recovery-goes_on l legal ((l ++ stops l) ++ back) (going_back back u.number u.reached)))
-    under
 
 -- so are all turns, the whole way back, and a part of the way on
 pub on-begins : (l turned back on : List Event) → IsLegal l → turned ≡ stops l
     → IsThrough Back (l ++ turned) back → IsUnderWay On ((l ++ turned) ++ back) on
     → AreBeginning l ((turned ++ back) ++ on)
 on-begins l turned back on legal is through under =
-    subst (λ t. IsThrough Back (l ++ t) back → IsUnderWay On ((l ++ t) ++ back) on
-    → AreBeginning l ((t ++ back) ++ on)) (sym is)
-    (λ (b : IsThrough Back (l ++ stops l) back) (u : IsUnderWay On ((l ++ stops l) ++ back) on).
-    subst (BeginsRecovered l)
+    let b : IsThrough Back (l ++ stops l) back = rw is at through in
+    let u : IsUnderWay On ((l ++ stops l) ++ back) on = rw is at under in
+    rw is (subst (BeginsRecovered l)
     (ap (λ m. m ++ on) (append_assoc l (stops l) back) ∙ append_assoc l (stops l ++ back) on)
     (recovery-goes_on l legal (((l ++ stops l) ++ back) ++ on)
     (going_on back on b.under_way.number u.number b.under_way.reached b.done u.reached)))
-    through under
 
 -- all three passes together are recovery
 pub on-recovers : (l turned back on : List Event) → turned ≡ stops l
     → IsThrough Back (l ++ turned) back → IsThrough On ((l ++ turned) ++ back) on
     → IsLegal (((l ++ turned) ++ back) ++ on) → IsRecovered l (l ++ ((turned ++ back) ++ on))
 on-recovers l turned back on is through forth legal =
-    subst (λ t. IsThrough Back (l ++ t) back → IsThrough On ((l ++ t) ++ back) on
-    → IsLegal (((l ++ t) ++ back) ++ on) → IsRecovered l (l ++ ((t ++ back) ++ on))) (sym is)
-    (λ (b : IsThrough Back (l ++ stops l) back) (u : IsThrough On ((l ++ stops l) ++ back) on) fine.
-    subst (IsRecovered l)
+    let b : IsThrough Back (l ++ stops l) back = rw is at through in
+    let u : IsThrough On ((l ++ stops l) ++ back) on = rw is at forth in
+    rw is (subst (IsRecovered l)
     (ap (λ m. m ++ on) (append_assoc l (stops l) back) ∙ append_assoc l (stops l ++ back) on)
     (record {
       backward = back;
       forward = on;
       whole = refl;
-      legal = fine;
+      legal = rw is at legal;
       compensations = b.under_way.reached.items;
       by_number = b.under_way.reached.by_number;
       none_back = b.done;
@@ -67,7 +62,6 @@ on-recovers l turned back on is through forth legal =
       in_order = u.under_way.reached.by_number;
       all_finished = u.done;
     }))
-    through forth legal
 
 -- Recovery, as far as there is room.
 

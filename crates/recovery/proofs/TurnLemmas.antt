@@ -32,13 +32,10 @@ filter-skip test (suc n) first ys each =
     (each first (omega arith) (omega arith))
     ∙ filter-skip test n (suc first) ys (λ k low high. each k (omega arith) (omega arith))
 
--- where no journey between runs, the next of the numbers is this one
+-- where no journey between runs, this one is the next to turn, if it runs
 turns-next : (l : List Event) (a i : ℕ) → a < suc i → suc i ≤ length (journeys l)
     → ((k : ℕ) → a < k → k < suc i → is_in is_running l k ≡ false)
-    → turns_above l a
-    ≡ map (stop_of l) (cond (is_in is_running l (suc i))
-    (suc i ∷ filter (is_in is_running l) (numbers_from (suc (suc i)) (length (journeys l) - suc i)))
-    (filter (is_in is_running l) (numbers_from (suc (suc i)) (length (journeys l) - suc i))))
+    → turns_above l a ≡ cond (is_in is_running l (suc i)) (stop_of l (suc i) ∷ turns_above l (suc i)) (turns_above l (suc i))
 turns-next l a i above within between =
     ap (λ ns. map (stop_of l) (filter (is_in is_running l) ns))
     (numbers_between-join a i (length (journeys l)) (omega arith) (omega arith))
@@ -48,28 +45,20 @@ turns-next l a i above within between =
     (λ k low high. between k (omega arith) (omega arith)))
     ∙ ap (λ n. map (stop_of l) (filter (is_in is_running l) (numbers_from (suc i) n)))
     (let e : length (journeys l) - i ≡ suc (length (journeys l) - suc i) = omega arith in e)
+    ∙ go (is_in is_running l (suc i)) (filter (is_in is_running l) (numbers_from (suc (suc i)) (length (journeys l) - suc i)))
+  where
+    go : (v : Bool) (ns : List ℕ) → map (stop_of l) (cond v (suc i ∷ ns) ns) ≡ cond v (stop_of l (suc i) ∷ map (stop_of l) ns) (map (stop_of l) ns)
+    go true ns = refl
+    go false ns = refl
 
--- the next running journey turns
-pub turns-running : (l : List Event) (a j : ℕ) → a < j → j ≤ length (journeys l)
-    → ((k : ℕ) → a < k → k < j → is_in is_running l k ≡ false) → is_in is_running l j ≡ true
-    → turns_above l a ≡ stop_of l j ∷ turns_above l j
-turns-running l a zero above within between runs = absurd (omega arith)
-turns-running l a (suc i) above within between runs =
+-- the same by whether it runs
+pub turns-at : (l : List Event) (a j : ℕ) (v : Bool) → a < j → j ≤ length (journeys l)
+    → ((k : ℕ) → a < k → k < j → is_in is_running l k ≡ false) → is_in is_running l j ≡ v
+    → turns_above l a ≡ cond v (stop_of l j ∷ turns_above l j) (turns_above l j)
+turns-at l a zero v above within between is = absurd (omega arith)
+turns-at l a (suc i) v above within between is =
     turns-next l a i above within between
-    ∙ ap (λ v. map (stop_of l) (cond v
-    (suc i ∷ filter (is_in is_running l) (numbers_from (suc (suc i)) (length (journeys l) - suc i)))
-    (filter (is_in is_running l) (numbers_from (suc (suc i)) (length (journeys l) - suc i))))) runs
-
--- a journey that does not run makes no turn
-pub turns-other : (l : List Event) (a j : ℕ) → a < j → j ≤ length (journeys l)
-    → ((k : ℕ) → a < k → k < j → is_in is_running l k ≡ false) → is_in is_running l j ≡ false
-    → turns_above l a ≡ turns_above l j
-turns-other l a zero above within between rests = absurd (omega arith)
-turns-other l a (suc i) above within between rests =
-    turns-next l a i above within between
-    ∙ ap (λ v. map (stop_of l) (cond v
-    (suc i ∷ filter (is_in is_running l) (numbers_from (suc (suc i)) (length (journeys l) - suc i)))
-    (filter (is_in is_running l) (numbers_from (suc (suc i)) (length (journeys l) - suc i))))) rests
+    ∙ ap (λ w. cond w (stop_of l (suc i) ∷ turns_above l (suc i)) (turns_above l (suc i))) is
 
 -- where no journey above the number runs, no turn is left
 pub turns-none : (l : List Event) (a : ℕ) → ((k : ℕ) → a < k → is_in is_running l k ≡ false)
@@ -135,7 +124,7 @@ turning-more l a j events t above within between runs =
     let same = stop-same a j l (l ++ events) t.same above in
     record {
       all =
-          t.all ∙ ap (λ r. events ++ r) (turns-running l a j above within between runs)
+          t.all ∙ ap (λ r. events ++ r) (turns-at l a j true above within between runs)
           ∙ ap (λ e. events ++ (e ∷ turns_above l j)) (sym same)
           ∙ sym (append_assoc events (stop_of (l ++ events) j ∷ []) (turns_above l j));
       same =
@@ -149,6 +138,6 @@ pub turning-further : (l : List Event) (a j : ℕ) (events : List Event) → Tur
     → ((k : ℕ) → a < k → k < j → is_in is_running l k ≡ false) → is_in is_running l j ≡ false
     → Turning l j events
 turning-further l a j events t above within between rests = record {
-  all = t.all ∙ ap (λ r. events ++ r) (turns-other l a j above within between rests);
+  all = t.all ∙ ap (λ r. events ++ r) (turns-at l a j false above within between rests);
   same = same-further a j l (l ++ events) t.same above;
 }

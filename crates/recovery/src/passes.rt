@@ -1,5 +1,5 @@
 //! The passes of recovery, each over the unfinished journeys by rising number.
-ghost use Rattle.std.specs.Prelude.{◌≡◌, IfOk, IfErr, Option};
+ghost use Rattle.std.specs.Prelude.{◌≡◌, MatchResult, Option};
 ghost use Rattle.ledger.specs.History.{is_running};
 ghost use Rattle.saga_core.specs.Calls.{Serves};
 ghost use Rattle.saga_core.specs.Runs.{Asks};
@@ -63,11 +63,10 @@ fn is_running(phase: Phase) -> bool
 
 /// Turns each running journey back to its last save-point, once.
 pub fn turn_back<B: Book>(book: &mut B) -> Result<Came, Fault>
-    ensures came { B.is_sound book.new → (following : Option (B × Asks)) → IfOk result (λ came.
-        MadeStops (MayGoOn B.stands B.may_act following book.old)
-        (AfterPass B.stands B.may_act following book.new came) came) }
-    ensures fault { B.is_sound book.new → (following : Option (B × Asks)) → IfErr result (λ f.
-        MadeSomeStops (MayGoOn B.stands B.may_act following book.old)
+    ensures came { B.is_sound book.new → (following : Option (B × Asks)) → MatchResult result
+        (λ came. MadeStops (MayGoOn B.stands B.may_act following book.old)
+        (AfterPass B.stands B.may_act following book.new came) came)
+        (λ f. MadeSomeStops (MayGoOn B.stands B.may_act following book.old)
         (LeftAt B.stands B.leaves B.has_reason following book.new f) f) }
     ensures serves { Serves B.is_sound B.leaves B.has_failed book.old book.new Fault.Store result }
 {
@@ -93,11 +92,10 @@ pub fn turn_back<B: Book>(book: &mut B) -> Result<Came, Fault>
 
 /// Steps a journey until the pass is done with it.
 fn carry_one<B: Book>(book: &mut B, pass: Pass, id: u64) -> Result<Came, Fault>
-    ensures came { B.is_sound book.new → (following : Option (B × Asks)) → IfOk result (λ came.
-        CarriedOne (MayGoOn B.stands B.may_act following book.old)
-        (AfterPass B.stands B.may_act following book.new came) pass id came) }
-    ensures fault { B.is_sound book.new → (following : Option (B × Asks)) → IfErr result (λ f.
-        CarriedOneSome (MayGoOn B.stands B.may_act following book.old)
+    ensures came { B.is_sound book.new → (following : Option (B × Asks)) → MatchResult result
+        (λ came. CarriedOne (MayGoOn B.stands B.may_act following book.old)
+        (AfterPass B.stands B.may_act following book.new came) pass id came)
+        (λ f. CarriedOneSome (MayGoOn B.stands B.may_act following book.old)
         (LeftAt B.stands B.leaves B.has_reason following book.new f) pass id f) }
     ensures serves { Serves B.is_sound B.leaves B.has_failed book.old book.new Fault.Store result }
 {
@@ -117,11 +115,10 @@ fn carry_one<B: Book>(book: &mut B, pass: Pass, id: u64) -> Result<Came, Fault>
 
 /// Steps each journey with which the pass goes on, until the pass is done with it.
 pub fn carry<B: Book>(book: &mut B, pass: Pass) -> Result<Came, Fault>
-    ensures came { B.is_sound book.new → (following : Option (B × Asks)) → IfOk result (λ came.
-        CarriedAll (MayGoOn B.stands B.may_act following book.old)
-        (AfterPass B.stands B.may_act following book.new came) pass came) }
-    ensures fault { B.is_sound book.new → (following : Option (B × Asks)) → IfErr result (λ f.
-        CarriedSome (MayGoOn B.stands B.may_act following book.old)
+    ensures came { B.is_sound book.new → (following : Option (B × Asks)) → MatchResult result
+        (λ came. CarriedAll (MayGoOn B.stands B.may_act following book.old)
+        (AfterPass B.stands B.may_act following book.new came) pass came)
+        (λ f. CarriedSome (MayGoOn B.stands B.may_act following book.old)
         (LeftAt B.stands B.leaves B.has_reason following book.new f) pass f) }
     ensures serves { Serves B.is_sound B.leaves B.has_failed book.old book.new Fault.Store result }
 {

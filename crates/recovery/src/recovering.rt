@@ -1,5 +1,5 @@
 //! The whole of recovery.
-ghost use Rattle.std.specs.Prelude.{◌≡◌, IfOk, IfErr, IsTrue, Option};
+ghost use Rattle.std.specs.Prelude.{◌≡◌, IfOk, IfErr, MatchResult, IsTrue, Option};
 ghost use Rattle.saga_core.specs.Calls.{Serves, Stays};
 ghost use Rattle.saga_core.specs.Runs.{Asks};
 ghost use Rattle.recovery.specs.Following.{HasCome, LeftAt, MayGoOn};
@@ -15,11 +15,10 @@ use saga_core::Book;
 /// Runs the three passes, one after another, until one of them finds the ledger full. Returns how many events they
 /// made.
 fn recover_all<B: Book>(book: &mut B) -> Result<u64, Fault>
-    ensures recovered { B.is_sound book.new → (following : Option (B × Asks)) → IfOk result (λ made.
-        Recovers (MayGoOn B.stands B.may_act following book.old)
-        (HasCome B.stands B.may_act following book.new) made) }
-    ensures fault { B.is_sound book.new → (following : Option (B × Asks)) → IfErr result (λ f.
-        RecoversPart (MayGoOn B.stands B.may_act following book.old)
+    ensures recovered { B.is_sound book.new → (following : Option (B × Asks)) → MatchResult result
+        (λ made. Recovers (MayGoOn B.stands B.may_act following book.old)
+        (HasCome B.stands B.may_act following book.new) made)
+        (λ f. RecoversPart (MayGoOn B.stands B.may_act following book.old)
         (LeftAt B.stands B.leaves B.has_reason following book.new f) f) }
     ensures serves { Serves B.is_sound B.leaves B.has_failed book.old book.new Fault.Store result }
 {

@@ -1,5 +1,5 @@
 -- The cells that are asked for, in their only order. For `cell_rows`.
-use Rattle.std.proofs.Common.{◌≡◌, inl, inr, ℕ, List, [], ◌∷◌, map, filter, cond, Bool, true, false, Option, refl, ◌∙◌, arith, nat_le}
+use Rattle.std.proofs.Common.{◌≡◌, ◌≢◌, inl, inr, ℕ, List, [], ◌∷◌, map, filter, cond, Bool, true, Option, refl, subst, arith, nat_le}
 use Rattle.std.specs.Ordering.{is_lt}
 use Rattle.std.proofs.lemmas.Bool.{and_parts}
 use Rattle.std.proofs.lemmas.Bool.Decides.{nat_tests}
@@ -19,13 +19,12 @@ use Rattle.saga_core.specs.Views.{IsStock}
 use Rattle.desk_sql.specs.Rows.{StockRow}
 use Rattle.desk_sql.specs.Stock.{IsByCell, cell_cmp as stock_cmp}
 use Rattle.desk_sql.specs.RemainingRows.{IsOnlyOrder}
-use Rattle.desk_sql.proofs.Members.{permutation_from, permutation_to}
-use Rattle.sql_model.specs.Standing.{is_same_stock, StockStands}
+use Rattle.sql_model.specs.Standing.{StockStands}
 use Rattle.sql_model.specs.Reading.{stock_row_of}
-use Rattle.sql_model.proofs.Orders.{pairs-permutation}
-use Rattle.sql_model.proofs.StockRows.{same_back}
+use Rattle.sql_model.proofs.StockRows.{stock_total}
 use Rattle.sql_reads.proofs.GoodStock.{good_row}
-use Rattle.report_writers.proofs.HandedStock.{in_order_strict, listed_row, one_order, row_listed}
+use Rattle.report_writers.proofs.HandedStock.{in_order_strict, listed_row, row_listed, stock_apart}
+use Rattle.report_writers.proofs.OneOrder.{only_compared}
 
 to_same : (last : Option ℕ) (night : ℕ) → nat_le night last_night ≡ true → nat_le night (last_day last) ≡ is_to last night
 to_same last night low = grind (arith, nat_tests)
@@ -60,14 +59,11 @@ module _ (l : List Event) (stock : List StockRow) (stand : StockStands l stock) 
     -- the cells that are asked for have one order
     pub asked_in_order : IsOnlyOrder IsByCell (filter (is_row_asked kind f) stock)
         (map stock_row_of (filter (λ (c : Cell × Held). is_cell_of kind f c.0) cells))
-    asked_in_order other listed =
+    asked_in_order =
         let p = is_row_asked kind f in
-        one_order other (filter p all) listed.rising
-        (pairs-permutation (λ (r s : StockRow). is_same_stock r s ≡ false) same_back (filter p stock) other listed.same
-        (ascending-filter (λ (r s : StockRow). is_same_stock r s ≡ false) p stock stand.once))
+        subst (IsOnlyOrder IsByCell (filter p stock)) (rows_asked kind f cells low_nights)
+        (only_compared stock_cmp stock_total (filter p stock) (filter p all)
+        (ascending-filter ◌≢◌ p stock (stock_apart stock stand.once))
         (ascending-filter (λ (r s : StockRow). is_lt (stock_cmp r s) ≡ true) p all (in_order_strict cells is.in_order))
-        (λ r h. let kept = has_filtered p stock r (permutation_from (filter p stock) other r listed.same h) in
-        has_kept p all r (row_listed l stock stand cells is r kept.0) kept.1)
-        (λ r h. let kept = has_filtered p all r h in
-        permutation_to (filter p stock) other r listed.same (has_kept p stock r (listed_row l stock stand cells is r kept.0) kept.1))
-        ∙ rows_asked kind f cells low_nights
+        (λ r h. let kept = has_filtered p stock r h in has_kept p all r (row_listed l stock stand cells is r kept.0) kept.1)
+        (λ r h. let kept = has_filtered p all r h in has_kept p stock r (listed_row l stock stand cells is r kept.0) kept.1))

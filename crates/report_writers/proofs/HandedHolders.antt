@@ -1,10 +1,9 @@
 -- The rows of the holders of a cell, in their only order. For `holder_rows`.
-use Rattle.std.proofs.Common.{◌≡◌, ◌⊎◌, inl, inr, ℕ, suc, ◌<◌, ◌≤◌, List, [], ◌∷◌, map, filter, Bool, refl, sym, ap, ap₂, ◌∙◌, arith, flat_map}
+use Rattle.std.proofs.Common.{◌≡◌, ◌≢◌, ◌⊎◌, inl, inr, ℕ, suc, ◌<◌, ◌≤◌, List, [], ◌∷◌, map, filter, Bool, sym, ap, ◌∙◌, arith, flat_map}
 use Rattle.std.specs.List.{AllByRecursion}
 use Rattle.std.specs.List.Sorted.{IsPermutation}
 use Rattle.sqlite_trees.specs.Tree.{IsAscending}
 use Rattle.sqlite_trees.proofs.ListLemmas.{IsPermutation-filter, all-append, all-flat_map, all-map, all_of, all_weaker, ascending-append, ascending-filter, ascending-map, ascending_weaker}
-use Rattle.sqlite_rules.specs.Lists.{Has}
 use Rattle.sqlite_rules.proofs.ListLemmas.{all_has}
 use Rattle.allotment.specs.declared.cells.Cell.{Cell}
 use Rattle.plan.specs.PlanModel.{Planned, StepPlan}
@@ -20,6 +19,7 @@ use Rattle.holder_reports.specs.Holders.{holders_of}
 use Rattle.holder_reports.specs.declared.holders.Holder.{Holder}
 use Rattle.report_writers.specs.HoldersLeft.{found_of}
 use Rattle.report_writers.proofs.HeldRows.{held_told}
+use Rattle.report_writers.proofs.OneOrder.{only_order}
 
 -- A list of lists, each under its number.
 
@@ -74,49 +74,11 @@ called_rise l =
 not_both : (a b : StepRow) → IsBefore a b → IsByStep b a → ⊥
 not_both a b before behind = grind arith
 
-by_step : (a b : StepRow) → IsBefore a b → IsByStep a b
-by_step a b before = grind arith
+never_before : (a : StepRow) → IsBefore a a → ⊥
+never_before a before = grind arith
 
-abbrev AreApart : StepRow → StepRow → Type 0
-AreApart a b = IsBefore a b ⊎ IsBefore b a
-
-turned : (a b : StepRow) → AreApart a b → AreApart b a
-turned a b apart = grind arith
-
-strict_of : (a b : StepRow) → IsByStep a b → AreApart a b → IsBefore a b
-strict_of a b up apart = grind (arith, not_both)
-
-strict : (ys : List StepRow) → IsAscending IsByStep ys → IsAscending AreApart ys → IsAscending IsBefore ys
-strict [] up apart = tt
-strict (y ∷ ys) up apart = (both y ys up.0 apart.0, strict ys up.1 apart.1)
-  where
-    both : (y : StepRow) (ys : List StepRow) → AllByRecursion (IsByStep y) ys → AllByRecursion (AreApart y) ys → AllByRecursion (IsBefore y) ys
-    both y [] up apart = tt
-    both y (z ∷ zs) up apart = (strict_of y z up.0 apart.0, both y zs up.1 apart.1)
-
-pub not_before : (a b : StepRow) → IsBefore a b → IsBefore b a → ⊥
-not_before a b one two = not_both a b one (by_step b a two)
-
--- two lists that ascend, with the same elements, are equal
-one_rising : (xs ys : List StepRow) → IsAscending IsBefore xs → IsAscending IsBefore ys
-    → ((r : StepRow) → Has xs r → Has ys r) → ((r : StepRow) → Has ys r → Has xs r) → xs ≡ ys
-one_rising [] [] p q a b = refl
-one_rising [] (y ∷ ys) p q a b = absurd (b y (inl refl))
-one_rising (x ∷ xs) [] p q a b = absurd (a x (inl refl))
-one_rising (x ∷ xs) (y ∷ ys) p q a b =
-    let first : x ≡ y = elim (a x (inl refl)) [
-      | inl e ↦ e
-      | inr later ↦ elim (b y (inl refl)) [
-        | inl e ↦ sym e
-        | inr also ↦ absurd (not_before x y (all_has _ xs y p.0 also) (all_has _ ys x q.0 later))
-      ]
-    ] in
-    ap₂ ◌∷◌ first (one_rising xs ys p.1 q.1
-    (λ r h. elim (a r (inr h)) [ inl e ↦ absurd (past x xs p.0 r h (e ∙ sym first)) | inr k ↦ k ])
-    (λ r h. elim (b r (inr h)) [ inl e ↦ absurd (past y ys q.0 r h (e ∙ first)) | inr k ↦ k ]))
-  where
-    past : (z : StepRow) (zs : List StepRow) → AllByRecursion (IsBefore z) zs → (r : StepRow) → Has zs r → r ≡ z → ⊥
-    past z zs up r h e = grind (arith, all_has, not_before)
+pub steps_apart : (rows : List StepRow) → IsAscending IsBefore rows → IsAscending ◌≢◌ rows
+steps_apart rows up = grind (arith, ascending_weaker, never_before)
 
 module _ (x : Cell) (l : List Event) (t : Tables) (called : IsPermutation (steps_called l) t.step) where
   abbrev held_rows : List StepRow
@@ -124,15 +86,13 @@ module _ (x : Cell) (l : List Event) (t : Tables) (called : IsPermutation (steps
 
   -- the rows that are held have one order
   held_in_order : IsOnlyOrder IsByStep (filter (is_row_held x) t.step) held_rows
-  held_in_order other listed =
-      let found : IsPermutation held_rows (filter (is_row_held x) t.step) = IsPermutation-filter (is_row_held x) (steps_called l) t.step called in
+  held_in_order =
+      let some = filter (is_row_held x) t.step in
+      let found : IsPermutation held_rows some = IsPermutation-filter (is_row_held x) (steps_called l) t.step called in
       let up = ascending-filter IsBefore (is_row_held x) (steps_called l) (called_rise l) in
-      let apart = pairs-permutation AreApart turned held_rows (filter (is_row_held x) t.step) found
-      (ascending_weaker IsBefore AreApart (λ a b before. inl before) held_rows up) in
-      let all = pairs-permutation AreApart turned (filter (is_row_held x) t.step) other listed.same apart in
-      one_rising other held_rows (strict other listed.rising all) up
-      (λ r h. permutation_from held_rows (filter (is_row_held x) t.step) r found (permutation_from (filter (is_row_held x) t.step) other r listed.same h))
-      (λ r h. permutation_to (filter (is_row_held x) t.step) other r listed.same (permutation_to held_rows (filter (is_row_held x) t.step) r found h))
+      only_order IsByStep IsBefore not_both never_before some held_rows
+      (pairs-permutation ◌≢◌ (λ a b differ e. differ (sym e)) held_rows some found (steps_apart held_rows up)) up
+      (λ r h. permutation_from held_rows some r found h) (λ r h. permutation_to held_rows some r found h)
 
   -- the rows that will be returned are those of the holders
   pub lists_holders : IsLegal l → (holders : List Holder) → holders ≡ holders_of l x → ListsHolders x t (map found_of holders)

@@ -1,12 +1,12 @@
 -- The rows of the stock, in their only order. For `cell_rows`.
-use Rattle.std.proofs.Common.{◌≡◌, inl, inr, ℕ, ◌≤◌, List, [], ◌∷◌, map, find, true, false, Option, Some, None, refl, sym, ap, ap₂, subst, ◌∙◌, eqb-true, eq-eqb, option_map, arith}
-use Rattle.std.specs.Ordering.{is_lt, ordering_reverse}
-use Rattle.std.specs.declared.cmp.Ordering.{Ordering}
+use Rattle.std.proofs.Common.{◌≡◌, ◌≢◌, inl, inr, ℕ, ◌≤◌, List, [], ◌∷◌, map, find, true, false, Option, Some, None, refl, sym, ap, ap₂, subst, ◌∙◌, eqb-true, eq-eqb, option_map, arith}
+use Rattle.std.specs.Ordering.{is_lt}
 use Rattle.std.specs.List.{AllByRecursion}
 use Rattle.std.proofs.Math.Bridge.{le_prop}
 use Rattle.std.proofs.lemmas.Bool.{and_parts, and_from}
 use Rattle.std.proofs.lemmas.Slice.Eq.{bytes_eq-Decides}
 use Rattle.sqlite_trees.specs.Tree.{IsAscending}
+use Rattle.sqlite_trees.proofs.ListLemmas.{ascending_weaker}
 use Rattle.sqlite_rules.specs.Lists.{Has}
 use Rattle.sqlite_rules.proofs.ListLemmas.{all_has, test_has, has_found}
 use Rattle.sqlite_rules.proofs.ProbeLemmas.{has_mapped, mapped_has}
@@ -20,48 +20,19 @@ use Rattle.saga_core.specs.Views.{Places, places_said, places_at, cell_cmp, are_
 use Rattle.desk_sql.specs.Rows.{StockRow}
 use Rattle.desk_sql.specs.Stock.{IsByCell, cell_cmp as stock_cmp}
 use Rattle.desk_sql.specs.RemainingRows.{IsOnlyOrder}
-use Rattle.desk_sql.proofs.Members.{permutation_from, permutation_to}
 use Rattle.sql_model.specs.Standing.{AreApart, is_stock_of, is_same_stock, places_told, StockStands}
 use Rattle.sql_model.specs.Reading.{stock_row_of}
 use Rattle.sql_model.proofs.Finding.{find-none}
-use Rattle.sql_model.proofs.Orders.{pairs-permutation}
-use Rattle.sql_model.proofs.StockRows.{stock_at-row, row-stock_at, same_back, stock_total}
-
--- no row is before itself
-not_before : (r : StockRow) → is_lt (stock_cmp r r) ≡ true → ⊥
-not_before r e = go (stock_cmp r r) (stock_total.antisymm r r) e
-  where
-    go : (o : Ordering) → o ≡ ordering_reverse o → is_lt o ≡ true → ⊥
-    go o f g = grind arith
+use Rattle.sql_model.proofs.StockRows.{stock_at-row, row-stock_at, stock_total}
+use Rattle.report_writers.proofs.OneOrder.{not_before, only_compared}
 
 -- a row is of the same cell as itself
-pub same_self : (r : StockRow) → is_same_stock r r ≡ true
+same_self : (r : StockRow) → is_same_stock r r ≡ true
 same_self r = grind (arith, and_from, eq-eqb, bytes_eq-Decides)
 
--- a list in which no element is before an earlier one is the list in which each is before all later ones
-pub one_order : (xs ys : List StockRow) → IsAscending IsByCell xs → AreApart is_same_stock xs
-    → IsAscending (λ (r s : StockRow). is_lt (stock_cmp r s) ≡ true) ys
-    → ((r : StockRow) → Has xs r → Has ys r) → ((r : StockRow) → Has ys r → Has xs r) → xs ≡ ys
-one_order [] [] up apart strict a b = refl
-one_order [] (y ∷ ys) up apart strict a b = absurd (b y (inl refl))
-one_order (x ∷ xs) [] up apart strict a b = absurd (a x (inl refl))
-one_order (x ∷ xs) (y ∷ ys) up apart strict a b =
-    let first : x ≡ y = elim (a x (inl refl)) [
-      | inl e ↦ e
-      | inr later ↦ elim (b y (inl refl)) [
-        | inl e ↦ sym e
-        | inr also ↦ absurd (let one = all_has _ xs y up.0 also in let two = all_has _ ys x strict.0 later in let bad : true ≡ false = sym two ∙ one in cc)
-      ]
-    ] in
-    ap₂ ◌∷◌ first (one_order xs ys up.1 apart.1 strict.1
-    (λ r h. elim (a r (inr h)) [ inl e ↦ absurd (twice r h (e ∙ sym first)) | inr k ↦ k ])
-    (λ r h. elim (b r (inr h)) [ inl e ↦ absurd (again r h (e ∙ first)) | inr k ↦ k ]))
-  where
-    twice : (r : StockRow) → Has xs r → r ≡ x → ⊥
-    twice r h e = grind (arith, all_has, same_self)
-
-    again : (r : StockRow) → Has ys r → r ≡ y → ⊥
-    again r h e = not_before y (ap (λ s. is_lt (stock_cmp y s)) (sym e) ∙ all_has _ ys r strict.0 h)
+-- so rows of different cells differ
+pub stock_apart : (rows : List StockRow) → AreApart is_same_stock rows → IsAscending ◌≢◌ rows
+stock_apart rows once = grind (arith, ascending_weaker, same_self)
 
 -- a row of this cell with these places is the row that both give
 row_is : (x : Cell) (h : Held) (r : StockRow) → is_stock_of x r ≡ true → places_said h ≡ places_told r → stock_row_of (x, h) ≡ r
@@ -82,10 +53,10 @@ one_of_cell : (cells : List (Cell × Held)) → are_in_order cells ≡ true → 
 one_of_cell [] order c d h k e = absurd h
 one_of_cell (x ∷ cells) order c d (inl p) (inl q) e = p ∙ sym q
 one_of_cell (x ∷ cells) order c d (inl p) (inr k) e =
-    absurd (not_before (stock_row_of c) (ap (λ (y : Cell). is_lt (cell_cmp c.0 y)) e ∙ ap (λ (y : Cell × Held). is_lt (cell_cmp y.0 d.0)) p
+    absurd (not_before stock_cmp stock_total (stock_row_of c) (ap (λ (y : Cell). is_lt (cell_cmp c.0 y)) e ∙ ap (λ (y : Cell × Held). is_lt (cell_cmp y.0 d.0)) p
     ∙ test_has (λ (y : Cell × Held). is_lt (cell_cmp x.0 y.0)) cells d (and_parts _ _ order).0 k))
 one_of_cell (x ∷ cells) order c d (inr h) (inl q) e =
-    absurd (not_before (stock_row_of d) (ap (λ (y : Cell). is_lt (cell_cmp d.0 y)) (sym e) ∙ ap (λ (y : Cell × Held). is_lt (cell_cmp y.0 c.0)) q
+    absurd (not_before stock_cmp stock_total (stock_row_of d) (ap (λ (y : Cell). is_lt (cell_cmp d.0 y)) (sym e) ∙ ap (λ (y : Cell × Held). is_lt (cell_cmp y.0 c.0)) q
     ∙ test_has (λ (y : Cell × Held). is_lt (cell_cmp x.0 y.0)) cells c (and_parts _ _ order).0 h))
 one_of_cell (x ∷ cells) order c d (inr h) (inr k) e = one_of_cell cells (and_parts _ _ order).1 c d h k e
 
@@ -138,12 +109,9 @@ module _ (l : List Event) (stock : List StockRow) (stand : StockStands l stock) 
 
   -- the stock is the one order of the cells
   pub stock_in_order : IsOnlyOrder IsByCell stock (map stock_row_of cells)
-  stock_in_order other listed =
-      one_order other (map stock_row_of cells) listed.rising
-      (pairs-permutation (λ (r s : StockRow). is_same_stock r s ≡ false) same_back stock other listed.same stand.once)
-      (in_order_strict cells is.in_order)
-      (λ r h. row_listed r (permutation_from stock other r listed.same h))
-      (λ r h. permutation_to stock other r listed.same (listed_row r h))
+  stock_in_order =
+      only_compared stock_cmp stock_total stock (map stock_row_of cells) (stock_apart stock stand.once) (in_order_strict cells is.in_order)
+      row_listed listed_row
 
 -- Places.
 

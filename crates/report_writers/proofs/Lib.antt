@@ -1,5 +1,7 @@
+pub mod OneOrder
 pub mod ReadyLemmas
 pub mod WriteLemmas
+pub mod StartLemmas
 pub mod StockLemmas
 pub mod StockOrder
 pub mod WhyLemmas

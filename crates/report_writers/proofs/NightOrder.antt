@@ -1,5 +1,5 @@
 -- Rows that are joined of three tables, night by night: they differ, and they have one order. For the holders of cells.
-use Rattle.std.proofs.Common.{◌≡◌, ◌≢◌, inl, inr, ℕ, ◌<◌, ◌==◌, List, [], ◌∷◌, map, filter, Bool, true, false, Ordering, Less, Equal, is_lt, refl, sym, ap, ap₂, subst, ◌∙◌, arith, eqb-true, flat_map, nat_cmp}
+use Rattle.std.proofs.Common.{◌≡◌, ◌≢◌, inl, inr, ℕ, ◌<◌, ◌==◌, List, [], ◌∷◌, map, filter, Bool, true, Ordering, Less, Equal, is_lt, refl, sym, ap, subst, ◌∙◌, arith, eqb-true, flat_map, nat_cmp}
 use Rattle.std.specs.Ordering.{ordering_reverse, ordering_then}
 use Rattle.std.specs.Cmp.{IsTotalOrder}
 use Rattle.std.proofs.lemmas.Bool.Decides.{nat_tests}
@@ -36,35 +36,6 @@ module _ {A X : Type 0} (Q : A → A → Type 0) (R : X → X → Type 0) (key :
   flat_pairs [] up = tt
   flat_pairs (a ∷ all) up = grind (arith, ascending-append, all_from, has_one_of, all_has, flat_pairs all up.1)
 
--- One order.
-
-module _ {X : Type 0} (cmp : X → X → Ordering) (total : IsTotalOrder cmp) where
-  -- no element is before itself
-  not_before : (x : X) → is_lt (cmp x x) ≡ true → ⊥
-  not_before x e = grind arith
-
-  -- different elements in which none is before an earlier one are the list in which each is before all later ones
-  pub one_order : (xs ys : List X) → IsAscending (λ a b. is_lt (cmp b a) ≡ false) xs → IsAscending ◌≢◌ xs
-      → IsAscending (λ a b. is_lt (cmp a b) ≡ true) ys
-      → ((r : X) → Has xs r → Has ys r) → ((r : X) → Has ys r → Has xs r) → xs ≡ ys
-  one_order [] [] up apart strict a b = refl
-  one_order [] (y ∷ ys) up apart strict a b = absurd (b y (inl refl))
-  one_order (x ∷ xs) [] up apart strict a b = absurd (a x (inl refl))
-  one_order (x ∷ xs) (y ∷ ys) up apart strict a b =
-      let first : x ≡ y = elim (a x (inl refl)) [
-        | inl e ↦ e
-        | inr later ↦ elim (b y (inl refl)) [
-          | inl e ↦ sym e
-          | inr also ↦ absurd (let one = all_has _ xs y up.0 also in let two = all_has _ ys x strict.0 later in let bad : true ≡ false = sym two ∙ one in cc)
-        ]
-      ] in
-      ap₂ ◌∷◌ first (one_order xs ys up.1 apart.1 strict.1
-      (λ r h. elim (a r (inr h)) [ inl e ↦ absurd (all_has (λ z. x ≢ z) xs r apart.0 h (first ∙ sym e)) | inr k ↦ k ])
-      (λ r h. elim (b r (inr h)) [
-        | inl e ↦ absurd (not_before y (subst (λ z. is_lt (cmp y z) ≡ true) (e ∙ first) (all_has (λ z. is_lt (cmp y z) ≡ true) ys r strict.0 h)))
-        | inr k ↦ k
-      ]))
-
 -- The order of rows.
 
 pub night_total : IsTotalOrder night_cmp
@@ -84,10 +55,10 @@ joined_total = then_total (on_total (λ (r : Joined). r.cell) night_total) (on_t
 less_is : (o : Ordering) → is_lt o ≡ true → o ≡ Less
 less_is o e = grind arith
 
-number_less : (a b : ℕ) → a < b → nat_cmp a b ≡ Less
+pub number_less : (a b : ℕ) → a < b → nat_cmp a b ≡ Less
 number_less a b low = grind (arith, nat_tests)
 
-number_same : (a : ℕ) → nat_cmp a a ≡ Equal
+pub number_same : (a : ℕ) → nat_cmp a a ≡ Equal
 number_same a = grind (arith, nat_tests)
 
 cell_same : (c : StockRow) → night_cmp c c ≡ Equal

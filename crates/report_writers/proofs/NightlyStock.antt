@@ -1,5 +1,5 @@
 -- The cells of a stock, night by night, and their order then. For the rows of the holders of cells.
-use Rattle.std.proofs.Common.{◌≡◌, inl, inr, ℕ, ◌<◌, ◌≤◌, List, [], ◌∷◌, map, if◌then◌else◌, true, Ordering, Less, Equal, is_lt, refl, sym, ap, subst, ◌∙◌, arith, eqb-true, nat_le, nat_cmp}
+use Rattle.std.proofs.Common.{◌≡◌, inl, inr, ◌<◌, ◌≤◌, List, [], ◌∷◌, map, if◌then◌else◌, true, Ordering, Equal, is_lt, refl, sym, ap, subst, ◌∙◌, arith, eqb-true, nat_le, nat_cmp}
 use Rattle.std.specs.List.{AllByRecursion}
 use Rattle.std.specs.Ordering.{ordering_then}
 use Rattle.std.specs.Cmp.Lexicographic.{slice_cmp}
@@ -14,7 +14,7 @@ use Rattle.allotment.specs.declared.places.Held.{Held}
 use Rattle.desk_sql.specs.Stock.{cell_cmp as stock_cmp}
 use Rattle.sql_model.specs.Reading.{stock_row_of}
 use Rattle.holder_reports.specs.Holdings.{by_night, put_by_night}
-use Rattle.report_writers.proofs.NightOrder.{IsNightBefore}
+use Rattle.report_writers.proofs.NightOrder.{IsNightBefore, number_less, number_same}
 
 -- a cell with its places
 abbrev pub Listed : Type 0
@@ -70,13 +70,6 @@ IsCellBefore x y = is_lt (stock_cmp (stock_row_of x) (stock_row_of y)) ≡ true
 -- the order of the report: by night, then by kind, supplier and product
 abbrev pub IsNightly : Listed → Listed → Type 0
 IsNightly x y = IsNightBefore (stock_row_of x) (stock_row_of y)
-
--- numbers compare as they are
-number_less : (a b : ℕ) → a < b → nat_cmp a b ≡ Less
-number_less a b low = grind (arith, nat_tests)
-
-number_same : (a : ℕ) → nat_cmp a a ≡ Equal
-number_same a = grind (arith, nat_tests)
 
 -- the comparison without the nights
 abbrev others_cmp : Listed → Listed → Ordering

@@ -1,8 +1,10 @@
 -- What calls show of a desk that they only read, one after another, and why they fail. For the writers of the reports.
-use Rattle.std.proofs.Common.{◌≡◌, ◌↔◌, ap, refl, sym, subst, List, Result, Err, IfErr, IsErrOf, OnErr}
+use Rattle.std.proofs.Common.{◌≡◌, ◌↔◌, ap, refl, sym, subst, ℕ, Bool, List, Option, Result, Err, IfErr, IsErrOf, OnErr}
+use Rattle.std.specs.Borrow.{MutBor}
 use Rattle.sqlite.specs.Store.{Ghosts}
 use Rattle.sqlite.specs.Held.{Held, state}
 use Rattle.sqlite.specs.State.{HasCleanDisk}
+use Rattle.sqlite.specs.declared.rows.stream.Rows.{Rows}
 use Rattle.sqlite.specs.declared.error.Error.{Error}
 use Rattle.sqlite.specs.declared.error.Error.TheVariants.{SqliteFailure}
 use Rattle.sqlite.specs.declared.error.ErrorCode.TheVariants.{OutOfMemory}
@@ -13,6 +15,8 @@ use Rattle.desk_sql.specs.Causes.{HasFaulted, IsUp}
 use Rattle.desk_sql.specs.declared.versions.Version.{Version}
 use Rattle.desk_sql.proofs.Quieting.{quiet_alone, quiet_twice}
 use Rattle.ledger.specs.Answer.{State}
+use Rattle.saga_core.specs.declared.report.Report.{Report}
+use Rattle.report_kinds.specs.Texts.{OfReport}
 use Rattle.reports.specs.Faults.{report_fault, reported}
 use Rattle.reports.specs.declared.faults.ReportFault.{ReportFault}
 use Rattle.reports.specs.declared.faults.ReportFault.TheVariants as report
@@ -25,8 +29,8 @@ use Rattle.sql_reads.specs.Lending.{IsNotStarted}
 use Rattle.sql_reads.specs.Reads.{AnyDesk}
 use Rattle.sql_reads.specs.RemainingRows.{BeginsKept}
 use Rattle.report_writers.specs.ItemsLeft as items
-use Rattle.report_writers.specs.Ready.{BeginsGood}
-use Rattle.report_writers.specs.Writing.{ShowsDesk, ShowsIn}
+use Rattle.report_writers.specs.Ready.{StartsList}
+use Rattle.report_writers.specs.Writing.{ShowsDesk, ShowsIn, WritesIfThere}
 
 module _ {S : Type 0} (g : Ghosts S) {v : Version} {Fails : Type 0} {Fits Told : State → Type 0} where
   -- what is known of each desk is shown without a call, which does not fail
@@ -126,15 +130,15 @@ in_no_items {V = V} {g = g} {v = v} {old = old} {new = new} {fault = fault} is f
     (λ clean s desk spelled keeps up fails. it.store clean s desk spelled keeps up (ap Err (store fails)))
 
 -- Rows that are read one after another.
-module _ {S : Type 0} (g : Ghosts S) {Fails : Type 0} {IsShown : State → Type 0} {X : Type 0} {IsList : State → List X → Type 0}
-    {Rests : List X → Type 0} {Good : Type 0} where
+module _ {S : Type 0} (g : Ghosts S) {Fails : Type 0} {IsShown : State → Type 0} {X : Type 0} {IsList : State → List X → Type 0} where
   -- of the items of a journey, in tables of one version
-  pub shows_items : {v : Version} {old mid last new : Held S} → Quiet g old mid → BeginsKept g old mid v IsList Rests
+  pub shows_items : {Rests : List X → Type 0} {Good : Type 0} {v : Version} {old mid last new : Held S} → Quiet g old mid
+      → BeginsKept g old mid v IsList Rests
       → (HasCleanDisk (state g mid) → (s : State) → IsDesk s → IsSpelled s.ledger → KeepsIn v (state g old) s → Good) → Quiet g mid last
       → new ≡ last → (HasCleanDisk (state g last) → (s : State) → ((rows : List X) → IsList s rows → Rests rows) → IsShown s)
       → (HasCleanDisk (state g last) → Good → IsUp (state g mid) → Fails → HasFaulted (state g mid) (state g last))
       → ShowsIn g v old new Fails AnyDesk IsShown
-  shows_items {v} {old} {mid} {last} start begins good later same told fails =
+  shows_items {v = v} {old = old} {mid = mid} {last = last} start begins good later same told fails =
       let before = quiet_clean g mid last later in
       subst (λ h. ShowsIn g v old h Fails AnyDesk IsShown) (sym same)
       (in_read g (quiet_twice g old mid last start later)
@@ -144,10 +148,19 @@ module _ {S : Type 0} (g : Ghosts S) {Fails : Type 0} {IsShown : State → Type 
       (λ still. fails clean (good (before clean) s desk spelled keeps) still failed)))
 
   -- of the rows of a list, which a connection found
-  pub shows_rows : {old mid last new : Held S} → Quiet g old mid → ((v : Version) → BeginsKept g old mid v IsList Rests)
-      → BeginsGood g old mid Good → Quiet g mid last → new ≡ last
-      → (HasCleanDisk (state g last) → (s : State) → ((rows : List X) → IsList s rows → Rests rows) → IsShown s)
-      → (HasCleanDisk (state g last) → Good → IsUp (state g mid) → Fails → HasFaulted (state g mid) (state g last))
-      → ShowsDesk g old new Fails IsShown
-  shows_rows start begins good later same told fails v =
-      shows_items start (begins v) (λ clean s desk spelled keeps. good clean v s desk spelled keeps) later same told fails
+  pub shows_rows : {RestsOn : Held S → List X → Type 0} {AreGood : Held S → Type 0} {conn : MutBor (Held S)} {it : Rows S g} {last new : Held S}
+      → StartsList g conn it IsList RestsOn AreGood → Quiet g it.conn.now last → new ≡ last
+      → (HasCleanDisk (state g last) → (s : State) → ((rows : List X) → IsList s rows → RestsOn it.conn.now rows) → IsShown s)
+      → (HasCleanDisk (state g last) → AreGood it.conn.now → IsUp (state g it.conn.now) → Fails → HasFaulted (state g it.conn.now) (state g last))
+      → ShowsDesk g conn.now new Fails IsShown
+  shows_rows starts later same told fails v =
+      shows_items starts.under.quiet (starts.rows v) (λ clean s desk spelled keeps. starts.good clean v s desk spelled keeps) later same told fails
+
+-- the report that was asked for is shown, whichever it is
+pub in_report : {S : Type 0} (g : Ghosts S) {v : Version} {old new : Held S} {Failed Fails : Type 0} {Shown : State → Type 0} {asked kind : Report}
+    (held holds : Option (List ℕ)) (result : Result Bool ReportFault) → asked ≡ kind → ShowsIn g v old new Failed AnyDesk Shown → (Fails → Failed)
+    → ((s : State) → Shown s → OfReport kind s.ledger (λ text. WritesIfThere held holds text result))
+    → ShowsIn g v old new Fails AnyDesk (λ s. OfReport asked s.ledger (λ text. WritesIfThere held holds text result))
+in_report g held holds result is one failed so =
+    in_as g one (λ s fits. fits) failed
+    (λ s desk fits shown. subst (λ r. OfReport r s.ledger (λ text. WritesIfThere held holds text result)) (sym is) (so s shown))

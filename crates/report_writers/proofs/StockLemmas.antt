@@ -1,6 +1,6 @@
 -- The cells that are asked for, kind after kind, are those that are asked for; and their report in its parts. For `write_stock`
 -- and `write_kinds`.
-use Rattle.std.proofs.Common.{◌≡◌, ℕ, suc, ◌+◌, ◌<◌, ◌≤◌, ◌==◌, ◌&&◌, List, [], ◌∷◌, ◌++◌, filter, cond, length, Bool, true, false, Option, Ordering, is_lt, nat_cmp, refl, sym, ap, ap₂, ◌∙◌, arith, append_assoc, eqb-true, codes, nat_le, IsErr, IsErrOf, Result, Ok, rules, Less, Equal, Greater, subst, Err}
+use Rattle.std.proofs.Common.{◌≡◌, ℕ, suc, ◌+◌, ◌<◌, ◌≤◌, ◌==◌, ◌&&◌, List, [], ◌∷◌, ◌++◌, filter, cond, length, Bool, true, false, Option, Ordering, is_lt, nat_cmp, refl, sym, ap, ap₂, ◌∙◌, arith, append_assoc, eqb-true, codes, nat_le, IsErr, IsErrOf, Result, Ok, rules, subst, Err}
 use Rattle.std.specs.List.{AllByRecursion, flat_map}
 use Rattle.std.specs.Ordering.{ordering_then}
 use Rattle.std.specs.Io.KnownBytes.{Appends}
@@ -68,67 +68,18 @@ module _ (p : Cell × Places → Bool) where
 
   none_of : (n : ℕ) (rows : List (Cell × Places)) → AllByRecursion (λ (r : Cell × Places). n < key r) rows → filter (of_kind n) rows ≡ []
   none_of n [] all = refl
-  none_of n (r ∷ rows) all =
-      let above : n < key r = all.0 in
-      let no : of_kind n r ≡ false = ap (λ b. p r && b) (let e : (key r == n) ≡ false = grind (arith, nat_tests, above) in e) ∙ and_false (p r) in
-      ap (λ b. cond b (r ∷ filter (of_kind n) rows) (filter (of_kind n) rows)) no ∙ none_of n rows all.1
+  none_of n (r ∷ rows) all = grind (arith, nat_tests, none_of n rows all.1)
 
   all_above : (n : ℕ) (r : Cell × Places) (rows : List (Cell × Places)) → n < key r
       → AllByRecursion (λ (s : Cell × Places). key r ≤ key s) rows → AllByRecursion (λ (s : Cell × Places). n < key s) rows
   all_above n r [] low all = tt
-  all_above n r (s ∷ rows) low all = (let up : key r ≤ key s = all.0 in omega (arith, low, up), all_above n r rows low all.1)
+  all_above n r (s ∷ rows) low all = grind (arith, all_above n r rows low all.1)
 
   split : (n : ℕ) (rows : List (Cell × Places)) → IsAscending (λ (a b : Cell × Places). key a ≤ key b) rows
       → filter (from n) rows ≡ filter (of_kind n) rows ++ filter (from (suc n)) rows
   split n [] up = refl
-  split n (r ∷ rows) up = go (split n rows up.1) (nat_cmp (key r) n) refl
-    where
-      -- which tests the first one passes
-      shape : (a b c : Bool) → from n r ≡ a → of_kind n r ≡ b → from (suc n) r ≡ c
-          → cond a (r ∷ filter (from n) rows) (filter (from n) rows)
-          ≡ cond b (r ∷ filter (of_kind n) rows) (filter (of_kind n) rows) ++ cond c (r ∷ filter (from (suc n)) rows) (filter (from (suc n)) rows)
-          → filter (from n) (r ∷ rows) ≡ filter (of_kind n) (r ∷ rows) ++ filter (from (suc n)) (r ∷ rows)
-      shape a b c one two three same =
-          ap (λ t. cond t (r ∷ filter (from n) rows) (filter (from n) rows)) one ∙ same
-          ∙ sym (ap₂ ◌++◌ (ap (λ t. cond t (r ∷ filter (of_kind n) rows) (filter (of_kind n) rows)) two)
-          (ap (λ t. cond t (r ∷ filter (from (suc n)) rows) (filter (from (suc n)) rows)) three))
-
-      here : (b : Bool) → filter (from n) rows ≡ filter (of_kind n) rows ++ filter (from (suc n)) rows
-          → cond b (r ∷ filter (from n) rows) (filter (from n) rows)
-          ≡ cond b (r ∷ filter (of_kind n) rows) (filter (of_kind n) rows) ++ filter (from (suc n)) rows
-      here true rest = ap (λ more. r ∷ more) rest
-      here false rest = rest
-
-      later : filter (of_kind n) rows ≡ [] → (b : Bool) → filter (from n) rows ≡ filter (of_kind n) rows ++ filter (from (suc n)) rows
-          → cond b (r ∷ filter (from n) rows) (filter (from n) rows)
-          ≡ filter (of_kind n) rows ++ cond b (r ∷ filter (from (suc n)) rows) (filter (from (suc n)) rows)
-      later none true rest = ap (λ more. r ∷ more) (rest ∙ ap (λ f. f ++ filter (from (suc n)) rows) none)
-          ∙ sym (ap (λ f. f ++ (r ∷ filter (from (suc n)) rows)) none)
-      later none false rest = rest
-
-      go : filter (from n) rows ≡ filter (of_kind n) rows ++ filter (from (suc n)) rows → (o : Ordering) → nat_cmp (key r) n ≡ o
-          → filter (from n) (r ∷ rows) ≡ filter (of_kind n) (r ∷ rows) ++ filter (from (suc n)) (r ∷ rows)
-      go rest Less f =
-          let low : key r < n = grind (arith, nat_tests, f) in
-          shape false false false
-          (ap (λ b. p r && b) (let e : nat_le n (key r) ≡ false = grind (arith, nat_tests, low) in e) ∙ and_false (p r))
-          (ap (λ b. p r && b) (let e : (key r == n) ≡ false = grind (arith, nat_tests, low) in e) ∙ and_false (p r))
-          (ap (λ b. p r && b) (let e : nat_le (suc n) (key r) ≡ false = grind (arith, nat_tests, low) in e) ∙ and_false (p r))
-          rest
-      go rest Equal f =
-          let same : key r ≡ n = grind (arith, nat_tests, f) in
-          shape (p r) (p r) false
-          (ap (λ b. p r && b) (let e : nat_le n (key r) ≡ true = grind (arith, nat_tests, same) in e) ∙ and_true (p r))
-          (ap (λ b. p r && b) (let e : (key r == n) ≡ true = grind (arith, nat_tests, same) in e) ∙ and_true (p r))
-          (ap (λ b. p r && b) (let e : nat_le (suc n) (key r) ≡ false = grind (arith, nat_tests, same) in e) ∙ and_false (p r))
-          (here (p r) rest)
-      go rest Greater f =
-          let high : n < key r = grind (arith, nat_tests, f) in
-          shape (p r) false (p r)
-          (ap (λ b. p r && b) (let e : nat_le n (key r) ≡ true = grind (arith, nat_tests, high) in e) ∙ and_true (p r))
-          (ap (λ b. p r && b) (let e : (key r == n) ≡ false = grind (arith, nat_tests, high) in e) ∙ and_false (p r))
-          (ap (λ b. p r && b) (let e : nat_le (suc n) (key r) ≡ true = grind (arith, nat_tests, high) in e) ∙ and_true (p r))
-          (later (none_of n rows (all_above n r rows high up.0)) (p r) rest)
+  split n (r ∷ rows) up =
+      let none = λ (high : n < key r). none_of n rows (all_above n r rows high up.0) in grind (arith, nat_tests, none, split n rows up.1)
 
   all_from_none : (r : Cell × Places) → p r ≡ from 0 r
   all_from_none r = sym (ap (λ b. p r && b) (let e : nat_le 0 (key r) ≡ true = grind (arith, nat_tests) in e) ∙ and_true (p r))

@@ -1,20 +1,14 @@
 -- What is read for the report of why a journey goes on or does not.
-use Rattle.std.specs.Prelude.{◌≡◌, ℕ, true, List, Some}
+use Rattle.std.specs.Prelude.{◌≡◌, ℕ, true, List}
 use Rattle.std.specs.List.{list_all}
 use Rattle.allotment.specs.Cells.{cells_of}
 use Rattle.allotment.specs.Want.{Wanted}
 use Rattle.saga_core.specs.CellFilters.{is_cell_of}
 use Rattle.saga_core.specs.declared.cell_filters.CellFilter.{CellFilter}
-use Rattle.ledger.specs.Answer.{State}
 use Rattle.ledger.specs.Ledger.{Event}
 use Rattle.previews.specs.Previews.{begun_as, nights_ahead, preview_of}
-use Rattle.saga_core.specs.Views.{record_of}
 use Rattle.saga_core.specs.declared.records.Record.{Record}
 use Rattle.report_writers.specs.declared.whys.Seen.{Seen}
-
--- the journey of this number has this record
-abbrev pub HasRecord : ℕ → Record → State → Type 0
-HasRecord id journey s = record_of s.ledger id ≡ Some journey
 
 -- what was read is the preview of the journey, and what is free of the nights of its next want
 pub record IsSeenOf (l : List Event) (id : ℕ) (journey : Record) (seen : Seen) : Type 0 where

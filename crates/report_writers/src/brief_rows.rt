@@ -4,12 +4,9 @@ ghost use Rattle.std.specs.Prelude.{◌≡◌, IfOk};
 ghost use Rattle.std.specs.Borrow.{sem};
 ghost use Rattle.saga_core.specs.Views.{unfinished_of};
 ghost use Rattle.saga_core.specs.JourneyFilters.{asked_of};
-ghost use Rattle.desk_sql.specs.Calls.{Quiet};
-ghost use Rattle.desk_sql.specs.declared.versions.Version.{Version};
 ghost use Rattle.sql_reads.specs.Lending.{LeavesIfErr};
-ghost use Rattle.sql_reads.specs.RemainingRows.{BeginsKept};
 ghost use Rattle.sql_lists.specs.ListedRows.{AreGoodBriefsRest, BriefsRest};
-ghost use Rattle.report_writers.specs.Ready.{BeginsGood};
+ghost use Rattle.report_writers.specs.Ready.{StartsList};
 
 use crate::found_rows::FoundRow;
 use commands::Fault;
@@ -22,13 +19,9 @@ use sqlite::{Alter, Connection, Error, Rows};
 /// Starts to read all unfinished journeys, in order of number. If that fails, nothing has changed.
 pub fn start_unfinished<S: Alter>(conn: &mut Connection<S>) -> Result<Rows<'_, S>, Error>
     ensures* fault { sem 𝓛 (LeavesIfErr S.row S.Store conn.entry result) }
-    ensures same_reference { IfOk result (λ it. it.conn.ghost_name ≡ conn.entry.ghost_name) }
-    ensures rows { IfOk result (λ it. (v : Version)
-        → BeginsKept S.Store conn.old it.conn.now v (λ s briefs. briefs ≡ unfinished_of s.ledger)
-        (BriefsRest S.Store it.conn.now)) }
-    ensures good { IfOk result (λ it. BeginsGood S.Store conn.old it.conn.now
-        (AreGoodBriefsRest S.Store it.conn.now)) }
-    ensures quiet { IfOk result (λ it. Quiet S.Store conn.old it.conn.now) }
+    ensures starts { IfOk result (λ it. StartsList S.Store conn.entry it
+        (λ s briefs. briefs ≡ unfinished_of s.ledger) (BriefsRest S.Store)
+        (AreGoodBriefsRest S.Store)) }
 {
     hand_unfinished(conn, 0)
 }
@@ -39,13 +32,9 @@ pub fn start_journeys<'a, S: Alter>(
     filter: &JourneyFilter,
 ) -> Result<Rows<'a, S>, Error>
     ensures* fault { sem 𝓛 (LeavesIfErr S.row S.Store conn.entry result) }
-    ensures same_reference { IfOk result (λ it. it.conn.ghost_name ≡ conn.entry.ghost_name) }
-    ensures rows { IfOk result (λ it. (v : Version)
-        → BeginsKept S.Store conn.old it.conn.now v (λ s briefs.
-        briefs ≡ asked_of filter.now s.ledger) (BriefsRest S.Store it.conn.now)) }
-    ensures good { IfOk result (λ it. BeginsGood S.Store conn.old it.conn.now
-        (AreGoodBriefsRest S.Store it.conn.now)) }
-    ensures quiet { IfOk result (λ it. Quiet S.Store conn.old it.conn.now) }
+    ensures starts { IfOk result (λ it. StartsList S.Store conn.entry it
+        (λ s briefs. briefs ≡ asked_of filter.now s.ledger) (BriefsRest S.Store)
+        (AreGoodBriefsRest S.Store)) }
 {
     hand_journeys(conn, filter)
 }

@@ -1,15 +1,12 @@
 //! Cells with their places, in order of kind, supplier, product and night, read one at a time.
 
-ghost use Rattle.std.specs.Prelude.{◌≡◌, IfOk};
+ghost use Rattle.std.specs.Prelude.{IfOk};
 ghost use Rattle.std.specs.Borrow.{sem};
 ghost use Rattle.saga_core.specs.Views.{IsStock};
-ghost use Rattle.desk_sql.specs.Calls.{Quiet};
-ghost use Rattle.desk_sql.specs.declared.versions.Version.{Version};
 ghost use Rattle.sql_reads.specs.Lending.{LeavesIfErr};
-ghost use Rattle.sql_reads.specs.RemainingRows.{BeginsKept};
 ghost use Rattle.sql_lists.specs.ListedRows.{AreGoodCellsRest, StockRests};
 ghost use Rattle.report_writers.specs.RowsLeft.{AreCellsOf};
-ghost use Rattle.report_writers.specs.Ready.{BeginsGood};
+ghost use Rattle.report_writers.specs.Ready.{StartsList};
 
 use crate::found_rows::FoundRow;
 use allotment::{Cell, Held, Kind};
@@ -24,13 +21,9 @@ use sqlite::{Alter, Connection, Error, Rows};
 /// nothing has changed.
 pub fn start_stock<S: Alter>(conn: &mut Connection<S>) -> Result<Rows<'_, S>, Error>
     ensures* fault { sem 𝓛 (LeavesIfErr S.row S.Store conn.entry result) }
-    ensures same_reference { IfOk result (λ it. it.conn.ghost_name ≡ conn.entry.ghost_name) }
-    ensures rows { IfOk result (λ it. (v : Version)
-        → BeginsKept S.Store conn.old it.conn.now v (λ s rows. IsStock s.ledger rows)
-        (StockRests S.Store it.conn.now)) }
-    ensures good { IfOk result (λ it. BeginsGood S.Store conn.old it.conn.now
-        (AreGoodCellsRest S.Store it.conn.now)) }
-    ensures quiet { IfOk result (λ it. Quiet S.Store conn.old it.conn.now) }
+    ensures starts { IfOk result (λ it. StartsList S.Store conn.entry it
+        (λ s rows. IsStock s.ledger rows) (StockRests S.Store)
+        (AreGoodCellsRest S.Store)) }
 {
     hand_stock(conn)
 }
@@ -43,13 +36,9 @@ pub fn start_cells<'a, S: Alter>(
     filter: &CellFilter,
 ) -> Result<Rows<'a, S>, Error>
     ensures* fault { sem 𝓛 (LeavesIfErr S.row S.Store conn.entry result) }
-    ensures same_reference { IfOk result (λ it. it.conn.ghost_name ≡ conn.entry.ghost_name) }
-    ensures rows { IfOk result (λ it. (v : Version)
-        → BeginsKept S.Store conn.old it.conn.now v (λ s rows.
-        AreCellsOf kind filter.now s.ledger rows) (StockRests S.Store it.conn.now)) }
-    ensures good { IfOk result (λ it. BeginsGood S.Store conn.old it.conn.now
-        (AreGoodCellsRest S.Store it.conn.now)) }
-    ensures quiet { IfOk result (λ it. Quiet S.Store conn.old it.conn.now) }
+    ensures starts { IfOk result (λ it. StartsList S.Store conn.entry it
+        (λ s rows. AreCellsOf kind filter.now s.ledger rows) (StockRests S.Store)
+        (AreGoodCellsRest S.Store)) }
 {
     hand_cells(conn, kind, filter)
 }

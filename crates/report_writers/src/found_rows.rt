@@ -3,10 +3,9 @@
 ghost use Rattle.std.specs.Prelude.{◌≡◌, ◌<◌, ◌+◌, ◌^◌, false, IfOk, IsErrOf, OnOk};
 ghost use Rattle.sqlite.specs.Held.{Held, state};
 ghost use Rattle.sqlite.specs.State.{HasCleanDisk};
-ghost use Rattle.desk_sql.specs.Calls.{Quiet};
 ghost use Rattle.desk_sql.specs.Causes.{HasFaulted, IsUp};
 ghost use Rattle.saga_core.specs.RowSources.{count_of, Hands, StaysReady};
-ghost use Rattle.sql_reads.specs.RemainingRows.{RowsStay};
+ghost use Rattle.sql_reads.specs.RemainingRows.{RowsStay, StaysUnder};
 ghost use Rattle.report_writers.specs.Ready.{IsReady};
 ghost use Rattle.report_writers.specs.declared.found_rows.FoundRows.{FoundRows};
 ghost use Rattle.report_writers.specs.Stopping.{StopsAtFault};
@@ -28,7 +27,6 @@ pub trait FoundRow<S: Alter>: Sized + Drop {
 
     /// Returns the next row; `None` after the last one. A row with a value out of range is a fault of the store.
     fn next_found(rows: &mut Rows<'_, S>) -> Result<Option<Self>, Fault>
-        ensures same_reference { rows.new.conn.ghost_name ≡ rows.old.conn.ghost_name }
         ensures next { HasCleanDisk (state S.Store rows.new.conn.now) → IfOk result
             (Hands (rests rows.old.conn.now) (rests rows.new.conn.now)) }
         ensures store { HasCleanDisk (state S.Store rows.new.conn.now)
@@ -37,7 +35,7 @@ pub trait FoundRow<S: Alter>: Sized + Drop {
             → HasFaulted (state S.Store rows.old.conn.now) (state S.Store rows.new.conn.now) }
         ensures good { HasCleanDisk (state S.Store rows.new.conn.now)
             → are_good rows.old.conn.now → OnOk result (are_good rows.new.conn.now) }
-        ensures quiet { Quiet S.Store rows.old.conn.now rows.new.conn.now };
+        ensures under { StaysUnder S.Store rows.old.conn rows.new.conn };
 }
 
 /// The rows that remain of those that a `start_` call returned. After a fault every call returns `Store`.

@@ -2,13 +2,10 @@
 
 ghost use Rattle.std.specs.Prelude.{◌≡◌, IfOk};
 ghost use Rattle.std.specs.Borrow.{sem};
-ghost use Rattle.desk_sql.specs.Calls.{Quiet};
-ghost use Rattle.desk_sql.specs.declared.versions.Version.{Version};
 ghost use Rattle.holder_reports.specs.Holders.{holders_of};
 ghost use Rattle.sql_reads.specs.Lending.{LeavesIfErr};
-ghost use Rattle.sql_reads.specs.RemainingRows.{BeginsKept};
 ghost use Rattle.report_writers.specs.HoldersLeft.{AreHoldersRest, HoldersLeft, found_of};
-ghost use Rattle.report_writers.specs.Ready.{BeginsGood};
+ghost use Rattle.report_writers.specs.Ready.{StartsList};
 
 use crate::found_rows::FoundRow;
 use allotment::Cell;
@@ -24,13 +21,9 @@ pub fn start_holders<'a, S: Alter>(
     cell: &Cell,
 ) -> Result<Rows<'a, S>, Error>
     ensures* fault { sem 𝓛 (LeavesIfErr S.row S.Store conn.entry result) }
-    ensures same_reference { IfOk result (λ it. it.conn.ghost_name ≡ conn.entry.ghost_name) }
-    ensures rows { IfOk result (λ it. (v : Version)
-        → BeginsKept S.Store conn.old it.conn.now v (λ s holders.
-        holders ≡ holders_of s.ledger cell.now) (HoldersLeft S.Store it.conn.now)) }
-    ensures good { IfOk result (λ it. BeginsGood S.Store conn.old it.conn.now
-        (AreHoldersRest S.Store it.conn.now)) }
-    ensures quiet { IfOk result (λ it. Quiet S.Store conn.old it.conn.now) }
+    ensures starts { IfOk result (λ it. StartsList S.Store conn.entry it
+        (λ s holders. holders ≡ holders_of s.ledger cell.now) (HoldersLeft S.Store)
+        (AreHoldersRest S.Store)) }
 {
     hand_holders(conn, cell)
 }

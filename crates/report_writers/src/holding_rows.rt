@@ -2,14 +2,11 @@
 
 ghost use Rattle.std.specs.Prelude.{◌≡◌, IfOk, IfSome, IsSome};
 ghost use Rattle.std.specs.Borrow.{sem};
-ghost use Rattle.desk_sql.specs.Calls.{Quiet};
-ghost use Rattle.desk_sql.specs.declared.versions.Version.{Version};
 ghost use Rattle.sql_lists.specs.HoldingLists.{holding_found};
 ghost use Rattle.sql_reads.specs.Lending.{LeavesIfErr};
-ghost use Rattle.sql_reads.specs.RemainingRows.{BeginsKept};
 ghost use Rattle.report_writers.specs.HoldingsLeft.{AreGoodHoldingsRest, AreHoldingsOf, HoldingsLeft, IsGoodHolding, holding_short, holding_told};
 ghost use Rattle.report_writers.specs.States.{state_numbered};
-ghost use Rattle.report_writers.specs.Ready.{BeginsGood};
+ghost use Rattle.report_writers.specs.Ready.{StartsList};
 
 use crate::found_rows::FoundRow;
 use commands::{Agent, Fault};
@@ -27,13 +24,9 @@ pub fn start_holdings<'a, S: Alter>(
     filter: &CellFilter,
 ) -> Result<Rows<'a, S>, Error>
     ensures* fault { sem 𝓛 (LeavesIfErr S.row S.Store conn.entry result) }
-    ensures same_reference { IfOk result (λ it. it.conn.ghost_name ≡ conn.entry.ghost_name) }
-    ensures rows { IfOk result (λ it. (v : Version)
-        → BeginsKept S.Store conn.old it.conn.now v (λ s holdings.
-        AreHoldingsOf filter.now s.ledger holdings) (HoldingsLeft S.Store it.conn.now)) }
-    ensures good { IfOk result (λ it. BeginsGood S.Store conn.old it.conn.now
-        (AreGoodHoldingsRest S.Store it.conn.now)) }
-    ensures quiet { IfOk result (λ it. Quiet S.Store conn.old it.conn.now) }
+    ensures starts { IfOk result (λ it. StartsList S.Store conn.entry it
+        (λ s holdings. AreHoldingsOf filter.now s.ledger holdings) (HoldingsLeft S.Store)
+        (AreGoodHoldingsRest S.Store)) }
 {
     hand_holdings(conn, filter)
 }

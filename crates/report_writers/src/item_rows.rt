@@ -4,7 +4,6 @@ ghost use Rattle.std.specs.Prelude.{◌≡◌, ◌<◌, ◌+◌, ◌^◌, IfOk};
 ghost use Rattle.std.specs.Borrow.{sem};
 ghost use Rattle.sqlite.specs.Held.{state};
 ghost use Rattle.sqlite.specs.State.{HasCleanDisk};
-ghost use Rattle.desk_sql.specs.Calls.{Quiet};
 ghost use Rattle.desk_sql.specs.Causes.{HasFaulted};
 ghost use Rattle.ledger.specs.Ledger.{history};
 ghost use Rattle.saga_core.specs.RowSources.{count_of, Hands, StaysReady};
@@ -35,12 +34,11 @@ pub fn start_items<'c, S: Alter>(
 ) -> Result<ItemRows<'c, S>, Fault>
     ensures* fault { sem 𝓛 (LeavesIfErr S.row S.Store version (λ it. it.conn.ghost_name)
         conn.entry result) }
-    ensures same_reference { IfOk result (λ it. it.conn.ghost_name ≡ conn.entry.ghost_name) }
     ensures rows { IfOk result (λ it. BeginsKept S.Store conn.old it.conn.now version
         (λ s items. items ≡ history s.ledger id)
         (⟦<ItemRows<'c, S> as RowSource<Item>>⟧.rests it)) }
     ensures start { IfOk result (λ it. IsAtStart version it.cursor) }
-    ensures quiet { IfOk result (λ it. Quiet S.Store conn.old it.conn.now) }
+    ensures under { IfOk result (λ it. StaysUnder S.Store conn.entry it.conn) }
 {
     match item_cursor(conn, version, id) {
         Ok(cursor) => Ok(ItemRows { conn, cursor }),

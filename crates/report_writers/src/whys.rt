@@ -1,5 +1,5 @@
 //! The report of why a journey goes on or does not.
-ghost use Rattle.std.specs.Prelude.{◌≡◌, List, IfOk, IsErrOf};
+ghost use Rattle.std.specs.Prelude.{◌≡◌, List, IfOk, IsErrOf, Some};
 ghost use Rattle.ledger.specs.Ledger.{history};
 ghost use Rattle.saga_core.specs.Views.{IsStock};
 ghost use Rattle.allotment.specs.declared.cells.Cell.{Cell};
@@ -10,7 +10,8 @@ ghost use Rattle.previews.specs.Previews.{begun_as, latest_option as latest_opti
 ghost use Rattle.report_kinds.specs.Texts.{OfReport};
 ghost use Rattle.saga_core.specs.declared.report.Report.TheVariants as kind;
 ghost use Rattle.report_writers.specs.Writing.{ShowsDesk, ShowsIn, WritesIfThere, WritesText};
-ghost use Rattle.report_writers.specs.Whys.{HasRecord, IsSeenOf, LetsCellsOf};
+ghost use Rattle.report_writers.specs.Whys.{IsSeenOf, LetsCellsOf};
+ghost use Rattle.sql_reads.specs.Reading.{IsRecordAt};
 ghost use Rattle.sql_reads.specs.Reads.{AnyDesk};
 
 use crate::cell_rows::start_cells;
@@ -73,7 +74,7 @@ fn write_preview<S: Alter, O: Write>(
     out: &mut O,
 ) -> Result<(), ReportFault>
     ensures shows { ShowsIn S.Store version conn.old conn.new
-        (IsErrOf result ReportFault.Store) (HasRecord id journey.now) (λ s.
+        (IsErrOf result ReportFault.Store) (λ s. IsRecordAt id s (Some journey.now)) (λ s.
         (rows : List (Cell × Held)) → IsStock s.ledger rows →
         WritesText (O.contents out.old) (O.contents out.new)
         (why_of format s.ledger id (begun_as journey.now)) result) }
@@ -91,7 +92,7 @@ fn read_preview<S: Alter>(
     conn: &mut Connection<S>,
 ) -> Result<Seen, ReportFault>
     ensures shows { ShowsIn S.Store version conn.old conn.new
-        (IsErrOf result ReportFault.Store) (HasRecord id journey.now) (λ s.
+        (IsErrOf result ReportFault.Store) (λ s. IsRecordAt id s (Some journey.now)) (λ s.
         (rows : List (Cell × Held)) → IsStock s.ledger rows
         → IfOk result (IsSeenOf s.ledger id journey.now)) }
 {

@@ -1,5 +1,5 @@
 -- What a format writes for a number or a text that it pads with blanks. For the lines of reports.
-use Rattle.std.proofs.Common.{◌≡◌, ◌∙◌, ℕ, ◌^◌, ◌-◌, ◌≤◌, Bool, cond, List, [], ◌∷◌, true, false, refl, arith, length, zero, suc, replicate, append-nil, ap, lit<, lit≤, leb-true, encode_utf8, ◌==◌, ◌||◌, nat_le, IsTrue}
+use Rattle.std.proofs.Common.{◌≡◌, ◌∙◌, ℕ, ◌^◌, ◌-◌, ◌≤◌, Bool, cond, List, [], ◌∷◌, ◌++◌, true, false, refl, arith, length, zero, suc, replicate, append-nil, ap, lit<, lit≤, leb-true, encode_utf8, ◌==◌, ◌||◌, nat_le, IsTrue, append_assoc, decimal, string_bytes}
 use Rattle.std.specs.Fmt.{padded_integral, padded, take_chars, char_count, format_spec, is_char_start}
 use Rattle.std.specs.List.{repeat, list_all}
 use Rattle.std.proofs.lemmas.Bool.{and_parts}
@@ -10,7 +10,7 @@ use Rattle.allotment.specs.Texts.{kind_word}
 use Rattle.allotment.specs.declared.codes.Kind.{Kind}
 use Rattle.allotment.specs.declared.codes.Kind.TheVariants.{Flight, Room, Transfer, Cover}
 use Rattle.commands.specs.Names.{is_agent, is_agent_byte}
-use Rattle.reports.specs.Columns.{left, right}
+use Rattle.reports.specs.Columns.{left, line, right}
 
 -- a text of one blank, repeated n times
 blank_repeated : (n : ℕ) → repeat {A = ℕ} n (32 ∷ []) ≡ replicate {A = ℕ} n 32
@@ -100,3 +100,13 @@ kind_left width Flight = text_left width (kind_word Flight) refl (lit≤ tt)
 kind_left width Room = text_left width (kind_word Room) refl (lit≤ tt)
 kind_left width Transfer = text_left width (kind_word Transfer) refl (lit≤ tt)
 kind_left width Cover = text_left width (kind_word Cover) refl (lit≤ tt)
+
+-- a line of two words, and one of three, as a format writes them
+pub two_words : (a b : List ℕ) → a ++ (32 ∷ (b ++ 10 ∷ [])) ≡ line (a ∷ b ∷ [])
+two_words a b = simp append_assoc
+
+pub three_words : (a b c : List ℕ) → a ++ (32 ∷ (b ++ (32 ∷ (c ++ 10 ∷ [])))) ≡ line (a ∷ b ∷ c ∷ [])
+three_words a b c = simp append_assoc
+
+-- what a format writes of numbers and texts, each of which may be padded
+pub ruleset laid_out = (string_bytes, decimal, append_assoc, number_right, agent_left, code_left, kind_left)

@@ -33,7 +33,4 @@ pub history_in_parts : (id : ℕ) (journey : Record) (items : List Item) (head t
     → head ≡ history_head id journey
     → tail ≡ history_tail journey.cursor
     → head ++ flat_map item_word items ++ tail ≡ history_report id journey items
-history_in_parts id journey items head tail is_head is_tail =
-    ap (λ front. front ++ flat_map item_word items ++ tail) is_head
-    ∙ ap (λ back. history_head id journey ++ flat_map item_word items ++ back) is_tail
-    ∙ in_parts id journey items
+history_in_parts id journey items head tail is_head is_tail = rw (is_head, is_tail) (in_parts id journey items)

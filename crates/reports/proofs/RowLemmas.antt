@@ -1,5 +1,5 @@
 -- Rows that were written one after another. For sending rows.
-use Rattle.std.proofs.Common.{◌≡◌, ◌∙◌, ap, sym, subst, refl, ℕ, ◌+◌, List, [], ◌∷◌, ◌++◌, length, append-nil, append_assoc, length-append, Option, Some, Result, Ok, IsErr}
+use Rattle.std.proofs.Common.{◌≡◌, ◌∙◌, ap, sym, subst, refl, ℕ, ◌+◌, List, [], ◌∷◌, ◌++◌, length, append-nil, append_assoc, length-append, Option, Some, Result, Ok, Err, IsErr, IsErrAnd}
 use Rattle.std.specs.Io.KnownBytes.{Appends}
 use Rattle.std.specs.List.{flat_map}
 use Rattle.std.proofs.lemmas.List.Concat.{flat_map-append}
@@ -7,10 +7,10 @@ use Rattle.saga_core.specs.RowSources.{Hands}
 use Rattle.saga_core.specs.declared.row_sources.RowSource.{Ghosts}
 use Rattle.streams.specs.Written.{WroteFront}
 use Rattle.streams.proofs.ByteLemmas.{appends_more}
-use Rattle.reports.specs.Writing.{Takes, WritesCounted, Wrote}
+use Rattle.reports.specs.Writing.{Sends, Takes, WritesCounted, Wrote}
 use Rattle.reports.specs.declared.faults.ReportFault.{ReportFault}
 use Rattle.reports.proofs.FrontLemmas.{appends_none, front_after, front_before, front_whole}
-use Rattle.reports.proofs.TakeLemmas.{Goes, Taken, taken_more, taken_none, takes_twice, writes_failed}
+use Rattle.reports.proofs.TakeLemmas.{Goes, is_fault, Taken, taken_more, taken_none, takes_apart, takes_twice, writes_failed}
 
 -- the first `count` rows were written, and the others remain
 pub record SoFar {T : Type 0} (shown : T → List ℕ) (rests : List T → Type 0)
@@ -84,21 +84,10 @@ module _ {R T U : Type 0} {source : Ghosts R T} {first old new : R} {made : List
       hands : source.is_sound new → Hands left after (Some row)
       hands sound = subst (Hands left after) some (next sound)
 
-  module _ {result : Result ℕ ReportFault} (took : Takes source old new result) where
-    takes : Takes source first new result
-    takes = takes_twice source joins so_many.takes took
-
-    -- a fault came before the next one was written
-    pub written_less : {Counted : ℕ → Type 0} {NoneLeft : Type 0} → IsErr result
-        → WritesCounted source first new (λ all. flat_map shown (made all)) (λ all. length (made all)) Counted NoneLeft held holds result
-    written_less is = writes_failed result is takes (λ sound all rest. front_of (so_far took.sound sound all rest))
-
-    -- a prefix of one more was written
-    pub written_part : {Counted : ℕ → Type 0} {NoneLeft : Type 0} (after : List U → Type 0) {found : Option U} → (source.is_sound new → Hands left after found) → {row : U} → found ≡ Some row
-        → {now : Option (List ℕ)} → WroteFront holds now (shown row) → IsErr result
-        → WritesCounted source first new (λ all. flat_map shown (made all)) (λ all. length (made all)) Counted NoneLeft held now result
-    written_part after next some {now} front is = writes_failed result is takes
-        (λ sound all rest. front_with (so_far took.sound sound all rest) after (hands took.sound after next some sound) now front)
+  -- a fault came before the next one was written
+  pub written_less : {result : Result ℕ ReportFault} {Counted : ℕ → Type 0} {NoneLeft : Type 0} → Takes source old new result → IsErr result
+      → WritesCounted source first new (λ all. flat_map shown (made all)) (λ all. length (made all)) Counted NoneLeft held holds result
+  written_less took is = writes_failed _ is (takes_twice source joins so_many.takes took) (λ sound all rest. front_of (so_far took.sound sound all rest))
 
   module _ (took : Goes source old new) where
     -- there is no further one
@@ -113,10 +102,19 @@ module _ {R T U : Type 0} {source : Ghosts R T} {first old new : R} {made : List
           takes = record { kept = whole.kept; sound = whole.sound; reason = whole.reason };
         }
 
-    -- one more was written
-    pub written_more : (after : List U → Type 0) {found : Option U} → (source.is_sound new → Hands left after found) → {row : U} → found ≡ Some row
-        → {now : Option (List ℕ)} → Appends holds now (shown row) → SoManyWritten source first new made after shown held now (count + 1)
-    written_more after next some sent = record {
-      so_far = λ sound all rest. goes_on (so_far took.sound sound all rest) after (hands took.sound after next some sound) sent;
-      takes = takes_twice source joins so_many.takes took;
-    }
+    module _ (after : List U → Type 0) {found : Option U} (next : source.is_sound new → Hands left after found) {row : U} (some : found ≡ Some row)
+        {now : Option (List ℕ)} {V : Type 0} where
+      -- a prefix of one more was written
+      pub written_part : {fault : ReportFault} {Counted : ℕ → Type 0} {NoneLeft : Type 0} → Sends holds now (shown row) {T = V} (Err fault)
+          → (result : Result ℕ ReportFault) → IsErrAnd result (λ told. told ≡ fault)
+          → WritesCounted source first new (λ all. flat_map shown (made all)) (λ all. length (made all)) Counted NoneLeft held now result
+      written_part {fault} sends result is =
+          writes_failed result (is_fault fault result is) (takes_twice source joins so_many.takes (takes_apart source fault took sends.no_store result is))
+          (λ sound all rest. front_with (so_far took.sound sound all rest) after (hands took.sound after next some sound) now sends.front)
+
+      -- one more was written
+      pub written_more : {value : V} → Sends holds now (shown row) (Ok value) → SoManyWritten source first new made after shown held now (count + 1)
+      written_more sends = record {
+        so_far = λ sound all rest. goes_on (so_far took.sound sound all rest) after (hands took.sound after next some sound) sends.sent;
+        takes = takes_twice source joins so_many.takes took;
+      }

@@ -1,13 +1,12 @@
 -- Rows that are taken from a source, one after another, and their text at a fault. For the loops over a source.
-use Rattle.std.proofs.Common.{◌≡◌, ◌∙◌, ◌+◌, ◌<◌, ◌∷◌, ◌++◌, [], ap, append-nil, append_assoc, arith, length, refl, suc, sym, take, zero, ℕ, List, Vec, subst, Option, Some, None, Result, Ok, Err, IsErr}
-use Rattle.saga_core.specs.RowSources.{count_of, Hands, HandsFirst}
+use Rattle.std.proofs.Common.{◌≡◌, ◌∙◌, ◌+◌, ◌<◌, ◌∷◌, ◌++◌, [], ap, append-nil, append_assoc, arith, length, refl, suc, sym, take, zero, ℕ, List, Vec, subst, Option, Some, None, Result, Ok, Err, IsErr, IsErrAnd, ◌≢◌}
+use Rattle.saga_core.specs.RowSources.{count_of, FailsFor, Hands, HandsFirst}
 use Rattle.streams.specs.Written.{WroteFront}
 use Rattle.saga_core.specs.declared.row_sources.RowSource.{Ghosts}
-use Rattle.saga_core.specs.RowSources.{FailsFor, StaysReady}
 use Rattle.commands.specs.declared.replies.Fault.{Fault}
 use Rattle.commands.specs.declared.replies.Fault.TheVariants as fault
-use Rattle.reports.specs.Faults.{report_fault, reported}
-use Rattle.reports.specs.Writing.{LeavesReady, Takes, WritesCounted, Wrote}
+use Rattle.reports.specs.Faults.{report_fault}
+use Rattle.reports.specs.Writing.{FailsWith, Takes, WritesCounted, Wrote}
 use Rattle.reports.specs.declared.faults.ReportFault.{ReportFault}
 use Rattle.reports.specs.declared.faults.ReportFault.TheVariants.{Memory, Store, Write}
 
@@ -47,17 +46,20 @@ abbrev pub Goes : {R T : Type 0} → Ghosts R T → R → R → Type 0
 Goes source a b = Takes source a b {V = ℕ} (Ok 0)
 
 -- a reason of the source is one of the report
-reason_reported : {V : Type 0} (ready reason : Type 0) (result : Result V Fault) → StaysReady ready reason result → LeavesReady ready reason (reported result)
-reason_reported ready reason (Ok value) is = is
-reason_reported ready reason (Err fault.Memory) is = tt
-reason_reported ready reason (Err fault.Store) is = is
+fails_reported : (reason : Type 0) (fault : Fault) → FailsFor reason fault → FailsWith reason (report_fault fault)
+fails_reported reason fault.Memory is = tt
+fails_reported reason fault.Store is = is
 
 -- another fault needs none
-reason_apart : {V : Type 0} (ready reason : Type 0) (result : Result V ReportFault) → IsErr result → (result ≡ Err Store → ⊥) → LeavesReady ready reason result
-reason_apart ready reason (Ok value) is apart = absurd (cc)
-reason_apart ready reason (Err Memory) is apart = tt
-reason_apart ready reason (Err Store) is apart = absurd (apart refl)
-reason_apart ready reason (Err Write) is apart = tt
+fails_apart : (reason : Type 0) (fault : ReportFault) → fault ≢ Store → FailsWith reason fault
+fails_apart reason Memory apart = tt
+fails_apart reason Store apart = absurd (apart refl)
+fails_apart reason Write apart = tt
+
+-- what is returned with a fault is one
+pub is_fault : {V : Type 0} (fault : ReportFault) (result : Result V ReportFault) → IsErrAnd result (λ told. told ≡ fault) → IsErr result
+is_fault fault (Ok value) is = absurd is
+is_fault fault (Err told) is = refl
 
 module _ {R T : Type 0} (source : Ghosts R T) where
   -- where no row was taken, the source is the same
@@ -65,12 +67,6 @@ module _ {R T : Type 0} (source : Ghosts R T) where
   takes_none stays s = record { kept = stays s; sound = λ sound. sound; reason = λ first sound ready. ready }
 
   module _ {a b : R} where
-    -- a call of the source came to this
-    pub takes_row : {V : Type 0} (result : Result V Fault) → source.becomes a b → (source.is_sound b → source.is_sound a)
-        → ((first : R) → source.is_sound b → source.is_ready first a → StaysReady (source.is_ready first b) (source.has_reason first b) result)
-        → Takes source a b (reported result)
-    takes_row result kept sound reason = record { kept = kept; sound = sound; reason = λ first is ready. reason_reported (source.is_ready first b) (source.has_reason first b) result (reason first is ready) }
-
     -- without a fault, whatever the value
     pub goes : {V : Type 0} {value : V} → Takes source a b (Ok value) → Goes source a b
     goes took = record { kept = took.kept; sound = took.sound; reason = took.reason }
@@ -78,23 +74,31 @@ module _ {R T : Type 0} (source : Ghosts R T) where
     pub ends : {V : Type 0} {value : V} → Goes source a b → Takes source a b (Ok value)
     ends took = record { kept = took.kept; sound = took.sound; reason = took.reason }
 
-    -- a fault came, whatever the value would have been
-    pub takes_err : {V W : Type 0} {fault : ReportFault} → Takes source a b {V = V} (Err fault) → (result : Result W ReportFault) (told : ReportFault)
-        → result ≡ Err told → told ≡ fault → Takes source a b result
-    takes_err {fault = fault} took result told failed same =
-        subst (Takes source a b) (sym (failed ∙ ap Err same)) (record { kept = took.kept; sound = took.sound; reason = took.reason })
+    -- a fault came, and is returned with any type of values
+    pub takes_err : {V W : Type 0} {fault : ReportFault} → Takes source a b {V = V} (Err fault) → (result : Result W ReportFault)
+        → IsErrAnd result (λ told. told ≡ fault) → Takes source a b result
+    takes_err took (Ok value) is = absurd is
+    takes_err {W = W} took (Err told) is = subst (λ fault. Takes source a b {V = W} (Err fault)) (sym is) (record { kept = took.kept; sound = took.sound; reason = took.reason })
 
     -- a fault of the source came
     pub takes_fault : {V : Type 0} (result : Result V ReportFault) (told : ReportFault) (fault : Fault) → result ≡ Err told → told ≡ report_fault fault
         → source.becomes a b → (source.is_sound b → source.is_sound a)
         → ((first : R) → source.is_sound b → source.is_ready first a → FailsFor (source.has_reason first b) fault) → Takes source a b result
     takes_fault result told fault failed same kept sound reason =
-        subst (Takes source a b) (sym (failed ∙ ap Err same)) (takes_row (Err fault) kept sound reason)
+        subst (Takes source a b) (sym (failed ∙ ap Err same))
+        (record { kept = kept; sound = sound; reason = λ first is ready. fails_reported (source.has_reason first b) fault (reason first is ready) })
 
     -- rows were taken, and then came a fault that is not the store's
-    pub takes_apart : {V : Type 0} → Goes source a b → (result : Result V ReportFault) → IsErr result → (result ≡ Err Store → ⊥)
-        → Takes source a b result
-    takes_apart one result is apart = record { kept = one.kept; sound = one.sound; reason = λ first sound ready. reason_apart (source.is_ready first b) (source.has_reason first b) result is apart }
+    pub takes_apart : {V : Type 0} (fault : ReportFault) → Goes source a b → fault ≢ Store → (result : Result V ReportFault)
+        → IsErrAnd result (λ told. told ≡ fault) → Takes source a b result
+    takes_apart fault one apart result is =
+        let took : Takes source a b {V = ℕ} (Err fault) =
+        record { kept = one.kept; sound = one.sound; reason = λ first sound ready. fails_apart (source.has_reason first b) fault apart } in
+        takes_err took result is
+
+    -- rows were taken, and then there was no memory
+    pub takes_memory : {V : Type 0} → Goes source a b → (result : Result V ReportFault) → IsErrAnd result (λ told. told ≡ Memory) → Takes source a b result
+    takes_memory one result is = takes_apart Memory one (λ same. cc) result is
 
   module _ (joins : (a b c : R) → source.becomes a b → source.becomes b c → source.becomes a c) where
     -- rows were taken, and then further ones

@@ -1,7 +1,6 @@
 -- The rows of reports as CSV records (RFC 4180): commas between fields, quotes where a field needs them, and CR LF at
 -- the end of each record.
-use Rattle.std.specs.Prelude.{◌≡◌, ℕ, List, [], ◌∷◌, ◌++◌, codes, decimal, Result, OnOk}
-use Rattle.csv.specs.Records.{fields_of, partial_of, Row}
+use Rattle.std.specs.Prelude.{ℕ, List, [], ◌∷◌, codes, decimal}
 use Rattle.csv.specs.Writing.{default_writer, row_text, with_terminator}
 use Rattle.csv.specs.declared.parser.Terminator.TheVariants.{CRLF}
 use Rattle.csv.specs.declared.writer.WriterBuilder.{WriterBuilder}
@@ -23,11 +22,6 @@ rfc_4180 = with_terminator default_writer CRLF
 -- the record of these fields, with its line end
 abbrev pub csv_line : List (List ℕ) → List ℕ
 csv_line fields = row_text rfc_4180 fields
-
--- these fields were added to a record, and none is begun
-pub record Adds (old new : Row) (added : List (List ℕ)) {T E : Type 0} (result : Result T E) : Type 0 where
-  pub fields : OnOk result (fields_of new ≡ fields_of old ++ added)
-  pub whole : OnOk result (partial_of new ≡ [])
 
 -- the columns of a cell, and its fields
 abbrev pub cell_names : List (List ℕ)

@@ -1,10 +1,16 @@
 -- What a function leaves of a source whose rows it takes, and of the output to which it writes their text.
-use Rattle.std.specs.Prelude.{◌≡◌, ◌+◌, ⊤, ℕ, List, [], length, Option, Result, Ok, Err, IfOk, OnOk}
+use Rattle.std.specs.Prelude.{◌≡◌, ◌≢◌, ◌+◌, ⊤, ℕ, List, [], length, Option, Result, Ok, Err, IfErr, IfOk, OnOk}
 use Rattle.std.specs.Io.KnownBytes.{Appends}
 use Rattle.saga_core.specs.declared.row_sources.RowSource.{Ghosts}
 use Rattle.streams.specs.Written.{WroteFront}
 use Rattle.reports.specs.declared.faults.ReportFault.{ReportFault}
 use Rattle.reports.specs.declared.faults.ReportFault.TheVariants.{Memory, Store, Write}
+
+-- the text was written; at a fault, which is not the store's, a prefix of it was
+pub record Sends (held holds : Option (List ℕ)) (text : List ℕ) {T : Type 0} (result : Result T ReportFault) : Type 0 where
+  pub sent : OnOk result (Appends held holds text)
+  pub front : WroteFront held holds text
+  pub no_store : IfErr result (λ fault. fault ≢ Store)
 
 -- the text was written, and its rows were counted; at a fault a prefix of the text was written
 pub record Wrote (held holds : Option (List ℕ)) (text : List ℕ) (rows : ℕ) (result : Result ℕ ReportFault) : Type 0 where

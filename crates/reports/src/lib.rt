@@ -22,11 +22,14 @@ mod reports;
 mod rows;
 mod taking;
 
+pub use endings::Ending;
 pub use faults::ReportFault;
-pub use fields::{csv_line, put_field, put_number};
+pub use fields::Fields;
 pub use lines::night_text;
 pub use objects::{journey_object, json_line};
+pub use outputs::send;
 pub use parts::{begin_stock, end_stock, stock_lines};
 pub use records::put_journey;
-pub use reports::{history_text, journeys_text, stock_text, unfinished_text};
+pub use reports::{history_text, journeys_text, send_report, stock_text, unfinished_text};
+pub use rows::Layout;
 pub use taking::take_rows;

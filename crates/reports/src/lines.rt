@@ -2,42 +2,36 @@
 ghost use Rattle.std.specs.Prelude.{◌≡◌, IfOk, string_bytes};
 ghost use Rattle.allotment.specs.Nights.{night_text};
 ghost use Rattle.reports.specs.Formats.{stock_head, unfinished_head};
-ghost use Rattle.reports.specs.Layouts.{stock_heading, stock_line, journey_line};
+ghost use Rattle.reports.specs.Layouts.{stock_line, journey_line};
 ghost use Rattle.reports.specs.Parts.{history_head, history_tail, item_word};
 
 use crate::columns::{night_digits, put_number, put_text};
-use crate::records::{cell_heading, journey_heading};
 use allotment::{Cell, Held, Night};
 use commands::{Cursor, Item};
 use saga_core::{Brief, Format, Record};
 use std::alloc::{AllocError, Global};
 
 /// The heading of the stock report in this format.
+#[tactic(auto, unfolding(csv::specs::Writing::escaped, csv::specs::Writing::fields_text, csv::specs::Writing::is_blank))]
 pub(crate) fn stock_head(format: Format) -> &'static str
     ensures head { result.now ≡ stock_head format }
 {
     match format {
-        Format::Text => heading(),
+        Format::Text => "kind     supplier product  night       allot   held   free\n",
         Format::Json => "",
-        Format::Csv => cell_heading(),
+        Format::Csv => "kind,supplier,product,night,allot,held,free\r\n",
     }
 }
 
 /// The heading of the report of unfinished journeys in this format.
+#[tactic(auto, unfolding(csv::specs::Writing::escaped, csv::specs::Writing::fields_text, csv::specs::Writing::is_blank))]
 pub(crate) fn unfinished_head(format: Format) -> &'static str
     ensures head { result.now ≡ unfinished_head format }
 {
     match format {
         Format::Text | Format::Json => "",
-        Format::Csv => journey_heading(),
+        Format::Csv => "journey,agent,state,pos,target\r\n",
     }
-}
-
-/// The heading of the stock report as a text.
-fn heading() -> &'static str
-    ensures heading { result.now ≡ stock_heading }
-{
-    "kind     supplier product  night       allot   held   free\n"
 }
 
 /// The line of a cell and its places: columns of 8, 8, 8, 10, 6, 6 and 6 bytes with a blank between each two.
@@ -65,6 +59,7 @@ pub fn night_text(alloc: Global, night: Night) -> Result<String, AllocError>
 }
 
 /// The line of an unfinished journey.
+#[tactic(auto, using(std::proofs::Common::string_bytes, std::proofs::Common::decimal, crate::proofs::FillLemmas::number_right, crate::proofs::FillLemmas::agent_left, crate::proofs::FillLemmas::three_words))]
 pub(crate) fn journey_line(alloc: Global, brief: &Brief) -> Result<String, AllocError>
     ensures line { IfOk result (λ text. string_bytes text ≡ journey_line brief.now) }
 {

@@ -9,12 +9,12 @@ ghost use Rattle.streams.specs.Written.{WroteFront};
 use crate::endings::Ending;
 use crate::faults::ReportFault;
 use crate::lines::stock_head;
-use crate::outputs::send_text;
 use crate::rows::send_rows;
 use allotment::{Cell, Held};
 use saga_core::{Format, RowSource};
 use std::alloc::Global;
 use std::io::Write;
+use streams::send_all;
 
 /// Writes what comes before the cells of a stock report.
 pub fn begin_stock<W: Write>(format: Format, out: &mut W) -> Result<(), ReportFault>
@@ -24,7 +24,8 @@ pub fn begin_stock<W: Write>(format: Format, out: &mut W) -> Result<(), ReportFa
     ensures front { WroteFront (W.contents out.old) (W.contents out.new) (head_in format) }
     ensures write { IfErr result (λ fault. fault ≡ ReportFault.Write) }
 {
-    send_text(out, stock_head(format))
+    send_all(out, stock_head(format).as_bytes())?;
+    Ok(())
 }
 
 /// Writes the lines of further cells of a stock report, and returns how many there were.
@@ -54,6 +55,5 @@ pub fn end_stock<W: Write>(
         (last_line format (codes "cells") count) }
     ensures no_store { IfErr result (λ fault. fault ≢ ReportFault.Store) }
 {
-    let text = Ending::of_list(format, "cells").text(alloc, count)?;
-    send_text(out, text.as_str())
+    Ending::of_list(format, "cells").send(alloc, count, out)
 }

@@ -1,32 +1,17 @@
 //! The rows of reports as CSV records (RFC 4180).
-ghost use Rattle.std.specs.Prelude.{◌≡◌, [], ◌∷◌, IfOk};
-ghost use Rattle.csv.specs.Records.{partial_of};
-ghost use Rattle.reports.specs.Records.{Adds, csv_line, cell_names, cell_fields, journey_names, journey_fields, target_field, item_names, item_fields};
+ghost use Rattle.std.specs.Prelude.{◌≡◌, [], ◌∷◌, ◌++◌, IfOk};
+ghost use Rattle.reports.specs.Records.{csv_line, cell_fields, journey_fields, target_field, item_names, item_fields};
 
 use crate::columns::night_digits;
-use crate::fields::{csv_line, put_field, put_number};
+use crate::fields::Fields;
 use crate::pieces::{put_count, put_piece};
 use allotment::{Cell, Held};
 use commands::{Cursor, Item, Phase};
-use csv::ByteRecord;
 use saga_core::Brief;
 use std::alloc::{AllocError, Global};
 
-/// The heading of cells.
-pub(crate) fn cell_heading() -> &'static str
-    ensures heading { result.now ≡ csv_line cell_names }
-{
-    "kind,supplier,product,night,allot,held,free\r\n"
-}
-
-/// The heading of unfinished journeys.
-pub(crate) fn journey_heading() -> &'static str
-    ensures heading { result.now ≡ csv_line journey_names }
-{
-    "journey,agent,state,pos,target\r\n"
-}
-
 /// The heading of the items of a history.
+#[tactic(auto, unfolding(csv::specs::Writing::escaped, csv::specs::Writing::fields_text, csv::specs::Writing::is_blank))]
 pub(crate) fn item_heading() -> &'static str
     ensures heading { result.now ≡ csv_line item_names }
 {
@@ -54,9 +39,7 @@ pub(crate) fn cell_record(alloc: Global, cell: &Cell, places: &Held) -> Result<V
 pub(crate) fn journey_record(alloc: Global, brief: &Brief) -> Result<Vec<u8>, AllocError>
     ensures fields { IfOk result (λ text. text.items ≡ csv_line (journey_fields brief.now)) }
 {
-    let mut row = ByteRecord::new(alloc);
-    put_journey(alloc, &mut row, brief)?;
-    csv_line(alloc, &row)
+    put_journey(alloc, Fields::new(alloc), brief)?.line(alloc)
 }
 
 /// The record of an item of a history.
@@ -64,34 +47,28 @@ pub(crate) fn item_record(alloc: Global, id: u64, item: &Item) -> Result<Vec<u8>
     ensures fields { IfOk result (λ text. text.items ≡ csv_line (item_fields id item.now)) }
 {
     let text = item.text(alloc)?;
-    let mut row = ByteRecord::new(alloc);
-    put_number(alloc, &mut row, id)?;
-    put_field(&mut row, text.as_str())?;
-    csv_line(alloc, &row)
+    let fields = Fields::new(alloc).with_number(alloc, id)?;
+    fields.with(text.as_str())?.line(alloc)
 }
 
 /// Adds the fields of a journey with its agent, and of where it is: its number, agent, phase, position and target.
-pub fn put_journey(alloc: Global, row: &mut ByteRecord, brief: &Brief) -> Result<(), AllocError>
-    requires whole { partial_of row.old ≡ [] }
-
-    ensures adds { Adds row.old row.new (journey_fields brief.now) result }
+pub fn put_journey(alloc: Global, fields: Fields, brief: &Brief) -> Result<Fields, AllocError>
+    ensures adds { IfOk result (λ all. all ≡ fields ++ journey_fields brief.now) }
 {
     let Cursor { pos, phase, .. } = brief.cursor;
-    put_number(alloc, row, brief.id)?;
-    put_field(row, brief.agent.as_str())?;
-    put_field(row, phase.word())?;
-    put_number(alloc, row, pos as u64)?;
-    put_target(alloc, row, phase)
+    let fields = fields.with_number(alloc, brief.id)?;
+    let fields = fields.with(brief.agent.as_str())?;
+    let fields = fields.with(phase.word())?;
+    let fields = fields.with_number(alloc, pos as u64)?;
+    put_target(alloc, fields, phase)
 }
 
 /// Adds the position to which a journey goes back; an empty field if it does not.
-fn put_target(alloc: Global, row: &mut ByteRecord, phase: Phase) -> Result<(), AllocError>
-    requires whole { partial_of row.old ≡ [] }
-
-    ensures adds { Adds row.old row.new (target_field phase ∷ []) result }
+fn put_target(alloc: Global, fields: Fields, phase: Phase) -> Result<Fields, AllocError>
+    ensures adds { IfOk result (λ all. all ≡ fields ++ target_field phase ∷ []) }
 {
     match phase {
-        Phase::Back(target) => put_number(alloc, row, target as u64),
-        _ => put_field(row, ""),
+        Phase::Back(target) => fields.with_number(alloc, target as u64),
+        _ => fields.with(""),
     }
 }

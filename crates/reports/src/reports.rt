@@ -12,7 +12,7 @@ use crate::endings::Ending;
 use crate::faults::ReportFault;
 use crate::lines::{history_head, history_tail, stock_head, unfinished_head};
 use crate::objects::{begin_object, state_object};
-use crate::outputs::send_text;
+use crate::outputs::send;
 use crate::records::item_heading;
 use crate::rows::{ItemObjects, ItemRecords, ItemWords, Layout, send_rows};
 use allotment::{Cell, Held};
@@ -163,8 +163,8 @@ fn history_records<R: RowSource<Item>, W: Write>(
     send_report(alloc, item_heading(), &layout, rows, &Ending::Text(""), out)
 }
 
-/// Writes a report: its head, the text of each row, and its ending.
-fn send_report<T: Drop, L: Layout<T>, R: RowSource<T>, W: Write>(
+/// Writes a report: its head, the text of each row, and its ending. Returns how many rows there are.
+pub fn send_report<T: Drop, L: Layout<T>, R: RowSource<T>, W: Write>(
     alloc: Global,
     head: &str,
     layout: &L,
@@ -175,9 +175,8 @@ fn send_report<T: Drop, L: Layout<T>, R: RowSource<T>, W: Write>(
     ensures writes { Writes R.RowSource rows.old rows.new
         (whole_report (L.shown layout.now) head.now ending.now) (W.contents out.old) (W.contents out.new) result }
 {
-    send_text(out, head)?;
+    send(out, head.as_bytes())?;
     let count = send_rows(alloc, layout, rows, out)?;
-    let text = ending.text(alloc, count)?;
-    send_text(out, text.as_str())?;
+    ending.send(alloc, count, out)?;
     Ok(count)
 }

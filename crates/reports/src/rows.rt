@@ -1,16 +1,14 @@
 //! The rows of a report, written one after another.
-ghost use Rattle.std.specs.Prelude.{◌≢◌, ℕ, List, IfErr, OnOk};
+ghost use Rattle.std.specs.Prelude.{ℕ, List};
 ghost use Rattle.std.specs.List.{flat_map};
-ghost use Rattle.std.specs.Io.KnownBytes.{Appends};
 ghost use Rattle.reports.specs.Formats.{stock_row, unfinished_row};
 ghost use Rattle.reports.specs.Objects.{json_line, item_data};
 ghost use Rattle.reports.specs.Parts.{item_word};
 ghost use Rattle.reports.specs.Records.{csv_line, item_fields};
-ghost use Rattle.reports.specs.Writing.{Writes};
-ghost use Rattle.streams.specs.Written.{WroteFront};
+ghost use Rattle.reports.specs.Writing.{Sends, Writes};
 
 use crate::faults::ReportFault;
-use crate::outputs::{send, send_text};
+use crate::outputs::send;
 use crate::{lines, objects, records};
 use allotment::{Cell, Held};
 use commands::Item;
@@ -19,23 +17,20 @@ use std::alloc::Global;
 use std::io::Write;
 
 /// How the rows of a report are laid out.
-pub(crate) trait Layout<T> {
+pub trait Layout<T> {
     /// The bytes that represent a row.
     ghost shown: { Self → T → List ℕ };
 
     /// Writes those bytes. After a fault a prefix of them was written.
     fn send_row<W: Write>(&self, alloc: Global, row: &T, out: &mut W) -> Result<(), ReportFault>
-        ensures sent { OnOk result
-            (Appends (W.contents out.old) (W.contents out.new) (shown self.now row.now)) }
-
-        ensures front { WroteFront (W.contents out.old) (W.contents out.new)
-            (shown self.now row.now) }
-        ensures no_store { IfErr result (λ fault. fault ≢ ReportFault.Store) };
+        ensures sends { Sends (W.contents out.old) (W.contents out.new)
+            (shown self.now row.now) result };
 }
 
 impl Layout<(Cell, Held)> for Format {
     ghost shown = { λ format row. stock_row format row };
 
+    #[tactic(auto, using(crate::proofs::FrontLemmas::front_none))]
     fn send_row<W: Write>(
         &self,
         alloc: Global,
@@ -60,8 +55,8 @@ impl Layout<Brief> for Format {
         out: &mut W,
     ) -> Result<(), ReportFault> {
         match self {
-            Format::Text => send_text(out, lines::journey_line(alloc, row)?.as_str()),
-            Format::Json => send_text(out, objects::journey_object(alloc, row)?.as_str()),
+            Format::Text => send(out, lines::journey_line(alloc, row)?.as_bytes()),
+            Format::Json => send(out, objects::journey_object(alloc, row)?.as_bytes()),
             Format::Csv => send(out, &records::journey_record(alloc, row)?),
         }
     }
@@ -81,7 +76,7 @@ impl Layout<Item> for ItemWords {
         out: &mut W,
     ) -> Result<(), ReportFault> {
         let word = lines::item_word(alloc, row)?;
-        send_text(out, word.as_str())
+        send(out, word.as_bytes())
     }
 }
 
@@ -101,7 +96,7 @@ impl Layout<Item> for ItemObjects {
         out: &mut W,
     ) -> Result<(), ReportFault> {
         let object = objects::item_object(alloc, self.id, row)?;
-        send_text(out, object.as_str())
+        send(out, object.as_bytes())
     }
 }
 

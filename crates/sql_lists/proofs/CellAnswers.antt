@@ -1,50 +1,34 @@
 -- The cells that are asked for, in their only order, are the answer of their query. For `hand_cells`.
-use Rattle.std.proofs.Common.{◌≡◌, inl, ℕ, ℤ, ◌<◌, ◌^◌, ◌==◌, ◌&&◌, List, [], ◌∷◌, ◌++◌, map, filter, Bool, true, false, is_lt, Option, None, Some, refl, sym, ap, subst, ◌∙◌, arith, is_some, nat_le}
+use Rattle.std.proofs.Common.{◌≡◌, ℕ, ℤ, ◌<◌, ◌^◌, ◌==◌, ◌&&◌, List, [], ◌∷◌, ◌++◌, filter, true, Option, None, Some, refl, subst, ◌∙◌, Bool, arith, is_some, nat_le}
 use Rattle.std.proofs.lemmas.Bool.Decides.{nat_tests}
 use Rattle.sqlite.specs.Order.{Row}
-use Rattle.sqlite.specs.Query.{IsAnswer, output_cmp}
-use Rattle.sqlite.specs.Program.{overlay}
-use Rattle.sqlite.specs.Given.{HasBegun}
-use Rattle.sqlite.specs.Store.{Ghosts}
-use Rattle.sqlite.specs.Held.{Held, state}
-use Rattle.sqlite.specs.State.{HasCleanDisk, Survives, CommitsShowing}
+use Rattle.sqlite.specs.State.{State}
+use Rattle.sqlite.specs.Listing.{understood}
 use Rattle.sqlite.specs.Ops.{binary, is_true}
 use Rattle.sqlite_sql.specs.declared.ops.BinaryOp.TheVariants.{Compare}
 use Rattle.sqlite_sql.specs.declared.ops.CompareOp.TheVariants.{Ge}
 use Rattle.sqlite_value.specs.declared.keys.Collation.TheVariants.{Binary}
-use Rattle.sqlite_value.proofs.OrderLemmas.{value_cmp-Text, then-Equal}
-use Rattle.sqlite_trees.specs.Tree.{Trees}
-use Rattle.sqlite_trees.proofs.ListLemmas.{ascending_weaker}
+use Rattle.sqlite_tied.specs.Compute.{everything}
 use Rattle.allotment.specs.Cells.{kind_number}
 use Rattle.allotment.specs.declared.codes.Kind.{Kind}
-use Rattle.allotment.specs.declared.codes.Kind.TheVariants.{Flight, Room, Transfer, Cover}
 use Rattle.saga_core.specs.CellFilters.{first_day, is_from, is_name_asked, last_day}
 use Rattle.saga_core.specs.declared.cell_filters.CellFilter.{CellFilter}
 use Rattle.desk_sql.specs.declared.versions.Version.{Version}
-use Rattle.desk_sql.specs.Lists.{IsTableOf, numbered_row}
-use Rattle.desk_sql.specs.Meanings.{find_stock_names, find_stock_query}
+use Rattle.desk_sql.specs.declared.versions.Version.TheVariants.{One, Two}
+use Rattle.desk_sql.specs.Lists.{numbered_row}
 use Rattle.desk_sql.specs.Rows.{whole, StockRow, stock_columns}
-use Rattle.desk_sql.specs.Stock.{IsByCell, cell_cmp}
-use Rattle.desk_sql.specs.RemainingRows.{Begins, IsOnlyOrder, Starts, stock_shown}
-use Rattle.desk_sql.proofs.Answering.{table_answers}
+use Rattle.desk_sql.specs.Stock.{IsByCell}
+use Rattle.desk_sql.specs.RemainingRows.{IsOnlyOrder}
 use Rattle.desk_sql.proofs.Causing.{Takes}
-use Rattle.sql_lists.proofs.HandedCells.{cell_out, number_cmp}
-use Rattle.sql_lists.proofs.HandedRows.{started, starts}
 use Rattle.desk_sql.proofs.Reading.{passes}
 use Rattle.desk_sql.proofs.Testing.{and_true, eq_text, eq_whole, ge_whole, le_whole}
-use Rattle.sql_lists.specs.CellLists.{CellsRest, IsListOf, cell_tests, cells_query, cells_text, named}
-use Rattle.sql_lists.proofs.ListMeanings.{any_takes, both_take, cells_means, product_takes, supplier_takes}
-
--- the order of the queries is that of the cells
-order_is : (supplier product : Bool) (a b : StockRow) → output_cmp (cells_query supplier product) (cell_out a) (cell_out b) ≡ cell_cmp a b
-order_is supplier product a b = simp (number_cmp, value_cmp-Text, then-Equal)
+use Rattle.sql_lists.specs.CellLists.{IsListOf, cell_list, cell_tests, cells_query, cells_text, named}
+use Rattle.sql_lists.proofs.HandedCells.{cells_answer}
+use Rattle.sql_lists.proofs.HandedRows.{IsOnlyAnswer}
 
 -- the number of a kind fits the store's integers
 pub kind_small : (kind : Kind) → kind_number kind < 2 ^ 63
-kind_small Flight = omega arith
-kind_small Room = omega arith
-kind_small Transfer = omega arith
-kind_small Cover = omega arith
+kind_small kind = grind arith
 
 -- a night is not before the first that is named, if one is
 from_test : (first : Option ℕ) (n : ℕ) → is_true (binary (Compare Ge Binary) (whole n) (whole (first_day first))) ≡ is_from first n
@@ -74,67 +58,23 @@ module _ (kind : ℕ) (first : Option ℕ) (last : ℕ) where
 
   pub cells_take : (supplier product : Option (List ℕ)) (v : Version)
       → Takes v (cells_text (is_some supplier) (is_some product)) (cells_query (is_some supplier) (is_some product)) (params supplier product)
-  cells_take None None v = any_takes kind (first_day first) last v
-  cells_take (Some supplier) None v = supplier_takes kind (first_day first) last supplier v
-  cells_take None (Some product) v = product_takes kind (first_day first) last product v
-  cells_take (Some supplier) (Some product) v = both_take kind (first_day first) last supplier product v
+  unfolding understood everything
+  cells_take None None One extra = record { whole = refl; typed = refl }
+  cells_take None None Two extra = record { whole = refl; typed = refl }
+  cells_take None (Some product) One extra = record { whole = refl; typed = refl }
+  cells_take None (Some product) Two extra = record { whole = refl; typed = refl }
+  cells_take (Some supplier) None One extra = record { whole = refl; typed = refl }
+  cells_take (Some supplier) None Two extra = record { whole = refl; typed = refl }
+  cells_take (Some supplier) (Some product) One extra = record { whole = refl; typed = refl }
+  cells_take (Some supplier) (Some product) Two extra = record { whole = refl; typed = refl }
 
-  module _ (supplier product : Option (List ℕ)) where
-    cells_answer : (db : Trees) (cells later : List StockRow) → IsTableOf stock_columns (db 1) cells
-        → IsOnlyOrder IsByCell (filter (asked supplier product) cells) later
-        → (rows : List Row) → IsAnswer (cells_query (is_some supplier) (is_some product)) (overlay db []) (params supplier product) rows
-        → rows ≡ map stock_shown later
-    cells_answer db cells later table one rows a =
-        let it = table_answers 1 (cell_tests (is_some supplier) (is_some product)) find_stock_query.project find_stock_query.order db
-        (params supplier product) rows a refl stock_columns cells table cell_out
-        (λ _. refl) (asked supplier product) (test_is supplier product) in
-        let values : it.values ≡ later = one it.values (record {
-          same = it.same;
-          rising = ascending_weaker _ _ (λ a b up. subst (λ o. is_lt o ≡ false) (order_is (is_some supplier) (is_some product) b a) up) it.values it.rising;
-        }) in
-        it.rows_are ∙ ap (map stock_shown) values
-
-    -- the rows of a query that has started are these cells
-    cells_begin : {S : Type 0} (g : Ghosts S) (old new : Held S)
-        → (HasCleanDisk (state g new) → HasBegun g (cells_text (is_some supplier) (is_some product)) (params supplier product) old new)
-        → Begins g old new (λ t later. IsOnlyOrder IsByCell (filter (asked supplier product) t.stock) later) (CellsRest g)
-    cells_begin g old new begun clean v t sees later is = (
-      Some (is_some supplier, is_some product),
-      inl (
-        params supplier product,
-        starts g (cells_text (is_some supplier) (is_some product)) (cells_query (is_some supplier) (is_some product)) find_stock_names
-            (cells_means (is_some supplier) (is_some product)) (params supplier product) v old new
-            (map stock_shown later) (λ live. (sees live).schema) (begun clean)
-            (λ live. cells_answer (state g old).now.trees t.stock later (sees live).rows.stock is),
-      ),
-    )
-
--- the cells that a filter names are those of its supplier and its product
-as_named : {S : Type 0} (g : Ghosts S) (old new : Held S) (kind : Kind) (f : CellFilter) (supplier product : Option (List ℕ))
-    → f.supplier ≡ supplier → f.product ≡ product
-    → Begins g old new
-    (λ t later. IsOnlyOrder IsByCell (filter (asked (kind_number kind) f.from (last_day f.to) supplier product) t.stock) later) (CellsRest g)
-    → Begins g old new (IsListOf kind f) (CellsRest g)
-as_named g old new kind f supplier product one two begins =
-    subst (λ s. Begins g old new
-    (λ t later. IsOnlyOrder IsByCell (filter (asked (kind_number kind) f.from (last_day f.to) s f.product) t.stock) later) (CellsRest g))
-    (sym one)
-    (subst (λ p. Begins g old new
-    (λ t later. IsOnlyOrder IsByCell (filter (asked (kind_number kind) f.from (last_day f.to) supplier p) t.stock) later) (CellsRest g))
-    (sym two) begins)
-
--- a query of the cells that a filter names has started
-pub cells_started : {S : Type 0} (g : Ghosts S) (old new : Held S) (kind : Kind) (f : CellFilter) (supplier product : Option (List ℕ))
-    → f.supplier ≡ supplier → f.product ≡ product
-    → (HasCleanDisk (state g new)
-    → HasBegun g (cells_text (is_some supplier) (is_some product)) (params (kind_number kind) f.from (last_day f.to) supplier product) old new)
-    → (old.in_transaction ≡ false → new.in_transaction ≡ false)
-    → Survives (state g old) (state g new) (CommitsShowing (cells_text (is_some supplier) (is_some product))
-    (params (kind_number kind) f.from (last_day f.to) supplier product) (state g old))
-    → Starts g old new (IsListOf kind f) (CellsRest g)
-cells_started g old new kind f supplier product one two begun mode survives =
-    started g (cells_text (is_some supplier) (is_some product)) (cells_query (is_some supplier) (is_some product)) find_stock_names
-    (cells_means (is_some supplier) (is_some product)) (params (kind_number kind) f.from (last_day f.to) supplier product)
-    (IsListOf kind f) (CellsRest g) old new begun
-    (as_named g old new kind f supplier product one two (cells_begin (kind_number kind) f.from (last_day f.to) supplier product g old new begun))
-    mode survives
+-- the cells that a filter names are the answer of the statement of its supplier and its product
+pub cells_only : (kind : Kind) (f : CellFilter) (supplier product : Option (List ℕ)) → f.supplier ≡ supplier → f.product ≡ product
+    → (seen : State) → IsOnlyAnswer cell_list (Some (is_some supplier, is_some product))
+    (params (kind_number kind) f.from (last_day f.to) supplier product) (IsListOf kind f) seen
+cells_only kind f supplier product one two seen v t sees later is =
+    let test = asked (kind_number kind) f.from (last_day f.to) in
+    cells_answer (Some (is_some supplier, is_some product)) (params (kind_number kind) f.from (last_day f.to) supplier product)
+    (test supplier product) (test_is (kind_number kind) f.from (last_day f.to) supplier product) seen.now.trees t.stock later sees.rows.stock
+    (subst (λ s. IsOnlyOrder IsByCell (filter (test s product) t.stock) later) one
+    (subst (λ p. IsOnlyOrder IsByCell (filter (test f.supplier p) t.stock) later) two is))

@@ -3,7 +3,6 @@ use Rattle.std.proofs.Common.{◌≡◌, inl, inr, ℕ, List, [], append-nil, le
 use Rattle.std.proofs.lemmas.Bool.{and_from, le-leb}
 use Rattle.sqlite.specs.declared.error.Error.{Error}
 use Rattle.sqlite.specs.Order.{Row}
-use Rattle.sqlite.specs.Term.{Term}
 use Rattle.sqlite.specs.Query.{Query}
 use Rattle.sqlite.specs.Effect.{Database, Reads}
 use Rattle.sqlite.specs.Command.{Command}
@@ -20,15 +19,15 @@ use Rattle.sqlite.proofs.Callers.{command_of, IsPlain}
 use Rattle.sqlite_schema.specs.declared.program.Program.{Program}
 use Rattle.sqlite_schema.specs.Program.{lets_of}
 use Rattle.sqlite_typing.specs.Types.{accepts_program}
-use Rattle.sqlite_value.specs.declared.keys.Key.{Key}
 use Rattle.desk_sql.specs.declared.versions.Version.{Version}
 use Rattle.desk_sql.specs.Causes.{IsUp, HasReason}
-use Rattle.desk_sql.specs.Meanings.{sorted_rows}
 use Rattle.desk_sql.specs.RemainingRows.{Rests}
 use Rattle.sqlite_schema.specs.declared.schema.Schema.{Schema}
 use Rattle.desk_sql.specs.Schema.{schema_with, IsSchemaOf}
-use Rattle.desk_sql.proofs.Causing.{IsSure, TakesUnder, takes, of_store, one_table, query_reason}
+use Rattle.desk_sql.proofs.Causing.{IsSure, TakesUnder, takes, of_store, query_reason}
 use Rattle.desk_sql.proofs.Meaning.{MeansEach}
+use Rattle.sql_lists.specs.Listing.{Listing, RestsOf}
+use Rattle.sql_lists.proofs.HandedRows.{IsMeant}
 
 module _ {S : Type 0} (g : Ghosts S) {q : Query} (sure : IsSure q) {text : List ℕ} {names : List (List ℕ)}
     (m : MeansEach text q names) where
@@ -82,7 +81,7 @@ module _ {S : Type 0} (g : Ghosts S) {q : Query} (sure : IsSure q) {text : List 
       }
 
   -- so the next row is not read only out of memory, or where the disk failed or refused
-  pub advance_reason_sure : (old new : Held S) (later : List Row) (e : Error) → IsUp (state g old) → Rests g text q old later
+  advance_reason_sure : (old new : Held S) (later : List Row) (e : Error) → IsUp (state g old) → Rests g text q old later
       → FailsToAdvance g old new e → (IsEnded old → Fails (state g old) (state g new) ⊥ e) → HasReason (state g old) (state g new) e
   advance_reason_sure old new later e up (inr over) fails ended =
       let why = ended over.0 in of_store (state g old) (state g new) up why.0 e why.1 why.2
@@ -91,10 +90,8 @@ module _ {S : Type 0} (g : Ghosts S) {q : Query} (sure : IsSure q) {text : List 
       query_reason sure (m v) (state g old) (state g new) up runs.1.schema (takes_given v runs.0 old runs.1.given runs.1.schema runs.1.gave) e
       (fails text runs.0 runs.1.given runs.1.gave)
 
--- the same of a query of one table
-pub advance_reason : {S : Type 0} (g : Ghosts S) {text : List ℕ} {tree : ℕ} {filter project : List Term} {order : List (Term × Key)}
-    {names : List (List ℕ)} (m : MeansEach text (sorted_rows tree filter project order) names) (old new : Held S) (later : List Row)
-    (e : Error) → IsUp (state g old) → Rests g text (sorted_rows tree filter project order) old later
-    → FailsToAdvance g old new e → (IsEnded old → Fails (state g old) (state g new) ⊥ e) → HasReason (state g old) (state g new) e
-advance_reason g {tree = tree} {filter = filter} {project = project} {order = order} m =
-    advance_reason_sure g (one_table tree filter project order) m
+-- the same of the rows of a list
+pub advance_reason : {I X S : Type 0} {list : Listing I X} (m : IsMeant list) (g : Ghosts S) (old new : Held S) (later : List X) (e : Error)
+    → IsUp (state g old) → RestsOf list g old later → FailsToAdvance g old new e
+    → (IsEnded old → Fails (state g old) (state g new) ⊥ e) → HasReason (state g old) (state g new) e
+advance_reason m g old new later e up rests = advance_reason_sure g (m.sure rests.0) (m.means rests.0) old new _ e up rests.1

@@ -1,25 +1,34 @@
 -- A query whose rows are read one at a time. For the functions that start rows or return the next one.
-use Rattle.std.proofs.Common.{◌≡◌, inl, inr, ℕ, List, [], ◌∷◌, ◌++◌, map, Bool, true, false, Some, None, Option, Ok, Err, Result, IsTrue, refl, sym, ap, subst, ◌∙◌, append_assoc}
+use Rattle.std.proofs.Common.{◌≡◌, inl, inr, ℕ, List, [], ◌∷◌, ◌++◌, map, Bool, true, false, Some, None, Option, Ok, Err, Result, IfOk, OnErr, IsTrue, refl, sym, ap, subst, ◌∙◌, append_assoc}
+use Rattle.std.specs.Borrow.{MutBor}
 use Rattle.sqlite.specs.Order.{Row}
 use Rattle.sqlite.specs.Query.{Query, IsAnswer}
 use Rattle.sqlite.specs.Program.{overlay}
 use Rattle.sqlite.specs.Effect.{Database}
+use Rattle.sqlite.specs.declared.error.Error.{Error}
+use Rattle.sqlite.specs.declared.rows.stream.Rows.{Rows}
 use Rattle.sqlite.specs.Store.{Ghosts}
 use Rattle.sqlite.specs.Held.{Held, state}
 use Rattle.sqlite.specs.Clock.{timed}
 use Rattle.sqlite.specs.Listing.{understood, reads_listing, IsSourceOf}
-use Rattle.sqlite.specs.State.{HasCleanDisk, IsUnchanged, IsStatement, Survives, CommitsShowing}
-use Rattle.sqlite.specs.Given.{HasGiven, HasBegun, Returns, Advances, IsEnded, row_if}
+use Rattle.sqlite.specs.State.{State, HasCleanDisk, IsUnchanged, IsStatement, Survives, CommitsShowing}
+use Rattle.sqlite.specs.Given.{HasGiven, HasBegun, IsRefused, Returns, Advances, IsEnded, row_if}
 use Rattle.sqlite.proofs.Callers.{command_of, given_begin, begins_shown, EndsIn}
-use Rattle.sqlite_rules.specs.Lists.{Has}
 use Rattle.sqlite_resolve.specs.declared.compiled.Compiled.{Compiled}
 use Rattle.sqlite_resolve.specs.declared.error.CompileError.{CompileError}
 use Rattle.desk_sql.specs.declared.versions.Version.{Version}
 use Rattle.desk_sql.specs.declared.versions.Version.TheVariants.{Two}
 use Rattle.desk_sql.specs.Schema.{IsSchemaOf}
 use Rattle.desk_sql.specs.Meanings.{select}
-use Rattle.desk_sql.specs.RemainingRows.{Begins, HandsFirst, Hands, RunsOn, Rests, Starts}
+use Rattle.desk_sql.specs.Calls.{SeesIn}
+use Rattle.desk_sql.specs.Causes.{HasReason, IsMemory}
+use Rattle.desk_sql.specs.Lending.{IsNotBegun}
+use Rattle.desk_sql.specs.Readable.{Each}
+use Rattle.desk_sql.specs.RemainingRows.{HandsFirst, Hands, RunsOn, Rests}
 use Rattle.desk_sql.specs.Rows.{Tables}
+use Rattle.sql_lists.specs.Listing.{Listing, RestsOf, StartsOver}
+use Rattle.desk_sql.proofs.Beginning.{not_begun_sure}
+use Rattle.desk_sql.proofs.Causing.{IsSure, Takes}
 use Rattle.desk_sql.proofs.Meaning.{MeansEach}
 use Rattle.desk_sql.proofs.Selecting.{leaves_no_more, understood_bare}
 use Rattle.desk_sql.proofs.Finding.{whole_answer}
@@ -84,18 +93,6 @@ module _ {S : Type 0} (g : Ghosts S) (text : List ℕ) (q : Query) (names : List
   begun_same old new (inl begun) = begun.1
   begun_same old new (inr h) = absurd (never_returns (understood old.schema text) (understood_bare text (m Two []).selects old.schema) h.0)
 
-  -- rows that were started, of which these values remain
-  pub started : {X : Type 0} (IsList : Tables → List X → Type 0) (RestsOn : Held S → List X → Type 0) (old new : Held S)
-      → (HasCleanDisk (state g new) → HasBegun g text params old new) → Begins g old new IsList RestsOn
-      → (old.in_transaction ≡ false → new.in_transaction ≡ false)
-      → Survives (state g old) (state g new) (CommitsShowing text params (state g old)) → Starts g old new IsList RestsOn
-  started IsList RestsOn old new begun begins mode survives = record {
-    begun = begins;
-    same = λ clean. begun_same old new (begun clean);
-    mode = mode;
-    survives = leaves_no_more text (m Two []).selects params (state g old) (state g new) survives;
-  }
-
   -- one more row is the first that remained
   steps : (old new : Held S) (later : List Row) (row : Row) → RunsOn g text q params old later → Advances g old new (Some row)
       → IsUnchanged (state g old) (state g new) → (more : List Row) × (later ≡ row ∷ more) × RunsOn g text q params new more
@@ -137,54 +134,101 @@ none_there : {S : Type 0} (h : Held S) (has : Bool) → row_if has h ≡ None �
 none_there h true e = absurd (cc)
 none_there h false e = refl
 
-module _ {S X : Type 0} (g : Ghosts S) (text : List ℕ) (q : Query) (names : List (List ℕ)) (m : MeansEach text q names) (shows : X → Row)
-    (old new : Held S) (has : Bool) (advances : Advances g old new (row_if has new)) where
-  abbrev Before : List X → Type 0
-  Before later = Rests g text q old (map shows later)
+-- each answer of the statement is the list
+abbrev pub IsOnlyAnswer : {I X : Type 0} → Listing I X → I → Row → (Tables → List X → Type 0) → State → Type 0
+IsOnlyAnswer {X = X} list s params IsList seen =
+    (v : Version) (t : Tables) → SeesIn v seen t → (later : List X) → IsList t later
+    → (rows : List Row) → IsAnswer (list.query s) (overlay seen.now.trees []) params rows → rows ≡ map list.shows later
 
-  abbrev After : List X → Type 0
-  After later = Rests g text q new (map shows later)
+-- what the store makes of a list's statements
+pub record IsMeant {I X : Type 0} (list : Listing I X) : Type 0 where
+  pub names : List (List ℕ)
+  pub means : (s : I) → MeansEach (list.text s) (list.query s) names
+  pub sure : (s : I) → IsSure (list.query s)
 
-  -- the current row of the query is the first that remained
-  pub hands_row : (row : Row) (found : Option X) → row_if has new ≡ Some row → IsUnchanged (state g old) (state g new)
-      → (IsEnded old → has ≡ false) → ((x : X) → row ≡ shows x → found ≡ Some x) → Hands Before After found
-  hands_row row found stands same ended back later (inr over) =
-      absurd (let no : true ≡ false = sym (stands_at new has row stands) ∙ ended over.0 in cc)
-  hands_row row found stands same ended back later (inl runs) =
-      let it = steps g text q names m runs.0 old new (map shows later) row runs.1 (subst (Advances g old new) stands advances) same in
-      go later it.0 it.1 it.2
-    where
-      go : (later : List X) (more : List Row) → map shows later ≡ row ∷ more → RunsOn g text q runs.0 new more → HandsFirst After found later
-      go [] more e rest = absurd (cc)
-      go (x ∷ later) more e rest =
-          let both : shows x ∷ map shows later ≡ row ∷ more = e in
-          let first : row ≡ shows x = cc in
-          let others : more ≡ map shows later = cc in
-          (back x first, inl (runs.0, subst (RunsOn g text q runs.0 new) others rest))
+module _ {I X S : Type 0} {list : Listing I X} (m : IsMeant list) (g : Ghosts S) where
+  -- a statement was run: its rows were started, or nothing has changed, for a reason
+  pub handed : (s : I) {given params : Row} {IsList : Tables → List X → Type 0} (conn : MutBor (Held S)) (last : Held S) (r : Result (Rows S g) Error)
+      → ((v : Version) → Takes v (list.text s) (list.query s) params) → IsOnlyAnswer list s params IsList (state g conn.now)
+      → OnErr r (IsRefused g (list.text s) given conn.now r last)
+      → IfOk r (λ it. it.conn.ghost_name ≡ conn.ghost_name)
+      → IfOk r (λ it. HasCleanDisk (state g it.conn.now) → HasBegun g (list.text s) given conn.now it.conn.now)
+      → IfOk r (λ it. conn.now.in_transaction ≡ false → it.conn.now.in_transaction ≡ false)
+      → IfOk r (λ it. Survives (state g conn.now) (state g it.conn.now) (CommitsShowing (list.text s) given (state g conn.now)))
+      → given ≡ params
+      → OnErr r (IsNotBegun g r conn.now last) × IfOk r (λ it. StartsOver g conn it IsList (RestsOf list g))
+  handed s {given} conn last (Err e) takes only refused reference begun mode survives same = (
+    not_begun_sure g (m.sure s) (m.means s) (λ v. subst (Takes v (list.text s) (list.query s)) (sym same) (takes v)) conn.now last (Err e) refused,
+    tt,
+  )
+  handed s {given} {params} conn last (Ok it) takes only refused reference begun mode survives same = (
+    tt,
+    record {
+      same_reference = reference;
+      starts = record {
+        begun = λ clean v t sees later is. (
+          s,
+          inl (
+            params,
+            starts g (list.text s) (list.query s) m.names (m.means s) params v conn.now it.conn.now (map list.shows later)
+                (λ live. (sees live).schema) (subst (λ p. HasBegun g (list.text s) p conn.now it.conn.now) same (begun clean))
+                (λ live. only v t (sees live) later is),
+          ),
+        );
+        same = λ clean. begun_same g (list.text s) (list.query s) m.names (m.means s) given conn.now it.conn.now (begun clean);
+        mode = mode;
+        survives = leaves_no_more (list.text s) (m.means s Two []).selects given (state g conn.now) (state g it.conn.now) survives;
+      };
+    },
+  )
 
-  -- so it shows one of them
-  pub row_rests : (row : Row) → row_if has new ≡ Some row → IsUnchanged (state g old) (state g new) → (IsEnded old → has ≡ false)
-      → (later : List X) → Before later → (x : X) × Has later x × (row ≡ shows x)
-  row_rests row stands same ended later (inr over) =
-      absurd (let no : true ≡ false = sym (stands_at new has row stands) ∙ ended over.0 in cc)
-  row_rests row stands same ended later (inl runs) =
-      let it = steps g text q names m runs.0 old new (map shows later) row runs.1 (subst (Advances g old new) stands advances) same in
-      go later it.0 it.1
-    where
-      go : (later : List X) (more : List Row) → map shows later ≡ row ∷ more → (x : X) × Has later x × (row ≡ shows x)
-      go [] more e = absurd (cc)
-      go (x ∷ later) more e =
-          let both : shows x ∷ map shows later ≡ row ∷ more = e in
-          let first : row ≡ shows x = cc in (x, inl refl, first)
+  module _ (old new : Held S) (has : Bool) (advances : Advances g old new (row_if has new)) where
+    -- the current row of the query is the first that remained
+    pub hands_row : (row : Row) (found : Option X) → row_if has new ≡ Some row → IsUnchanged (state g old) (state g new)
+        → (IsEnded old → has ≡ false) → ((x : X) → row ≡ list.shows x → found ≡ Some x)
+        → Hands (RestsOf list g old) (RestsOf list g new) found
+    hands_row row found stands same ended back later (s, inr over) =
+        absurd (let no : true ≡ false = sym (stands_at new has row stands) ∙ ended over.0 in cc)
+    hands_row row found stands same ended back later (s, inl runs) =
+        let it = steps g (list.text s) (list.query s) m.names (m.means s) runs.0 old new (map list.shows later) row runs.1
+        (subst (Advances g old new) stands advances) same in
+        go later it.0 it.1 it.2
+      where
+        go : (later : List X) (more : List Row) → map list.shows later ≡ row ∷ more → RunsOn g (list.text s) (list.query s) runs.0 new more
+            → HandsFirst (RestsOf list g new) found later
+        go [] more e rest = absurd (cc)
+        go (x ∷ later) more e rest =
+            let both : list.shows x ∷ map list.shows later ≡ row ∷ more = e in
+            let first : row ≡ list.shows x = cc in
+            let others : more ≡ map list.shows later = cc in
+            (back x first, (s, inl (runs.0, subst (RunsOn g (list.text s) (list.query s) runs.0 new) others rest)))
 
-  -- if the query has no current row, none remained
-  pub hands_none : row_if has new ≡ None → (has ≡ false → IsEnded new) → Hands Before After None
-  hands_none none over later rests = go later (empty rests)
-    where
-      empty : Before later → map shows later ≡ []
-      empty (inl runs) = stops g text q names m runs.0 old new (map shows later) runs.1 (subst (Advances g old new) none advances)
-      empty (inr ended) = ended.1
+    -- if the query has no current row, none remained
+    pub hands_none : row_if has new ≡ None → (has ≡ false → IsEnded new) → Hands (RestsOf list g old) (RestsOf list g new) None
+    hands_none none over later (s, rests) = go later (empty rests)
+      where
+        empty : Rests g (list.text s) (list.query s) old (map list.shows later) → map list.shows later ≡ []
+        empty (inl runs) =
+            stops g (list.text s) (list.query s) m.names (m.means s) runs.0 old new (map list.shows later) runs.1 (subst (Advances g old new) none advances)
+        empty (inr ended) = ended.1
 
-      go : (later : List X) → map shows later ≡ [] → HandsFirst After None later
-      go [] e = (refl, inr (over (none_there new has none), refl))
-      go (x ∷ later) e = absurd (cc)
+        go : (later : List X) → map list.shows later ≡ [] → HandsFirst (RestsOf list g new) None later
+        go [] e = (refl, (s, inr (over (none_there new has none), refl)))
+        go (x ∷ later) e = absurd (cc)
+
+    -- it is one of those that remained: if the texts of each can be read, the row is not read only out of memory
+    pub read_reason : (row : Row) (e : Error) → row_if has new ≡ Some row → IsUnchanged (state g old) (state g new) → (IsEnded old → has ≡ false)
+        → {CanBeRead : X → Type 0} → ((x : X) → row ≡ list.shows x → CanBeRead x → IsMemory e)
+        → (later : List X) → RestsOf list g old later → Each CanBeRead later → HasReason (state g old) (state g new) e
+    read_reason row e stands same ended reason later (s, inr over) each =
+        absurd (let no : true ≡ false = sym (stands_at new has row stands) ∙ ended over.0 in cc)
+    read_reason row e stands same ended {CanBeRead} reason later (s, inl runs) each =
+        let it = steps g (list.text s) (list.query s) m.names (m.means s) runs.0 old new (map list.shows later) row runs.1
+        (subst (Advances g old new) stands advances) same in
+        go later it.0 it.1 each
+      where
+        go : (later : List X) (more : List Row) → map list.shows later ≡ row ∷ more → Each CanBeRead later → HasReason (state g old) (state g new) e
+        go [] more e each = absurd (cc)
+        go (x ∷ later) more e each =
+            let both : list.shows x ∷ map list.shows later ≡ row ∷ more = e in
+            let first : row ≡ list.shows x = cc in inl (reason x first (each x (inl refl)))

@@ -1,6 +1,6 @@
 -- The holders of the cells that a filter lets through, night by night, are the answer of their query. For `holdings`.
-use Rattle.std.proofs.Common.{◌≡◌, inl, ℕ, ℤ, pos, ◌+◌, ◌+ℤ◌, ◌<◌, ◌^◌, ◌==◌, ◌&&◌, List, [], ◌∷◌, map, Bool, true, false, is_lt, Ordering, Less, Equal, Greater, Option, None, Some, refl, sym, ap, ap₂, subst, ◌∙◌, arith, bytes_eq, nat_le, nat_lt, eq-eqb}
-use Rattle.std.specs.List.{AllByRecursion, list_all}
+use Rattle.std.proofs.Common.{◌≡◌, ℕ, ℤ, pos, ◌+◌, ◌+ℤ◌, ◌<◌, ◌^◌, ◌==◌, ◌&&◌, List, [], ◌∷◌, map, Bool, true, false, is_lt, Ordering, Option, None, Some, refl, sym, ap, ap₂, subst, ◌∙◌, arith, bytes_eq, nat_le, nat_lt, eq-eqb}
+use Rattle.std.specs.List.{list_all}
 use Rattle.std.specs.Ordering.{int_cmp, nat_cmp, ordering_then}
 use Rattle.std.specs.Cmp.Lexicographic.{slice_cmp}
 use Rattle.std.proofs.lemmas.Int.{ints}
@@ -10,12 +10,8 @@ use Rattle.std.proofs.lemmas.Slice.Eq.{bytes_eq-Decides}
 use Rattle.sqlite.specs.declared.types.Value.TheVariants.{Text}
 use Rattle.sqlite.specs.Order.{Row}
 use Rattle.sqlite.specs.Term.{holds}
-use Rattle.sqlite.specs.Query.{Output, IsAnswer, output_cmp}
-use Rattle.sqlite.specs.Program.{overlay}
-use Rattle.sqlite.specs.Given.{HasBegun}
-use Rattle.sqlite.specs.Store.{Ghosts}
-use Rattle.sqlite.specs.Held.{Held, state}
-use Rattle.sqlite.specs.State.{HasCleanDisk}
+use Rattle.sqlite.specs.Query.{Output, output_cmp}
+use Rattle.sqlite.specs.State.{State}
 use Rattle.sqlite.specs.Listing.{understood}
 use Rattle.sqlite.specs.Ops.{binary, fits_i64, is_true, unary}
 use Rattle.sqlite_sql.specs.declared.ops.UnaryOp.TheVariants.{ToNumeric}
@@ -25,7 +21,6 @@ use Rattle.sqlite_sql.specs.declared.ops.CompareOp.TheVariants.{Eq, Ge, Le, Lt}
 use Rattle.sqlite_value.specs.declared.keys.Collation.TheVariants.{Binary}
 use Rattle.sqlite_value.proofs.OrderLemmas.{value_cmp-Int, value_cmp-Text, then-Equal}
 use Rattle.sqlite_tied.specs.Compute.{everything}
-use Rattle.sqlite_trees.specs.Tree.{Trees}
 use Rattle.sqlite_trees.proofs.ListLemmas.{ascending_weaker}
 use Rattle.allotment.specs.Cells.{kind_number}
 use Rattle.allotment.specs.declared.codes.Kind.{Kind}
@@ -34,26 +29,28 @@ use Rattle.saga_core.specs.declared.cell_filters.CellFilter.{CellFilter}
 use Rattle.desk_sql.specs.declared.versions.Version.{Version}
 use Rattle.desk_sql.specs.declared.versions.Version.TheVariants.{One, Two}
 use Rattle.desk_sql.specs.FoundRows.{ten_of}
-use Rattle.desk_sql.specs.Lists.{IsNumbered, IsTableOf, numbered_row}
-use Rattle.desk_sql.specs.RemainingRows.{Begins, IsOnlyOrder}
+use Rattle.desk_sql.specs.Lists.{numbered_row}
 use Rattle.desk_sql.specs.Rows.{whole, JourneyRow, StepRow, StockRow, journey_row, step_columns, stock_columns}
 use Rattle.desk_sql.proofs.Causing.{Takes}
 use Rattle.desk_sql.proofs.Meaning.{MeansEach}
 use Rattle.desk_sql.proofs.Testing.{and_true, eq_text, eq_whole, ge_whole, le_whole, truth_is}
 use Rattle.sql_lists.specs.HolderLists.{is_night_of}
-use Rattle.sql_lists.specs.HoldingLists.{HoldingRow, HoldingsRest, IsByNight, Joined, ListsHoldings, holding_found, holding_of, holding_shown, holding_tests, holdings_names, holdings_params, holdings_query, holdings_text, is_held_in, is_joined, is_stock_asked, joined, joined_cmp, kind_param, step_cmp, name_param, night_param, shows_holding}
+use Rattle.sql_lists.specs.HoldingLists.{HoldingRow, Joined, ListsHoldings, holding_found, holding_list, holding_of, holding_shown, holding_tests, holdings_names, holdings_params, holdings_query, holdings_text, is_held_in, is_joined, is_stock_asked, joined_cmp, kind_param, step_cmp, name_param, night_param, shows_holding}
 use Rattle.sql_lists.specs.declared.holdings.HoldingFound.{HoldingFound}
 use Rattle.sql_lists.proofs.HandedCells.{number_cmp}
-use Rattle.sql_lists.proofs.HandedRows.{starts}
+use Rattle.sql_lists.proofs.HandedRows.{IsMeant, IsOnlyAnswer}
 use Rattle.sql_lists.proofs.HoldingTypes.{holdings_typed}
-use Rattle.sql_lists.proofs.JoinedRows.{joined_answers}
+use Rattle.sql_lists.proofs.JoinedRows.{holdings_sure, joined_answers, map_map}
 
 -- The text means the query, and takes its parameters.
 
-pub holdings_means : MeansEach holdings_text holdings_query holdings_names
+holdings_means : MeansEach holdings_text holdings_query holdings_names
 unfolding understood everything
 holdings_means One extra = record { is = refl; plain = (refl, refl); unlisted = refl; selects = refl }
 holdings_means Two extra = record { is = refl; plain = (refl, refl); unlisted = refl; selects = refl }
+
+pub holdings_meant : IsMeant holding_list
+holdings_meant = record { names = holdings_names; means = λ s. holdings_means; sure = λ s. holdings_sure }
 
 pub holdings_take : (kind : Option Kind) (supplier product : Option (List ℕ)) (first last : Option ℕ) (v : Version)
     → Takes v holdings_text holdings_query
@@ -93,9 +90,7 @@ to_test (Some last) n = le_whole n last
 
 -- that the option was taken is tested first, and stands after the tests of what the filter names
 taken_later : (taken asked rest : Bool) → (taken && (asked && rest)) ≡ (asked && (taken && rest))
-taken_later true asked rest = refl
-taken_later false true rest = refl
-taken_later false false rest = refl
+taken_later taken asked rest = grind arith
 
 -- two tests in the place of one another, since they agree where the next one is passed
 where_passed : (a b next rest : Bool) → (next ≡ true → a ≡ b) → (a && (next && rest)) ≡ (b && (next && rest))
@@ -104,22 +99,12 @@ where_passed a b false rest alike = and_right a false refl ∙ sym (and_right b 
 
 -- tests in a row are those of what the filter names, and the others
 five_apart : (a b c d e rest : Bool) → (a && (b && (c && (d && (e && rest))))) ≡ ((a && (b && (c && (d && e)))) && rest)
-five_apart true true true true e rest = refl
-five_apart true true true false e rest = refl
-five_apart true true false d e rest = refl
-five_apart true false c d e rest = refl
-five_apart false b c d e rest = refl
+five_apart a b c d e rest = grind arith
 
 -- and of these, those of the option, and the others
 six_apart : (a b c d e f rest : Bool)
     → (a && (b && (c && (d && (e && (f && rest)))))) ≡ ((a && (b && (c && (d && (e && (f && true)))))) && rest)
-six_apart true true true true true true rest = refl
-six_apart true true true true true false rest = refl
-six_apart true true true true false f rest = refl
-six_apart true true true false e f rest = refl
-six_apart true true false d e f rest = refl
-six_apart true false c d e f rest = refl
-six_apart false b c d e f rest = refl
+six_apart a b c d e f rest = grind arith
 
 -- The order.
 
@@ -135,13 +120,7 @@ joined_out r = (
 four_first : (a b c d rest : Ordering)
     → ordering_then a (ordering_then b (ordering_then c (ordering_then d rest)))
     ≡ ordering_then (ordering_then a (ordering_then b (ordering_then c d))) rest
-four_first Less b c d rest = refl
-four_first Greater b c d rest = refl
-four_first Equal Less c d rest = refl
-four_first Equal Greater c d rest = refl
-four_first Equal Equal Less d rest = refl
-four_first Equal Equal Greater d rest = refl
-four_first Equal Equal Equal d rest = refl
+four_first a b c d rest = grind arith
 
 -- the order of the query is that of the rows
 order_is : (a b : Joined) → output_cmp holdings_query (joined_out a) (joined_out b) ≡ joined_cmp a b
@@ -149,11 +128,6 @@ order_is a b =
     simp (number_cmp, value_cmp-Text, then-Equal)
     (four_first (nat_cmp a.cell.night b.cell.night) (nat_cmp a.cell.kind b.cell.kind) (slice_cmp nat_cmp a.cell.supplier b.cell.supplier)
     (slice_cmp nat_cmp a.cell.product b.cell.product) (step_cmp a.step b.step))
-
--- a row is shown as what is shown of it
-shown_twice : (rows : List Joined) → map (λ (r : Joined). holding_shown (holding_of r)) rows ≡ map holding_shown (map holding_of rows)
-shown_twice [] = refl
-shown_twice (r ∷ rows) = ap (λ more. holding_shown (holding_of r) ∷ more) (shown_twice rows)
 
 -- the nights of an option, as the store counts them
 abbrev IsSmall : StepRow → Type 0
@@ -225,49 +199,19 @@ module _ (f : CellFilter) where
       (and_true own))
       ∙ where_passed (is_option_asked c s) (is_stock_asked f c) (is_held_in c s) own (asked_alike c s))
 
-  holdings_answer : (db : Trees) (stock : List StockRow) (steps : List StepRow) (journeys : List JourneyRow) (listed : List Joined)
-      → IsTableOf stock_columns (db 1) stock → IsTableOf step_columns (db 8) steps
-      → IsNumbered (λ (j : JourneyRow). j.id) journey_row (db 6) journeys → AllByRecursion IsSmall steps
-      → IsOnlyOrder IsByNight (joined (is_joined f) stock steps journeys) listed
-      → (rows : List Row) → IsAnswer holdings_query (overlay db []) (holdings_params f) rows
-      → rows ≡ map holding_shown (map holding_of listed)
-  holdings_answer db stock steps journeys listed cells options begun small one rows a =
-      let it = joined_answers (holdings_params f) (is_joined f) joined_out IsSmall test_is (λ p r j. refl) db stock steps journeys
-      cells options begun small rows a in
+  -- the rows, in their only order, are the answer
+  pub holdings_only : (seen : State) → IsOnlyAnswer holding_list tt (holdings_params f) (ListsHoldings f) seen
+  holdings_only seen v t sees later (listed, one, are, small) rows a =
+      let it = joined_answers (holdings_params f) (is_joined f) joined_out IsSmall test_is (λ p r j. refl) seen.now.trees t.stock t.step t.journey
+      sees.rows.stock sees.rows.step sees.rows.journey small rows a in
       let values : it.values ≡ listed = one it.values (record {
         same = it.same;
         rising = ascending_weaker _ _ (λ a b up. subst (λ o. is_lt o ≡ false) (order_is b a) up) it.values it.rising;
       }) in
       let shown : rows ≡ map (λ (r : Joined). holding_shown (holding_of r)) it.values = it.rows_are in
-      shown ∙ ap (map (λ (r : Joined). holding_shown (holding_of r))) values ∙ shown_twice listed
-
-  -- the rows of a query that has started are these
-  pub holdings_begin : {S : Type 0} (g : Ghosts S) (old new : Held S)
-      → (HasCleanDisk (state g new) → HasBegun g holdings_text (holdings_params f) old new)
-      → Begins g old new (ListsHoldings f) (HoldingsRest g)
-  holdings_begin g old new begun clean v t sees later is =
-      inl (
-        holdings_params f,
-        starts g holdings_text holdings_query holdings_names holdings_means (holdings_params f) v old new
-            (map holding_shown later) (λ live. (sees live).schema) (begun clean)
-            (λ live rows a. holdings_answer (state g old).now.trees t.stock t.step t.journey is.0 (sees live).rows.stock
-            (sees live).rows.step (sees live).rows.journey is.3 is.1 rows a ∙ ap (map holding_shown) (sym is.2)),
-      )
+      shown ∙ ap (map (λ (r : Joined). holding_shown (holding_of r))) values ∙ sym (map_map holding_of holding_shown _ (λ r. refl) listed) ∙ ap (map holding_shown) (sym are)
 
 -- the row that was read is the one that is shown
 pub holding_back : (row : Row) (h : HoldingFound) (x : HoldingRow) → shows_holding h ≡ ten_of row → row ≡ holding_shown x
     → Some (holding_found h) ≡ Some x
-holding_back row h x read is =
-    let e : shows_holding h ≡ holding_shown x = read ∙ ap ten_of is in
-    let kind : (holding_found h).cell.kind ≡ x.cell.kind = cc in
-    let supplier : (holding_found h).cell.supplier ≡ x.cell.supplier = cc in
-    let product : (holding_found h).cell.product ≡ x.cell.product = cc in
-    let night : (holding_found h).cell.night ≡ x.cell.night = cc in
-    let allot : (holding_found h).cell.allot ≡ x.cell.allot = cc in
-    let free : (holding_found h).cell.free ≡ x.cell.free = cc in
-    let journey : (holding_found h).journey ≡ x.journey = cc in
-    let agent : (holding_found h).agent ≡ x.agent = cc in
-    let phase : (holding_found h).phase ≡ x.phase = cc in
-    let places : (holding_found h).places ≡ x.places = cc in
-    let cell : (holding_found h).cell ≡ x.cell = rw (kind, supplier, product, night, allot, free) refl in
-    let same : holding_found h ≡ x = rw (cell, journey, agent, phase, places) refl in ap Some same
+holding_back row h x read is = let e : shows_holding h ≡ holding_shown x = read ∙ ap ten_of is in grind arith

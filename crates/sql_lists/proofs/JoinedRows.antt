@@ -37,7 +37,7 @@ all_given : {P : Type 0} (ps : List P) → AllByRecursion (λ (_ : P). ⊤) ps
 all_given [] = tt
 all_given (p ∷ ps) = (tt, all_given ps)
 
-map_map : {A B C : Type 0} (f : A → B) (g : B → C) (h : A → C) → ((x : A) → g (f x) ≡ h x) → (xs : List A) → map g (map f xs) ≡ map h xs
+pub map_map : {A B C : Type 0} (f : A → B) (g : B → C) (h : A → C) → ((x : A) → g (f x) ≡ h x) → (xs : List A) → map g (map f xs) ≡ map h xs
 map_map f g h same [] = refl
 map_map f g h same (x ∷ xs) = rw (same x, map_map f g h same xs) refl
 

@@ -4,7 +4,6 @@ pub mod HandedReasons
 pub mod HandedCells
 pub mod CellAnswers
 pub mod JourneyAnswers
-pub mod Handed
 pub mod HolderAnswers
 pub mod JoinedRows
 pub mod HoldingTypes

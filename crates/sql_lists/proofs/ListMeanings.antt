@@ -3,67 +3,45 @@ use Rattle.std.proofs.Common.{ℕ, List, [], ◌∷◌, Bool, true, false, Optio
 use Rattle.sqlite.specs.declared.types.Value.TheVariants.{Text}
 use Rattle.sqlite.specs.Order.{Row}
 use Rattle.sqlite.specs.Listing.{understood}
+use Rattle.sqlite.specs.Term.{col}
 use Rattle.sqlite_tied.specs.Compute.{everything}
 use Rattle.desk_sql.specs.declared.versions.Version.{Version}
 use Rattle.desk_sql.specs.declared.versions.Version.TheVariants.{One, Two}
-use Rattle.desk_sql.specs.Meanings.{find_stock_names, find_stock_query, journey_names}
+use Rattle.desk_sql.specs.Meanings.{find_stock_names, find_stock_query, journey_names, journey_project, rising}
 use Rattle.desk_sql.specs.Rows.{whole}
-use Rattle.desk_sql.proofs.Causing.{Takes}
+use Rattle.desk_sql.proofs.Causing.{Takes, one_table}
 use Rattle.desk_sql.proofs.Meaning.{MeansEach}
-use Rattle.sql_lists.specs.CellLists.{cell_list_query, cell_list_text, cells_query, cells_text, stock_text}
-use Rattle.sql_lists.specs.JourneyLists.{JourneyList, UnfinishedAbove, OwnedAbove, InPhases, journey_list_query, journey_list_text}
+use Rattle.sql_lists.specs.CellLists.{cell_list, cell_list_query, cell_list_tests, cell_list_text, stock_text}
+use Rattle.sql_lists.specs.JourneyLists.{JourneyList, UnfinishedAbove, OwnedAbove, InPhases, journey_list, journey_list_query, journey_list_tests, journey_list_text}
+use Rattle.sql_lists.proofs.HandedRows.{IsMeant}
 
-pub cells_means : (s p : Bool) → MeansEach (cells_text s p) (cells_query s p) find_stock_names
+cell_list_means : (s : Option (Bool × Bool)) → MeansEach (cell_list_text s) (cell_list_query s) find_stock_names
 unfolding understood everything
-cells_means false false One extra = record { is = refl; plain = (refl, refl); unlisted = refl; selects = refl }
-cells_means false false Two extra = record { is = refl; plain = (refl, refl); unlisted = refl; selects = refl }
-cells_means true false One extra = record { is = refl; plain = (refl, refl); unlisted = refl; selects = refl }
-cells_means true false Two extra = record { is = refl; plain = (refl, refl); unlisted = refl; selects = refl }
-cells_means false true One extra = record { is = refl; plain = (refl, refl); unlisted = refl; selects = refl }
-cells_means false true Two extra = record { is = refl; plain = (refl, refl); unlisted = refl; selects = refl }
-cells_means true true One extra = record { is = refl; plain = (refl, refl); unlisted = refl; selects = refl }
-cells_means true true Two extra = record { is = refl; plain = (refl, refl); unlisted = refl; selects = refl }
+cell_list_means None One extra = record { is = refl; plain = (refl, refl); unlisted = refl; selects = refl }
+cell_list_means None Two extra = record { is = refl; plain = (refl, refl); unlisted = refl; selects = refl }
+cell_list_means (Some (false, false)) One extra = record { is = refl; plain = (refl, refl); unlisted = refl; selects = refl }
+cell_list_means (Some (false, false)) Two extra = record { is = refl; plain = (refl, refl); unlisted = refl; selects = refl }
+cell_list_means (Some (true, false)) One extra = record { is = refl; plain = (refl, refl); unlisted = refl; selects = refl }
+cell_list_means (Some (true, false)) Two extra = record { is = refl; plain = (refl, refl); unlisted = refl; selects = refl }
+cell_list_means (Some (false, true)) One extra = record { is = refl; plain = (refl, refl); unlisted = refl; selects = refl }
+cell_list_means (Some (false, true)) Two extra = record { is = refl; plain = (refl, refl); unlisted = refl; selects = refl }
+cell_list_means (Some (true, true)) One extra = record { is = refl; plain = (refl, refl); unlisted = refl; selects = refl }
+cell_list_means (Some (true, true)) Two extra = record { is = refl; plain = (refl, refl); unlisted = refl; selects = refl }
 
-pub stock_means : MeansEach stock_text find_stock_query find_stock_names
-unfolding understood everything
-stock_means One extra = record { is = refl; plain = (refl, refl); unlisted = refl; selects = refl }
-stock_means Two extra = record { is = refl; plain = (refl, refl); unlisted = refl; selects = refl }
+-- the statements of cells read one table
+pub cells_meant : IsMeant cell_list
+cells_meant = record {
+  names = find_stock_names;
+  means = cell_list_means;
+  sure = λ s. one_table 1 (cell_list_tests s) find_stock_query.project find_stock_query.order;
+}
 
 pub stock_takes : (v : Version) → Takes v stock_text find_stock_query []
 unfolding understood everything
 stock_takes One extra = record { whole = refl; typed = refl }
 stock_takes Two extra = record { whole = refl; typed = refl }
 
-pub cell_list_means : (s : Option (Bool × Bool)) → MeansEach (cell_list_text s) (cell_list_query s) find_stock_names
-cell_list_means None = stock_means
-cell_list_means (Some asked) = cells_means asked.0 asked.1
-
-module _ (kind first last : ℕ) where
-  pub any_takes : (v : Version) → Takes v (cells_text false false) (cells_query false false) (whole kind ∷ whole first ∷ whole last ∷ [])
-  unfolding understood everything
-  any_takes One extra = record { whole = refl; typed = refl }
-  any_takes Two extra = record { whole = refl; typed = refl }
-
-  pub supplier_takes : (supplier : List ℕ) (v : Version)
-      → Takes v (cells_text true false) (cells_query true false) (whole kind ∷ Text supplier ∷ whole first ∷ whole last ∷ [])
-  unfolding understood everything
-  supplier_takes supplier One extra = record { whole = refl; typed = refl }
-  supplier_takes supplier Two extra = record { whole = refl; typed = refl }
-
-  pub product_takes : (product : List ℕ) (v : Version)
-      → Takes v (cells_text false true) (cells_query false true) (whole kind ∷ Text product ∷ whole first ∷ whole last ∷ [])
-  unfolding understood everything
-  product_takes product One extra = record { whole = refl; typed = refl }
-  product_takes product Two extra = record { whole = refl; typed = refl }
-
-  pub both_take : (supplier product : List ℕ) (v : Version)
-      → Takes v (cells_text true true) (cells_query true true)
-      (whole kind ∷ Text supplier ∷ Text product ∷ whole first ∷ whole last ∷ [])
-  unfolding understood everything
-  both_take supplier product One extra = record { whole = refl; typed = refl }
-  both_take supplier product Two extra = record { whole = refl; typed = refl }
-
-pub journey_list_means : (s : JourneyList) → MeansEach (journey_list_text s) (journey_list_query s) journey_names
+journey_list_means : (s : JourneyList) → MeansEach (journey_list_text s) (journey_list_query s) journey_names
 unfolding understood everything
 journey_list_means UnfinishedAbove One extra = record { is = refl; plain = (refl, refl); unlisted = refl; selects = refl }
 journey_list_means UnfinishedAbove Two extra = record { is = refl; plain = (refl, refl); unlisted = refl; selects = refl }
@@ -73,6 +51,14 @@ journey_list_means (InPhases false) One extra = record { is = refl; plain = (ref
 journey_list_means (InPhases false) Two extra = record { is = refl; plain = (refl, refl); unlisted = refl; selects = refl }
 journey_list_means (InPhases true) One extra = record { is = refl; plain = (refl, refl); unlisted = refl; selects = refl }
 journey_list_means (InPhases true) Two extra = record { is = refl; plain = (refl, refl); unlisted = refl; selects = refl }
+
+-- so do those of journeys
+pub journeys_meant : IsMeant journey_list
+journeys_meant = record {
+  names = journey_names;
+  means = journey_list_means;
+  sure = λ s. one_table 6 (journey_list_tests s) journey_project ((col 1 0, rising) ∷ []);
+}
 
 -- each journey list takes its parameters
 abbrev pub TakesEach : JourneyList → Row → Type 0
@@ -87,14 +73,3 @@ pub owned_takes : (agent : List ℕ) (after : ℕ) → TakesEach OwnedAbove (who
 unfolding understood everything
 owned_takes agent after One extra = record { whole = refl; typed = refl }
 owned_takes agent after Two extra = record { whole = refl; typed = refl }
-
-module _ (least most : ℕ) where
-  pub all_take : TakesEach (InPhases false) (whole least ∷ whole most ∷ [])
-  unfolding understood everything
-  all_take One extra = record { whole = refl; typed = refl }
-  all_take Two extra = record { whole = refl; typed = refl }
-
-  pub agent_takes : (agent : List ℕ) → TakesEach (InPhases true) (Text agent ∷ whole least ∷ whole most ∷ [])
-  unfolding understood everything
-  agent_takes agent One extra = record { whole = refl; typed = refl }
-  agent_takes agent Two extra = record { whole = refl; typed = refl }

@@ -1,5 +1,5 @@
 -- The statements that return cells: which rows they return, their texts, and what these mean.
-use Rattle.std.specs.Prelude.{ℕ, ◌==◌, ◌&&◌, Bool, true, false, List, [], ◌∷◌, codes, filter, map, nat_le, Option, None, Some}
+use Rattle.std.specs.Prelude.{ℕ, ◌==◌, ◌&&◌, Bool, true, false, List, [], ◌∷◌, codes, filter, nat_le, Option, None, Some}
 use Rattle.allotment.specs.Cells.{kind_number}
 use Rattle.allotment.specs.declared.codes.Kind.{Kind}
 use Rattle.saga_core.specs.CellFilters.{is_from, is_name_asked, last_day}
@@ -14,9 +14,10 @@ use Rattle.sqlite_sql.specs.declared.ops.BinaryOp.TheVariants.{Compare}
 use Rattle.sqlite_sql.specs.declared.ops.CompareOp.TheVariants.{Ge, Le}
 use Rattle.sqlite_value.specs.declared.keys.Collation.TheVariants.{Binary}
 use Rattle.desk_sql.specs.Meanings.{find_stock_query, in_range, is_equal, sorted_rows}
-use Rattle.desk_sql.specs.RemainingRows.{IsOnlyOrder, Rests, stock_shown}
+use Rattle.desk_sql.specs.RemainingRows.{IsOnlyOrder, stock_shown}
 use Rattle.desk_sql.specs.Rows.{StockRow, Tables}
 use Rattle.desk_sql.specs.Stock.{IsByCell}
+use Rattle.sql_lists.specs.Listing.{Listing, RestsOf}
 
 -- the row is of this kind, and has the supplier, the product and a night that the filter names
 abbrev pub is_row_asked : Kind → CellFilter → StockRow → Bool
@@ -76,7 +77,9 @@ abbrev pub cell_list_query : Option (Bool × Bool) → Query
 cell_list_query statement =
     sorted_rows 1 (cell_list_tests statement) find_stock_query.project find_stock_query.order
 
+abbrev pub cell_list : Listing (Option (Bool × Bool)) StockRow
+cell_list = record { text = cell_list_text; query = cell_list_query; shows = stock_shown }
+
 -- these cells remain of one of the statements
 abbrev pub CellsRest : {S : Type 0} → Ghosts S → Held S → List StockRow → Type 0
-CellsRest g h later =
-    (statement : Option (Bool × Bool)) × Rests g (cell_list_text statement) (cell_list_query statement) h (map stock_shown later)
+CellsRest g h later = RestsOf cell_list g h later

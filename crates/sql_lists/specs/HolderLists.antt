@@ -1,5 +1,5 @@
 -- The statement that returns the options that hold places of a cell: which rows it returns, its text, and what this means.
-use Rattle.std.specs.Prelude.{◌≡◌, ◌⊎◌, ◌<◌, ◌+◌, ℕ, pos, ◌==◌, ◌&&◌, Bool, List, [], ◌∷◌, bytes_eq, codes, filter, map, nat_le, nat_lt}
+use Rattle.std.specs.Prelude.{◌≡◌, ◌⊎◌, ◌<◌, ◌+◌, ℕ, pos, ◌==◌, ◌&&◌, Bool, List, [], ◌∷◌, bytes_eq, codes, filter, map, nat_le, nat_lt, ⊤}
 use Rattle.allotment.specs.Cells.{kind_number}
 use Rattle.allotment.specs.declared.cells.Cell.{Cell}
 use Rattle.sqlite.specs.Order.{Row}
@@ -14,8 +14,9 @@ use Rattle.sqlite_sql.specs.declared.ops.CompareOp.TheVariants.{Gt, Le}
 use Rattle.sqlite_value.specs.declared.keys.Collation.TheVariants.{Binary}
 use Rattle.desk_sql.specs.FoundRows.{IsByPlace}
 use Rattle.desk_sql.specs.Meanings.{is_equal, rising, sorted_rows}
-use Rattle.desk_sql.specs.RemainingRows.{IsOnlyOrder, Rests}
+use Rattle.desk_sql.specs.RemainingRows.{IsOnlyOrder}
 use Rattle.desk_sql.specs.Rows.{whole, StepRow, Tables}
+use Rattle.sql_lists.specs.Listing.{Listing, RestsOf}
 use Rattle.sql_lists.specs.declared.holders.HolderFound.{HolderFound}
 
 -- the night is one of so many nights from a first one on
@@ -71,6 +72,10 @@ holders_params x = whole (kind_number x.kind) ∷ Text x.supplier ∷ Text x.pro
 abbrev pub holder_shown : HolderFound → Row
 holder_shown h = whole h.journey ∷ whole h.place ∷ whole h.opt ∷ whole h.places ∷ []
 
+-- it has one statement
+abbrev pub holder_list : Listing ⊤ HolderFound
+holder_list = record { text = λ _. holders_text; query = λ _. holders_query; shows = holder_shown }
+
 -- these options remain of the statement
 abbrev pub HoldersRest : {S : Type 0} → Ghosts S → Held S → List HolderFound → Type 0
-HoldersRest g h later = Rests g holders_text holders_query h (map holder_shown later)
+HoldersRest g h later = RestsOf holder_list g h later

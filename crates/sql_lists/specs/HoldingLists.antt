@@ -1,6 +1,6 @@
 -- The statement that returns the options that hold places of the cells that a filter lets through, night by night: which
 -- rows it returns, its text, and what this means.
-use Rattle.std.specs.Prelude.{◌≡◌, ◌<◌, ◌+◌, ◌^◌, ℕ, pos, ◌==◌, ◌&&◌, Bool, false, List, [], ◌∷◌, bytes_eq, codes, filter, map, string_bytes, IsUtf8, Option, None, Some}
+use Rattle.std.specs.Prelude.{◌≡◌, ◌<◌, ◌+◌, ◌^◌, ℕ, pos, ◌==◌, ◌&&◌, Bool, false, List, [], ◌∷◌, bytes_eq, codes, filter, map, string_bytes, IsUtf8, Option, None, Some, ⊤}
 use Rattle.std.specs.List.{AllByRecursion, flat_map}
 use Rattle.std.specs.Ordering.{is_lt, nat_cmp, ordering_then}
 use Rattle.std.specs.Cmp.Lexicographic.{slice_cmp}
@@ -27,10 +27,11 @@ use Rattle.sqlite_value.specs.declared.keys.Collation.TheVariants.{Binary}
 use Rattle.sqlite_value.specs.declared.keys.Key.{Key}
 use Rattle.desk_sql.specs.Meanings.{is_equal, rising, sorted_rows}
 use Rattle.desk_sql.specs.Readable.{AreCellTexts}
-use Rattle.desk_sql.specs.RemainingRows.{IsOnlyOrder, Rests}
+use Rattle.desk_sql.specs.RemainingRows.{IsOnlyOrder}
 use Rattle.desk_sql.specs.Rows.{whole, JourneyRow, StepRow, StockRow, Tables}
 use Rattle.desk_sql.specs.Stock.{stock_of}
 use Rattle.sql_lists.specs.HolderLists.{is_night_of}
+use Rattle.sql_lists.specs.Listing.{Listing, RestsOf}
 use Rattle.sql_lists.specs.declared.holdings.HoldingFound.{HoldingFound}
 
 -- the row is of a cell that the filter lets through
@@ -193,6 +194,10 @@ shows_holding h = holding_shown (holding_found h)
 abbrev pub AreHoldingTexts : HoldingRow → Type 0
 AreHoldingTexts h = AreCellTexts h.cell × IsUtf8 h.agent
 
+-- it has one statement
+abbrev pub holding_list : Listing ⊤ HoldingRow
+holding_list = record { text = λ _. holdings_text; query = λ _. holdings_query; shows = holding_shown }
+
 -- these rows remain of the statement
 abbrev pub HoldingsRest : {S : Type 0} → Ghosts S → Held S → List HoldingRow → Type 0
-HoldingsRest g h later = Rests g holdings_text holdings_query h (map holding_shown later)
+HoldingsRest g h later = RestsOf holding_list g h later

@@ -1,5 +1,5 @@
 -- The statements that return journeys: which rows they return, their texts, and what these mean.
-use Rattle.std.specs.Prelude.{ℕ, ◌&&◌, Bool, true, false, List, [], ◌∷◌, codes, filter, map, nat_le}
+use Rattle.std.specs.Prelude.{ℕ, ◌&&◌, Bool, true, false, List, [], ◌∷◌, codes, filter, nat_le}
 use Rattle.saga_core.specs.CellFilters.{is_name_asked}
 use Rattle.saga_core.specs.declared.journey_filters.JourneyFilter.{JourneyFilter}
 use Rattle.saga_core.specs.declared.journey_filters.JourneyState.{JourneyState}
@@ -15,8 +15,9 @@ use Rattle.sqlite_sql.specs.declared.ops.CompareOp.TheVariants.{Ge, Gt, Le}
 use Rattle.sqlite_value.specs.declared.keys.Collation.TheVariants.{Binary}
 use Rattle.desk_sql.specs.Lists.{IsListed}
 use Rattle.desk_sql.specs.Meanings.{first_unfinished_query, is_equal, journey_project, rising, sorted_rows}
-use Rattle.desk_sql.specs.RemainingRows.{IsByNumber, Rests, journey_shown}
+use Rattle.desk_sql.specs.RemainingRows.{IsByNumber, journey_shown}
 use Rattle.desk_sql.specs.Rows.{JourneyRow, Tables}
+use Rattle.sql_lists.specs.Listing.{Listing, RestsOf}
 
 -- the number of a state in the tables
 abbrev pub state_number : JourneyState → ℕ
@@ -76,7 +77,9 @@ journey_list_tests (InPhases true) = is_equal (col 1 3) (col 0 0) ∷ is_phase_b
 abbrev pub journey_list_query : JourneyList → Query
 journey_list_query statement = sorted_rows 6 (journey_list_tests statement) journey_project ((col 1 0, rising) ∷ [])
 
+abbrev pub journey_list : Listing JourneyList JourneyRow
+journey_list = record { text = journey_list_text; query = journey_list_query; shows = journey_shown }
+
 -- these journeys remain of one of the statements
 abbrev pub JourneysRest : {S : Type 0} → Ghosts S → Held S → List JourneyRow → Type 0
-JourneysRest g h later =
-    (statement : JourneyList) × Rests g (journey_list_text statement) (journey_list_query statement) h (map journey_shown later)
+JourneysRest g h later = RestsOf journey_list g h later

@@ -1,3 +1,4 @@
+pub mod Listing
 pub mod CellLists
 pub mod JourneyLists
 pub mod HolderLists

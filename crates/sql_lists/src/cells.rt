@@ -8,9 +8,10 @@ ghost use Rattle.desk_sql.specs.Calls.{Quiet};
 ghost use Rattle.desk_sql.specs.Causes.{HasReason, IsUp};
 ghost use Rattle.desk_sql.specs.Lending.{LeavesIfErr};
 ghost use Rattle.desk_sql.specs.Readable.{AreCellTexts, Each};
-ghost use Rattle.desk_sql.specs.RemainingRows.{Hands, IsStockInOrder, Starts};
+ghost use Rattle.desk_sql.specs.RemainingRows.{Hands, IsStockInOrder};
 ghost use Rattle.desk_sql.specs.Rows.{StockRow};
 ghost use Rattle.desk_sql.specs.Stock.{stock_of};
+ghost use Rattle.sql_lists.specs.Listing.{StartsOver};
 ghost use Rattle.sql_lists.specs.CellLists.{CellsRest, IsListOf};
 
 use allotment::Kind;
@@ -22,9 +23,8 @@ use sqlite::{Alter, Connection, Error, Rows};
 /// Starts to read all cells, in order of kind, supplier, product and night. If that fails, nothing has changed.
 pub fn hand_stock<S: Alter>(conn: &mut Connection<S>) -> Result<Rows<'_, S>, Error>
     ensures* fault { sem 𝓛 (LeavesIfErr S.row S.Store conn.entry result) }
-    ensures same_reference { IfOk result (λ it. it.conn.ghost_name ≡ conn.entry.ghost_name) }
     ensures started { IfOk result (λ it.
-        Starts S.Store conn.old it.conn.now IsStockInOrder (CellsRest S.Store)) }
+        StartsOver S.Store conn.entry it IsStockInOrder (CellsRest S.Store)) }
 {
     conn.query(
         "SELECT kind, supplier, product, night, allot, free FROM stock ORDER BY kind, supplier, product, night",
@@ -40,9 +40,8 @@ pub fn hand_cells<'a, S: Alter>(
     filter: &CellFilter,
 ) -> Result<Rows<'a, S>, Error>
     ensures* fault { sem 𝓛 (LeavesIfErr S.row S.Store conn.entry result) }
-    ensures same_reference { IfOk result (λ it. it.conn.ghost_name ≡ conn.entry.ghost_name) }
     ensures started { IfOk result (λ it.
-        Starts S.Store conn.old it.conn.now (IsListOf kind filter.now) (CellsRest S.Store)) }
+        StartsOver S.Store conn.entry it (IsListOf kind filter.now) (CellsRest S.Store)) }
 {
     let kind = ValueRef::Int(u64::from(kind.number()) as i64);
     let first = ValueRef::Int(filter.first_day() as i64);

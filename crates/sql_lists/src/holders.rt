@@ -8,7 +8,8 @@ ghost use Rattle.desk_sql.specs.Calls.{Quiet};
 ghost use Rattle.desk_sql.specs.Causes.{HasReason, IsMemory, IsUp};
 ghost use Rattle.desk_sql.specs.FoundRows.{four_of};
 ghost use Rattle.desk_sql.specs.Lending.{LeavesIfErr};
-ghost use Rattle.desk_sql.specs.RemainingRows.{Hands, Starts};
+ghost use Rattle.desk_sql.specs.RemainingRows.{Hands};
+ghost use Rattle.sql_lists.specs.Listing.{StartsOver};
 ghost use Rattle.sql_lists.specs.HolderLists.{HoldersRest, ListsHolders, holder_shown};
 ghost use Rattle.sql_lists.specs.declared.holders.HolderFound.{HolderFound};
 
@@ -44,9 +45,8 @@ pub fn hand_holders<'a, S: Alter>(
     cell: &Cell,
 ) -> Result<Rows<'a, S>, Error>
     ensures* fault { sem 𝓛 (LeavesIfErr S.row S.Store conn.entry result) }
-    ensures same_reference { IfOk result (λ it. it.conn.ghost_name ≡ conn.entry.ghost_name) }
     ensures started { IfOk result (λ it.
-        Starts S.Store conn.old it.conn.now (ListsHolders cell.now) (HoldersRest S.Store)) }
+        StartsOver S.Store conn.entry it (ListsHolders cell.now) (HoldersRest S.Store)) }
 {
     let kind = ValueRef::Int(u64::from(cell.kind.number()) as i64);
     let night = ValueRef::Int(day_of(cell) as i64);

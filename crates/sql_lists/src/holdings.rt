@@ -9,8 +9,9 @@ ghost use Rattle.desk_sql.specs.Causes.{HasReason, IsMemory, IsUp};
 ghost use Rattle.desk_sql.specs.FoundRows.{six_of, ten_of};
 ghost use Rattle.desk_sql.specs.Lending.{LeavesIfErr};
 ghost use Rattle.desk_sql.specs.Readable.{Each};
-ghost use Rattle.desk_sql.specs.RemainingRows.{Hands, Starts};
+ghost use Rattle.desk_sql.specs.RemainingRows.{Hands};
 ghost use Rattle.desk_sql.specs.Stock.{shows_cell};
+ghost use Rattle.sql_lists.specs.Listing.{StartsOver};
 ghost use Rattle.sql_lists.specs.HoldingLists.{AreHoldingTexts, HoldingRow, HoldingsRest, ListsHoldings, holding_found, holding_shown, kind_param, name_param, night_param, shows_holding, value_of};
 
 use allotment::{Code, Kind, Night};
@@ -69,9 +70,8 @@ pub fn hand_holdings<'a, S: Alter>(
     filter: &CellFilter,
 ) -> Result<Rows<'a, S>, Error>
     ensures* fault { sem 𝓛 (LeavesIfErr S.row S.Store conn.entry result) }
-    ensures same_reference { IfOk result (λ it. it.conn.ghost_name ≡ conn.entry.ghost_name) }
     ensures started { IfOk result (λ it.
-        Starts S.Store conn.old it.conn.now (ListsHoldings filter.now) (HoldingsRest S.Store)) }
+        StartsOver S.Store conn.entry it (ListsHoldings filter.now) (HoldingsRest S.Store)) }
 {
     conn.query(
         "SELECT stock.kind, stock.supplier, stock.product, stock.night, stock.allot, stock.free, journey.id, journey.agent, journey.phase, step.places FROM stock, step, journey WHERE step.taken = 1 AND step.kind = coalesce(?1, step.kind) AND step.supplier = coalesce(?2, step.supplier) AND step.product = coalesce(?3, step.product) AND stock.night >= coalesce(?4, stock.night) AND stock.night <= coalesce(?5, stock.night) AND step.kind = stock.kind AND step.supplier = stock.supplier AND step.product = stock.product AND step.night <= stock.night AND stock.night < step.night + step.nights AND journey.id = step.journey ORDER BY stock.night, stock.kind, stock.supplier, stock.product, step.journey, step.place, step.opt",

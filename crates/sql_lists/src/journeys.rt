@@ -9,8 +9,9 @@ ghost use Rattle.desk_sql.specs.Causes.{HasReason, IsUp};
 ghost use Rattle.desk_sql.specs.FoundRows.{journey_of};
 ghost use Rattle.desk_sql.specs.Lending.{LeavesIfErr};
 ghost use Rattle.desk_sql.specs.Readable.{Each, IsAgentText};
-ghost use Rattle.desk_sql.specs.RemainingRows.{Hands, ListsOwned, ListsUnfinished, Starts};
+ghost use Rattle.desk_sql.specs.RemainingRows.{Hands, ListsOwned, ListsUnfinished};
 ghost use Rattle.desk_sql.specs.Rows.{JourneyRow};
+ghost use Rattle.sql_lists.specs.Listing.{StartsOver};
 ghost use Rattle.sql_lists.specs.JourneyLists.{JourneysRest, ListsJourneys, least_phase, most_phase, state_number};
 
 use commands::Agent;
@@ -48,9 +49,8 @@ pub fn hand_unfinished<S: Alter>(conn: &mut Connection<S>, after: u64) -> Result
     requires { after < 2 ^ 63 }
 
     ensures* fault { sem 𝓛 (LeavesIfErr S.row S.Store conn.entry result) }
-    ensures same_reference { IfOk result (λ it. it.conn.ghost_name ≡ conn.entry.ghost_name) }
     ensures started { IfOk result (λ it.
-        Starts S.Store conn.old it.conn.now (ListsUnfinished after) (JourneysRest S.Store)) }
+        StartsOver S.Store conn.entry it (ListsUnfinished after) (JourneysRest S.Store)) }
 {
     conn.query(
         "SELECT id, num, agent, steps, tries, pos, phase, target, used FROM journey WHERE id > ?1 AND phase <= 1 ORDER BY id",
@@ -68,9 +68,8 @@ pub fn hand_owned<'a, S: Alter>(
     requires { after < 2 ^ 63 }
 
     ensures* fault { sem 𝓛 (LeavesIfErr S.row S.Store conn.entry result) }
-    ensures same_reference { IfOk result (λ it. it.conn.ghost_name ≡ conn.entry.ghost_name) }
     ensures started { IfOk result (λ it.
-        Starts S.Store conn.old it.conn.now (ListsOwned agent.now after) (JourneysRest S.Store)) }
+        StartsOver S.Store conn.entry it (ListsOwned agent.now after) (JourneysRest S.Store)) }
 {
     conn.query(
         "SELECT id, num, agent, steps, tries, pos, phase, target, used FROM journey WHERE id > ?1 AND agent = ?2 ORDER BY id",
@@ -87,9 +86,8 @@ pub fn hand_journeys<'a, S: Alter>(
     filter: &JourneyFilter,
 ) -> Result<Rows<'a, S>, Error>
     ensures* fault { sem 𝓛 (LeavesIfErr S.row S.Store conn.entry result) }
-    ensures same_reference { IfOk result (λ it. it.conn.ghost_name ≡ conn.entry.ghost_name) }
     ensures started { IfOk result (λ it.
-        Starts S.Store conn.old it.conn.now (ListsJourneys filter.now) (JourneysRest S.Store)) }
+        StartsOver S.Store conn.entry it (ListsJourneys filter.now) (JourneysRest S.Store)) }
 {
     let (least, most) = range_of(filter.phases);
     let least = ValueRef::Int(least as i64);

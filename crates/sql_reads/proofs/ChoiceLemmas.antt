@@ -1,5 +1,5 @@
 -- What the rows of a step imply for its options. For `options`.
-use Rattle.std.proofs.Common.{◌≡◌, ℕ, ◌+◌, ◌-◌, ◌<◌, ◌≤◌, ◌==◌, zero, suc, List, [], ◌∷◌, length, get_or, min, Some, refl, sym, ap, subst, ◌∙◌, arith, eqb-true, slice_get, option_map, option_and_then, unwrap_or}
+use Rattle.std.proofs.Common.{◌≡◌, ℕ, ◌+◌, ◌-◌, ◌≤◌, ◌==◌, zero, suc, List, length, min, Some, sym, ap, subst, ◌∙◌, arith, eqb-true, option_map, option_and_then, unwrap_or}
 use Rattle.plan.specs.PlanModel.{StepPlan, numbered, option_count, want_at}
 use Rattle.ledger.specs.Answer.{State}
 use Rattle.ledger.specs.Ledger.{history}
@@ -16,6 +16,7 @@ use Rattle.sql_model.specs.Standing.{StandsFor, IsDesk}
 use Rattle.sql_model.proofs.Readings.{options_read, options_there}
 use Rattle.sql_model.proofs.OptionRows.{option_row_at}
 use Rattle.sql_model.proofs.Taken.{taken_row, row_told}
+use Rattle.sql_reads.proofs.GoodPlans.{some_within}
 use Rattle.sql_reads.proofs.ReadPlans.{want_one}
 use Rattle.sql_reads.specs.OptionChoice.{IsRowChosen, IsTakenChosen, IsNextChoice, IsLastChoice, is_taken_row}
 use Rattle.sql_reads.specs.declared.plan_rows.Choice.{Choice}
@@ -23,18 +24,7 @@ use Rattle.sql_reads.specs.declared.plan_rows.Choice.{Choice}
 -- each number of a list has its element
 pub numbered_there : {X : Type 0} (xs : List X) (n : ℕ) → 1 ≤ n → n ≤ length xs → (x : X) × (numbered xs n ≡ Some x)
 numbered_there xs zero one low = absurd (omega arith)
-numbered_there xs (suc i) one low = go xs i (omega arith)
-  where
-    go : {X : Type 0} (ys : List X) (i : ℕ) → suc i ≤ length ys → (x : X) × (slice_get ys i ≡ Some x)
-    go [] i under = absurd (omega arith)
-    go (y ∷ ys) zero under = (y, refl)
-    go (y ∷ ys) (suc i) under = go ys i (omega arith)
-
--- the element that a number gives is in the list
-pub got_there : {X : Type 0} (xs : List X) (i : ℕ) (x : X) → i < length xs → x ≡ get_or xs i x → slice_get xs i ≡ Some x
-got_there [] i x low e = absurd (omega arith)
-got_there (y ∷ ys) zero x low e = ap Some (sym e)
-got_there (y ∷ ys) (suc i) x low e = got_there ys i x (omega arith) e
+numbered_there xs (suc i) one low = some_within xs i (omega arith)
 
 module _ (t : Tables) (s : State) (st : StandsFor t s) (desk : IsDesk s) (id step : ℕ) (found : List StepFound)
     (finds : FindsOptions id step t found) (choice : Choice) where

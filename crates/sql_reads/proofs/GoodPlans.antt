@@ -1,9 +1,9 @@
 -- The rows of a plan that keeps its limits give that plan. For the functions of `plan_rows`.
 use Rattle.std.proofs.Common.{◌≡◌, ℕ, zero, suc, ◌+◌, ◌<◌, List, [], ◌∷◌, ◌++◌, map, drop, length, get_or, Bool, true, false, IsTrue, Option, Some, None, Ok, refl, sym, ap, ◌∙◌, arith, add-one, ◌&&◌, flat_map, slice_get, option_map, option_and_then, string_bytes, unwrap_or, rules}
-use Rattle.std.proofs.Math.Seq.{drop-cons, drop-append_seam, drop-nil}
+use Rattle.std.proofs.Math.Seq.{drop-cons, drop-append_seam}
 use Rattle.std.proofs.Math.ListN.{drop_of_length-le}
 use Rattle.std.proofs.lemmas.Bool.{and_parts}
-use Rattle.std.proofs.lemmas.List.{drop-map}
+use Rattle.std.proofs.lemmas.List.{drop-map, drop-drop, length-map}
 use Rattle.allotment.specs.Cells.{kind_number}
 use Rattle.allotment.specs.Texts.{keep_if, kind_of_number}
 use Rattle.allotment.specs.Limits.{is_code, is_night, are_nights, is_count, is_want}
@@ -84,7 +84,8 @@ tails x y xs ys e = cc
 
 -- The rows of a step, option by option.
 
-some_within : {X : Type 0} (xs : List X) (n : ℕ) → n < length xs → (x : X) × (slice_get xs n ≡ Some x)
+-- within a list there is an element
+pub some_within : {X : Type 0} (xs : List X) (n : ℕ) → n < length xs → (x : X) × (slice_get xs n ≡ Some x)
 some_within [] n low = absurd (omega arith)
 some_within (x ∷ xs) zero low = (x, refl)
 some_within (x ∷ xs) (suc n) low = some_within xs n (omega arith)
@@ -119,19 +120,9 @@ length-counted : {X : Type 0} (k : ℕ) (xs : List X) → length (counted_from k
 length-counted k [] = refl
 length-counted k (x ∷ xs) = ap suc (length-counted (suc k) xs)
 
-length-mapped : {X Y : Type 0} (f : X → Y) (xs : List X) → length (map f xs) ≡ length xs
-length-mapped f [] = refl
-length-mapped f (x ∷ xs) = ap suc (length-mapped f xs)
-
 rows_count : (id i : ℕ) (o : Option StepPlan)
     → length (unwrap_or (option_map (λ (s : StepPlan). option_rows none_taken id i s) o) []) ≡ unwrap_or (option_map (λ (s : StepPlan). length s.options) o) 0
-rows_count id i o = search (rules, arith, length-mapped, length-counted)
-
-drop-more : {X : Type 0} (a b : ℕ) (xs : List X) → drop (a + b) xs ≡ drop b (drop a xs)
-drop-more {X} zero b xs = ap (λ k. drop k xs) (let e : 0 + b ≡ b = omega arith in e)
-drop-more {X} (suc a) b [] = drop-nil {A = X} (suc a + b) ∙ sym (drop-nil {A = X} b)
-drop-more {X} (suc a) b (x ∷ xs) =
-    ap (λ (k : ℕ). drop k (x ∷ xs)) (let e : suc a + b ≡ suc (a + b) = omega arith in e) ∙ drop-more a b xs
+rows_count id i o = search (rules, arith, length-map, length-counted)
 
 -- The steps of a plan.
 
@@ -152,7 +143,7 @@ pub steps_next : (id : ℕ) (rows : List StepFound) (from to : ℕ) (plan : Plan
 steps_next id rows from to plan n low to_is left =
     let whole : first_rows id (drop from rows) ≡ rows_of_step id plan (n + 1) ++ steps_after id plan (n + 1) = left ∙ steps_left id plan n low in
     let count : option_count plan (n + 1) ≡ length (rows_of_step id plan (n + 1)) = sym (rows_count id (n + 1) (numbered plan.steps (n + 1))) in
-    ap (λ k. first_rows id (drop k rows)) to_is ∙ ap (first_rows id) (drop-more from (option_count plan (n + 1)) rows)
+    ap (λ k. first_rows id (drop k rows)) to_is ∙ ap (first_rows id) (sym (drop-drop (option_count plan (n + 1)) from rows))
     ∙ sym (dropped (option_count plan (n + 1)) (drop from rows)) ∙ ap (drop (option_count plan (n + 1))) whole
     ∙ ap (λ k. drop k (rows_of_step id plan (n + 1) ++ steps_after id plan (n + 1))) count
     ∙ drop-append_seam (rows_of_step id plan (n + 1)) (steps_after id plan (n + 1))

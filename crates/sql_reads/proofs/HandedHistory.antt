@@ -12,11 +12,11 @@ use Rattle.desk_sql.specs.declared.versions.Version.{Version}
 use Rattle.sql_model.specs.Keeping.{KeepsEach, KeepsIn}
 use Rattle.sql_model.specs.Reading.{item_in}
 use Rattle.sql_model.specs.Standing.{IsDesk}
-use Rattle.sql_reads.specs.Following.{GoesOnWith, BringsTo, TellsFinished}
+use Rattle.sql_reads.specs.Following.{GoesOnWith, next_position, finishes}
 use Rattle.sql_reads.specs.RemainingRows.{AreBehind, ItemsLeft}
 use Rattle.sql_reads.specs.ItemSearch.{TellsNext, IsNextOf}
 use Rattle.sql_reads.specs.declared.item_search.Sought.{Sought}
-use Rattle.sql_reads.proofs.GoingOn.{goes_no_further}
+use Rattle.sql_reads.proofs.GoingOn.{brings, goes_no_further}
 
 module _ {S : Type 0} (g : Ghosts S) (tables : Version) (old new : Held S) (w : Sought) (pos : ℕ) where
   -- the items that remain of a journey that is not finished
@@ -31,10 +31,10 @@ module _ {S : Type 0} (g : Ghosts S) (tables : Version) (old new : Held S) (w : 
   pub item_first : (v : Sought) (after : ℕ) (was finished : Bool) (i : ItemFound) (x : Item)
       → v.journey ≡ w.journey → v.after ≡ i.num → v.steps ≡ w.steps → KeepsEach g old new
       → IsNextFound (Some i) → Some x ≡ item_in (item_of 0 i)
-      → BringsTo pos x after → TellsFinished w.steps pos x finished → was ≡ false
+      → after ≡ next_position pos x → finished ≡ finishes w.steps pos x → was ≡ false
       → (failed : Bool) (xs : List Item) → (failed ≡ false) × ItemsLeft g tables old w pos was xs
       → HandsFirst (λ zs. (false ≡ false) × ItemsLeft g tables new v after finished zs) (Some x) xs
-  item_first v after was finished i x journey_is after_is steps_is kept next is brings tells open_yet failed xs rests =
+  item_first v after was finished i x journey_is after_is steps_is kept next is moved ends open_yet failed xs rests =
       let left = open_left was xs open_yet rests.1 in
       let told = next left.desk left.is_desk left.keeps in
       go xs left told (sym left.behind ∙ told.rest)
@@ -50,7 +50,7 @@ module _ {S : Type 0} (g : Ghosts S) (tables : Version) (old new : Held S) (w : 
         whole = left.whole ∙ ap (λ z. left.before ++ z ∷ later) same;
       }
 
-      further : (f : Bool) (y : Item) → y ≡ x → TellsFinished w.steps pos x f → (later : List Item)
+      further : (f : Bool) (y : Item) → y ≡ x → f ≡ finishes w.steps pos x → (later : List Item)
           → (left : AreBehind g tables old w pos (y ∷ later))
           → history (drop i.num left.desk.ledger) w.journey ≡ later → ItemsLeft g tables new v after f later
       further true y same done later left behind =
@@ -62,7 +62,7 @@ module _ {S : Type 0} (g : Ghosts S) (tables : Version) (old new : Held S) (w : 
             keeps = kept tables left.desk left.keeps;
             has_steps = λ a at. left.has_steps a (sym (ap (journey_at left.desk.ledger) journey_is) ∙ at) ∙ sym steps_is;
             before = left.before ++ x ∷ [];
-            stands = sym (brings w.steps later (goes_same y same later left));
+            stands = sym (moved ∙ brings w.steps pos x later (goes_same y same later left));
             whole =
                 ap (history left.desk.ledger) journey_is ∙ left.whole ∙ ap (λ z. left.before ++ z ∷ later) same
                 ∙ sym (append_assoc left.before (x ∷ []) later);
@@ -79,7 +79,7 @@ module _ {S : Type 0} (g : Ghosts S) (tables : Version) (old new : Held S) (w : 
           let both : Some x ≡ Some told.item = is ∙ told.told in
           let same : y ≡ x = cc in
           let behind : later ≡ history (drop i.num left.desk.ledger) w.journey = cc in
-          (ap Some (sym same), (refl, further finished y same tells later left (sym behind)))
+          (ap Some (sym same), (refl, further finished y same ends later left (sym behind)))
 
   -- if there is no row, no item remains
   pub item_none : (was : Bool) → KeepsEach g old new → IsNextFound None → was ≡ false

@@ -14,7 +14,6 @@ pub mod ReadLemmas
 pub mod ReadPlans
 pub mod ReadReasons
 pub mod ReadSought
-pub mod ReadStock
 pub mod ChoiceLemmas
 pub mod OptionReasons
 pub mod NextItems

@@ -1,6 +1,6 @@
--- The first item of a journey after an event, in tables of each version. For `next_item` and `next_old_item`.
+-- The first item of a journey after an event, in tables of each version. For `next_item`.
 use Rattle.std.proofs.Common.{arith, rules}
-use Rattle.std.specs.Prelude.{⊤, ◌≡◌, ℕ, ◌==◌, [], ◌∷◌, refl, ltb as nat_lt}
+use Rattle.std.specs.Prelude.{⊤, ◌≡◌, ℕ, List, ◌==◌, [], ◌∷◌, refl, ltb as nat_lt}
 use Rattle.std.proofs.lemmas.Bool.{and_parts, eqb-true}
 use Rattle.sqlite.specs.Listing.{understood}
 use Rattle.sqlite.specs.Program.{overlay}
@@ -26,12 +26,16 @@ items_say Two journey after = record { means = λ _. record { is = refl; plain =
 items_there : (v : Version) (db : Trees) → overlay db [] (items_tree v) ≡ db (items_tree v)
 items_there v db = search (rules, arith)
 
-pub finds_next : (v : Version) (journey after : ℕ) → FindsOne v (next_item_text v) (whole journey ∷ whole after ∷ []) shows_item four_of
+next_found : (v : Version) (journey after : ℕ) → FindsOne v (next_item_text v) (whole journey ∷ whole after ∷ []) shows_item four_of
     (FindsNextItem journey after) Any (ShowsOne item_shown (λ _. ⊤))
-finds_next v journey after =
+next_found v journey after =
     least_of (asks_own (items_tree v) find_items_query.filter find_items_query.project find_items_query.order (items_say v journey after) (items_there v)
     (λ (e : EntryRow). e.num) entry_row (λ t. t.entries) (λ _ _ s. s.entries) (is_item_after journey after) (item_test journey after))
     (item_of journey) shows_item four_of (λ t f e there shown.
     let both = and_parts (e.journey == journey) (nat_lt after e.num) (has_filtered (is_item_after journey after) t.entries e there).1 in
     same_item journey f e (eqb-true _ _ both.0) shown)
     Any (ShowsOne item_shown (λ _. ⊤)) (λ t any e there. (e, refl, tt)) (λ (e : EntryRow). e.num) (λ a b up. whole_last a.num b.num up)
+
+pub finds_next : (v : Version) (text : List ℕ) (journey after : ℕ) → text ≡ next_item_text v → FindsOne v text (whole journey ∷ whole after ∷ [])
+    shows_item four_of (FindsNextItem journey after) Any (ShowsOne item_shown (λ _. ⊤))
+finds_next v text journey after is = rw is (next_found v journey after)

@@ -1,7 +1,7 @@
 -- An option of a step of a journey can be chosen by the rows of the step. For `options`.
-use Rattle.std.proofs.Common.{◌≡◌, ℕ, zero, suc, ◌==◌, List, [], ◌∷◌, Bool, true, if◌then◌else◌, Some, inl, inr, refl, sym, ap, subst, ◌∙◌, arith, eqb-true, eq-eqb, nat_le, leb-true, find, slice_get, rules, false}
+use Rattle.std.proofs.Common.{◌≡◌, ℕ, zero, suc, ◌==◌, List, [], ◌∷◌, Bool, true, Some, inl, inr, refl, sym, ap, subst, ◌∙◌, arith, eqb-true, eq-eqb, nat_le, leb-true, find, slice_get, rules, false}
 use Rattle.std.specs.List.{list_all}
-use Rattle.std.proofs.lemmas.Bool.{and_parts}
+use Rattle.std.proofs.lemmas.Bool.{and_parts, cases_Bool}
 use Rattle.sqlite_rules.specs.Lists.{Has}
 use Rattle.sqlite_rules.proofs.ListLemmas.{all_from, has_filtered, has_found, has_kept, has_right, test_has}
 use Rattle.sqlite_rules.proofs.ProbeLemmas.{has_mapped, mapped_has}
@@ -42,16 +42,13 @@ numbered_passes {X} p xs (suc i) x e all = go xs i e all
 -- where an element passes, the first that passes is found
 found_first : {X : Type 0} (p : X → Bool) (xs : List X) (x : X) → Has xs x → p x ≡ true → (y : X) × (find p xs ≡ Some y)
 found_first p [] x h passes = absurd h
-found_first {X} p (z ∷ xs) x (inl same) passes = (z, first (p z) (ap p (sym same) ∙ passes))
-  where
-    first : (b : Bool) → b ≡ true → (if b then Some z else find p xs) ≡ Some z
-    first true e = refl
-    first false e = cc
-found_first {X} p (z ∷ xs) x (inr h) passes = go (p z) (found_first p xs x h passes)
-  where
-    go : (b : Bool) → (y : X) × (find p xs ≡ Some y) → (y : X) × ((if b then Some z else find p xs) ≡ Some y)
-    go true later = (z, refl)
-    go false later = later
+found_first p (z ∷ xs) x h passes = elim (cases_Bool (p z)) [
+  | inl on ↦ (z, rw on refl)
+  | inr off ↦ elim h [
+    | inl same ↦ absurd (let bad : true ≡ false = sym passes ∙ ap p same ∙ off in cc)
+    | inr later ↦ (let it = found_first p xs x later passes in (it.0, rw off it.1))
+  ]
+]
 
 -- the row of an option tells its want
 tells_of : (id k o : ℕ) (m t : Bool) (row : StepFound) (w : Wanted) → step_of id row ≡ option_row id k m o t w → TellsWant row w

@@ -4,7 +4,6 @@ use Rattle.std.proofs.lemmas.Bool.{and_parts, and_from, ltb-true, lt-ltb}
 use Rattle.std.proofs.lemmas.Option.{slice_get_past}
 use Rattle.commands.specs.declared.items.Cursor.{Cursor}
 use Rattle.saga_core.specs.Views.{first_unfinished, brief_of, brief_of_journey, record_of, record_of_journey, cursor_of, marks_of}
-use Rattle.saga_core.specs.declared.records.Record.{Record}
 use Rattle.plan.specs.PlanModel.{Planned, step_count}
 use Rattle.std.specs.List.{list_any}
 use Rattle.std.specs.FinSet as set
@@ -12,7 +11,7 @@ use Rattle.sqlite.specs.Tree.{Trees}
 use Rattle.desk_sql.specs.declared.versions.Version.{Version}
 use Rattle.desk_sql.specs.declared.versions.Version.TheVariants.{One, Two}
 use Rattle.desk_sql.specs.Rows.{JourneyRow, Tables, ShowsIn, ShowsMarks}
-use Rattle.sql_model.proofs.RecordRows.{record_told, marks_told}
+use Rattle.sql_model.proofs.RecordRows.{marks_told}
 use Rattle.saga_core.specs.declared.records.Brief.{Brief}
 use Rattle.desk_sql.specs.FoundRows.{journey_of}
 use Rattle.desk_sql.specs.declared.journeys.JourneyFound.{JourneyFound}
@@ -23,7 +22,7 @@ use Rattle.sql_model.specs.ExpectedRows.{cursor_row}
 use Rattle.sql_model.specs.Reading.{Tells, IsBriefOf, IsJourneyOf, cursor_in}
 use Rattle.sql_model.proofs.Cursors.{cursor_back}
 use Rattle.sql_model.specs.Standing.{StandsIn, is_mark_at}
-use Rattle.sql_reads.specs.Reading.{TellsBrief, TellsStand, TellsRecord, stand_of, AreMarksAt, AreTakenIn}
+use Rattle.sql_reads.specs.Reading.{TellsBrief, TellsStand, stand_of, AreMarksAt, AreTakenIn}
 use Rattle.sql_reads.specs.declared.reads.Stand.{Stand}
 
 made_brief : ℕ → List ℕ → Cursor → Brief
@@ -81,21 +80,6 @@ pub record JourneyThere (l : List Event) (id : ℕ) (r : JourneyRow) : Type 0 wh
 pub journey_there : (l : List Event) (id : ℕ) (r : JourneyRow) → Tells (λ (x : JourneyRow) a. (x.id ≡ id) × IsJourneyOf l x a) (Some r) (journey_at l id) → JourneyThere l id r
 journey_there l id r = search (rules, arith)
 
--- the record built of a journey's row, plan and save-points is the one in the ledger
-pub record_shown : (l : List Event) (id : ℕ) (r : JourneyFound) (plan : Planned) (marks : set.FinSet nat_cmp) (b : Record)
-    → Tells (λ (x : JourneyRow) a. (x.id ≡ id) × IsJourneyOf l x a) (Some (journey_of r)) (journey_at l id)
-    → ((a : Journey) → journey_at l id ≡ Some a → r.tries ≡ a.plan.tries → plan ≡ a.plan) → marks ≡ marks_of (history l id) → TellsRecord r plan marks b
-    → Some b ≡ record_of l id
-record_shown l id r plan marks b told planned marked tells =
-    let there = journey_there l id (journey_of r) told in
-    let a = there.journey in
-    let cursor : Some b.cursor ≡ Some (cursor_of a.plan (history l r.id)) = sym tells.cursor ∙ ap cursor_in there.is.cursor ∙ cursor_back (cursor_of a.plan (history l r.id)) in
-    let same_cursor : b.cursor ≡ cursor_of a.plan (history l r.id) = cc in
-    let number : r.id ≡ id = there.same in
-    sym (ap (record_of l) (sym number)
-    ∙ record_told l (journey_of r) a b (ap (journey_at l) number ∙ there.at) there.is tells.agent
-    (tells.same_plan ∙ planned a there.at there.is.tries) (ap cursor_row same_cursor ∙ sym there.is.cursor) (tells.same_marks ∙ marked ∙ ap (λ n. marks_of (history l n)) (sym number)))
-
 -- the agent, steps, tries and cursor in a row are those of the record
 pub stand_shown : (l : List Event) (id : ℕ) (r : JourneyFound) (b : Stand)
     → Tells (λ (x : JourneyRow) a. (x.id ≡ id) × IsJourneyOf l x a) (Some (journey_of r)) (journey_at l id)
@@ -123,16 +107,13 @@ brief_none l id absent = sym (ap (option_map (brief_of_journey id (history l id)
 pub brief_shown : (l : List Event) (id : ℕ) (r : JourneyFound) (b : Brief)
     → Tells (λ (x : JourneyRow) a. (x.id ≡ id) × IsJourneyOf l x a) (Some (journey_of r)) (journey_at l id)
     → TellsBrief r b → Some b ≡ brief_of l id
-unfolding made_brief
 brief_shown l id r b told tells =
     let there = journey_there l id (journey_of r) told in
-    let a = there.journey in
-    let cursor : Some b.cursor ≡ Some (cursor_of a.plan (history l r.id)) = sym tells.cursor ∙ ap cursor_in there.is.cursor ∙ cursor_back (cursor_of a.plan (history l r.id)) in
-    let same_cursor : b.cursor ≡ cursor_of a.plan (history l id) =
-    (let here : b.cursor ≡ cursor_of a.plan (history l r.id) = cc in here ∙ ap (λ n. cursor_of a.plan (history l n)) there.same) in
-    ap Some
-    (ap (λ n. made_brief n b.agent b.cursor) (tells.id ∙ there.same) ∙ ap (λ x. made_brief id x b.cursor) (tells.agent ∙ there.is.agent)
-    ∙ ap (made_brief id a.agent) same_cursor) ∙ sym (ap (λ o. option_map (brief_of_journey id (history l id)) o) there.at)
+    brief_told (brief_of l id) r b (rw there.at (record {
+      id = there.same;
+      agent = there.is.agent;
+      cursor = there.is.cursor ∙ ap (λ n. cursor_row (cursor_of there.journey.plan (history l n))) there.same;
+    })) tells
 
 -- the journey of a stand is there, with its tries and its steps
 pub record HasRow (l : List Event) (id : ℕ) (stand : Stand) : Type 0 where
@@ -162,8 +143,7 @@ none_taken db t s first shown stands id p =
     sym (stands.mark.each id p) ∙ ap (list_any (is_mark_at id p)) none
 
 -- the save-points read of a journey are those that stand, in tables of either version
-pub marks_either : (v : Version) (db : Trees) (t : Tables) (s : State) → ShowsIn v db t → StandsIn v t s → (id : ℕ) (marks : set.FinSet nat_cmp)
+pub marks_either : (v : Version) (s : State) (id : ℕ) (marks : set.FinSet nat_cmp) → (v ≡ One → (p : ℕ) → is_taken (history s.ledger id) p ≡ false)
     → AreTakenIn v id s marks → AreMarksAt id s marks
-marks_either One db t s shown stands id marks none =
-    marks_told (history s.ledger id) marks (λ p. none.none p ∙ sym (none_taken db t s refl shown stands id p)) none.low
-marks_either Two db t s shown stands id marks taken = taken
+marks_either One s id marks unmarked none = marks_told (history s.ledger id) marks (λ p. none.none p ∙ sym (unmarked refl p)) none.low
+marks_either Two s id marks unmarked taken = taken

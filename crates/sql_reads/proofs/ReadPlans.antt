@@ -1,5 +1,5 @@
 -- Consecutive rows that are those of a plan. For the functions of `plan_rows`.
-use Rattle.std.proofs.Common.{◌≡◌, ℕ, Bool, ◌+◌, ◌<◌, ◌≤◌, List, [], ◌∷◌, ◌++◌, map, take, length, get_or, refl, sym, ap, ◌∙◌, arith, append_assoc, rules}
+use Rattle.std.proofs.Common.{◌≡◌, ℕ, Bool, ◌+◌, ◌<◌, ◌≤◌, List, [], ◌∷◌, ◌++◌, map, take, take_all, length, get_or, sym, ap, ◌∙◌, arith, append_assoc, rules}
 use Rattle.std.proofs.lemmas.List.{map-append, take_more}
 use Rattle.allotment.specs.Want.{Wanted}
 use Rattle.plan.specs.PlanModel.{Planned, option_count, step_count}
@@ -12,10 +12,6 @@ use Rattle.sql_model.specs.Beginning.{first_steps, first_rows_of_step, rows_of_s
 use Rattle.sql_model.proofs.PlanWriting.{step_rows-all}
 use Rattle.sql_reads.specs.PlanRows.{first_rows, TellsWant, TellsOption, TellStep, TellPlan}
 use Rattle.sql_model.proofs.PlanParts.{first_rows_of_step-more, first_rows_of_step-all, step_rows_of-more}
-
-take-whole : {X : Type 0} (xs : List X) → take (length xs) xs ≡ xs
-take-whole [] = refl
-take-whole (x ∷ xs) = ap (λ ys. x ∷ ys) (take-whole xs)
 
 -- the rows of a list and of its suffix
 first_rows-append : (id : ℕ) (xs ys : List StepFound) → first_rows id (xs ++ ys) ≡ first_rows id xs ++ first_rows id ys
@@ -51,7 +47,7 @@ step_more rows from to plan n low step told id =
 pub plan_whole : (rows : List StepFound) (count n : ℕ) (plan : Planned) → n ≡ step_count plan → count ≡ length rows
     → ((id : ℕ) → first_rows id (take count rows) ≡ step_rows_of id (first_steps n plan)) → TellPlan rows plan
 plan_whole rows count n plan all whole told id =
-    sym (ap (first_rows id) (sym (ap (λ k. take k rows) whole ∙ take-whole rows)) ∙ told id ∙ ap (λ k. step_rows_of id (first_steps k plan)) all ∙ step_rows-all none_taken id plan)
+    sym (ap (first_rows id) (sym (take_all count rows (omega (arith, whole)))) ∙ told id ∙ ap (λ k. step_rows_of id (first_steps k plan)) all ∙ step_rows-all none_taken id plan)
 
 -- the want in a row is that of the option whose row it is
 pub want_one : (id k o : ℕ) (m t : Bool) (row : StepFound) (w v : Wanted) → TellsWant row w → step_of id row ≡ option_row id k m o t v → w ≡ v

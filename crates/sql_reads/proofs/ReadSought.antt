@@ -9,7 +9,8 @@ use Rattle.ledger.proofs.Ledgers.{all_go}
 use Rattle.desk_sql.specs.FoundRows.{FindsJourney, FindsNextItem, journey_of, item_of as item_row}
 use Rattle.desk_sql.specs.declared.journeys.ItemFound.{ItemFound}
 use Rattle.desk_sql.specs.declared.versions.Version.{Version}
-use Rattle.desk_sql.specs.Rows.{Tables, JourneyRow}
+use Rattle.desk_sql.specs.Rows.{Tables, JourneyRow, ShowsIn}
+use Rattle.sqlite.specs.Tree.{Trees}
 use Rattle.desk_sql.specs.declared.journeys.JourneyFound.{JourneyFound}
 use Rattle.sql_model.specs.Reading.{Tells, IsJourneyOf}
 use Rattle.sql_model.specs.Standing.{StandsIn, IsDesk}
@@ -17,7 +18,9 @@ use Rattle.sql_model.proofs.Readings.{journey_read, begins_read, next_read}
 use Rattle.sql_model.proofs.NextItems.{TellsIfNext}
 use Rattle.sql_reads.specs.ItemSearch.{AreSoughtAt, IsNextOf}
 use Rattle.sql_reads.specs.declared.item_search.Sought.{Sought}
-use Rattle.sql_reads.proofs.ReadJourneys.{journey_there}
+use Rattle.sql_reads.specs.FoundJourney.{IsRowAt, IsRowOf}
+use Rattle.sql_reads.proofs.ReadJourneys.{journey_there, none_taken}
+use Rattle.sql_reads.proofs.ReadReasons.{found_there, row_agent, row_cursor, row_number}
 
 first_none : (xs ys : List Item) → xs ++ ys ≡ [] → xs ≡ []
 first_none [] ys e = refl
@@ -56,16 +59,27 @@ absent_read t s st desk id finds = go (journey_at s.ledger id) refl (journey_rea
         → Tells (λ (r : JourneyRow) a. (r.id ≡ id) × IsJourneyOf s.ledger r a) None o → journey_at s.ledger id ≡ None
     go o e tells = search (rules, arith)
 
+-- a row that is found is that of the journey
+pub row_found : {v : Version} {db : Trees} (t : Tables) (s : State) → ShowsIn v db t → StandsIn v t s → IsDesk s → (id : ℕ)
+    (found : Option JourneyFound) → FindsJourney id t found → IsRowAt v id s found
+row_found t s shown st desk id None finds = absent_read t s st desk id finds
+row_found {db = db} t s shown st desk id (Some r) finds = record {
+  tells = journey_read t s st desk id (Some r) finds;
+  begun = begins_read t s st desk id r finds;
+  unmarked = λ first p. none_taken db t s first shown st id p;
+  agent = λ spelled. row_agent t s st spelled (journey_of r) (found_there t s st spelled id r finds);
+  cursor = λ spelled. row_cursor t s st spelled r (found_there t s st spelled id r finds);
+  early = λ spelled. row_number t s st spelled id r finds;
+}
+
 -- a found row gives the number of the journey's steps, and the event that began it
-pub sought_there : {v : Version} (t : Tables) (s : State) (st : StandsIn v t s) (desk : IsDesk s) (id : ℕ) (found : JourneyFound)
-    → FindsJourney id t (Some found) → (w : Sought) → w.journey ≡ id → w.after ≡ found.num → w.steps ≡ found.steps
-    → AreSoughtAt id s w
-sought_there t s st desk id found finds w journey after steps =
-    let there = journey_there s.ledger id (journey_of found) (journey_read t s st desk id (Some found) finds) in
+pub sought_there : {v : Version} (s : State) (id : ℕ) (found : JourneyFound) → IsRowOf v id s found → (w : Sought) → w.journey ≡ id
+    → w.after ≡ found.num → w.steps ≡ found.steps → AreSoughtAt id s w
+sought_there s id found row w journey after steps =
+    let there = journey_there s.ledger id (journey_of found) row.tells in
     record {
       items = ap (history s.ledger) journey;
-      first = ap (λ n. history (take n s.ledger) w.journey) after
-          ∙ ap (history (take found.num s.ledger)) journey ∙ begins_read t s st desk id found finds;
+      first = ap (λ n. history (take n s.ledger) w.journey) after ∙ ap (history (take found.num s.ledger)) journey ∙ row.begun;
       steps = λ a at.
           let is : a ≡ there.journey = cc in
           ap (λ (b : Journey). step_count b.plan) is ∙ sym there.is.steps ∙ sym steps;

@@ -1,8 +1,9 @@
 -- The continuation of a journey by its items.
-use Rattle.std.specs.Prelude.{◌≡◌, ℕ, Bool, List, [], ◌∷◌, ◌++◌, Some}
+use Rattle.std.specs.Prelude.{◌≡◌, ◌-◌, ◌==◌, ◌&&◌, ℕ, Bool, false, List, ◌++◌}
 use Rattle.commands.specs.declared.items.Item.{Item}
-use Rattle.ledger.specs.History.{position_of, phase, is_finished}
-use Rattle.ledger.specs.Ledger.{Event, Journey, journey_at, history, IsLegal}
+use Rattle.commands.specs.declared.items.Item.TheVariants.{Transaction, Compensation, Turn, Save}
+use Rattle.ledger.specs.History.{position_of}
+use Rattle.ledger.specs.Ledger.{Event, history, IsLegal}
 use Rattle.sql_reads.specs.ItemSearch.{HasSteps}
 
 -- in a legal ledger, a journey with so many steps came to this position, and went on with these items and no more
@@ -15,13 +16,16 @@ pub record GoesOnWith (steps pos : ℕ) (items : List Item) : Type 0 where
   pub stands : position_of before ≡ pos
   pub whole : history ledger id ≡ before ++ items
 
--- after the item each such journey is at this position, whatever the number of its steps
-abbrev pub BringsTo : ℕ → Item → ℕ → Type 0
-BringsTo pos item after = (steps : ℕ) (later : List Item) (it : GoesOnWith steps pos (item ∷ later))
-    → after ≡ position_of (it.before ++ item ∷ [])
+-- the position after an item, from that before it
+abbrev pub next_position : ℕ → Item → ℕ
+next_position pos (Transaction i c) = i
+next_position pos (Compensation i c) = i - 1
+next_position pos (Turn p cause) = pos
+next_position pos (Save p) = pos
 
--- for each such journey, `finished` says whether the item finishes it
-abbrev pub TellsFinished : ℕ → ℕ → Item → Bool → Type 0
-TellsFinished steps pos item finished = (later : List Item) (it : GoesOnWith steps pos (item ∷ later))
-    → (a : Journey) → journey_at it.ledger it.id ≡ Some a
-    → finished ≡ is_finished (phase a.plan (it.before ++ item ∷ []))
+-- whether an item finishes a journey of so many steps, which is at this position before it
+abbrev pub finishes : ℕ → ℕ → Item → Bool
+finishes steps pos (Transaction i c) = i == steps
+finishes steps pos (Compensation i c) = i == 1
+finishes steps pos (Turn p cause) = (p == 0) && (pos == 0)
+finishes steps pos (Save p) = false

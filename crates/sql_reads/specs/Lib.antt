@@ -1,5 +1,6 @@
 pub mod Causes
 pub mod Following
+pub mod FoundJourney
 pub mod GoodRows
 pub mod RemainingRows
 pub mod Lending

@@ -63,14 +63,6 @@ pub record TellsStand (r : JourneyFound) (b : Stand) : Type 0 where
   pub tries : b.tries ≡ r.tries
   pub cursor : TellsCursor r.cursor b.cursor
 
--- the row, with a plan and save-points, is that of this record
-pub record TellsRecord (r : JourneyFound) (plan : Planned) (marks : set.FinSet nat_cmp) (b : Record)
-    : Type 0 where
-  pub agent : b.agent ≡ (journey_of r).agent
-  pub same_plan : b.plan ≡ plan
-  pub cursor : TellsCursor r.cursor b.cursor
-  pub same_marks : b.marks ≡ marks
-
 -- the rows are those of these items
 abbrev pub TellItems : List ItemFound → List Item → Type 0
 TellItems found items = map (λ (i : ItemFound). item_in (item_of 0 i)) found ≡ map Some items

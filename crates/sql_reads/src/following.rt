@@ -1,11 +1,12 @@
 //! The position of a journey after an item, and whether the item finishes the journey.
-ghost use Rattle.sql_reads.specs.Following.{BringsTo, TellsFinished};
+ghost use Rattle.std.specs.Prelude.{◌≡◌};
+ghost use Rattle.sql_reads.specs.Following.{next_position, finishes};
 
 use commands::Item;
 
 /// The position of a journey after an item, from its position before the item.
 pub(crate) fn position_after(item: &Item, pos: u64) -> u64
-    ensures { BringsTo pos item.now result }
+    ensures { result ≡ next_position pos item.now }
 {
     match item {
         Item::Transaction { step, .. } => *step as u64,
@@ -17,7 +18,7 @@ pub(crate) fn position_after(item: &Item, pos: u64) -> u64
 
 /// Whether an item finishes a journey of so many steps, which stands at this position before the item.
 pub(crate) fn is_finished_with(item: &Item, steps: u64, pos: u64) -> bool
-    ensures { TellsFinished steps pos item.now result }
+    ensures { result ≡ finishes steps pos item.now }
 {
     match item {
         Item::Transaction { step, .. } => *step as u64 == steps,

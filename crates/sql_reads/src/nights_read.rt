@@ -1,6 +1,7 @@
 //! Nights of a product that are read together: the cells of consecutive rows of a batch are often such nights.
 ghost use Rattle.std.specs.Prelude.{◌≡◌, ◌≤◌, true, IfOk, IfSome};
-ghost use Rattle.sql_reads.specs.NightsRead.{AreFew, AreRead, IsAmong, IsLater, held_at};
+ghost use Rattle.sql_reads.specs.NightsRead.{AreFew, AreRead, IsAmong, IsLater, held_at, nights_from};
+ghost use Rattle.saga_core.specs.Views.{ShowsCells};
 ghost use Rattle.sql_reads.specs.Reads.{Read};
 
 use crate::telling::nights_told;
@@ -58,18 +59,18 @@ fn nights_together(cell: &Cell, later: &[Row]) -> u32
     count
 }
 
-/// Returns the places of so many nights of a cell's product, from the cell's on.
-fn read_nights<S: Alter>(
+/// Returns the places of so many nights of a cell's product, from the cell's on, in order of night, without the nights that
+/// have no allotment.
+pub(crate) fn read_places<S: Alter>(
     alloc: Global,
     conn: &mut Connection<S>,
-    first: Cell,
+    first: &Cell,
     count: u32,
-) -> Result<NightsRead, Fault>
+) -> Result<Vec<(Night, Held)>, Fault>
     requires { 1 ≤ count }
 
-    ensures first { IfOk result (λ read. read.first ≡ first) }
-    ensures count { IfOk result (λ read. read.count ≡ count) }
-    ensures read { Read S.Store conn.old conn.new result AreRead }
+    ensures { Read S.Store conn.old conn.new result
+        (λ s places. ShowsCells (nights_from first.now count) s places.items) }
 {
     let supplier = first.supplier();
     let product = first.product();
@@ -82,16 +83,29 @@ fn read_nights<S: Alter>(
         last: from + u64::from(count) - 1,
     };
     match find_nights(alloc, conn, range) {
-        Ok(found) => {
-            let places = nights_told(alloc, found.as_slice())?;
-            Ok(NightsRead {
-                first,
-                count,
-                places,
-            })
-        }
+        Ok(found) => nights_told(alloc, found.as_slice()),
         Err(error) => Err(fault_of(&error)),
     }
+}
+
+/// Returns the places of nights of a cell's product, from the cell's on, together with those of the later rows that follow.
+fn read_nights<S: Alter>(
+    alloc: Global,
+    conn: &mut Connection<S>,
+    first: Cell,
+    later: &[Row],
+) -> Result<NightsRead, Fault>
+    ensures first { IfOk result (λ read. read.first ≡ first) }
+    ensures few { IfOk result AreFew }
+    ensures read { Read S.Store conn.old conn.new result AreRead }
+{
+    let count = nights_together(&first, later);
+    let places = read_places(alloc, conn, &first, count)?;
+    Ok(NightsRead {
+        first,
+        count,
+        places,
+    })
 }
 
 /// Returns nights among which a cell is, with their places: the given ones if it is among them. Otherwise nights are
@@ -110,7 +124,7 @@ pub fn nights_with<S: Alter>(
 {
     match read {
         Some(nights) if nights.has(cell) => Ok(nights),
-        _ => read_nights(alloc, conn, *cell, nights_together(cell, later)),
+        _ => read_nights(alloc, conn, *cell, later),
     }
 }
 

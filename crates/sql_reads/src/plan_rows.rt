@@ -1,6 +1,6 @@
 //! The rows of a plan and of its save-points, and the choice of an option of a step by the rows of that step alone.
 
-ghost use Rattle.std.specs.Prelude.{◌≡◌, ◌≤◌, ◌+◌, ◌∷◌, ℕ, [], true, length, map, IfErr, IfOk, IfSome, IsSome, IsTrue, ◌<◌, ◌^◌, find, min, Some};
+ghost use Rattle.std.specs.Prelude.{◌≡◌, ◌↔◌, ◌≤◌, ◌+◌, ◌∷◌, ℕ, [], true, length, map, IfErr, IfOk, IfSome, IsSome, IsTrue, ◌<◌, ◌^◌, find, min, Some};
 ghost use Rattle.allotment.specs.Limits.{is_want};
 ghost use Rattle.allotment.specs.Want.{Wanted};
 ghost use Rattle.plan.specs.PlanModel.{Planned, step_count, step_said, option_count, is_plan};
@@ -24,8 +24,7 @@ use std::alloc::Global;
 
 /// Whether a row is that of an option with this want.
 fn is_of_want(row: &StepFound, want: &Want) -> bool
-    ensures told { result ≡ true → TellsWant row.now want.now }
-    ensures exact { TellsWant row.now want.now → result ≡ true }
+    ensures { result ≡ true ↔ TellsWant row.now want.now }
 {
     row.kind == u64::from(want.kind().number())
         && row.supplier.as_str() == want.supplier().as_str()

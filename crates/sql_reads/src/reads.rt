@@ -1,31 +1,30 @@
 //! Reads of the tables, in the desk's types. A read changes nothing, whether it succeeds or not.
-ghost use Rattle.std.specs.Prelude.{◌≡◌, ◌<◌, ◌≤◌, ◌^◌, IfOk};
+ghost use Rattle.std.specs.Prelude.{◌≡◌, ◌<◌, ◌≤◌, ◌^◌, IfOk, IfSome};
 ghost use Rattle.ledger.specs.Ledger.{history};
 ghost use Rattle.saga_core.specs.Views.{ShowsCells};
 ghost use Rattle.sql_reads.specs.Reads.{AnyDesk, Read, ReadEach, ReadIn};
 ghost use Rattle.sql_reads.specs.Reading.{AreMarksAt, AreTakenIn, HasNone, HasStand, HasTries, IsFirstAbove, IsPlanOf, IsRecordAt, IsRecordOf, IsStandAt};
 ghost use Rattle.desk_sql.specs.declared.versions.Version.TheVariants.{Two};
 ghost use Rattle.plan.specs.PlanModel.{step_count};
-ghost use Rattle.desk_sql.specs.Readable.{Any};
-ghost use Rattle.desk_sql.specs.FoundRows.{FindsNextItem};
-ghost use Rattle.desk_sql.specs.Statements.{QueriesIn};
-ghost use Rattle.sql_reads.specs.ItemSearch.{AreSoughtAt, IsLow, IsNextRow};
+ghost use Rattle.sql_reads.specs.FoundJourney.{IsRowAt};
+ghost use Rattle.sql_reads.specs.ItemSearch.{AreSoughtAt, IsNextRow};
 
 use crate::item_search::Sought;
+use crate::next_item;
+use crate::nights_read::read_places;
 use crate::plan_rows::plan_told;
-use crate::telling::{brief_of, marks_told, nights_told, record_of, stand_of};
+use crate::telling::{brief_of, marks_told, stand_of};
 use crate::traces::read_items;
-use crate::{next_item, next_old_item};
-use allotment::{Held, Night, Want};
+use allotment::{Cell, Held, Night, Want};
 use commands::{Agent, Cursor, Fault, Item};
 use desk_sql::{
-    ItemFound, NightRange, Version, find_journey, find_marks, find_nights, find_steps,
-    first_unfinished, read_meta,
+    ItemFound, JourneyFound, Version, find_journey, find_marks, find_steps, first_unfinished,
+    read_meta,
 };
 use plan::{Marks, Plan};
 use saga_core::{Brief, Record};
 use sql_model::fault_of;
-use sqlite::{Alter, Connection, Error};
+use sqlite::{Alter, Connection};
 use std::alloc::Global;
 
 /// The largest number that a query of a store may have.
@@ -64,43 +63,38 @@ pub(crate) fn check_absent<S: Alter>(conn: &mut Connection<S>, id: u64) -> Resul
     }
 }
 
-/// Finds where the items of the journey of that number are in the store.
-pub(crate) fn find_sought<S: Alter>(conn: &mut Connection<S>, id: u64) -> Result<Sought, Fault>
-    ensures low { IfOk result IsLow }
-    ensures read { ReadEach S.Store conn.old conn.new result AnyDesk (AreSoughtAt id) }
+/// Finds the row of the journey of that number, if there is one.
+pub(crate) fn find_row<S: Alter>(
+    conn: &mut Connection<S>,
+    id: u64,
+) -> Result<Option<JourneyFound>, Fault>
+    ensures low { IfOk result (λ found. IfSome found (λ _. id < 2 ^ 63)) }
+    ensures read { (v : Version) → ReadIn S.Store conn.old conn.new v result AnyDesk
+        (IsRowAt v id) }
 {
     if id > LARGEST {
         check_absent(conn, id)?;
-        return Ok(Sought::nowhere());
+        return Ok(None);
     }
     match find_journey(conn, id) {
-        Ok(Some(found)) if found.num <= LARGEST => Ok(Sought {
-            journey: id,
-            after: found.num,
-            steps: found.steps,
-        }),
-        Ok(Some(_)) => Err(Fault::Store),
-        Ok(None) => Ok(Sought::nowhere()),
+        Ok(found) => Ok(found),
         Err(error) => Err(fault_of(&error)),
     }
 }
 
-/// Reads the first item of a journey whose event has a number above `after`, in tables of this version.
-fn next_in<S: Alter>(
-    conn: &mut Connection<S>,
-    version: Version,
-    journey: u64,
-    after: u64,
-) -> Result<Option<ItemFound>, Error>
-    requires journey { journey < 2 ^ 63 }
-    requires after { after < 2 ^ 63 }
-
-    ensures queries { QueriesIn S.Store conn.old conn.new version result
-        (FindsNextItem journey after) Any }
+/// Finds where the items of the journey of that number are in the store.
+pub(crate) fn find_sought<S: Alter>(conn: &mut Connection<S>, id: u64) -> Result<Sought, Fault>
+    ensures { ReadEach S.Store conn.old conn.new result AnyDesk (AreSoughtAt id) }
 {
-    match version {
-        Version::One => next_old_item(conn, journey, after),
-        Version::Two => next_item(conn, journey, after),
+    let row = find_row(conn, id)?;
+    match row {
+        Some(found) if found.num <= LARGEST => Ok(Sought {
+            journey: id,
+            after: found.num,
+            steps: found.steps,
+        }),
+        Some(_) => Err(Fault::Store),
+        None => Ok(Sought::nowhere()),
     }
 }
 
@@ -110,13 +104,9 @@ pub(crate) fn find_next<S: Alter>(
     version: Version,
     sought: &Sought,
 ) -> Result<Option<ItemFound>, Fault>
-    ensures { ReadIn S.Store conn.old conn.new version result (λ _. IsLow sought.now)
-        (IsNextRow sought.now) }
+    ensures { ReadIn S.Store conn.old conn.new version result AnyDesk (IsNextRow sought.now) }
 {
-    if sought.journey > LARGEST || sought.after > LARGEST {
-        return Err(Fault::Store);
-    }
-    match next_in(conn, version, sought.journey, sought.after) {
+    match next_item(conn, version, sought.journey, sought.after) {
         Ok(found) => Ok(found),
         Err(error) => Err(fault_of(&error)),
     }
@@ -204,17 +194,13 @@ pub struct Stand {
 pub fn read_stand<S: Alter>(conn: &mut Connection<S>, id: u64) -> Result<Option<Stand>, Fault>
     ensures { Read S.Store conn.old conn.new result (IsStandAt id) }
 {
-    if id > LARGEST {
-        check_absent(conn, id)?;
-        return Ok(None);
-    }
-    match find_journey(conn, id) {
-        Ok(None) => Ok(None),
-        Ok(Some(found)) => match stand_of(&found) {
+    let row = find_row(conn, id)?;
+    match row {
+        None => Ok(None),
+        Some(found) => match stand_of(&found) {
             Some(stand) => Ok(Some(stand)),
             None => Err(Fault::Store),
         },
-        Err(error) => Err(fault_of(&error)),
     }
 }
 
@@ -254,21 +240,22 @@ pub fn read_journey<S: Alter>(
 ) -> Result<Option<Record>, Fault>
     ensures { ReadIn S.Store conn.old conn.new version result AnyDesk (IsRecordAt id) }
 {
-    if id > LARGEST {
-        check_absent(conn, id)?;
-        return Ok(None);
-    }
-    match find_journey(conn, id) {
-        Ok(None) => Ok(None),
-        Ok(Some(found)) => {
+    let row = find_row(conn, id)?;
+    match row {
+        None => Ok(None),
+        Some(found) => {
+            let Some(stand) = stand_of(&found) else {
+                return Err(Fault::Store);
+            };
             let plan = read_plan(alloc, conn, id, found.tries)?;
             let marks = read_taken(alloc, conn, version, id)?;
-            match record_of(&found, plan, marks) {
-                Some(record) => Ok(Some(record)),
-                None => Err(Fault::Store),
-            }
+            Ok(Some(Record {
+                agent: stand.agent,
+                plan,
+                cursor: stand.cursor,
+                marks,
+            }))
         }
-        Err(error) => Err(fault_of(&error)),
     }
 }
 
@@ -280,18 +267,6 @@ pub fn read_cells<S: Alter>(
 ) -> Result<Vec<(Night, Held)>, Fault>
     ensures { Read S.Store conn.old conn.new result (λ s cells. ShowsCells want.now s cells.items) }
 {
-    let supplier = want.supplier();
-    let product = want.product();
-    let first = u64::from(want.first().day());
-    let range = NightRange {
-        kind: u64::from(want.kind().number()),
-        supplier: supplier.as_str(),
-        product: product.as_str(),
-        first,
-        last: first + u64::from(want.nights()) - 1,
-    };
-    match find_nights(alloc, conn, range) {
-        Ok(found) => nights_told(alloc, found.as_slice()),
-        Err(error) => Err(fault_of(&error)),
-    }
+    let first = Cell::new(want.kind(), want.supplier(), want.product(), want.first());
+    read_places(alloc, conn, &first, u32::from(want.nights()))
 }

@@ -10,14 +10,14 @@ ghost use Rattle.desk_sql.specs.FoundRows.{item_of};
 ghost use Rattle.desk_sql.specs.Stock.{stock_of};
 ghost use Rattle.sql_model.specs.Reading.{cursor_in, phase_in, cause_in, item_in, night_seen, stock_row_of};
 ghost use Rattle.sql_reads.specs.GoodRows.{IsGoodNight, IsGoodStock, IsMemory};
-ghost use Rattle.sql_reads.specs.Reading.{row_of, TellsCursor, TellsBrief, TellsStand, TellsRecord, TellItems, TellNights};
+ghost use Rattle.sql_reads.specs.Reading.{row_of, TellsBrief, TellsStand, TellItems, TellNights};
 
 use crate::reads::Stand;
 use allotment::{Cell, Code, Held, Kind, MOST_PLACES, Night};
 use commands::{Agent, Cause, Cursor, Fault, Item, Phase};
 use desk_sql::{CellFound, Cursor as CursorFound, ItemFound, JourneyFound, NightFound};
-use plan::{LAST_MARK, Marks, Plan};
-use saga_core::{Brief, Record};
+use plan::{LAST_MARK, Marks};
+use saga_core::Brief;
 use std::alloc::Global;
 
 /// The phase with this number and target.
@@ -35,8 +35,7 @@ fn phase_of(number: u64, target: u64) -> Option<Phase>
 
 /// The cursor of a row.
 fn cursor_of(found: &CursorFound) -> Option<Cursor>
-    ensures told { IfSome result (TellsCursor found.now) }
-    ensures exact { result ≡ cursor_in (row_of found.now) }
+    ensures { result ≡ cursor_in (row_of found.now) }
 {
     let phase = phase_of(found.phase, found.target)?;
     Some(Cursor {
@@ -74,22 +73,6 @@ pub(crate) fn stand_of(found: &JourneyFound) -> Option<Stand>
         steps: found.steps as usize,
         tries: found.tries,
         cursor,
-    })
-}
-
-/// The record of a journey with this plan and these save-points.
-pub(crate) fn record_of(found: &JourneyFound, plan: Plan, marks: Marks) -> Option<Record>
-    ensures told { IfSome result (TellsRecord found.now plan marks) }
-    ensures there { IsTrue (is_agent (string_bytes found.now.agent))
-        → IsSome (cursor_in (row_of found.now.cursor)) → IsSome result }
-{
-    let agent = Agent::parse(found.agent.as_str())?;
-    let cursor = cursor_of(&found.cursor)?;
-    Some(Record {
-        agent,
-        plan,
-        cursor,
-        marks,
     })
 }
 

@@ -5,10 +5,10 @@ ghost use Rattle.ledger.specs.Ledger.{history};
 ghost use Rattle.sql_reads.specs.ItemSearch.{HasNoItemTo, IsBriefAt};
 ghost use Rattle.sql_reads.specs.Reads.{Read, ReadIn};
 
-use crate::reads::{LARGEST, check_absent};
+use crate::reads::{LARGEST, find_row};
 use crate::telling::{brief_of, items_told};
 use commands::{Fault, Item};
-use desk_sql::{find_items, find_journey};
+use desk_sql::find_items;
 use saga_core::Brief;
 use sql_model::fault_of;
 use sqlite::{Alter, Connection};
@@ -42,17 +42,13 @@ pub fn find_brief<S: Alter>(
     ensures early { IfOk result (λ found. IfSome found (λ f. f.1 < 2 ^ 63)) }
     ensures read { Read S.Store conn.old conn.new result (IsBriefAt id) }
 {
-    if id > LARGEST {
-        check_absent(conn, id)?;
-        return Ok(None);
-    }
-    match find_journey(conn, id) {
-        Ok(None) => Ok(None),
-        Ok(Some(found)) if found.num <= LARGEST => match brief_of(&found) {
+    let row = find_row(conn, id)?;
+    match row {
+        None => Ok(None),
+        Some(found) if found.num <= LARGEST => match brief_of(&found) {
             Some(brief) => Ok(Some((brief, found.num))),
             None => Err(Fault::Store),
         },
-        Ok(Some(_)) => Err(Fault::Store),
-        Err(error) => Err(fault_of(&error)),
+        Some(_) => Err(Fault::Store),
     }
 }

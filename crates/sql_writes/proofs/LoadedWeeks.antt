@@ -79,10 +79,7 @@ record IsOn (s c : StockRow) : Type 0 where
 on_night : (n : ℕ) (s c : StockRow) → Has (nights_from s n) c → IsOn s c
 on_night zero s c none = absurd none
 on_night (suc n) s c (inl is) = rw is (record { kind = refl; supplier = refl; product = refl; night = omega arith; allot = refl; free = refl })
-on_night (suc n) s c (inr later) =
-    let it = on_night n (next_night s) c later in
-    let night = it.night in
-    record { kind = it.kind; supplier = it.supplier; product = it.product; night = omega (arith, night); allot = it.allot; free = it.free }
+on_night (suc n) s c (inr later) = search (rules, arith, on_night n (next_night s) c later)
 
 -- the rows of one cell are of one night
 same_night : (a b : StockRow) → is_cell a b ≡ true → b.night ≡ a.night
@@ -144,9 +141,7 @@ record IsNext (cells : List StockRow) (row : Row) : Type 0 where
 next_is : (cells : List StockRow) (rows : List Row) (row : Row) → Has (next_rows rows cells) row → IsNext cells row
 next_is [] rows row none = absurd none
 next_is (s ∷ cells) rows row (inl is) = record { id = next_rowid rows; cell = s; among = inl refl; is = is }
-next_is (s ∷ cells) rows row (inr later) =
-    let it = next_is cells (put_row (next_row rows s) rows) row later in
-    record { id = it.id; cell = it.cell; among = inr it.among; is = it.is }
+next_is (s ∷ cells) rows row (inr later) = search (rules, arith, next_is cells (put_row (next_row rows s) rows) row later)
 
 -- each obeys the rules on a row alone
 next_fit : (db : Trees) (cells : List StockRow) (rows : List Row) (row : Row) → length cells < 2 ^ 63 → AreLow (length cells) rows
@@ -191,25 +186,13 @@ abbrev week_edit : Trees → StockRow → Edit
 week_edit db s = source_edit (stock_at 1) insert_week_terms 7 (week_params s) db
 
 -- a night after the others
-one_more : (n : ℕ) → n + 1 + 1 ≡ n + 2
-one_more n = omega arith
-
-two_more : (n : ℕ) → n + 2 + 1 ≡ n + 3
-two_more n = omega arith
-
-three_more : (n : ℕ) → n + 3 + 1 ≡ n + 4
-three_more n = omega arith
-
-four_more : (n : ℕ) → n + 4 + 1 ≡ n + 5
-four_more n = omega arith
-
-five_more : (n : ℕ) → n + 5 + 1 ≡ n + 6
-five_more n = omega arith
+more_nights : (n k : ℕ) → n + k + 1 ≡ n + suc k
+more_nights n k = omega arith
 
 -- the values of the terms are the columns of its nights
 week_values : (s : StockRow) → map (λ r. cast_row (stock_at 1) (drop 0 r)) (value_rows (week_params s) 7 (length insert_week_terms / 7) insert_week_terms)
     ≡ map unnumbered (week_from s)
-week_values s = simp (cast_int, cast_null, one_more, two_more, three_more, four_more, five_more)
+week_values s = simp (cast_int, cast_null, more_nights)
 
 week_news : (db : Trees) (s : StockRow) → (week_edit db s).news ≡ next_rows (db 1) (week_from s)
 week_news db s = ap (numbered Chosen (db 1)) (week_values s) ∙ numbered_next (db 1) (week_from s)

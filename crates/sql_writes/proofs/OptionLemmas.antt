@@ -1,16 +1,19 @@
 -- The options of a new plan: each row is one more, of a step or an option that has none yet. For the functions of `begins`.
-use Rattle.std.proofs.Common.{◌≡◌, List, ◌++◌, ap, append_assoc, ◌≤◌, ◌<◌, ◌+◌, ◌&&◌, ℕ, suc, [], ◌∷◌, map, length, take, Bool, false, inl, inr, refl, ◌∙◌, arith, length-append, Some, flat_map, length-take, rules}
+use Rattle.std.proofs.Common.{◌≡◌, List, ◌++◌, zero, ap, append_assoc, option_and_then, ◌≤◌, ◌<◌, ◌+◌, ◌&&◌, ℕ, suc, [], ◌∷◌, map, length, take, Bool, false, refl, ◌∙◌, arith, length-append, Some, flat_map, length-take, rules}
 use Rattle.desk_sql.specs.Rows.{Tables, StepRow}
 use Rattle.sql_model.specs.Beginning.{adds_steps, first_steps, first_rows_of_step, rows_of_step, rows_of_option}
 use Rattle.sqlite_rules.specs.Lists.{Has}
 use Rattle.sqlite_rules.proofs.ListLemmas.{all_has, all_from, has_either}
 use Rattle.sqlite_rules.proofs.ProbeLemmas.{has_mapped}
 use Rattle.allotment.specs.Want.{Wanted}
-use Rattle.plan.specs.PlanModel.{Planned, StepPlan, option_count, step_count, want_at}
-use Rattle.sql_model.specs.ExpectedRows.{counted_from, option_row, option_rows, step_rows_of, none_taken}
+use Rattle.plan.specs.PlanModel.{Planned, StepPlan, numbered, option_count, step_count, want_at}
+use Rattle.sql_model.specs.ExpectedRows.{counted_from, option_rows, step_rows_of, none_taken}
+use Rattle.sql_model.proofs.Numbering.{counted_stands}
+use Rattle.sql_model.proofs.Taken.{row_told}
 use Rattle.sql_model.proofs.PlanParts.{first_rows_of_step-more, step_rows_of-more}
 use Rattle.sql_writes.specs.Permits.{MayAddOption, MayAddOptions, MayAddSteps}
 use Rattle.std.proofs.lemmas.Bool.{and_left, and_right}
+use Rattle.std.proofs.lemmas.Option.{slice_get_within}
 
 -- The rows of a plan are written in order.
 
@@ -65,16 +68,13 @@ one_row id plan i c w is = rw is refl
 -- Their places.
 
 counted_low : {X : Type 0} (first : ℕ) (xs : List X) (p : ℕ × X) → Has (counted_from first xs) p → p.0 < first + length xs
-counted_low first [] p has = absurd has
-counted_low first (x ∷ xs) p (inl is) = let at : p.0 ≡ first = ap (λ (q : ℕ × _). q.0) is in omega (arith, at)
-counted_low first (x ∷ xs) p (inr later) = let low = counted_low (suc first) xs p later in omega (arith, low)
+counted_low first xs p has = let at = counted_stands first xs p has in omega (arith, at.number, slice_get_within xs at.place p.1 at.there)
 
-has_flat : {X Y : Type 0} (f : X → List Y) (xs : List X) (y : Y) → Has (flat_map f xs) y → (x : X) × Has xs x × Has (f x) y
-has_flat f [] y has = absurd has
-has_flat f (x ∷ xs) y has = elim (has_either (f x) (flat_map f xs) y has) [
-  | inl here ↦ (x, inl refl, here)
-  | inr there ↦ (let it = has_flat f xs y there in (it.0, inr it.1, it.2))
-]
+-- a step that has an option is one of the plan
+step_within : (steps : List StepPlan) (i c : ℕ) (w : Wanted) → option_and_then (λ (s : StepPlan). numbered s.options c) (numbered steps i) ≡ Some w
+    → i ≤ length steps
+step_within steps zero c w e = omega arith
+step_within steps (suc i) c w e = search (rules, arith, slice_get_within)
 
 -- each of the first options has a number up to theirs
 opt_low : (id : ℕ) (plan : Planned) (i n : ℕ) (x : StepRow) → Has (first_rows_of_step id plan i n) x → x.opt ≤ n
@@ -83,11 +83,8 @@ opt_low id plan i n x has = search (rules, arith, has_mapped, counted_low, lengt
 -- each row of the first steps has a place up to theirs
 place_low : (id : ℕ) (plan : Planned) (n : ℕ) (x : StepRow) → Has (step_rows_of id (first_steps n plan)) x → x.place ≤ n
 place_low id plan n x has =
-    let it = has_flat (λ (s : ℕ × StepPlan). option_rows none_taken id s.0 s.1) (counted_from 1 (take n plan.steps)) x has in
-    let row = λ (w : ℕ × Wanted). option_row id it.0.0 it.0.1.is_marked w.0 false w.1 in
-    let one = has_mapped row (counted_from 1 it.0.1.options) x it.2 in
-    let at : x.place ≡ it.0.0 = ap (λ (r : StepRow). r.place) one.2 in
-    omega (arith, counted_low 1 (take n plan.steps) it.0 it.1, at, length-take n plan.steps)
+    let told = row_told none_taken id (first_steps n plan) x has in
+    omega (arith, step_within (take n plan.steps) x.place x.opt told.want told.wanted, length-take n plan.steps)
 
 first_two : (a b c : Bool) → (a && b) ≡ false → (a && (b && c)) ≡ false
 first_two a b c e = search (rules, arith)

@@ -41,7 +41,7 @@ all_some P p = all_weaker P (λ x. p x ≡ true → P x) (λ x it _. it)
 kind_low : (num : ℕ) (item : Item) → (item_written num item).item ≤ 3
 kind_low num item = search (rules, arith)
 
-kind_num : (num : ℕ) (item : Item) → (item_written num item).num ≡ num
+pub kind_num : (num : ℕ) (item : Item) → (item_written num item).num ≡ num
 kind_num num item = search (rules, arith)
 
 pub may_add : (n : Numbers) (journey : ℕ) (item : Item) (t : Tables) → MayAdd n journey t → MayAddItem journey (item_written n.num item) t

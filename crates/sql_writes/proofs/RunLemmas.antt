@@ -1,5 +1,5 @@
 -- Cells of a run, and their rows once they got their places. For the functions of `runs`.
-use Rattle.std.proofs.Common.{◌≡◌, ℕ, zero, suc, ◌+◌, ◌-◌, ◌<◌, List, [], ◌∷◌, ◌++◌, length, take, get_or, refl, sym, ap, subst, ◌∙◌, arith, map, slice_get, Option, Some, None, ap₂, length-append, length-take-le, append_assoc, take_all, rules}
+use Rattle.std.proofs.Common.{◌≡◌, ℕ, zero, suc, ◌+◌, ◌-◌, ◌<◌, List, [], ◌∷◌, ◌++◌, length, take, get_or, refl, sym, ap, subst, ◌∙◌, arith, map, slice_get, Some, ap₂, length-append, length-take-le, append_assoc, take_all, rules}
 use Rattle.std.specs.List.{AllByRecursion}
 use Rattle.allotment.specs.Cells.{kind_number}
 use Rattle.allotment.specs.declared.cells.Cell.{Cell}
@@ -139,6 +139,30 @@ short_run (c ∷ cells) first is run short =
     let same : c ≡ first = cc in
     short_from (length (c ∷ cells)) (stock_row_of c) (c ∷ cells) (subst HasShortTexts (sym same) short) run
 
+-- a run from its first cell to this night
+record IsRunTo (run : List (Cell × Held)) (first : Cell × Held) (night : ℕ) : Type 0 where
+  pub n : ℕ
+  pub size : length run ≡ suc n
+  pub rows : map stock_row_of run ≡ nights_from (stock_row_of first) (suc n)
+  pub at : night ≡ (stock_row_of first).night + n
+
+run_to : (run : List (Cell × Held)) (first last : Cell × Held) → slice_get run 0 ≡ Some first → slice_get run (length run - 1) ≡ Some last → IsRun run
+    → (night : ℕ) → night ≡ last.0.night → IsRunTo run first night
+run_to [] first last is_first is_last is_run night is_night = absurd (cc)
+run_to (c ∷ cells) first last is_first is_last is_run night is_night =
+    let one : Some c ≡ Some first = is_first in
+    let same : c ≡ first = cc in
+    let both : stock_row_of c ∷ map stock_row_of cells ≡ stock_row_of c ∷ nights_from (next_night (stock_row_of c)) (length cells) = is_run in
+    let rest : map stock_row_of cells ≡ nights_from (next_night (stock_row_of c)) (length cells) = cc in
+    let before : length (c ∷ cells) - 1 ≡ length cells = omega arith in
+    let far = last_night cells (stock_row_of c) last rest c refl (subst (λ n. slice_get (c ∷ cells) n ≡ Some last) before is_last) in
+    record {
+      n = length cells;
+      size = refl;
+      rows = is_run ∙ ap (λ (x : Cell × Held). nights_from (stock_row_of x) (suc (length cells))) same;
+      at = is_night ∙ far ∙ ap (λ (x : Cell × Held). (stock_row_of x).night + length cells) same;
+    }
+
 -- A run whose cells were given the places in the rows that there are.
 module _ (run : List (Cell × Held)) (first last : Cell × Held) (is_first : slice_get run 0 ≡ Some first)
     (is_last : slice_get run (length run - 1) ≡ Some last) (is_run : IsRun run) (night : ℕ) (is_night : night ≡ last.0.night)
@@ -146,42 +170,11 @@ module _ (run : List (Cell × Held)) (first last : Cell × Held) (is_first : sli
   abbrev pub given : Tables
   given = sets_until (stock_row_of first) night t
 
-  record Shape : Type 0 where
-    pub n : ℕ
-    pub size : length run ≡ suc n
-    pub rows : map stock_row_of run ≡ nights_from (stock_row_of first) (suc n)
-    pub at : night ≡ (stock_row_of first).night + n
-
-  shape : Shape
-  shape = go run refl
-    where
-      go : (cells : List (Cell × Held)) → run ≡ cells → Shape
-      go [] is = absurd (let none : ◌≡◌ {A = Option (Cell × Held)} None (Some first) = subst (λ xs. slice_get xs 0 ≡ Some first) is is_first in cc)
-      go (c ∷ cells) is =
-          let one : Some c ≡ Some first = subst (λ xs. slice_get xs 0 ≡ Some first) is is_first in
-          let same : c ≡ first = cc in
-          let all : map stock_row_of (c ∷ cells) ≡ nights_from (stock_row_of c) (suc (length cells)) = subst IsRun is is_run in
-          let both : stock_row_of c ∷ map stock_row_of cells ≡ stock_row_of c ∷ nights_from (next_night (stock_row_of c)) (length cells) = all in
-          let rest : map stock_row_of cells ≡ nights_from (next_night (stock_row_of c)) (length cells) = cc in
-          let before : length (c ∷ cells) - 1 ≡ length cells = omega arith in
-          let end : slice_get (c ∷ cells) (length cells) ≡ Some last =
-          subst (λ n. slice_get (c ∷ cells) n ≡ Some last) before (subst (λ xs. slice_get xs (length xs - 1) ≡ Some last) is is_last) in
-          let far : last.0.night ≡ (stock_row_of c).night + length cells = last_night cells (stock_row_of c) last rest c refl end in
-          record {
-            n = length cells;
-            size = ap length is;
-            rows = ap (map stock_row_of) is ∙ all ∙ ap (λ (x : Cell × Held). nights_from (stock_row_of x) (suc (length cells))) same;
-            at = is_night ∙ far ∙ ap (λ (x : Cell × Held). (stock_row_of x).night + length cells) same;
-          }
+  shape : IsRunTo run first night
+  shape = run_to run first last is_first is_last is_run night is_night
 
   abbrev s : StockRow
   s = stock_row_of first
-
-  at_last : (P : ℕ → Type 0) → P (s.night + shape.n) → P night
-  at_last P it = subst P (sym shape.at) it
-
-  back_last : (P : ℕ → Type 0) → P night → P (s.night + shape.n)
-  back_last P it = subst P shape.at it
 
   each : (cells : List StockRow) → put_each run cells ≡ put_rows (nights_from s (suc shape.n)) cells
   each cells = put_each_rows run cells ∙ ap (λ rows. put_rows rows cells) shape.rows
@@ -189,23 +182,20 @@ module _ (run : List (Cell × Held)) (first last : Cell × Held) (is_first : sli
   -- each cell has a row: all have their places
   pub all_known : known_until s night t ≡ length run → given ≡ puts_each run t
   all_known full =
-      at_last (λ x. sets_until s x t ≡ puts_each run t)
-      (ap (λ rows. record t { stock = rows })
-      (run_known s shape.n t.stock (cells_apart t apart) (back_last (λ x. known_until s x t ≡ length run) full ∙ shape.size)
-      ∙ sym (each t.stock)))
+      rw shape.at (ap (λ rows. record t { stock = rows })
+      (run_known s shape.n t.stock (cells_apart t apart) ((rw shape.at at full) ∙ shape.size) ∙ sym (each t.stock)))
 
   -- none has a row: each is new
   pub none_known : known_until s night t ≡ 0 → AreNew (map stock_row_of run) given.stock
   none_known none =
       subst (λ rows. AreNew rows given.stock) (sym shape.rows)
-      (at_last (λ x. AreNew (nights_from s (suc shape.n)) (sets_until s x t).stock)
-      (run_new s shape.n t.stock (cells_apart t apart) (back_last (λ x. known_until s x t ≡ 0) none)))
+      (subst (λ x. AreNew (nights_from s (suc shape.n)) (sets_until s x t).stock) (sym shape.at)
+      (run_new s shape.n t.stock (cells_apart t apart) (rw shape.at at none)))
 
   -- cells that are put now have the places that they would have without
   pub put_given : puts_each run given ≡ puts_each run t
   put_given =
-      at_last (λ x. puts_each run (sets_until s x t) ≡ puts_each run t)
-      (ap (λ rows. record t { stock = rows })
+      rw shape.at (ap (λ rows. record t { stock = rows })
       (each (sets_until s (s.night + shape.n) t).stock ∙ run_some s shape.n t.stock (cells_apart t apart) ∙ sym (each t.stock)))
 
   -- and so have cells that are added

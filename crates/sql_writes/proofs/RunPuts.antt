@@ -2,6 +2,7 @@
 use Rattle.std.proofs.Common.{◌≡◌, ◌+◌, inl, inr, ℕ, suc, List, [], ◌∷◌, ◌++◌, filter, length, Bool, true, false, if◌then◌else◌, refl, sym, ap, ap₂, subst, ◌∙◌, ◌||◌, append-nil, append_assoc, map-id, arith, rules}
 use Rattle.std.specs.List.{AllByRecursion, list_any}
 use Rattle.std.proofs.lemmas.Bool.{cases_Bool, false_from_ne_true}
+use Rattle.std.proofs.lemmas.List.Folds.{list_any-append}
 use Rattle.sqlite_rules.specs.Lists.{Has}
 use Rattle.sqlite_rules.proofs.ListLemmas.{some_from}
 use Rattle.desk_sql.specs.Lists.{changed}
@@ -14,6 +15,12 @@ use Rattle.desk_sql.proofs.Putting.{both_cells}
 use Rattle.sqlite_trees.proofs.ListLemmas.{all_both, all_weaker}
 
 -- Puts.
+
+-- a change of places keeps what does not depend on them
+kept : (w : StockRow) (p : StockRow → Bool) → ((x : StockRow) → p (with_places w x) ≡ p x) → (x : StockRow) (b : Bool)
+    → p (if b then with_places w x else x) ≡ p x
+kept w p same x true = same x
+kept w p same x false = refl
 
 -- Rows with the places of one row.
 module _ (w : StockRow) where
@@ -31,11 +38,7 @@ module _ (w : StockRow) where
   known_still : (s : StockRow) (p : StockRow → Bool) (cells : List StockRow)
       → list_any (is_cell s) (changed p (with_places w) cells) ≡ list_any (is_cell s) cells
   known_still s p [] = refl
-  known_still s p (x ∷ cells) = ap₂ ◌||◌ (one (p x)) (known_still s p cells)
-    where
-      one : (b : Bool) → is_cell s (if b then with_places w x else x) ≡ is_cell s x
-      one true = refl
-      one false = refl
+  known_still s p (x ∷ cells) = ap₂ ◌||◌ (kept w (is_cell s) (λ _. refl) x (p x)) (known_still s p cells)
 
   abbrev now : List StockRow → List StockRow → List StockRow
   now rows cells = changed (is_of rows) (with_places w) cells
@@ -56,23 +59,15 @@ module _ (w : StockRow) where
       row x false true = refl
       row x false false = refl
 
-      cell_kept : (x : StockRow) (b : Bool) → is_cell s (if b then with_places w x else x) ≡ is_cell s x
-      cell_kept x true = refl
-      cell_kept x false = refl
-
-      of_kept : (x : StockRow) (b : Bool) → is_of rows (if b then with_places s x else x) ≡ is_of rows x
-      of_kept x true = refl
-      of_kept x false = refl
-
       there : (xs : List StockRow) → changed (is_cell s) (with_places s) (now (s ∷ rows) xs) ≡ now rows (changed (is_cell s) (with_places s) xs)
       there [] = refl
       there (x ∷ xs) =
           let given = if is_cell s x || is_of rows x then with_places w x else x in
           let put_in = if is_cell s x then with_places s x else x in
           ap₂ ◌∷◌
-          (ap (λ b. if b then with_places s given else given) (cell_kept x (is_cell s x || is_of rows x))
+          (ap (λ b. if b then with_places s given else given) (kept w (is_cell s) (λ _. refl) x (is_cell s x || is_of rows x))
           ∙ row x (is_cell s x) (is_of rows x)
-          ∙ ap (λ b. if b then with_places w put_in else put_in) (sym (of_kept x (is_cell s x))))
+          ∙ ap (λ b. if b then with_places w put_in else put_in) (sym (kept s (is_of rows) (λ _. refl) x (is_cell s x))))
           (there xs)
 
       new : (xs : List StockRow) → list_any (is_cell s) xs ≡ false → now (s ∷ rows) xs ++ s ∷ [] ≡ now rows (xs ++ s ∷ [])
@@ -112,16 +107,12 @@ module _ (w : StockRow) where
       row x true false among = absurd (let bad : false ≡ true = among refl in cc)
       row x false c among = refl
 
-      cell_kept : (x : StockRow) (b : Bool) → is_cell s (if b then with_places w x else x) ≡ is_cell s x
-      cell_kept x true = refl
-      cell_kept x false = refl
-
       same : (xs : List StockRow) → changed (is_cell s) (with_places s) (now all xs) ≡ now all xs
       same [] = refl
       same (x ∷ xs) =
           let given = if is_of all x then with_places w x else x in
           ap₂ ◌∷◌
-          (ap (λ b. if b then with_places s given else given) (cell_kept x (is_of all x))
+          (ap (λ b. if b then with_places s given else given) (kept w (is_cell s) (λ _. refl) x (is_of all x))
           ∙ row x (is_cell s x) (is_of all x) (λ on. of s x (inl refl) on))
           (same xs)
 
@@ -137,11 +128,7 @@ all_new (s ∷ rows) cells own none = (
 )
   where
     off_last : (q : StockRow) (xs : List StockRow) → list_any (is_cell q) xs ≡ false → is_cell q s ≡ false → list_any (is_cell q) (xs ++ s ∷ []) ≡ false
-    off_last q [] none off = rw off refl
-    off_last q (x ∷ xs) none off = elim (cases_Bool (is_cell q x)) [
-      | inl on ↦ absurd (let bad : true ≡ false = rw on at none in cc)
-      | inr away ↦ (let rest : list_any (is_cell q) xs ≡ false = rw away at none in rw away (off_last q xs rest off))
-    ]
+    off_last q xs none off = list_any-append (is_cell q) xs (s ∷ []) ∙ rw (none, off) refl
 
     still : (q : StockRow) → is_cell s q ≡ false → list_any (is_cell q) cells ≡ false → list_any (is_cell q) (cells ++ s ∷ []) ≡ false
     still q off none = off_last q cells none (false_from_ne_true (is_cell q s) (λ same.

@@ -1,89 +1,68 @@
 //! The rows of a new journey: its own, and one for each option of each step of its plan.
-ghost use Rattle.std.specs.Prelude.{◌<◌, ◌≤◌, ◌^◌, length, ⊤};
-ghost use Rattle.plan.specs.PlanModel.{step_count, option_count};
+ghost use Rattle.std.specs.Prelude.{◌<◌, ◌+◌, length, ⊤};
+ghost use Rattle.plan.specs.PlanModel.{step_count};
 ghost use Rattle.desk_sql.specs.Changes.{AreJourneysBelow};
 ghost use Rattle.sql_writes.specs.Begins.{begin_rows};
 ghost use Rattle.sql_writes.specs.Did.{Did, DidIfOpen};
-ghost use Rattle.sql_model.specs.Beginning.{adds_steps, rows_of_option, rows_of_step};
+ghost use Rattle.sql_model.specs.Beginning.{adds_steps, rows_of_step};
 ghost use Rattle.sql_model.specs.ExpectedRows.{step_rows_of};
-ghost use Rattle.sql_writes.specs.Permits.{MayAddOption, MayAddOptions, MayAddSteps, MayBegin};
+ghost use Rattle.sql_writes.specs.Permits.{MayAddOptions, MayAddSteps, MayBegin};
 
 use crate::events::{JourneyBegun, Numbers};
 use desk_sql::{StepOption, insert_journey, insert_step, update_meta};
 use plan::Plan;
 use sqlite::{Alter, Error, Transaction};
 
-/// Inserts the row of one option of a step. Steps and options are numbered from 1.
-fn write_option<S: Alter>(
-    tx: &mut Transaction<'_, S>,
-    id: u64,
-    plan: &Plan,
-    step: usize,
-    option: usize,
-) -> Result<(), Error>
-    requires id { id < 2 ^ 63 }
-    requires step_from_one { 1 ≤ step }
-    requires step_in_plan { step ≤ step_count plan.now }
-    requires option_from_one { 1 ≤ option }
-    requires option_in_step { option ≤ option_count plan.now step }
-    requires steps { step_count plan.now < 2 ^ 63 }
-    requires options { option_count plan.now step < 2 ^ 63 }
-
-    ensures did { Did S.Store tx.old.conn tx.new.conn result
-        (λ _. ⊤) (MayAddOption id step option)
-        (length (rows_of_option id plan.now step option))
-        (adds_steps (rows_of_option id plan.now step option)) }
-{
-    let want = plan.want(step, option);
-    insert_step(
-        tx,
-        StepOption {
-            journey: id,
-            place: step as u64,
-            opt: option as u64,
-            save: u64::from(plan.marked(step)),
-            kind: u64::from(want.kind().number()),
-            supplier: want.supplier().as_str(),
-            product: want.product().as_str(),
-            night: u64::from(want.first().day()),
-            nights: u64::from(want.nights()),
-            places: u64::from(want.count()),
-        },
-    )?;
-    Ok(())
-}
-
-/// Inserts the rows of the options of one step, which is numbered from 1.
+/// Inserts the rows of the options of one step of a plan, before which there are so many. Steps and options are numbered from 1.
 fn write_options<S: Alter>(
     tx: &mut Transaction<'_, S>,
-    id: u64,
+    numbers: Numbers,
     plan: &Plan,
-    step: usize,
+    before: usize,
 ) -> Result<(), Error>
-    requires id { id < 2 ^ 63 }
-    requires from_one { 1 ≤ step }
-    requires in_plan { step ≤ step_count plan.now }
+    requires { before < step_count plan.now }
 
     ensures did { DidIfOpen S.Store tx.old.conn tx.new.conn result
-        (λ _. ⊤) (MayAddOptions id step)
-        (length (rows_of_step id plan.now step)) (adds_steps (rows_of_step id plan.now step)) }
+        (λ _. ⊤) (MayAddOptions numbers.journeys (before + 1))
+        (length (rows_of_step numbers.journeys plan.now (before + 1)))
+        (adds_steps (rows_of_step numbers.journeys plan.now (before + 1))) }
 {
     let _steps = plan.steps();
+    let step = before + 1;
     for option in 0..plan.options(step) {
-        write_option(tx, id, plan, step, option + 1)?;
+        let want = plan.want(step, option + 1);
+        insert_step(
+            tx,
+            StepOption {
+                journey: numbers.journeys,
+                place: step as u64,
+                opt: (option + 1) as u64,
+                save: u64::from(plan.marked(step)),
+                kind: u64::from(want.kind().number()),
+                supplier: want.supplier().as_str(),
+                product: want.product().as_str(),
+                night: u64::from(want.first().day()),
+                nights: u64::from(want.nights()),
+                places: u64::from(want.count()),
+            },
+        )?;
     }
     Ok(())
 }
 
 /// Inserts the rows of all steps of a plan.
-fn write_steps<S: Alter>(tx: &mut Transaction<'_, S>, id: u64, plan: &Plan) -> Result<(), Error>
-    requires id { id < 2 ^ 63 }
-
-    ensures did { DidIfOpen S.Store tx.old.conn tx.new.conn result (λ _. ⊤) (MayAddSteps id)
-        (length (step_rows_of id plan.now)) (adds_steps (step_rows_of id plan.now)) }
+fn write_steps<S: Alter>(
+    tx: &mut Transaction<'_, S>,
+    numbers: Numbers,
+    plan: &Plan,
+) -> Result<(), Error>
+    ensures did { DidIfOpen S.Store tx.old.conn tx.new.conn result
+        (λ _. ⊤) (MayAddSteps numbers.journeys)
+        (length (step_rows_of numbers.journeys plan.now))
+        (adds_steps (step_rows_of numbers.journeys plan.now)) }
 {
     for step in 0..plan.steps() {
-        write_options(tx, id, plan, step + 1)?;
+        write_options(tx, numbers, plan, step)?;
     }
     Ok(())
 }
@@ -108,7 +87,7 @@ pub fn write_begin<S: Alter>(
         plan.steps() as u64,
         u64::from(plan.tries()),
     )?;
-    write_steps(tx, numbers.journeys, plan)?;
+    write_steps(tx, numbers, plan)?;
     update_meta(tx, 2, numbers.num, numbers.journeys)?;
     Ok(())
 }

@@ -135,8 +135,7 @@ fn cursor_row(cursor: Cursor) -> CursorRow
 
 /// The row of an item under the number of its event.
 fn item_row(num: u64, item: Item) -> ItemFound
-    ensures written { result ≡ item_written num item }
-    ensures num { result.num ≡ num }
+    ensures { result ≡ item_written num item }
 {
     let (kind, a, b) = match item {
         Item::Transaction { step, option } => (0, step, option),
@@ -222,26 +221,24 @@ fn range_of<'x>(want: Want, supplier: &'x Code, product: &'x Code) -> NightRange
     }
 }
 
-/// Takes the places of a want.
-pub(crate) fn take_want<S: Alter>(tx: &mut Transaction<'_, S>, want: Want) -> Result<(), Error>
+/// Takes the places of a want, and returns how many nights it has.
+fn take_want<S: Alter>(tx: &mut Transaction<'_, S>, want: Want) -> Result<usize, Error>
     ensures did { Did S.Store tx.old.conn tx.new.conn result
         (HaveFreeFor want) (MayTakeWant want) 0 (takes_want want) }
 {
     let supplier = want.supplier();
     let product = want.product();
     let range = range_of(want, &supplier, &product);
-    take_nights(tx, range, u64::from(want.count()))?;
-    Ok(())
+    take_nights(tx, range, u64::from(want.count()))
 }
 
-/// Gives back the places of a want.
-pub(crate) fn give_want<S: Alter>(tx: &mut Transaction<'_, S>, want: Want) -> Result<(), Error>
+/// Gives back the places of a want, and returns how many nights it has.
+fn give_want<S: Alter>(tx: &mut Transaction<'_, S>, want: Want) -> Result<usize, Error>
     ensures did { Did S.Store tx.old.conn tx.new.conn result
         (HaveRoomFor want) (MayGiveWant want) 0 (gives_want want) }
 {
     let supplier = want.supplier();
     let product = want.product();
     let range = range_of(want, &supplier, &product);
-    give_nights(tx, range, u64::from(want.count()))?;
-    Ok(())
+    give_nights(tx, range, u64::from(want.count()))
 }

@@ -38,8 +38,8 @@ pub(crate) fn places_of<'x>(
     }
 }
 
-/// Writes the places of one cell.
-fn put_places<S: Alter>(tx: &mut Transaction<'_, S>, cell: Cell, held: Held) -> Result<(), Error>
+/// Writes the places of one cell, and returns how many rows that takes.
+fn put_places<S: Alter>(tx: &mut Transaction<'_, S>, cell: Cell, held: Held) -> Result<usize, Error>
     ensures did { Did S.Store tx.old.conn tx.new.conn result AreApart HaveShortCells 1
         (puts_cell (stock_row_of (cell, held))) }
     ensures short { IsShort (length cell.supplier + length cell.product) }
@@ -47,8 +47,7 @@ fn put_places<S: Alter>(tx: &mut Transaction<'_, S>, cell: Cell, held: Held) -> 
     let supplier = cell.supplier();
     let product = cell.product();
     let places = places_of(cell, held, &supplier, &product);
-    put_cell(tx, places)?;
-    Ok(())
+    put_cell(tx, places)
 }
 
 /// Writes the places of cells, one after another.

@@ -5,7 +5,7 @@
 //! each cell by itself.
 //!
 //! Words: a *run* is consecutive nights of one product that get the same places.
-ghost use Rattle.std.specs.Prelude.{◌≡◌, ◌<◌, ◌≤◌, ◌-◌, length, map, take, slice_get, Some, true, ⊤};
+ghost use Rattle.std.specs.Prelude.{◌≡◌, ◌<◌, ◌≤◌, length, map, take, true, ⊤};
 ghost use Rattle.std.specs.List.{AllByRecursion};
 ghost use Rattle.sql_writes.specs.CellLoads.{CountsRows, LacksCell, adds_cell};
 ghost use Rattle.sql_writes.specs.Weeks.{adds_cells, week_from};
@@ -81,16 +81,15 @@ fn set_places<S: Alter>(
     set_nights(tx, range, u64::from(held.allot), u64::from(held.free))
 }
 
-/// Adds the row of a cell that has none.
-fn add_places<S: Alter>(tx: &mut Transaction<'_, S>, cell: Cell, held: Held) -> Result<(), Error>
+/// Adds the row of a cell that has none, and returns how many rows that takes.
+fn add_places<S: Alter>(tx: &mut Transaction<'_, S>, cell: Cell, held: Held) -> Result<usize, Error>
     ensures did { Did S.Store tx.old.conn tx.new.conn result
         (λ _. ⊤) (LacksCell (stock_row_of (cell, held))) 1 (adds_cell (stock_row_of (cell, held))) }
 {
     let supplier = cell.supplier();
     let product = cell.product();
     let places = places_of(cell, held, &supplier, &product);
-    insert_cell(tx, places)?;
-    Ok(())
+    insert_cell(tx, places)
 }
 
 /// Adds the rows of cells that have none, in order.
@@ -152,22 +151,21 @@ fn add_run<S: Alter>(tx: &mut Transaction<'_, S>, run: &[(Cell, Held)]) -> Resul
     Ok(())
 }
 
-/// Writes the places of the cells of a run, from its first to its last.
+/// Writes the places of the cells of a run.
 #[tactic(auto, using(crate::proofs::RunLemmas::short_run))]
-fn put_between<S: Alter>(
-    tx: &mut Transaction<'_, S>,
-    run: &[(Cell, Held)],
-    first: &(Cell, Held),
-    last: &(Cell, Held),
-) -> Result<(), Error>
+fn put_run<S: Alter>(tx: &mut Transaction<'_, S>, run: &[(Cell, Held)]) -> Result<(), Error>
     requires run { IsRun run.now }
-    requires first { slice_get run.now 0 ≡ Some first.now }
-    requires last { slice_get run.now (length run.now - 1) ≡ Some last.now }
 
-    ensures did { Did S.Store tx.old.conn tx.new.conn result MayLoad MayPutAll
+    ensures did { DidIfOpen S.Store tx.old.conn tx.new.conn result MayLoad MayPutAll
         (length run.now) (puts_each run.now) }
     ensures short { AllByRecursion HasShortTexts run.now }
 {
+    let Some(first) = run.first() else {
+        return Ok(());
+    };
+    let Some(last) = run.last() else {
+        return Ok(());
+    };
     let known = set_places(tx, first, last.0.night())?;
     let are_known = known == run.len();
     let are_new = known == 0;
@@ -177,20 +175,6 @@ fn put_between<S: Alter>(
         add_run(tx, run)
     } else {
         put_all(tx, run)
-    }
-}
-
-/// Writes the places of the cells of a run.
-fn put_run<S: Alter>(tx: &mut Transaction<'_, S>, run: &[(Cell, Held)]) -> Result<(), Error>
-    requires run { IsRun run.now }
-
-    ensures did { DidIfOpen S.Store tx.old.conn tx.new.conn result MayLoad MayPutAll
-        (length run.now) (puts_each run.now) }
-    ensures short { AllByRecursion HasShortTexts run.now }
-{
-    match (run.first(), run.last()) {
-        (Some(first), Some(last)) => put_between(tx, run, first, last),
-        _ => Ok(()),
     }
 }
 

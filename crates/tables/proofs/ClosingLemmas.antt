@@ -1,5 +1,5 @@
 -- The state that a connection represents when it is let go: its limit of steps does not count. For both `into_store`.
-use Rattle.std.proofs.Common.{inl, refl, None}
+use Rattle.std.proofs.Common.{inl, rules, arith, None}
 use Rattle.sqlite.specs.Store.{Ghosts}
 use Rattle.sqlite.specs.Held.{Held, state}
 use Rattle.desk_sql.specs.declared.versions.Version.{Version}
@@ -16,14 +16,7 @@ module _ {S : Type 0} (g : Ghosts S) (h : Held S) where
   unlimited = record h { step_limit = None }
 
   still_seen : (v : Version) (s : State) → SeesOf v (state g h) s → SeesOf v (state g unlimited) s
-  still_seen v s saw = record {
-    schema = saw.schema;
-    sound = saw.sound;
-    committed = saw.committed;
-    tables = saw.tables;
-    shown = saw.shown;
-    stands = saw.stands;
-  }
+  still_seen v s saw = search (rules, arith)
 
   -- the state that is kept is found
   kept_found : (v : Version) (s : State) → IsKeptIn v (state g h) s → IsFound v (state g unlimited) s
@@ -34,19 +27,7 @@ module _ {S : Type 0} (g : Ghosts S) (h : Held S) where
 
 -- so it is with the connection of a book, and with that of what was opened
 pub lets_go : {S : Type 0} (g : Ghosts S) (b : TableBook S g) → LetsGo g b (unlimited g b.conn)
-lets_go g b = record {
-  found = λ s stands clean. kept_found g b.conn Two s (stands.keeps clean);
-  left = λ s t leaves. leaves;
-  idle = record { outside = b.outside; unlimited = refl };
-  sound = λ clean. clean;
-  same = refl;
-}
+lets_go g b = search (rules, arith, kept_found)
 
 pub gives_back : {S : Type 0} (g : Ghosts S) (o : Opened S) → GivesBack g o (unlimited g o.conn)
-gives_back g o = record {
-  found = λ s keeps clean. kept_found g o.conn o.version s (keeps clean);
-  outside = λ out. out;
-  unlimited = refl;
-  sound = λ clean. clean;
-  same = refl;
-}
+gives_back g o = search (rules, arith, kept_found)

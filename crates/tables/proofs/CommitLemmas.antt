@@ -11,13 +11,10 @@ use Rattle.desk_sql.specs.Rows.{Tables}
 use Rattle.ledger.specs.Answer.{State}
 use Rattle.sql_model.specs.Keeping.{MeansIn, SeesOf, IsKeptIn, KeepsIn}
 use Rattle.sql_model.proofs.KeepLemmas.{is_database}
+use Rattle.sql_writes.proofs.CommitLemmas.{KeepsOne}
 use Rattle.tables.specs.Copying.{MayAdd}
 use Rattle.tables.specs.Migrating.{AreNumbersOf, migrated}
 use Rattle.tables.proofs.Standing.{migrated_stands}
-
--- If a store is open, a crash leaves its last commit and nothing else: a law that each store keeps.
-abbrev pub KeepsOne : {S : Type 0} → Ghosts S → Type 0
-KeepsOne {S} g = (s : S) (db : Trees) → IsTrue (g.view s).is_open → g.recovers s db → db ≡ (g.view s).committed
 
 -- a transaction that began here wrote the migrated rows
 pub record Wrote {S : Type 0} (g : Ghosts S) (start late : Held S) (m : Meta) : Type 0 where

@@ -1,5 +1,5 @@
 -- Why a migration failed, from call to call. For the functions of `migrating`.
-use Rattle.std.proofs.Common.{◌≡◌, ◌≢◌, ◌⊎◌, ◌↔◌, ◌≤◌, inl, inr, List, [], ◌∷◌, length, true, IsTrue, refl, subst, arith, rules}
+use Rattle.std.proofs.Common.{◌≡◌, ◌≢◌, ◌⊎◌, ◌↔◌, inl, inr, true, IsTrue, refl, subst, arith, rules}
 use Rattle.sqlite.specs.Tree.{Trees}
 use Rattle.sqlite.specs.Store.{Ghosts}
 use Rattle.sqlite.specs.Held.{Held, state}
@@ -15,10 +15,10 @@ use Rattle.desk_sql.specs.Causes.{HasFaulted, HasReason, IsUp}
 use Rattle.desk_sql.specs.Readable.{HasMeta}
 use Rattle.desk_sql.specs.Rows.{Tables}
 use Rattle.ledger.specs.Answer.{State}
-use Rattle.ledger.specs.Ledger.{Event, Loaded, Began, Did, journeys}
 use Rattle.sql_model.specs.Keeping.{IsFound, KeepsIn, SeesOf}
 use Rattle.sql_model.specs.Staying.{StaysUp}
 use Rattle.sql_model.proofs.Staying.{commit_why, faulted_earlier, faulted_later, stays_begun, stays_committing, stays_twice, stays_up}
+use Rattle.sql_reads.proofs.ReadReasons.{few_journeys}
 use Rattle.tables.specs.Copying.{MayAdd}
 use Rattle.tables.specs.Migrating.{AreNumbersOf, RefusesNumbers}
 use Rattle.tables.specs.MigrateReasons.{MigrationRanOut, HasTooMany}
@@ -30,13 +30,6 @@ use Rattle.tables.proofs.CommitLemmas.{Wrote}
 pub not_memory : (old new : Connected) (e : Error) (why : MigrateFault) → (why ≡ Store ↔ (e ≢ SqliteFailure OutOfMemory)) → HasReason old new e
     → why ≡ Store → HasFaulted old new
 not_memory old new e why store it is = search (rules, arith)
-
--- there are no more journeys than events
-few_journeys : (l : List Event) → length (journeys l) ≤ length l
-few_journeys [] = omega arith
-few_journeys (Loaded name rows ∷ l) = omega (arith, few_journeys l)
-few_journeys (Began agent plan ∷ l) = omega (arith, few_journeys l)
-few_journeys (Did journey item ∷ l) = omega (arith, few_journeys l)
 
 -- numbers of version 1 that are refused as the store's are those of a ledger with too many events
 pub too_many_events : (m : Meta) (s : State) → AreNumbersOf m s → RefusesNumbers m Store → HasTooMany s

@@ -1,34 +1,62 @@
--- What is left of a store without tables where one transaction was to create those of a desk. For found_tables.
-use Rattle.std.proofs.Common.{◌≡◌, ◌⊎◌, ◌↔◌, inl, inr, true, false, IsTrue, Ok, refl, sym, subst, ◌∙◌, arith}
+-- What is left of a store without tables where one transaction was to create those of a desk, and why it did not. For found_tables.
+use Rattle.std.proofs.Common.{◌≡◌, ◌⊎◌, ◌↔◌, inl, inr, true, Ok, refl, subst, false, IsTrue, sym, ◌∙◌, rules, arith}
 use Rattle.sqlite.specs.Tree.{Trees}
 use Rattle.sqlite.specs.Store.{Ghosts}
 use Rattle.sqlite.specs.Held.{Held, state}
-use Rattle.sqlite.specs.State.{HasCleanDisk, IsRolledBack, Survives, Shows as ShowsNow}
+use Rattle.sqlite.specs.State.{HasCleanDisk, Survives, IsRolledBack, Shows as ShowsNow}
 use Rattle.sqlite.specs.Steps.{FailsToCommit}
 use Rattle.sqlite.specs.declared.error.Error.{Error}
 use Rattle.sqlite.specs.declared.error.Error.TheVariants.{SqliteFailure}
 use Rattle.sqlite.specs.declared.error.ErrorCode.TheVariants.{OutOfMemory}
-use Rattle.sqlite.proofs.StateLemmas.{survives_then}
-use Rattle.sqlite.proofs.Callers.{survives_begin}
 use Rattle.commands.specs.declared.replies.Fault.{Fault}
-use Rattle.commands.specs.declared.replies.Fault.TheVariants as fault
-use Rattle.desk_sql.specs.Calls.{CommitsNothing, Founds, LeavesNoMore, MayBuild, StaysInside, WasOpen}
-use Rattle.desk_sql.specs.Causes.{HasReason, IsUp}
+use Rattle.desk_sql.specs.Calls.{Founds, Makes, MayBuild, CommitsNothing, LeavesNoMore, StaysInside, WasOpen, Idle}
+use Rattle.desk_sql.specs.Causes.{HasFaulted, HasReason, IsUp}
 use Rattle.desk_sql.specs.Changes.{founded}
 use Rattle.desk_sql.specs.Schema.{no_schema}
+use Rattle.sql_model.proofs.Staying.{commit_why, faulted_earlier, faulted_later, of_error, stays_begun, stays_committing, stays_twice, stays_up}
+use Rattle.tables.specs.Opening.{FoundingRanOut, FailsOpening, FailsToOpen, Opens}
+use Rattle.sqlite.proofs.StateLemmas.{survives_then}
+use Rattle.sqlite.proofs.Callers.{survives_begin}
+use Rattle.commands.specs.declared.replies.Fault.TheVariants as fault
 use Rattle.desk_sql.specs.declared.versions.Version.{Version}
 use Rattle.desk_sql.specs.declared.versions.Version.TheVariants.{Two}
 use Rattle.ledger.specs.Answer.{State}
 use Rattle.sql_model.specs.Keeping.{Sees as SeesFound, WasClean}
-use Rattle.sql_model.proofs.Staying.{stays_begun, stays_committing, stays_twice, stays_up}
 use Rattle.sql_writes.proofs.CommitLemmas.{KeepsOne}
 use Rattle.tables.specs.Keeping.{IsFound, IsKept}
-use Rattle.desk_sql.specs.Calls.{Idle}
-use Rattle.tables.specs.Opening.{FailsOpening, FailsToOpen, Opens}
 use Rattle.tables.specs.declared.faults.OpenFault.{OpenFault}
 use Rattle.tables.specs.declared.faults.OpenFault.TheVariants.{Memory, Store}
-use Rattle.tables.proofs.FoundingReasons.{not_committed, not_created}
 use Rattle.tables.proofs.OpenKept.{either_means, gone_back, has_founded, keeps_founded, not_bare, rolled_back, still_bare, tells_fault, was_new}
+
+module _ {S : Type 0} (g : Ghosts S) (old late end : Held S) (bare : (state g old).now.schema ≡ no_schema) (up : IsUp (state g old))
+    (clean : HasCleanDisk (state g late)) where
+  abbrev at_begin : Held S
+  at_begin = record old { in_transaction = true }
+
+  -- a transaction over a store without tables may create them
+  may_build : MayBuild no_schema (state g at_begin)
+  may_build = record { inside = refl; empty = λ _. record { is = bare; empty = tt } }
+
+  -- tables that were not created are Store only where the disk failed or refused
+  not_created : (Ends : Trees → Type 0) → Survives (state g late) (state g end) Ends → (e : Error) (f : Fault)
+      → (HasCleanDisk (state g late) → MayBuild no_schema (state g at_begin) → IsUp (state g at_begin) → HasReason (state g at_begin) (state g late) e)
+      → (f ≡ fault.Memory ↔ e ≡ SqliteFailure OutOfMemory) → f ≡ fault.Store → HasFaulted (state g old) (state g end)
+  not_created Ends back e f fails memory store = search (rules, arith, may_build, of_error, faulted_earlier)
+
+  -- tables that were not committed are Store only there, or where the commit ran out of memory
+  not_committed : Survives (state g at_begin) (state g late) (λ _. ⊥) → Founds g at_begin late {V = Unit {0}} (Ok tt) founded
+      → (e : Error) → FailsToCommit (state g late) (state g end) e
+      → HasFaulted (state g old) (state g end) ⊎ FoundingRanOut g old end
+  not_committed less founds e failed =
+      let makes : Makes (state g at_begin) (state g late) founded = founds clean may_build in
+      elim (commit_why (state g late) (state g end) e makes.is_open makes.inside failed) [
+        | inl faulted ↦ inl (faulted_later (state g at_begin) (state g late) (state g end) less.counts faulted)
+        | inr is ↦ inr (record {
+          late = late;
+          founds = makes;
+          failed = subst (λ x. FailsToCommit (state g late) (state g end) x) is failed;
+        })
+      ]
 
 -- a transaction began on a connection without tables, came as far as `late`, and is over at `end`, committed or not
 module _ {S : Type 0} (g : Ghosts S) (old late end : Held S) (was : Idle old) (bare : old.schema ≡ no_schema)
@@ -41,10 +69,7 @@ module _ {S : Type 0} (g : Ghosts S) (old late end : Held S) (was : Idle old) (b
   at_late clean = omega (arith, over.clean, clean)
 
   at_first : WasClean g old end
-  at_first clean =
-      let there = at_late clean in
-      let begun_clean : HasCleanDisk (state g begun) = omega (arith, less.clean, there) in
-      begun_clean
+  at_first clean = omega (arith, less.clean, at_late clean)
 
   -- it is as an opening asks for it
   still_idle : Idle end

@@ -1,5 +1,5 @@
 -- What a transaction that makes the index leaves, however it ends, and what the reading before it says. For the functions of `indexing`.
-use Rattle.std.proofs.Common.{◌≡◌, ◌≢◌, ◌↔◌, ◌+◌, ◌<◌, inl, inr, ℕ, suc, List, [], ◌∷◌, length, true, false, Ok, IsTrue, refl, sym, ap, subst, ◌∙◌, arith, rules}
+use Rattle.std.proofs.Common.{◌≡◌, ◌≢◌, ◌↔◌, ◌+◌, ◌<◌, inl, inr, ℕ, suc, List, [], ◌∷◌, length, true, false, Result, Ok, Err, IsTrue, refl, sym, ap, subst, ◌∙◌, arith, rules}
 use Rattle.std.specs.Prelude.{⊤}
 use Rattle.sqlite.specs.Store.{Ghosts}
 use Rattle.sqlite.specs.Effect.{Database, IsDatabase}
@@ -23,12 +23,12 @@ use Rattle.ledger.specs.Answer.{State}
 use Rattle.desk_sql.specs.Writable.{HasRowids}
 use Rattle.sql_model.specs.Keeping.{IsFound, IsKeptIn, KeepsIn, SeesDesk, StoodFor}
 use Rattle.sql_model.proofs.KeepLemmas.{same_desk}
-use Rattle.sql_model.specs.ExpectedRows.{meta_in}
 use Rattle.sql_model.proofs.Quieting.{quiet_clean, quiet_keeps}
 use Rattle.tables.specs.declared.migrate_faults.MigrateFault.{MigrateFault}
-use Rattle.tables.specs.declared.migrate_faults.MigrateFault.TheVariants.{UnknownSchema, Store, Memory}
-use Rattle.tables.specs.Indexing.{Keeps, RefusesIndex, SawNewest, StandsOn}
+use Rattle.tables.specs.declared.migrate_faults.MigrateFault.TheVariants.{Store, Memory}
+use Rattle.tables.specs.Indexing.{JudgesNewest, Keeps, RefusesIndex, StandsOn, TriesNewest}
 use Rattle.tables.specs.Migrating.{IsFault}
+use Rattle.tables.proofs.OpenKept.{numbers_read, was_desk}
 use Rattle.tables.proofs.Stopping.{saw_open, saw_number}
 use Rattle.tables.proofs.Telling.{is_fault, saw_read}
 use Rattle.sql_writes.proofs.CommitLemmas.{KeepsOne, Left, Wrote, keeps_next, either_left}
@@ -147,33 +147,17 @@ module _ {S : Type 0} (g : Ghosts S) (old late end : Held S) (s : State) (keeps 
 
 -- What the reading says.
 
--- where tables of the newest version were seen, the state is that of the desk that was there
-pub desk_there : {S : Type 0} (g : Ghosts S) (old new : Held S) → SawVersion g old new 2 → old.schema ≢ no_schema → HasCleanDisk (state g new)
-    → HasCleanDisk (state g old) → (s : State) → StoodFor Two (state g old) s → SeesDesk (state g old) s
-desk_there g old new saw filled clean at_old s stood = elim ((stood at_old).sees (saw_open g old new 2 saw clean)) [
-  | inl desk ↦ desk
-  | inr fresh ↦ absurd (filled fresh.schema)
-]
-
 module _ {S : Type 0} (g : Ghosts S) (old new : Held S) where
-  pub saw_newest : (meta m : Meta) → m ≡ meta → m.version ≡ 2 → old.schema ≢ no_schema → Quiet g old new
-      → ((v : Version) → ReadsIn g old new v (Ok meta) IsMeta) → SawNewest g old new m
-  saw_newest meta m is two filled quiet found =
-      let saw : SawVersion g old new 2 = subst (SawVersion g old new) (ap (λ (n : Meta). n.version) (sym is) ∙ two) (saw_read g old new meta found) in
-      record {
-        version = saw;
-        filled = filled;
-        numbers = λ clean s stood. (
-            let desk = desk_there g old new saw filled clean (quiet_clean g old new quiet clean) s stood in
-            let read = found Two clean desk.tables (λ _. record { schema = desk.schema; rows = desk.shown; sound = desk.sound }) in
-            let same : meta_of meta ∷ [] ≡ meta_in Two s.ledger ∷ [] = sym read.1 ∙ desk.stands.meta in
-            let one : meta_of meta ≡ meta_in Two s.ledger = cc in
-            ap meta_of is ∙ one);
-      }
-
-  pub refuses_numbers : (meta : Meta) (why : MigrateFault) → why ≡ UnknownSchema meta.version → meta.version ≢ 2
-      → SawVersion g old new meta.version → RefusesIndex g old new why
-  refuses_numbers meta why is other saw = rw is (other, inr saw)
+  -- the numbers are those of the newest version, and of the state, or they are refused
+  pub judges_newest : (meta : Meta) (r : Result Meta MigrateFault) → old.schema ≢ no_schema → Quiet g old new
+      → ((v : Version) → ReadsIn g old new v (Ok meta) IsMeta) → JudgesNewest meta r → TriesNewest g old new r
+  judges_newest meta (Ok m) filled quiet found is = record {
+    version = subst (SawVersion g old new) (ap (λ (n : Meta). n.version) (sym is.0) ∙ is.1) (saw_read g old new meta found);
+    filled = filled;
+    numbers = λ clean s stood. ap meta_of is.0 ∙ numbers_read (state g old) (state g new) meta (λ v t sees. found v clean t sees) Two s
+        (stood (quiet_clean g old new quiet clean)) filled;
+  }
+  judges_newest meta (Err why) filled quiet found refused = rw refused.0 (refused.1, inr (saw_read g old new meta found))
 
   pub refuses_fault : (why : MigrateFault) → IsFault why → RefusesIndex g old new why
   refuses_fault why it = search (rules, arith)
@@ -188,7 +172,10 @@ pub kept_on : {S : Type 0} (g : Ghosts S) (old mid : Held S) → Quiet g old mid
 kept_on g old mid quiet saw filled s stood clean =
     let at_old = quiet_clean g old mid quiet clean in
     quiet_keeps g old mid quiet Two s
-    (λ _. record { sees = λ _. desk_there g old mid saw filled clean at_old s stood; leaves = (stood at_old).leaves }) clean
+    (λ _. record {
+      sees = λ _. was_desk Two (state g old) s (stood at_old) filled (saw_open g old mid 2 saw clean);
+      leaves = (stood at_old).leaves;
+    }) clean
 
 -- Whatever follows the reading of tables of the newest version, and keeps what the connection kept, keeps what it represented.
 pub stands_on : {S : Type 0} (g : Ghosts S) (old mid new : Held S) → Quiet g old mid → SawVersion g old mid 2 → old.schema ≢ no_schema

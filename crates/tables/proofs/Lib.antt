@@ -1,16 +1,13 @@
 pub mod ClosingLemmas
 pub mod FinishedLemmas
 pub mod ListedLemmas
-pub mod LookLemmas
 pub mod ReadingLemmas
 pub mod OpenKept
-pub mod FoundingReasons
 pub mod NumberLemmas
 pub mod CountLemmas
 pub mod WalkLemmas
 pub mod SpelledLemmas
 pub mod NewDesks
-pub mod ActingLemmas
 pub mod SinceLemmas
 pub mod Founding
 pub mod BriefLists
@@ -20,7 +17,6 @@ pub mod Ranges
 pub mod Adding
 pub mod Filling
 pub mod Quiet
-pub mod Reading
 pub mod Telling
 pub mod Standing
 pub mod CommitLemmas

@@ -1,6 +1,5 @@
 -- The tables of a new desk have no row but that of meta, so all rowids are left. For the law.
-use Rattle.std.proofs.Common.{◌≡◌, ◌<◌, ◌^◌, ℕ, suc, ℤ, List, [], ◌∷◌, true, false, length, map, refl, sym, subst, ap, ◌∙◌, cond, eq-eqb, arith, ◌==◌, ◌||◌, bytes_eq, find, Some, None, option_map}
-use Rattle.std.specs.List.{list_any}
+use Rattle.std.proofs.Common.{◌≡◌, ◌<◌, ◌^◌, ℕ, suc, ℤ, List, [], ◌∷◌, true, length, map, refl, sym, subst, ◌∙◌, eq-eqb, arith, ◌==◌, bytes_eq}
 use Rattle.std.specs.List.Sorted.{IsPermutation}
 use Rattle.std.proofs.lemmas.Bool.{and_from}
 use Rattle.std.proofs.lemmas.List.Sorted.{length_permutation}
@@ -15,7 +14,7 @@ use Rattle.desk_sql.specs.Rows.{AnswerRow, MarkRow, StockRow, answer_columns, ba
 use Rattle.desk_sql.specs.Writable.{AreLow, HasRowids}
 use Rattle.ledger.specs.Answer.{nothing_kept, start}
 use Rattle.sql_model.specs.Keeping.{SeesDesk}
-use Rattle.sql_model.specs.Standing.{AnswersStand, MarksStand, StockStands, answer_at, answer_told, is_mark_at, is_stock_of, places_told, stock_at}
+use Rattle.sql_model.specs.Standing.{AnswersStand, MarksStand, StockStands, is_mark_at}
 use Rattle.tables.specs.Acting.{NewDeskMayAct}
 use Rattle.tables.specs.declared.books.TableBook.{TableBook}
 use Rattle.tables.proofs.SpelledLemmas.{start_spelled}
@@ -24,13 +23,7 @@ use Rattle.tables.proofs.SpelledLemmas.{start_spelled}
 
 no_stock : (rows : List StockRow) → StockStands [] rows → rows ≡ []
 no_stock [] st = refl
-no_stock (r ∷ rows) st =
-    let cell = st.known.0 in
-    let some : stock_at (r ∷ rows) cell.0 ≡ Some (places_told r) =
-    ap (λ v. option_map places_told (cond v (Some r) (find (is_stock_of cell.0) rows))) cell.1 in
-    let none : stock_at (r ∷ rows) cell.0 ≡ None = st.each cell.0 in
-    let never : Some (places_told r) ≡ None = sym some ∙ none in
-    cc
+no_stock (r ∷ rows) st = let each = st.each st.known.0.0 in grind (arith, each)
 
 same_bytes : (xs : List ℕ) → bytes_eq xs xs ≡ true
 same_bytes xs = (bytes_eq-Decides xs xs).1 refl
@@ -39,22 +32,16 @@ no_answer : (rows : List AnswerRow) → AnswersStand nothing_kept rows → rows 
 no_answer [] st = refl
 no_answer (r ∷ rows) st =
     let own : is_for r.agent r.mark r ≡ true = and_from _ _ (same_bytes r.agent) (same_bytes r.mark) in
-    let some : answer_at (r ∷ rows) r.agent r.mark ≡ Some (answer_told r) =
-    ap (λ v. option_map answer_told (cond v (Some r) (find (is_for r.agent r.mark) rows))) own in
-    let none : answer_at (r ∷ rows) r.agent r.mark ≡ None = st.each r.agent r.mark in
-    let never : Some (answer_told r) ≡ None = sym some ∙ none in
-    cc
+    let each = st.each r.agent r.mark in
+    grind (arith, own, each)
 
 no_mark : (rows : List MarkRow) → MarksStand [] rows → rows ≡ []
 no_mark [] st = refl
 no_mark (r ∷ rows) st =
     let own : is_mark_at r.journey r.pos r ≡ true =
     and_from (r.journey == r.journey) (r.pos == r.pos) (eq-eqb r.journey r.journey refl) (eq-eqb r.pos r.pos refl) in
-    let some : list_any (is_mark_at r.journey r.pos) (r ∷ rows) ≡ true =
-    ap (λ v. v || list_any (is_mark_at r.journey r.pos) rows) own in
-    let none : list_any (is_mark_at r.journey r.pos) (r ∷ rows) ≡ false = st.each r.journey r.pos in
-    let never : true ≡ false = sym some ∙ none in
-    cc
+    let each = st.each r.journey r.pos in
+    grind (arith, own, each)
 
 -- a permutation of no row is no row
 no_more : {X : Type 0} (rows : List X) → IsPermutation [] rows → rows ≡ []

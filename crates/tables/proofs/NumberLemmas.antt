@@ -1,6 +1,7 @@
 -- How many journeys are unfinished after one more event. For CountLemmas.
-use Rattle.std.proofs.Common.{◌≡◌, ℕ, zero, suc, ◌+◌, ◌<◌, ◌≤◌, List, [], ◌∷◌, ◌++◌, length, cond, refl, ap, sym, ◌∙◌, arith, eqb-true, length-append, IsTrue, Bool, true, false, ◌==◌, not, nat_lt, if◌then◌else◌, Option, Some, None, filter, filter_map, option_map}
-use Rattle.std.proofs.lemmas.Bool.{eqb-false, ltb-true, ltb-false}
+use Rattle.std.proofs.Common.{◌≡◌, ℕ, zero, suc, ◌+◌, ◌<◌, ◌≤◌, List, [], ◌∷◌, ◌++◌, length, cond, inl, inr, refl, ap, sym, ◌∙◌, arith, length-append, IsTrue, Bool, true, false, not, if◌then◌else◌, Option, Some, None, filter, filter_map, option_map}
+use Rattle.std.proofs.lemmas.Bool.{cases_eq}
+use Rattle.std.proofs.lemmas.Bool.Decides.{nat_tests}
 use Rattle.std.proofs.lemmas.List.Elements.{filter-append}
 use Rattle.std.proofs.lemmas.Option.{slice_get_past}
 use Rattle.std.specs.Prelude.{unwrap_or}
@@ -16,7 +17,7 @@ use Rattle.ledger.proofs.Phases.{passing}
 use Rattle.ledger.proofs.Events.{journey_at-loaded, journey_at-did, journey_at-began_other, journey_at-began_new, history-loaded, history-began, history-began_new, history-did_same, history-did_other, numbers-loaded, numbers-did, numbers-began}
 use Rattle.saga_core.specs.Views.{brief_of, unfinished_of}
 use Rattle.saga_core.specs.declared.records.Brief.{Brief}
-use Rattle.saga_core.proofs.FirstLemmas.{Tells, tells, untold}
+use Rattle.saga_core.proofs.FirstLemmas.{tells, untold}
 use Rattle.sql_model.proofs.Beginning.{has_step, start_phase}
 use Rattle.tables.proofs.FinishedLemmas.{closed_refuses}
 
@@ -35,26 +36,14 @@ open_numbers : (l : List Event) (js : List ℕ)
 open_numbers l [] = refl
 open_numbers l (j ∷ js) = go (brief_of l j) refl (open_numbers l js)
   where
-    open_of : (b : Brief) → Tells l j b → is_in is_open l j ≡ goes_on b
-    open_of b t = ap (λ (o : Option Phase). unwrap_or (option_map is_open o) false) t.phase_is
-
-    by_test : (b : Brief) (v : Bool) → goes_on b ≡ v → is_in is_open l j ≡ v
-        → length (filter goes_on (filter_map (brief_of l) js)) ≡ length (filter (is_in is_open l) js)
-        → length (cond v (b ∷ filter goes_on (filter_map (brief_of l) js)) (filter goes_on (filter_map (brief_of l) js)))
-        ≡ length (cond v (j ∷ filter (is_in is_open l) js) (filter (is_in is_open l) js))
-    by_test b true at is rest = ap suc rest
-    by_test b false at is rest = rest
-
     go : (o : Option Brief) → brief_of l j ≡ o
         → length (filter goes_on (filter_map (brief_of l) js)) ≡ length (filter (is_in is_open l) js)
         → length (filter goes_on (cons_option o (filter_map (brief_of l) js)))
         ≡ length (cond (is_in is_open l j) (j ∷ filter (is_in is_open l) js) (filter (is_in is_open l) js))
-    go None at rest =
-        rest ∙ sym (ap (λ v. length (cond v (j ∷ filter (is_in is_open l) js) (filter (is_in is_open l) js))) (untold l j at))
+    go None at rest = let shut = untold l j at in grind (arith, rest, shut)
     go (Some b) at rest =
-        by_test b (goes_on b) refl (open_of b (tells l j b at)) rest
-        ∙ ap (λ v. length (cond v (j ∷ filter (is_in is_open l) js) (filter (is_in is_open l) js)))
-        (sym (open_of b (tells l j b at)))
+        let same : is_in is_open l j ≡ goes_on b = ap (λ (o : Option Phase). unwrap_or (option_map is_open o) false) (tells l j b at).phase_is in
+        grind (arith, rest, same)
 
 by_numbers : (l : List Event) → unfinished_in l ≡ length (filter (is_in is_open l) (numbers l))
 by_numbers l = open_numbers l (numbers l)
@@ -64,66 +53,35 @@ count-same : (f g : ℕ → Bool) (first n : ℕ) → ((j : ℕ) → first ≤ j
     → length (filter f (numbers_from first n)) ≡ length (filter g (numbers_from first n))
 count-same f g first zero agree = refl
 count-same f g first (suc n) agree =
-    ap (λ v. length (cond v (first ∷ filter f (numbers_from (suc first) n)) (filter f (numbers_from (suc first) n))))
-    (agree first (omega arith) (omega arith))
-    ∙ go (g first) (count-same f g (suc first) n (λ j low high. agree j (omega arith) (omega arith)))
-  where
-    go : (v : Bool)
-        → length (filter f (numbers_from (suc first) n)) ≡ length (filter g (numbers_from (suc first) n))
-        → length (cond v (first ∷ filter f (numbers_from (suc first) n)) (filter f (numbers_from (suc first) n)))
-        ≡ length (cond v (first ∷ filter g (numbers_from (suc first) n)) (filter g (numbers_from (suc first) n)))
-    go true rest = ap suc rest
-    go false rest = rest
+    let here = agree first (omega arith) (omega arith) in
+    let rest = count-same f g (suc first) n (λ j low high. agree j (omega arith) (omega arith)) in
+    grind (arith, here, rest)
 
 -- how much one journey that finishes, or does not, takes from the number
 abbrev pub taken_if : Bool → ℕ
 taken_if v = if v then 1 else 0
-
--- at a number where one test passes
-here_counted : (first : ℕ) (fs gs : List ℕ) (v : Bool) → length fs ≡ length gs
-    → length (first ∷ fs) ≡ length (cond (not v) (first ∷ gs) gs) + taken_if v
-here_counted first fs gs true same = omega (arith, same)
-here_counted first fs gs false same = omega (arith, same)
-
--- at a number where both tests agree
-later_counted : (first : ℕ) (fs gs : List ℕ) (v w : Bool) → length fs ≡ length gs + taken_if v
-    → length (cond w (first ∷ fs) fs) ≡ length (cond w (first ∷ gs) gs) + taken_if v
-later_counted first fs gs v true rest = omega (arith, rest)
-later_counted first fs gs v false rest = rest
 
 -- two tests that agree but on one of these numbers count the same, but for that one
 count-but_one : (f g : ℕ → Bool) (first n k : ℕ) (v : Bool) → first ≤ k → k < first + n
     → ((j : ℕ) → ¬ (j ≡ k) → f j ≡ g j) → f k ≡ true → g k ≡ not v
     → length (filter f (numbers_from first n)) ≡ length (filter g (numbers_from first n)) + taken_if v
 count-but_one f g first zero k v low high agree here there = absurd (omega (arith, low, high))
-count-but_one f g first (suc n) k v low high agree here there =
-    at (filter f (numbers_from (suc first) n)) (filter g (numbers_from (suc first) n)) (first == k) refl
-    (λ same. count-same f g (suc first) n (λ j above below. agree j (λ is. omega (arith, is, same, above))))
-    (λ other. count-but_one f g (suc first) n k v (omega (arith, other, low)) (omega (arith, high)) agree here there)
-  where
-    at : (fs gs : List ℕ) (w : Bool) → (first == k) ≡ w → (first ≡ k → length fs ≡ length gs)
-        → (¬ (first ≡ k) → length fs ≡ length gs + taken_if v)
-        → length (cond (f first) (first ∷ fs) fs) ≡ length (cond (g first) (first ∷ gs) gs) + taken_if v
-    at fs gs true e equal rest =
-        let same = eqb-true first k e in
-        ap (λ w. length (cond w (first ∷ fs) fs)) (ap f same ∙ here)
-        ∙ here_counted first fs gs v (equal same)
-        ∙ ap (λ w. length (cond w (first ∷ gs) gs) + taken_if v) (sym (ap g same ∙ there))
-    at fs gs false e equal rest =
-        let other = eqb-false first k e in
-        ap (λ w. length (cond w (first ∷ fs) fs)) (agree first other)
-        ∙ later_counted first fs gs v (g first) (rest other)
+count-but_one f g first (suc n) k v low high agree here there = elim (cases_eq first k) [
+  | inl same ↦ (
+      let rest = count-same f g (suc first) n (λ j above below. agree j (λ is. omega (arith, is, same, above))) in
+      let one : f first ≡ true = ap f same ∙ here in
+      let other : g first ≡ not v = ap g same ∙ there in
+      grind (arith, rest, one, other))
+  | inr other ↦ (
+      let rest = count-but_one f g (suc first) n k v (omega (arith, other, low)) (omega (arith, high)) agree here there in
+      let one = agree first other in
+      grind (arith, rest, one))
+]
 
 -- the number of a journey is one of the ledger's numbers
 in_range : (l : List Event) (k : ℕ) (a : Journey) → journey_at l k ≡ Some a → (1 ≤ k) × (k ≤ length (journeys l))
 in_range l zero a at = cc
-in_range l (suc i) a at = (omega arith, within (nat_lt (length (journeys l)) (suc i)) refl)
-  where
-    within : (v : Bool) → nat_lt (length (journeys l)) (suc i) ≡ v → suc i ≤ length (journeys l)
-    within true e =
-        let past = ltb-true (length (journeys l)) (suc i) e in
-        let none = slice_get_past (journeys l) i (omega (arith, past)) in cc
-    within false e = ltb-false (length (journeys l)) (suc i) e
+in_range l (suc i) a at = grind (arith, nat_tests, slice_get_past)
 
 -- One more event.
 

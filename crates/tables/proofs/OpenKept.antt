@@ -1,6 +1,5 @@
 -- What a connection keeps after an opening, and what a failed opening leaves. For found_tables and read_version.
-use Rattle.std.proofs.Common.{◌≡◌, ◌⊎◌, inl, inr, ◌↔◌, ℕ, List, Bool, true, false, [], ◌∷◌, length, IsTrue, Some, Ok, refl, sym, ap, subst, ◌∙◌, arith}
-use Rattle.std.specs.List.{AllByRecursion}
+use Rattle.std.proofs.Common.{◌≡◌, ◌⊎◌, inl, inr, ◌↔◌, ℕ, Bool, true, false, [], ◌∷◌, length, IsTrue, Some, Ok, refl, sym, ap, subst, ◌∙◌, rules, arith}
 use Rattle.sqlite.specs.Store.{Ghosts}
 use Rattle.sqlite.specs.Tree.{Trees}
 use Rattle.sqlite.specs.Effect.{Database, IsDatabase}
@@ -11,11 +10,11 @@ use Rattle.sqlite.specs.declared.error.Error.{Error}
 use Rattle.sqlite.specs.State.{State as Connected, HasCleanDisk, IsUnchanged, IsRolledBack, KeepsCommit, Shows as ShowsNow}
 use Rattle.desk_sql.specs.declared.versions.Version.{Version}
 use Rattle.desk_sql.specs.declared.versions.Version.TheVariants.{One, Two}
-use Rattle.desk_sql.specs.Versions.{number_of, AreOfVersion}
-use Rattle.desk_sql.specs.Calls.{Sees, MaySeeIn, MayBuild, Founds, WasOpen, LeavesNoMore, Quiet}
+use Rattle.desk_sql.specs.Versions.{number_of}
+use Rattle.desk_sql.specs.Calls.{Sees, MaySeeIn, Founds, WasOpen, LeavesNoMore, Quiet}
 use Rattle.desk_sql.specs.Changes.{founded}
 use Rattle.desk_sql.specs.FoundRows.{IsMeta, meta_of}
-use Rattle.desk_sql.specs.Rows.{Tables, MetaRow, Shows, ShowsIn}
+use Rattle.desk_sql.specs.Rows.{Tables, MetaRow, ShowsIn}
 use Rattle.desk_sql.specs.Schema.{no_schema, IsSchemaOf}
 use Rattle.desk_sql.specs.declared.meta.Meta.{Meta}
 use Rattle.commands.specs.declared.replies.Fault.{Fault}
@@ -26,13 +25,14 @@ use Rattle.sql_model.specs.Keeping.{Sees as SeesFound, SeesNew}
 use Rattle.sql_model.specs.Standing.{StandsFor}
 use Rattle.sql_model.proofs.Founding.{founded_stands}
 use Rattle.sql_model.proofs.KeepLemmas.{is_database}
-use Rattle.sql_model.proofs.Quieting.{quiet_clean, quiet_keeps, quiet_leaves, quiet_sees}
+use Rattle.sql_model.proofs.Quieting.{quiet_clean}
 use Rattle.tables.specs.declared.faults.OpenFault.{OpenFault}
 use Rattle.tables.specs.declared.faults.OpenFault.TheVariants.{Store, Memory}
 use Rattle.sql_model.specs.Keeping.{MeansIn}
 use Rattle.tables.specs.Keeping.{MeansOf, SeesOf, IsKept, IsKeptIn, IsFound}
 use Rattle.desk_sql.specs.Calls.{Idle}
 use Rattle.tables.specs.Opening.{FailsOpening, FailsToOpen, Tells}
+use Rattle.tables.proofs.Quiet.{as_before}
 use Rattle.sql_writes.proofs.CommitLemmas.{KeepsOne}
 
 -- the schema of the desk has tables, in each version
@@ -67,22 +67,11 @@ pub record HasGoneBack (a b : Connected) : Type 0 where
   pub committed : b.committed ≡ a.committed
 
 still_new : (a b : Connected) (s : State) → HasGoneBack a b → SeesNew a s → SeesNew b s
-still_new a b s back saw = record {
-  schema = ap (λ (d : Database). d.schema) (back.now ∙ sym saw.committed) ∙ saw.schema;
-  committed = back.now ∙ sym back.committed;
-  new = saw.new;
-}
+still_new a b s back saw = search (rules, arith)
 
 -- a store whose transaction was rolled back is seen as before
 pub gone_back : (a mid b : Connected) → KeepsCommit a mid → IsRolledBack mid b → IsTrue b.is_open → HasGoneBack a b
-gone_back a mid b kept back live =
-    let inside = back.was_open live in
-    let undone = back.undone live in
-    record {
-      was_open = kept.was_open inside;
-      now = undone.0 ∙ kept.committed inside;
-      committed = undone.1 ∙ kept.committed inside;
-    }
+gone_back a mid b kept back live = search (rules, arith)
 
 -- a commit that fails in a transaction is rolled back
 pub rolled_back : (late end : Connected) (e : Error) → IsTrue late.in_transaction → FailsToCommit late end e → IsRolledBack late end
@@ -103,56 +92,18 @@ still_bare Two a b s found bare back = elim (found.sees back.was_open) [
 pub quiet_idle : {S : Type 0} (g : Ghosts S) (old new : Held S) → Quiet g old new → Idle old → Idle new
 quiet_idle g old new it was = record { outside = it.mode was.outside; unlimited = it.survives.limit ∙ was.unlimited }
 
-module _ {S : Type 0} (g : Ghosts S) (old new : Held S) (s : State) (it : Quiet g old new) (clean : HasCleanDisk (state g new)) where
-  same_or_back : IsTrue (state g new).is_open → (state g old).now ≡ (state g old).committed → HasGoneBack (state g old) (state g new)
-  same_or_back live settled =
-      let saw = quiet_sees g old new it in
-      record {
-        was_open = (saw.kept clean).was_open live;
-        now = saw.sees clean live settled ∙ settled;
-        committed = (saw.kept clean).committed live;
-      }
-
-  -- the connection represents what it represented before the call
-  still_found : (v : Version) → IsFound v (state g old) s → IsFound v (state g new) s
-  still_found One found =
-      let kept = quiet_keeps g old new it One s (λ _. record { sees = found.sees; leaves = found.leaves }) clean in
-      record { sees = kept.sees; leaves = kept.leaves }
-  still_found Two found = record {
-    sees = λ live. elim (found.sees (((quiet_sees g old new it).kept clean).was_open live)) [
-      | inl desk ↦ inl ((quiet_keeps g old new it Two s (λ _. record { sees = λ _. desk; leaves = found.leaves }) clean).sees live)
-      | inr fresh ↦ inr (still_new (state g old) (state g new) s (same_or_back live fresh.committed) fresh)
-    ];
-    leaves = λ db may. found.leaves db (quiet_leaves g old new it clean db may);
-  }
-
 module _ {S : Type 0} (g : Ghosts S) (old late : Held S) where
   -- if the tables were created, the connection was open, and sees the rows of a new desk
   pub has_founded : (state g old).now.schema ≡ no_schema → HasCleanDisk (state g late)
       → Founds g (record old { in_transaction = true }) late {V = Unit {0}} (Ok tt) founded
       → WasOpen g (record old { in_transaction = true }) late {V = Unit {0}} (Ok tt)
       → IsTrue (state g old).is_open × Sees (state g late) founded
-  has_founded bare clean made live =
-      let may : MayBuild no_schema (state g (record old { in_transaction = true })) =
-      record { inside = refl; empty = λ _. record { is = bare; empty = tt } } in
-      (live clean refl, (made clean may).sees)
+  has_founded bare clean made live = search (rules, arith)
 
   -- the commit of these rows keeps the state of a new desk
   pub keeps_founded : KeepsOne g → (end : Held S) → Sees (state g late) founded
       → ShowsNow (state g late) (state g end) (state g late).now (state g late).now false → IsKept (state g end) start
-  keeps_founded law end sees shown = record {
-    sees = λ _. record {
-      schema = subst (λ (d : Database). IsSchemaOf Two d.schema) (sym shown.now_is) sees.schema;
-      sound = subst IsDatabase (sym shown.now_is) sees.sound;
-      committed = shown.now_is ∙ sym shown.committed_is;
-      tables = founded;
-      shown = subst (λ (d : Database). Shows d.trees founded) (sym shown.now_is) sees.rows;
-      stands = founded_stands;
-    };
-    leaves = λ db may. inl (subst (λ (t : Trees). MeansIn Two t start)
-        (sym (law end.store db shown.is_open may ∙ ap (λ (d : Database). d.trees) shown.committed_is))
-        (record { of = is_database (state g late) founded sees; tables = founded; shown = sees.rows; stands = founded_stands }));
-  }
+  keeps_founded law end sees shown = search (rules, arith, is_database, founded_stands)
 
   -- the trees that were there before, or those of a new desk, represent a state that the connection represented
   pub either_means : (v : Version) (s : State) → IsFound v (state g old) s → (v ≡ Two) × (s ≡ start) → Sees (state g late) founded
@@ -177,7 +128,7 @@ module _ {S : Type 0} (g : Ghosts S) (old new : Held S) where
 pub fails_quietly : {S : Type 0} (g : Ghosts S) (old new : Held S) → Quiet g old new → Idle old → (old.schema ≡ no_schema → ⊥)
     → (f : OpenFault) → Tells g old new f → FailsToOpen g old new f → FailsOpening g old new f
 fails_quietly g old new it was filled f told store = record {
-  stands = λ v s stood clean. still_found g old new s it clean v (stood (quiet_clean g old new it clean));
+  stands = (as_before g old new it).stands;
   told = told;
   store = store;
   founds = λ clean bare up is. absurd (filled bare);
@@ -185,13 +136,9 @@ fails_quietly g old new it was filled f told store = record {
   sound = quiet_clean g old new it;
 }
 
--- the one row that was read has its version
-pub has_version : (t : Tables) (m : Meta) → IsMeta t m → AreOfVersion m.version t
-has_version t m is = subst (λ (rows : List MetaRow). AllByRecursion (λ (r : MetaRow). r.version ≡ m.version) rows) (sym is) (refl, tt)
-
 module _ (old new : Connected) (m : Meta) (seen : (v : Version) (t : Tables) → MaySeeIn v old t → IsUnchanged old new × IsMeta t m) where
   -- if a version was read, the connection was open
-  pub was_open : IsTrue old.is_open
+  was_open : IsTrue old.is_open
   was_open = go old.is_open refl
     where
       go : (b : Bool) → old.is_open ≡ b → IsTrue old.is_open
@@ -200,21 +147,22 @@ module _ (old new : Connected) (m : Meta) (seen : (v : Version) (t : Tables) →
 
   module _ (v : Version) (s : State) (found : IsFound v old s) (filled : old.now.schema ≡ no_schema → ⊥) where
     -- the desk that was there
-    pub desk : SeesOf v old s
+    desk : SeesOf v old s
     desk = was_desk v old s found filled was_open
 
     -- what was read of it
-    pub read : IsUnchanged old new × IsMeta desk.tables m
+    read : IsUnchanged old new × IsMeta desk.tables m
     read = seen v desk.tables (λ _. record { schema = desk.schema; rows = desk.shown; sound = desk.sound })
 
-    -- the rows of a desk have the number of their version
+    -- the numbers that were read are those of its state, and of its version
+    pub numbers_read : meta_of m ≡ meta_in v s.ledger
+    numbers_read = let same : meta_of m ∷ [] ≡ meta_in v s.ledger ∷ [] = sym read.1 ∙ desk.stands.meta in cc
+
     pub has_number : m.version ≡ number_of v
-    has_number = let same : meta_of m ∷ [] ≡ meta_in v s.ledger ∷ [] = sym read.1 ∙ desk.stands.meta in
-        let one : meta_of m ≡ meta_in v s.ledger = cc in
-        ap (λ (r : MetaRow). r.version) one
+    has_number = ap (λ (r : MetaRow). r.version) numbers_read
 
     -- a connection that was read keeps the state that it represented
-    pub keeps_read : ((db : Trees) → new.may_leave db → old.may_leave db) → IsKeptIn v new s
+    keeps_read : ((db : Trees) → new.may_leave db → old.may_leave db) → IsKeptIn v new s
     keeps_read less =
         let is = read.0.0 in
         record {

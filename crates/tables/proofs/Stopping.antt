@@ -18,8 +18,8 @@ use Rattle.sql_model.proofs.Quieting.{quiet_clean, quiet_leaves}
 use Rattle.tables.specs.declared.migrate_faults.MigrateFault.{MigrateFault}
 use Rattle.tables.specs.declared.migrate_faults.MigrateFault.TheVariants.{AlreadyNew, UnknownSchema, Store, Memory}
 use Rattle.tables.specs.Migrating.{IsRefusal, LeavesEither, LeavesOneOf, NumbersOld, ShowsAsBefore, ShowsOld, Tells, WasNotNew, WasNotOld}
+use Rattle.tables.proofs.OpenKept.{was_desk}
 use Rattle.tables.proofs.Quiet.{as_before}
-use Rattle.tables.proofs.Reading.{found_keeps}
 
 -- version 1 has tables
 not_bare : seven_schema ≡ no_schema → ⊥
@@ -53,11 +53,7 @@ module _ {S : Type 0} (g : Ghosts S) (old mid : Held S) where
   not_new : (s : State) → SawVersion g old mid 1 → (old.schema ≡ no_schema → ⊥) → HasCleanDisk (state g mid) → HasCleanDisk (state g old)
       → StoodFor Two (state g old) s → ⊥
   not_new s saw filled clean at_old stood =
-      let found : IsFound Two (state g old) s = stood at_old in
-      elim (found.sees (saw_open 1 saw clean)) [
-        | inl desk ↦ (let two : 2 ≡ 1 = saw_number Two 1 s saw clean desk in omega (arith, two))
-        | inr fresh ↦ filled fresh.schema
-      ]
+      let two : 2 ≡ 1 = saw_number Two 1 s saw clean (was_desk Two (state g old) s (stood at_old) filled (saw_open 1 saw clean)) in omega (arith, two)
 
   module _ (quiet : Quiet g old mid) where
     -- a disk that is clean after a quiet call was clean before it
@@ -74,7 +70,7 @@ module _ {S : Type 0} (g : Ghosts S) (old mid : Held S) where
 
     -- and keeps what it represented in tables of version 1
     pub kept_there : (s : State) → StoodFor One (state g old) s → KeepsIn One (state g mid) s
-    kept_there s stood still = found_keeps (state g mid) s ((as_before g old mid quiet).stands One s stood still)
+    kept_there s stood still = let found = (as_before g old mid quiet).stands One s stood still in record { sees = found.sees; leaves = found.leaves }
 
     -- where the tables have a version other than 1, the connection represented no state in tables of version 1
     not_old : (n : ℕ) → n ≢ 1 → SawVersion g old mid n → WasNotOld g old mid

@@ -1,17 +1,16 @@
 -- The unfinished journeys above a number, counted one after another. For `count_unfinished` and `TableBook`.
-use Rattle.std.proofs.Common.{◌≡◌, ℕ, zero, suc, ◌≤◌, List, [], ◌∷◌, length, cond, refl, ap, sym, ◌∙◌, arith, Bool, true, false, ◌&&◌, not, nat_lt, Option, Some, None, filter, filter_map, option_map}
-use Rattle.std.proofs.lemmas.Bool.{ltb-false}
+use Rattle.std.proofs.Common.{◌≡◌, ℕ, zero, suc, ◌≤◌, List, [], ◌∷◌, length, refl, ap, sym, arith, Bool, false, not, Option, Some, None, filter, filter_map, option_map}
+use Rattle.std.proofs.lemmas.Bool.Decides.{nat_tests}
 use Rattle.std.proofs.lemmas.List.Sums.{count_by-le-length, length-filter}
 use Rattle.sql_reads.proofs.ReadReasons.{few_journeys}
 use Rattle.allotment.specs.Cells.{numbers_from}
 use Rattle.std.specs.Prelude.{unwrap_or}
-use Rattle.std.specs.List.{cons_option}
 use Rattle.ledger.specs.History.{is_finished, is_open}
-use Rattle.ledger.specs.Ledger.{Event, journeys, numbers}
+use Rattle.ledger.specs.Ledger.{Event, is_in, journeys, numbers}
 use Rattle.saga_core.specs.Views.{brief_of, first_unfinished, is_unfinished_above, unfinished_of}
 use Rattle.saga_core.specs.declared.records.Brief.{Brief}
 use Rattle.saga_core.proofs.BriefLemmas.{briefs_of, rises, first_above, none_found}
-use Rattle.saga_core.proofs.FirstLemmas.{Tells, tells}
+use Rattle.saga_core.proofs.FirstLemmas.{tells}
 use Rattle.tables.specs.FinishedJourneys.{AreFinishedTo}
 use Rattle.tables.specs.UnfinishedCount.{unfinished_above}
 
@@ -30,11 +29,7 @@ one_counted l last b is = ap length (first_above goes_on 1 last (briefs_of l) b 
 -- a list has as many elements that pass, and are told, as it has elements at most
 few_told : {X Y : Type 0} (h : X → Option Y) (xs : List X) → length (filter_map h xs) ≤ length xs
 few_told h [] = omega arith
-few_told {X} {Y} h (x ∷ xs) = go (h x) (few_told h xs)
-  where
-    go : (o : Option Y) → length (filter_map h xs) ≤ length xs → length (cons_option o (filter_map h xs)) ≤ length (x ∷ xs)
-    go None rest = omega arith
-    go (Some y) rest = omega arith
+few_told {X} {Y} h (x ∷ xs) = let rest = few_told h xs in grind (arith, rest)
 
 as_many : (first n : ℕ) → length (numbers_from first n) ≡ n
 as_many first zero = refl
@@ -55,33 +50,17 @@ filter-same : (f g : Brief → Bool) (h : ℕ → Option Brief) (js : List ℕ)
     → ((j : ℕ) (b : Brief) → h j ≡ Some b → f b ≡ g b)
     → filter f (filter_map h js) ≡ filter g (filter_map h js)
 filter-same f g h [] agree = refl
-filter-same f g h (j ∷ js) agree = go (h j) refl (filter-same f g h js agree)
-  where
-    go : (o : Option Brief) → h j ≡ o → filter f (filter_map h js) ≡ filter g (filter_map h js)
-        → filter f (cons_option o (filter_map h js)) ≡ filter g (cons_option o (filter_map h js))
-    go None e rest = rest
-    go (Some b) e rest =
-        ap (λ v. cond v (b ∷ filter f (filter_map h js)) (filter f (filter_map h js))) (agree j b e)
-        ∙ ap (λ more. cond (g b) (b ∷ more) more) rest
+filter-same f g h (j ∷ js) agree = let rest = filter-same f g h js agree in grind (arith, rest, agree)
 
 -- if all journeys up to a number have finished, the unfinished ones are those above it
 pub all_listed : (l : List Event) (n : ℕ) → AreFinishedTo l n → filter (is_unfinished_above n) (briefs_of l) ≡ unfinished_of l
 all_listed l n has =
-    filter-same (is_unfinished_above n) goes_on (brief_of l) (numbers l)
-    (λ j b is. by_number j b (tells l j b is) (nat_lt n b.id) refl)
-  where
-    both_false : (v w : Bool) → w ≡ false → (v && w) ≡ w
-    both_false true w e = refl
-    both_false false w e = sym e
-
-    by_number : (j : ℕ) (b : Brief) → Tells l j b → (v : Bool) → nat_lt n b.id ≡ v → is_unfinished_above n b ≡ goes_on b
-    by_number j b t true e = ap (λ v. v && goes_on b) e
-    by_number j b t false e =
-        let within = ltb-false n b.id e in
-        let same = t.number in
-        let ended : is_open b.cursor.phase ≡ false =
-        sym (ap (λ o. unwrap_or (option_map is_open o) false) t.phase_is) ∙ has.closed j (omega (arith, within, same)) in
-        both_false (nat_lt n b.id) (goes_on b) ended
+    filter-same (is_unfinished_above n) goes_on (brief_of l) (numbers l) (λ j b is. (
+    let t = tells l j b is in
+    let same : is_in is_open l j ≡ goes_on b = ap (λ o. unwrap_or (option_map is_open o) false) t.phase_is in
+    let number = t.number in
+    let closed = has.closed j in
+    grind (arith, nat_tests, same, number, closed)))
 
 pub all_counted : (l : List Event) (n : ℕ) → AreFinishedTo l n → unfinished_above l n ≡ length (unfinished_of l)
 all_counted l n has = ap length (all_listed l n has)

@@ -1,5 +1,5 @@
 -- What a call of a book over tables returns, keeps and leaves: the terms of every book, at the fields of this one.
-use Rattle.std.specs.Prelude.{◌≡◌, ◌⊎◌, ◌+◌, ℕ, Option, Result, IsErrOf}
+use Rattle.std.specs.Prelude.{◌⊎◌, ◌+◌, ℕ, Option, Result, IsErrOf}
 use Rattle.std.specs.Borrow.{Bor}
 use Rattle.std.specs.Option.{option_copied}
 use Rattle.sqlite.specs.Store.{Ghosts}
@@ -14,8 +14,6 @@ use Rattle.desk_sql.specs.Causes.{HasFaulted, IsUp}
 use Rattle.desk_sql.specs.Writable.{HasRowids}
 use Rattle.ledger.specs.Answer.{State}
 use Rattle.saga_core.specs.Books as books
-use Rattle.saga_core.specs.Views.{first_unfinished}
-use Rattle.saga_core.specs.declared.records.Brief.{Brief}
 use Rattle.sql_commands.specs.Failing.{HasReason, HasShortText, asked_rowids}
 use Rattle.sql_model.specs.Spelling.{IsSpelled}
 use Rattle.tables.specs.Keeping.{Stands, MayLeave}
@@ -31,12 +29,6 @@ module _ {S : Type 0} (g : Ghosts S) where
   LeavesBook b s t = MayLeave (state g b.conn) s t
 
   module _ (old new : TableBook S g) where
-    -- the call returns the first unfinished journey above a number
-    abbrev pub ShowsFirst : ℕ → Result (Option Brief) Fault → Type 0
-    ShowsFirst after result =
-        HasCleanDisk (state g new.conn)
-        → books.Shows (StandsBook old) (λ s found. found ≡ first_unfinished s.ledger after) result
-
     -- unless the store failed, the book represents what it represented before
     abbrev pub KeepsKnowing : {V : Type 0} → Result V Fault → Type 0
     KeepsKnowing result =

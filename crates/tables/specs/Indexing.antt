@@ -1,5 +1,5 @@
 -- What adding the index on the agents of the journeys comes to.
-use Rattle.std.specs.Prelude.{◌≡◌, ◌≢◌, ◌⊎◌, ⊤, length}
+use Rattle.std.specs.Prelude.{◌≡◌, ◌≢◌, ◌⊎◌, ⊤, length, Result, Ok, Err}
 use Rattle.sqlite.specs.Store.{Ghosts}
 use Rattle.sqlite.specs.Held.{Held, state}
 use Rattle.sqlite.specs.State.{HasCleanDisk}
@@ -14,9 +14,15 @@ use Rattle.ledger.specs.Answer.{State}
 use Rattle.ledger.specs.Ledger.{journeys}
 use Rattle.sql_model.specs.ExpectedRows.{meta_in}
 use Rattle.sql_model.specs.Keeping.{KeepsIn, StoodFor}
+use Rattle.tables.specs.Migrating.{IsFault}
 use Rattle.tables.specs.declared.migrate_faults.MigrateFault.{MigrateFault}
 use Rattle.tables.specs.declared.migrate_faults.MigrateFault.TheVariants.{AlreadyNew, UnknownSchema, Store, Memory}
 use Rattle.tables.specs.declared.indexing.Indexed.{Indexed}
+
+-- numbers that were read are returned if they are of the newest version, and else refused by their version
+abbrev pub JudgesNewest : Meta → Result Meta MigrateFault → Type 0
+JudgesNewest meta (Ok m) = (m ≡ meta) × (m.version ≡ 2)
+JudgesNewest meta (Err why) = (why ≡ UnknownSchema meta.version) × (meta.version ≢ 2)
 
 module _ {S : Type 0} (g : Ghosts S) (old new : Held S) where
   -- the connection represents each state that it represented, in tables of the same version, and a crash leaves just that state
@@ -30,6 +36,11 @@ module _ {S : Type 0} (g : Ghosts S) (old new : Held S) where
   -- its tables have an index beside those of their keys, if they represented a state
   abbrev pub GivesIndex : Type 0
   GivesIndex = HasCleanDisk (state g new) → (s : State) → KeepsIn Two (state g old) s → HasExtra new.schema
+
+  -- a success gives the index, and a failure is a fault
+  abbrev pub EndsIndexing : {V : Type 0} → Result V MigrateFault → Type 0
+  EndsIndexing (Ok v) = GivesIndex
+  EndsIndexing (Err why) = IsFault why
 
   -- these are the numbers of tables of the newest version, and of the state that they represented
   pub record SawNewest (m : Meta) : Type 0 where
@@ -49,3 +60,8 @@ module _ {S : Type 0} (g : Ghosts S) (old new : Held S) where
   RefusesIndex (UnknownSchema n) = (n ≢ 2) × (((n ≡ 0) × (old.schema ≡ no_schema)) ⊎ SawVersion g old new n)
   RefusesIndex Store = ⊤
   RefusesIndex Memory = ⊤
+
+  -- what comes of reading the numbers of tables of the newest version
+  abbrev pub TriesNewest : Result Meta MigrateFault → Type 0
+  TriesNewest (Ok m) = SawNewest m
+  TriesNewest (Err why) = RefusesIndex why

@@ -8,7 +8,6 @@ pub mod Making
 pub mod Opening
 pub mod Reading
 pub mod UnfinishedCount
-pub mod StockLeft
 pub mod Indexing
 pub mod Statements
 pub mod Copying

@@ -1,5 +1,5 @@
 -- Why a migration of tables of version 1 failed.
-use Rattle.std.specs.Prelude.{◌≡◌, ◌⊎◌, ◌≤◌, ℕ, length, Result, IfErr}
+use Rattle.std.specs.Prelude.{◌≡◌, ◌≢◌, ◌↔◌, ◌⊎◌, ◌≤◌, ℕ, length, Result, IfErr}
 use Rattle.sqlite.specs.Store.{Ghosts}
 use Rattle.sqlite.specs.Held.{Held, state}
 use Rattle.sqlite.specs.State.{HasCleanDisk}
@@ -18,7 +18,12 @@ use Rattle.sql_model.specs.Standing.{StandsIn}
 use Rattle.tables.specs.Copying.{MayAdd, HasCopied}
 use Rattle.tables.specs.Migrating.{AreNumbersOf, migrated, too_many}
 use Rattle.tables.specs.declared.migrate_faults.MigrateFault.{MigrateFault}
-use Rattle.tables.specs.declared.migrate_faults.MigrateFault.TheVariants.{Store}
+use Rattle.tables.specs.declared.migrate_faults.MigrateFault.TheVariants.{Memory, Store}
+
+-- the fault of an error before the commit: out of memory is told as such, and any other error as the store's
+pub record IsFaultOf (e : Error) (why : MigrateFault) : Type 0 where
+  pub memory : why ≡ Memory ↔ e ≡ SqliteFailure OutOfMemory
+  pub store : why ≡ Store ↔ (e ≢ SqliteFailure OutOfMemory)
 
 -- the ledger has more events than a file may have
 abbrev pub HasTooMany : State → Type 0

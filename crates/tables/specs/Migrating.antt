@@ -1,5 +1,5 @@
 -- The state of a connection after a migration, and what a crash may leave of it.
-use Rattle.std.specs.Prelude.{◌≡◌, ◌≢◌, ◌⊎◌, ◌+◌, ◌≤◌, ◌<◌, ◌^◌, ℕ, ⊤, length, Result, OnOk, IsTrue}
+use Rattle.std.specs.Prelude.{◌≡◌, ◌≢◌, ◌⊎◌, ◌+◌, ◌≤◌, ◌<◌, ◌^◌, ℕ, ⊤, length, Result, Ok, Err, OnOk, IsTrue}
 use Rattle.sqlite.specs.Store.{Ghosts}
 use Rattle.sqlite.specs.Tree.{Trees}
 use Rattle.sqlite.specs.Held.{Held, state}
@@ -56,6 +56,17 @@ RefusesNumbers m AlreadyNew = m.version ≡ 2
 RefusesNumbers m (UnknownSchema n) = (n ≡ m.version) × (n ≢ 1) × (n ≢ 2)
 RefusesNumbers m Store = (m.version ≡ 1) × ((too_many ≤ m.events) ⊎ (too_many ≤ m.journeys))
 RefusesNumbers m Memory = ⊥
+
+-- numbers of version 1, of which there are no more than a file may have, are accepted
+pub record AcceptsNumbers (meta m : Meta) : Type 0 where
+  pub same : m ≡ meta
+  pub version : m.version ≡ 1
+  pub few : HasFew m
+
+-- what comes of numbers that were read
+abbrev pub JudgesOld : Meta → Result Meta MigrateFault → Type 0
+JudgesOld meta (Ok m) = AcceptsNumbers meta m
+JudgesOld meta (Err why) = RefusesNumbers meta why
 
 module _ {S : Type 0} (g : Ghosts S) (old new : Held S) where
   -- the state that the connection represented in tables of version 1 is kept in tables of version 2

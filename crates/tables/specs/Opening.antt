@@ -1,11 +1,13 @@
 -- What the opening of a store finds.
-use Rattle.std.specs.Prelude.{◌≡◌, ◌≢◌, ⊤, ℕ, ◌⊎◌, true}
+use Rattle.std.specs.Prelude.{◌≡◌, ◌≢◌, ◌↔◌, ⊤, ℕ, ◌⊎◌, true, Result, Ok, Err}
 use Rattle.sqlite.specs.Store.{Ghosts}
 use Rattle.sqlite.specs.Held.{Held, state}
 use Rattle.sqlite.specs.State.{HasCleanDisk}
 use Rattle.sqlite.specs.Steps.{FailsToCommit}
 use Rattle.sqlite.specs.declared.error.Error.TheVariants.{SqliteFailure}
 use Rattle.sqlite.specs.declared.error.ErrorCode.TheVariants.{OutOfMemory}
+use Rattle.commands.specs.declared.replies.Fault.{Fault}
+use Rattle.commands.specs.declared.replies.Fault.TheVariants as faults
 use Rattle.desk_sql.specs.declared.versions.Version.{Version}
 use Rattle.desk_sql.specs.declared.versions.Version.TheVariants.{Two}
 use Rattle.desk_sql.specs.Versions.{number_of, SawVersion}
@@ -19,6 +21,11 @@ use Rattle.sql_model.specs.Staying.{SeesAsBefore, StaysUp}
 use Rattle.tables.specs.declared.faults.OpenFault.{OpenFault}
 use Rattle.tables.specs.declared.faults.OpenFault.TheVariants.{UnknownSchema, Store, Memory}
 use Rattle.tables.specs.Keeping.{IsKeptIn, KeepsIn, StoodFor}
+
+-- the fault of an opening for a fault of the store
+pub record IsOpeningFault (f : Fault) (fault : OpenFault) : Type 0 where
+  pub memory : fault ≡ Memory ↔ f ≡ faults.Memory
+  pub store : fault ≡ Store ↔ f ≡ faults.Store
 
 module _ {S : Type 0} (g : Ghosts S) (old new : Held S) where
   -- the connection keeps the state that it represented, in tables of this version
@@ -100,3 +107,8 @@ module _ {S : Type 0} (g : Ghosts S) (old new : Held S) where
     -- the connection may be opened again
     pub idle : Idle new
     pub sound : WasClean g old new
+
+  -- how an opening ends
+  abbrev pub EndsOpening : Result Version OpenFault → Type 0
+  EndsOpening (Ok now) = Opens now
+  EndsOpening (Err fault) = FailsOpening fault

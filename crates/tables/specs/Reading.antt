@@ -10,23 +10,27 @@ use Rattle.commands.specs.Request.{Request}
 use Rattle.commands.specs.declared.replies.Fault.{Fault}
 use Rattle.commands.specs.declared.replies.Reply.{Reply}
 use Rattle.desk_sql.specs.Calls.{Quiet}
+use Rattle.ledger.specs.Answer.{State}
 use Rattle.sql_model.specs.Staying.{SeesAsBefore, StaysUp}
 use Rattle.sql_model.specs.Keeping.{WasClean}
 use Rattle.tables.specs.Acting.{ActsOn, HasReasonSince, MayActSince}
-use Rattle.tables.specs.BookTerms.{FailsForReason, FailsToAct, KeepsKnowing, LeavesBook, LeavesRowids, StandsBook}
+use Rattle.tables.specs.BookTerms.{FailsForReason, FailsToAct, KeepsKnowing, LeavesBook, LeavesRowids, ShowsKept, StandsBook}
 use Rattle.saga_core.specs.Calls as calls
 use Rattle.tables.specs.declared.books.TableBook.{TableBook}
 
-module _ {S : Type 0} (g : Ghosts S) (old new : TableBook S g) {V : Type 0} (result : Result V Fault) where
-  -- a look at the tables of a book, which does not tell whether it has failed
+module _ {S : Type 0} (g : Ghosts S) (old new : TableBook S g) {V : Type 0} (result : Result V Fault)
+    (IsShown : State → V → Type 0) where
+  -- a look at the tables of a book shows this of each state that the book represents, and does not tell whether the book has failed
   pub record Looks : Type 0 where
+    pub shown : ShowsKept g old new IsShown result
     pub same : KeepsKnowing g old new result
     pub failed : new.failed ≡ old.failed
     pub store : FailsForReason g old new result
     pub quiet : Quiet g old.conn new.conn
 
-  -- a read of a book, which has failed if the store has
+  -- a read of a book shows the same, and the book has failed if the store has
   pub record Reads : Type 0 where
+    pub shown : ShowsKept g old new IsShown result
     pub book : calls.Reads (λ b. HasCleanDisk (state g b.conn)) (StandsBook g) (LeavesBook g) (λ b. b.failed) (MayActSince g)
         (HasReasonSince g) old new result
     pub sound : WasClean g old.conn new.conn

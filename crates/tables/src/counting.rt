@@ -1,7 +1,9 @@
 //! How many journeys are unfinished: counted once, and from then on by what each new reply tells.
-ghost use Rattle.std.specs.Prelude.{◌≡◌, IfSome};
+ghost use Rattle.std.specs.Prelude.{◌≡◌, IfSome, length};
+ghost use Rattle.saga_core.specs.Views.{unfinished_of};
 ghost use Rattle.sql_reads.specs.Reads.{Read};
-ghost use Rattle.tables.specs.UnfinishedCount.{CountsOn, FollowsCount, unfinished_above};
+ghost use Rattle.tables.specs.FinishedJourneys.{AreFinishedTo};
+ghost use Rattle.tables.specs.UnfinishedCount.{CountsOn, FollowsCount, IsCount, unfinished_above};
 
 use commands::{Fault, MOST_EVENTS, Reply};
 use saga_core::is_finished;
@@ -43,7 +45,7 @@ pub(crate) fn counted_after(before: Option<u64>, answered: &Answered) -> Option<
 }
 
 /// Counts the unfinished journeys above `after`, one after another.
-pub(crate) fn count_unfinished<S: Alter>(conn: &mut Connection<S>, after: u64) -> Result<u64, Fault>
+fn count_unfinished<S: Alter>(conn: &mut Connection<S>, after: u64) -> Result<u64, Fault>
     ensures { Read S.Store conn.old conn.new result (λ s n. n ≡ unfinished_above s.ledger after) }
 {
     let mut last = after;
@@ -54,4 +56,19 @@ pub(crate) fn count_unfinished<S: Alter>(conn: &mut Connection<S>, after: u64) -
         last = brief.id;
     }
     Err(Fault::Store)
+}
+
+/// Returns how many journeys are unfinished: as many as are known, or else those above `finished`, up to which all have finished.
+pub(crate) fn count_if_unknown<S: Alter>(
+    conn: &mut Connection<S>,
+    known: Option<u64>,
+    finished: u64,
+) -> Result<u64, Fault>
+    ensures { Read S.Store conn.old conn.new result (λ s n. IsCount s.ledger known
+        → AreFinishedTo s.ledger finished → n ≡ length (unfinished_of s.ledger)) }
+{
+    if let Some(count) = known {
+        return Ok(count);
+    }
+    count_unfinished(conn, finished)
 }

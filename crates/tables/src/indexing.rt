@@ -3,11 +3,10 @@
 //! No row changes, and the version stays. Tables of another version are refused. Whatever the result, the connection represents
 //! what it represented, and a crash leaves just that.
 
-ghost use Rattle.std.specs.Prelude.{◌≡◌, ◌≢◌, false, IfOk, IfErr, OnOk};
+ghost use Rattle.std.specs.Prelude.{◌≡◌, false, IfOk, IfErr};
 ghost use Rattle.desk_sql.specs.Calls.{Idle, Quiet};
 ghost use Rattle.desk_sql.specs.Indexing.{HasExtra};
-ghost use Rattle.tables.specs.Indexing.{GivesIndex, HasIndex, Keeps, RefusesIndex, SawNewest, StandsOn};
-ghost use Rattle.tables.specs.Migrating.{IsFault};
+ghost use Rattle.tables.specs.Indexing.{EndsIndexing, HasIndex, JudgesNewest, Keeps, RefusesIndex, StandsOn, TriesNewest};
 ghost use Rattle.tables.specs.Outcomes.{StaysIdle};
 
 use crate::migrate_faults::{MigrateFault, fault_of};
@@ -27,10 +26,7 @@ pub struct Indexed {
 fn read_new<S: Alter>(conn: &mut Connection<S>) -> Result<Meta, MigrateFault>
     requires outside { conn.old.in_transaction ≡ false }
 
-    ensures seen { IfOk result (SawNewest S.Store conn.old conn.new) }
-
-    ensures refused { IfErr result (RefusesIndex S.Store conn.old conn.new) }
-
+    ensures tries { TriesNewest S.Store conn.old conn.new result }
     ensures quiet { Quiet S.Store conn.old conn.new }
 {
     if has_no_tables(conn.schema()) {
@@ -44,9 +40,7 @@ fn read_new<S: Alter>(conn: &mut Connection<S>) -> Result<Meta, MigrateFault>
 
 /// The numbers that were read, if they are of the newest version.
 fn newest_only(meta: Meta) -> Result<Meta, MigrateFault>
-    ensures ok { IfOk result (λ m. (m ≡ meta) × (m.version ≡ 2)) }
-
-    ensures refused { IfErr result (λ why. (why ≡ MigrateFault.UnknownSchema meta.version) × (meta.version ≢ 2)) }
+    ensures { JudgesNewest meta result }
 {
     match meta.version {
         2 => Ok(meta),
@@ -60,8 +54,7 @@ fn add_to<S: Alter>(conn: &mut Connection<S>) -> Result<(), MigrateFault>
     requires lacks { ¬ HasExtra conn.old.schema }
 
     ensures keeps { Keeps S.Store conn.old conn.new }
-    ensures gives { OnOk result (GivesIndex S.Store conn.old conn.new) }
-    ensures fault { IfErr result IsFault }
+    ensures ends { EndsIndexing S.Store conn.old conn.new result }
     ensures idle { StaysIdle S.Store conn.old conn.new }
 {
     let mut tx = conn.transaction();

@@ -1,5 +1,5 @@
 //! Why a file could not be migrated.
-ghost use Rattle.std.specs.Prelude.{◌≡◌, ◌≢◌, ◌↔◌};
+ghost use Rattle.tables.specs.MigrateReasons.{IsFaultOf};
 
 use sqlite::{Error, ErrorCode};
 
@@ -18,10 +18,7 @@ pub enum MigrateFault {
 
 /// The fault of an error before the commit. Nothing was committed, so out of memory is reported as such.
 pub(crate) fn fault_of(error: &Error) -> MigrateFault
-    ensures memory { result ≡ MigrateFault.Memory
-        ↔ error.now ≡ Error.SqliteFailure ErrorCode.OutOfMemory }
-    ensures store { result ≡ MigrateFault.Store
-        ↔ (error.now ≢ Error.SqliteFailure ErrorCode.OutOfMemory) }
+    ensures { IsFaultOf error.now result }
 {
     match error {
         Error::SqliteFailure(ErrorCode::OutOfMemory) => MigrateFault::Memory,

@@ -3,12 +3,12 @@
 //! Every refusal comes before the transaction begins. Until the commit, which is the last call of the store, the disk
 //! has only the old tables.
 
-ghost use Rattle.std.specs.Prelude.{◌≡◌, false, Err, IfOk, IfErr, OnOk};
+ghost use Rattle.std.specs.Prelude.{◌≡◌, false, Err, IfOk, IfErr};
 ghost use Rattle.desk_sql.specs.Schema.{no_schema};
 ghost use Rattle.desk_sql.specs.Calls.{GoesOn, Quiet, Idle};
-ghost use Rattle.tables.specs.Migrating.{HasFew, RefusesNumbers, Tells, WritesNew};
-ghost use Rattle.tables.specs.Outcomes.{Brings, FailsToBring, FailsToMigrate, Migrates, ReadsOld, StaysIdle};
-ghost use Rattle.tables.specs.MigrateReasons.{FailsOnOld, FailsToRead};
+ghost use Rattle.tables.specs.Migrating.{HasFew, JudgesOld, WritesNew};
+ghost use Rattle.tables.specs.Outcomes.{EndsBringing, FailsToMigrate, Migrates, StaysIdle, TriesOld};
+ghost use Rattle.tables.specs.MigrateReasons.{FailsOnOld};
 
 use crate::migrate_faults::{MigrateFault, fault_of};
 use crate::statements::{add_tables, copy_all};
@@ -30,12 +30,7 @@ pub struct Migrated {
 fn read_old<S: Alter>(conn: &mut Connection<S>) -> Result<Meta, MigrateFault>
     requires outside { conn.old.in_transaction ≡ false }
 
-    ensures reads { IfOk result (ReadsOld S.Store conn.old conn.new) }
-
-    ensures told { IfErr result (Tells S.Store conn.old conn.new) }
-    ensures bare { conn.old.schema ≡ no_schema → result ≡ Err (MigrateFault.UnknownSchema 0) }
-    ensures store { IfErr result (FailsToRead S.Store conn.old conn.new) }
-
+    ensures tries { TriesOld S.Store conn.old conn.new result }
     ensures quiet { Quiet S.Store conn.old conn.new }
 {
     if has_no_tables(conn.schema()) {
@@ -49,9 +44,7 @@ fn read_old<S: Alter>(conn: &mut Connection<S>) -> Result<Meta, MigrateFault>
 
 /// The numbers that were read, if they are of version 1 and below the limit.
 fn old_only(meta: Meta) -> Result<Meta, MigrateFault>
-    ensures ok { IfOk result (λ m. (m ≡ meta) × (m.version ≡ 1) × HasFew m) }
-
-    ensures refused { IfErr result (RefusesNumbers meta) }
+    ensures { JudgesOld meta result }
 {
     match meta.version {
         1 if meta.events < LIMIT && meta.journeys < LIMIT => Ok(meta),
@@ -80,8 +73,7 @@ fn bring_over<S: Alter>(conn: &mut Connection<S>, meta: Meta) -> Result<(), Migr
     requires idle { Idle conn.old }
     requires few { HasFew meta }
 
-    ensures brings { OnOk result (Brings S.Store conn.old conn.new meta) }
-    ensures fails { IfErr result (FailsToBring S.Store conn.old conn.new meta) }
+    ensures ends { EndsBringing S.Store conn.old conn.new meta result }
     ensures idle { StaysIdle S.Store conn.old conn.new }
 {
     let mut tx = conn.transaction();

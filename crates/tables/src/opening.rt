@@ -6,10 +6,10 @@
 //! Words: a connection *stood for* a state (`StoodFor`) if it showed that state and a crash left just that state; a
 //! store without tables represents a new desk.
 
-ghost use Rattle.std.specs.Prelude.{◌≡◌, ◌≢◌, ◌↔◌, false, None, IsTrue, IfOk, IfErr, OnOk};
+ghost use Rattle.std.specs.Prelude.{◌≡◌, ◌≢◌, ◌↔◌, false, None, IsTrue, IfOk, IfErr};
 ghost use Rattle.desk_sql.specs.Schema.{no_schema};
 ghost use Rattle.desk_sql.specs.Calls.{Idle};
-ghost use Rattle.tables.specs.Opening.{FailsOpening, Opens};
+ghost use Rattle.tables.specs.Opening.{EndsOpening, FailsOpening, IsOpeningFault, Opens};
 
 use crate::faults::OpenFault;
 use commands::Fault;
@@ -91,8 +91,7 @@ impl<S: Alter> Opened<S> {
 
 /// The fault of an opening for a fault of the store.
 fn opening_fault(fault: Fault) -> OpenFault
-    ensures memory { result ≡ OpenFault.Memory ↔ fault ≡ Fault.Memory }
-    ensures store { result ≡ OpenFault.Store ↔ fault ≡ Fault.Store }
+    ensures { IsOpeningFault fault result }
 {
     match fault {
         Fault::Memory => OpenFault::Memory,
@@ -101,12 +100,11 @@ fn opening_fault(fault: Fault) -> OpenFault
 }
 
 /// Creates all tables of the newest version in one commit, in a store that has none.
-fn found_tables<S: Alter>(conn: &mut Connection<S>) -> Result<(), OpenFault>
+fn found_tables<S: Alter>(conn: &mut Connection<S>) -> Result<Version, OpenFault>
     requires idle { Idle conn.old }
     requires bare { conn.old.schema ≡ no_schema }
 
-    ensures opens { OnOk result (Opens S.Store conn.old conn.new Version.Two) }
-    ensures fails { IfErr result (FailsOpening S.Store conn.old conn.new) }
+    ensures { EndsOpening S.Store conn.old conn.new result }
 {
     let mut tx = conn.transaction();
     if let Err(error) = make_tables(&mut tx) {
@@ -114,7 +112,7 @@ fn found_tables<S: Alter>(conn: &mut Connection<S>) -> Result<(), OpenFault>
         return Err(opening_fault(fault_of(&error)));
     }
     match tx.commit() {
-        Ok(()) => Ok(()),
+        Ok(()) => Ok(Version::Two),
         Err(_) => Err(OpenFault::Store),
     }
 }
@@ -124,8 +122,7 @@ fn read_version<S: Alter>(conn: &mut Connection<S>) -> Result<Version, OpenFault
     requires idle { Idle conn.old }
     requires filled { conn.old.schema ≢ no_schema }
 
-    ensures opens { IfOk result (Opens S.Store conn.old conn.new) }
-    ensures fails { IfErr result (FailsOpening S.Store conn.old conn.new) }
+    ensures { EndsOpening S.Store conn.old conn.new result }
 {
     match read_meta(conn) {
         Ok(meta) => match Version::from_number(meta.version) {
@@ -150,10 +147,7 @@ pub fn open_from<S: Alter>(mut conn: Connection<S>) -> Result<Opened<S>, (Connec
     let bare = has_no_tables(conn.schema());
     if bare {
         return match found_tables(&mut conn) {
-            Ok(()) => Ok(Opened {
-                conn,
-                version: Version::Two,
-            }),
+            Ok(version) => Ok(Opened { conn, version }),
             Err(fault) => Err((conn, fault)),
         };
     }

@@ -37,16 +37,13 @@ fn loaded_again(batch: &Batch, known: &Batch) -> Reply
 }
 
 impl MemBook {
-    ghost use Rattle.std.specs.Prelude.{◌≡◌, [], not, find, bytes_eq, None, IfOk, IsTrue};
-    ghost use Rattle.std.specs.List.{list_all};
+    ghost use Rattle.std.specs.Prelude.{◌≡◌, [], find, bytes_eq, None};
     ghost use Rattle.ledger.specs.Answer.{State, answer, asker, limited};
     ghost use Rattle.ledger.specs.Replies.{answer_new};
     ghost use Rattle.ledger.specs.Ledger.{batches_named};
-    ghost use Rattle.memory_book.specs.MemoryStock.{is_below_in};
-    ghost use Rattle.memory_book.specs.Memory.{StandsFor, IsCarriedOut};
+    ghost use Rattle.memory_book.specs.Memory.{StandsFor, Carried, CarriesOut};
     ghost use Rattle.std.specs.Option.{option_copied};
     ghost use Rattle.commands.specs.Request as request;
-    ghost use Rattle.memory_book.specs.Memory.{CarriesOut, KeepsBook};
 
     /// The batch of this name. Returns `None` if none was loaded.
     fn batch_named(&self, name: Name) -> Option<&Batch>
@@ -58,9 +55,8 @@ impl MemBook {
 
     /// Loads a batch. A batch whose name is known changes nothing, nor does one with a row below what journeys hold.
     pub fn load(&mut self, batch: &Batch, ask: Option<&Ask>) -> Result<Reply, AllocError>
-        ensures answer { CarriesOut self.old self.new (option_copied ask.entry)
+        ensures { CarriesOut self.old self.new (option_copied ask.entry)
             (request.Load batch.now.name batch.now.rows) result }
-        ensures memory { KeepsBook self.old self.new result }
     {
         match self.batch_named(batch.name()) {
             Some(known) => Ok(loaded_again(batch, known)),
@@ -70,12 +66,11 @@ impl MemBook {
 
     /// Loads a batch whose name is new, unless a row of it is below what journeys hold.
     fn load_new(&mut self, batch: &Batch, ask: Option<&Ask>) -> Result<Reply, AllocError>
-        ensures answer { (s : State) → StandsFor self.old s →
+        ensures { (s : State) → StandsFor self.old s →
             batches_named s.ledger batch.now.name ≡ [] →
-            IfOk result (IsCarriedOut self.new s (option_copied ask.entry)
+            Carried self.new s (option_copied ask.entry)
             (answer s.ledger (asker (option_copied ask.entry))
-            (request.Load batch.now.name batch.now.rows))) }
-        ensures memory { KeepsBook self.old self.new result }
+            (request.Load batch.now.name batch.now.rows)) result }
     {
         match self.stock.first_below_held(batch.rows()) {
             Some(place) => Ok(Reply::Refused(Refusal::BelowHeld { row: place + 1 })),
@@ -83,19 +78,15 @@ impl MemBook {
         }
     }
 
-    /// Loads a batch, if the ledger has room. The precondition says that no row of it is below what journeys hold.
+    /// Loads a batch, if the ledger has room. Its caller has found no row of it that is below what journeys hold.
     fn load_fitting(&mut self, batch: &Batch, ask: Option<&Ask>) -> Result<Reply, AllocError>
-        requires held { IsTrue
-            (list_all (λ row. not (is_below_in self.old.stock row)) batch.now.rows) }
-
-        ensures answer { (s : State) → StandsFor self.old s →
+        ensures { (s : State) → StandsFor self.old s →
             answer s.ledger (asker (option_copied ask.entry))
             (request.Load batch.now.name batch.now.rows)
             ≡ limited s.ledger (answer_new batch.now.name batch.now.rows None) →
-            IfOk result (IsCarriedOut self.new s (option_copied ask.entry)
+            Carried self.new s (option_copied ask.entry)
             (answer s.ledger (asker (option_copied ask.entry))
-            (request.Load batch.now.name batch.now.rows))) }
-        ensures memory { KeepsBook self.old self.new result }
+            (request.Load batch.now.name batch.now.rows)) result }
     {
         if self.is_full() {
             return Ok(Reply::Refused(Refusal::Limit));

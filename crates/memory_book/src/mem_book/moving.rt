@@ -1,23 +1,21 @@
 //! Moves of journeys: steps, turns and save-points.
-ghost use Rattle.std.specs.Prelude.{◌≡◌, ◌<◌, ◌^◌, suc, IsTrue};
-ghost use Rattle.memory_book.specs.MemoryStock.{IsInPlan, fits_where_taken, ChangesFor};
+ghost use Rattle.std.specs.Prelude.{◌≡◌};
+ghost use Rattle.memory_book.specs.MemoryStock.{IsInPlan, ChangesFor};
 
 use crate::mem_book::MemBook;
-use crate::next::{saved, stepped, turned};
-use crate::stock::Stock;
-use commands::{Ask, Cause, Cursor, Item, Refusal, Reply};
-use plan::{Plan, Turn};
+use crate::next::{Motion, moved_by};
+use crate::stock::{Change, Stock};
+use commands::{Ask, Cursor, Item, Refusal, Reply};
+use plan::Plan;
 use saga_core::{cursor_after, is_running};
 use std::alloc::AllocError;
 
-/// The reply to the journey at this place, which made this item and is now at this cursor.
-fn moved(place: usize, item: Item, cursor: &Cursor) -> Reply
-    requires counted { place < 2 ^ 63 }
-
-    ensures moved { result ≡ Reply.Moved (suc place) item cursor.now.pos cursor.now.phase }
+/// The reply to the journey with this number, which made this item and is now at this cursor.
+fn moved(id: u64, item: Item, cursor: &Cursor) -> Reply
+    ensures moved { result ≡ Reply.Moved id item cursor.now.pos cursor.now.phase }
 {
     Reply::Moved {
-        id: place as u64 + 1,
+        id,
         item,
         pos: cursor.pos,
         phase: cursor.phase,
@@ -27,27 +25,23 @@ fn moved(place: usize, item: Item, cursor: &Cursor) -> Reply
 /// Takes or gives back the places of an item's want.
 fn change_stock(stock: &mut Stock, plan: &Plan, item: Item)
     requires in_plan { IsInPlan plan.now item }
-    requires fits { IsTrue (fits_where_taken stock.old plan.now item) }
 
     ensures changed { ChangesFor plan.now item stock.old stock.new }
 {
     match item {
         Item::Transaction { step, option } => {
-            let want = plan.want(step, option);
-            stock.take(&want);
+            stock.change(&plan.want(step, option), Change::Take);
         }
         Item::Compensation { step, option } => {
-            let want = plan.want(step, option);
-            stock.give(&want);
+            stock.change(&plan.want(step, option), Change::GiveBack);
         }
         Item::Turn { .. } | Item::Save { .. } => {}
     }
 }
 
 impl MemBook {
-    ghost use Rattle.std.specs.Prelude.{◌≡◌, ◌<◌, suc, length, slice_get, Some, IfOk, IfSome, IfNone, IsTrue};
+    ghost use Rattle.std.specs.Prelude.{◌≡◌, ◌<◌, suc, length, slice_get, Some, IfSome, IfNone, IsTrue};
     ghost use Rattle.std.specs.Option.{option_copied};
-    ghost use Rattle.commands.specs.Request as request;
     ghost use Rattle.commands.specs.Request.{Request};
     ghost use Rattle.ledger.specs.Answer.{State, asker, answer, answer_within, is_request, most_events};
     ghost use Rattle.ledger.specs.Ledger.{Did, is_allowed};
@@ -55,7 +49,8 @@ impl MemBook {
     ghost use Rattle.plan.specs.Rules as rules;
     ghost use Rattle.commands.specs.declared.items.Phase.TheVariants as Phase;
     ghost use Rattle.memory_book.specs.MemoryStock.{fits_some};
-    ghost use Rattle.memory_book.specs.Memory.{StandsFor, IsCarriedOut, CarriesOut, KeepsBook};
+    ghost use Rattle.memory_book.specs.MemoryNext.{request_for};
+    ghost use Rattle.memory_book.specs.Memory.{StandsFor, Carried, CarriesOut};
     ghost use Rattle.memory_book.specs.Memory.{IsSeenAt, IsSeenNowhere, IsMove, MayBeMade};
     ghost use Rattle.memory_book.specs.declared.journeys.Journey.{Journey};
 
@@ -90,61 +85,16 @@ impl MemBook {
         self.stock.fits(&want)
     }
 
-    /// Makes a journey's next step.
-    pub fn step(&mut self, id: u64, ask: Option<&Ask>) -> Result<Reply, AllocError>
-        ensures answer { CarriesOut self.old self.new (option_copied ask.entry)
-            (request.Step id) result }
-        ensures memory { KeepsBook self.old self.new result }
+    /// Moves a journey as a request asks.
+    pub fn go(&mut self, id: u64, motion: Motion, ask: Option<&Ask>) -> Result<Reply, AllocError>
+        ensures { CarriesOut self.old self.new (option_copied ask.entry)
+            (request_for motion id) result }
     {
         let Some(place) = self.seen(id, ask) else {
             return Ok(Reply::Refused(Refusal::NoJourney));
         };
         let fits = self.next_fits(place);
-        let next = stepped(&self.journeys[place], fits);
-        self.carry_out(place, next, ask)
-    }
-
-    /// Turns a journey back to a position.
-    pub fn abort(
-        &mut self,
-        id: u64,
-        position: usize,
-        ask: Option<&Ask>,
-    ) -> Result<Reply, AllocError>
-        ensures answer { CarriesOut self.old self.new (option_copied ask.entry)
-            (request.Abort id position) result }
-        ensures memory { KeepsBook self.old self.new result }
-    {
-        let Some(place) = self.seen(id, ask) else {
-            return Ok(Reply::Refused(Refusal::NoJourney));
-        };
-        let next = turned(&self.journeys[place], Turn::Asked(position), Cause::Asked);
-        self.carry_out(place, next, ask)
-    }
-
-    /// Turns a running journey back to its last save-point.
-    pub fn stop(&mut self, id: u64, ask: Option<&Ask>) -> Result<Reply, AllocError>
-        ensures answer { CarriesOut self.old self.new (option_copied ask.entry)
-            (request.Stop id) result }
-        ensures memory { KeepsBook self.old self.new result }
-    {
-        let Some(place) = self.seen(id, ask) else {
-            return Ok(Reply::Refused(Refusal::NoJourney));
-        };
-        let next = turned(&self.journeys[place], Turn::Stop, Cause::Stop);
-        self.carry_out(place, next, ask)
-    }
-
-    /// Takes a save-point at the journey's position.
-    pub fn save(&mut self, id: u64, ask: Option<&Ask>) -> Result<Reply, AllocError>
-        ensures answer { CarriesOut self.old self.new (option_copied ask.entry)
-            (request.Save id) result }
-        ensures memory { KeepsBook self.old self.new result }
-    {
-        let Some(place) = self.seen(id, ask) else {
-            return Ok(Reply::Refused(Refusal::NoJourney));
-        };
-        let next = saved(&self.journeys[place]);
+        let next = moved_by(&self.journeys[place], motion, fits);
         self.carry_out(place, next, ask)
     }
 
@@ -158,13 +108,12 @@ impl MemBook {
         requires within { place < length self.old.journeys.items }
         requires next { MayBeMade self.old place next }
 
-        ensures answer { (s : State) → StandsFor self.old s →
+        ensures { (s : State) → StandsFor self.old s →
             (asked : Request) → IsTrue (is_request asked) →
             IsMove self.old place
             (answer_within s.ledger (asker (option_copied ask.entry)) asked) next →
-            IfOk result (IsCarriedOut self.new s (option_copied ask.entry)
-            (answer s.ledger (asker (option_copied ask.entry)) asked)) }
-        ensures memory { KeepsBook self.old self.new result }
+            Carried self.new s (option_copied ask.entry)
+            (answer s.ledger (asker (option_copied ask.entry)) asked) result }
     {
         match next {
             Err(refusal) => Ok(Reply::Refused(refusal)),
@@ -183,21 +132,21 @@ impl MemBook {
         requires next { MayBeMade self.old place (Ok item) }
         requires room { self.old.events < most_events }
 
-        ensures answer { (s : State) → StandsFor self.old s →
+        ensures { (s : State) → StandsFor self.old s →
             (k : Journey) → slice_get self.old.journeys.items place ≡ Some k →
             IsTrue (is_allowed s.ledger (Did (suc place) item)) →
-            IfOk result (IsCarriedOut self.new s (option_copied ask.entry)
-            (moves (suc place) k.plan k.cursor item)) }
-        ensures memory { KeepsBook self.old self.new result }
+            Carried self.new s (option_copied ask.entry)
+            (moves (suc place) k.plan k.cursor item) result }
     {
         let journey = &mut self.journeys[place];
         let cursor = cursor_after(&journey.plan, journey.cursor, item);
+        let id = journey.id;
         journey.reserve()?;
         self.answers
-            .keep(self.alloc, ask, moved(place, item, &cursor))?;
+            .keep(self.alloc, ask, moved(id, item, &cursor))?;
         change_stock(&mut self.stock, &journey.plan, item);
         journey.make(item);
         self.events += 1;
-        Ok(moved(place, item, &cursor))
+        Ok(moved(id, item, &cursor))
     }
 }

@@ -5,7 +5,8 @@ ghost use Rattle.commands.specs.Orders.{request_of};
 ghost use Rattle.tables.specs.Asking.{HasAgent};
 ghost use Rattle.ledger.specs.Ledger.{history};
 ghost use Rattle.saga_core.specs.Views.{ShowsCells, IsStock, counts_of, first_unfinished, owned_above, record_of};
-ghost use Rattle.saga_core.specs.Views.{TracesBrief, TracesItems, kept_under, unfinished_of};
+ghost use Rattle.saga_core.specs.Views.{kept_under, unfinished_of};
+ghost use Rattle.sql_reads.specs.Reading.{IsTraceAt};
 
 use crate::books::TableBook;
 use crate::brief_lists::read_owned;
@@ -33,7 +34,6 @@ fn know_agent(ask: Option<&Ask>)
 /// A look at the tables of a book. What it shows is so of each state that the book represents.
 pub(super) trait Look<S: Alter>: Drop {
     ghost use Rattle.ledger.specs.Answer.{State};
-    ghost use Rattle.tables.specs.BookTerms.{ShowsKept};
     ghost use Rattle.tables.specs.Reading.{Looks};
 
     /// What the look returns.
@@ -44,8 +44,7 @@ pub(super) trait Look<S: Alter>: Drop {
 
     /// Looks at the tables of a book that has not failed. At `Store` the book does not remember yet that it failed.
     fn look(self, book: &mut TableBook<S>) -> Result<Self::Shown, Fault>
-        ensures shown { ShowsKept S.Store book.old book.new (shows self) result }
-        ensures looks { Looks S.Store book.old book.new result };
+        ensures { Looks S.Store book.old book.new result (shows self) };
 }
 
 /// The journey of that number, if there is one.
@@ -191,7 +190,7 @@ struct TraceOf {
 impl<S: Alter> Look<S> for TraceOf {
     type Shown = Option<Trace>;
 
-    ghost shows = { λ look s found. TracesBrief look.id s found × TracesItems look.id s found };
+    ghost shows = { λ look s found. IsTraceAt look.id s found };
 
     fn look(self, book: &mut TableBook<S>) -> Result<Option<Trace>, Fault> {
         read_trace(book.alloc, &mut book.conn, self.id)
@@ -213,13 +212,11 @@ impl<S: Alter> Look<S> for AllUnfinished {
 }
 
 impl<S: Alter> TableBook<S> {
-    ghost use Rattle.tables.specs.BookTerms.{ShowsKept};
     ghost use Rattle.tables.specs.Reading.{Executes, Reads};
 
     /// Looks at the tables, unless the store has failed. Where it fails now, the book remembers that.
     pub(super) fn read<L: Look<S>>(&mut self, look: L) -> Result<L::Shown, Fault>
-        ensures shown { ShowsKept S.Store self.old self.new (L.shows look) result }
-        ensures reads { Reads S.Store self.old self.new result }
+        ensures { Reads S.Store self.old self.new result (L.shows look) }
     {
         if self.failed {
             return Err(Fault::Store);
@@ -260,7 +257,6 @@ impl<S: Alter> TableBook<S> {
 
 impl<S: Alter> Book for TableBook<S> {
     ghost use Rattle.tables.specs.Acting.{HasReasonSince, MayActSince};
-    ghost use Rattle.tables.specs.BookTerms.{ShowsKept};
     ghost use Rattle.tables.specs.Reading.{Executes, Reads};
     ghost use Rattle.sqlite.specs.State.{HasCleanDisk};
     ghost use Rattle.sqlite.specs.Held.{state};
@@ -290,81 +286,70 @@ impl<S: Alter> Book for TableBook<S> {
     }
 
     fn journey(&mut self, id: u64) -> Result<Option<Record>, Fault>
-        ensures journey { ShowsKept S.Store self.old self.new
-            (λ s found. found ≡ record_of s.ledger id) result }
-        ensures reads { Reads S.Store self.old self.new result }
+        ensures { Reads S.Store self.old self.new result
+            (λ s found. found ≡ record_of s.ledger id) }
     {
         self.read(JourneyOf { id })
     }
 
     fn history(&mut self, id: u64) -> Result<Vec<Item>, Fault>
-        ensures items { ShowsKept S.Store self.old self.new
-            (λ s items. items.items ≡ history s.ledger id) result }
-        ensures reads { Reads S.Store self.old self.new result }
+        ensures { Reads S.Store self.old self.new result
+            (λ s items. items.items ≡ history s.ledger id) }
     {
         self.read(HistoryOf { id })
     }
 
     fn first_unfinished(&mut self, after: u64) -> Result<Option<Brief>, Fault>
-        ensures first { ShowsKept S.Store self.old self.new
-            (λ s found. found ≡ first_unfinished s.ledger after) result }
-        ensures reads { Reads S.Store self.old self.new result }
+        ensures { Reads S.Store self.old self.new result
+            (λ s found. found ≡ first_unfinished s.ledger after) }
     {
         self.read(FirstUnfinished { after })
     }
 
     fn owned(&mut self, agent: &Agent, after: u64, most: usize) -> Result<Vec<Brief>, Fault>
-        ensures owned { ShowsKept S.Store self.old self.new
-            (λ s briefs. briefs.items ≡ take most (owned_above s.ledger agent.now after)) result }
-        ensures reads { Reads S.Store self.old self.new result }
+        ensures { Reads S.Store self.old self.new result
+            (λ s briefs. briefs.items ≡ take most (owned_above s.ledger agent.now after)) }
     {
         self.read(OwnedAbove { agent, after, most })
     }
 
     fn kept(&mut self, agent: &Agent, key: &Key) -> Result<Option<Reply>, Fault>
-        ensures kept { ShowsKept S.Store self.old self.new
-            (λ s found. found ≡ kept_under s agent.now key.now) result }
-        ensures reads { Reads S.Store self.old self.new result }
+        ensures { Reads S.Store self.old self.new result
+            (λ s found. found ≡ kept_under s agent.now key.now) }
     {
         self.read(KeptUnder { agent, key })
     }
 
     fn counts(&mut self) -> Result<Counts, Fault>
-        ensures counts { ShowsKept S.Store self.old self.new
-            (λ s counts. counts ≡ counts_of s.ledger) result }
-        ensures reads { Reads S.Store self.old self.new result }
+        ensures { Reads S.Store self.old self.new result
+            (λ s counts. counts ≡ counts_of s.ledger) }
     {
         self.read(CountsOfAll)
     }
 
     fn cells(&mut self, want: &Want) -> Result<Vec<(Night, Held)>, Fault>
-        ensures cells { ShowsKept S.Store self.old self.new
-            (λ s cells. ShowsCells want.now s cells.items) result }
-        ensures reads { Reads S.Store self.old self.new result }
+        ensures { Reads S.Store self.old self.new result
+            (λ s cells. ShowsCells want.now s cells.items) }
     {
         self.read(CellsOf { want })
     }
 
     fn stock(&mut self) -> Result<Vec<(Cell, Held)>, Fault>
-        ensures stock { ShowsKept S.Store self.old self.new
-            (λ s rows. IsStock s.ledger rows.items) result }
-        ensures reads { Reads S.Store self.old self.new result }
+        ensures { Reads S.Store self.old self.new result
+            (λ s rows. IsStock s.ledger rows.items) }
     {
         self.read(StockOfAll)
     }
 
     fn trace(&mut self, id: u64) -> Result<Option<Trace>, Fault>
-        ensures brief { ShowsKept S.Store self.old self.new (TracesBrief id) result }
-        ensures items { ShowsKept S.Store self.old self.new (TracesItems id) result }
-        ensures reads { Reads S.Store self.old self.new result }
+        ensures { Reads S.Store self.old self.new result (IsTraceAt id) }
     {
         self.read(TraceOf { id })
     }
 
     fn unfinished(&mut self) -> Result<Vec<Brief>, Fault>
-        ensures briefs { ShowsKept S.Store self.old self.new
-            (λ s briefs. briefs.items ≡ unfinished_of s.ledger) result }
-        ensures reads { Reads S.Store self.old self.new result }
+        ensures { Reads S.Store self.old self.new result
+            (λ s briefs. briefs.items ≡ unfinished_of s.ledger) }
     {
         self.read(AllUnfinished)
     }

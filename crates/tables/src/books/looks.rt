@@ -1,38 +1,52 @@
 //! Looks for the unfinished journeys of a book, and what the book remembers of them.
-ghost use Rattle.std.specs.Prelude.{◌≡◌, length};
+ghost use Rattle.std.specs.Prelude.{◌≡◌};
+ghost use Rattle.std.specs.Option.{option_copied};
+ghost use Rattle.sql_reads.specs.Reads.{Read};
+ghost use Rattle.tables.specs.FinishedJourneys.{finished_by};
 
 use crate::books::TableBook;
 use crate::brief_lists::read_unfinished;
-use crate::counting::count_unfinished;
+use crate::counting::count_if_unknown;
 use commands::Fault;
 use saga_core::{Brief, Counts};
 use sql_commands::read_counts;
 use sql_reads::{LARGEST, read_first_unfinished};
-use sqlite::Alter;
+use sqlite::{Alter, Connection};
+
+/// Returns up to which number all journeys have finished, if this is the first one that has not, or there is none.
+fn finished_before<S: Alter>(conn: &mut Connection<S>, first: Option<&Brief>) -> Result<u64, Fault>
+    ensures { Read S.Store conn.old conn.new result
+        (λ s n. n ≡ finished_by s.ledger (option_copied first.entry)) }
+{
+    match first {
+        Some(brief) => Ok(brief.id.saturating_sub(1)),
+        None => {
+            let now = read_counts(conn)?;
+            Ok(now.journeys)
+        }
+    }
+}
 
 impl<S: Alter> TableBook<S> {
-    ghost use Rattle.saga_core.specs.Views.{counts_of, unfinished_of};
-    ghost use Rattle.tables.specs.BookTerms.{ShowsFirst, ShowsKept};
+    ghost use Rattle.saga_core.specs.Views.{counts_of, first_unfinished, unfinished_of};
     ghost use Rattle.tables.specs.Reading.{Looks};
 
     /// Returns the first unfinished journey. The book remembers that the journeys before it have finished.
     fn look_on(&mut self) -> Result<Option<Brief>, Fault>
-        ensures first { ShowsFirst S.Store self.old self.new self.old.finished result }
-        ensures looks { Looks S.Store self.old self.new result }
+        ensures { Looks S.Store self.old self.new result
+            (λ s found. found ≡ first_unfinished s.ledger self.old.finished) }
     {
         let found = read_first_unfinished(&mut self.conn, self.finished)?;
-        self.finished = match &found {
-            Some(brief) => brief.id.saturating_sub(1),
-            None => read_counts(&mut self.conn)?.journeys,
-        };
+        let finished = finished_before(&mut self.conn, found.as_ref())?;
+        self.finished = finished;
         Ok(found)
     }
 
     /// Returns the unfinished journey with the least number above `after`. Journeys that are known to have finished are
     /// not read again.
     pub(super) fn look(&mut self, after: u64) -> Result<Option<Brief>, Fault>
-        ensures first { ShowsFirst S.Store self.old self.new after result }
-        ensures looks { Looks S.Store self.old self.new result }
+        ensures { Looks S.Store self.old self.new result
+            (λ s found. found ≡ first_unfinished s.ledger after) }
     {
         if after <= self.finished {
             self.look_on()
@@ -44,43 +58,24 @@ impl<S: Alter> TableBook<S> {
     /// Returns the unfinished journeys, in order of number. The book remembers that the journeys before the first of them
     /// have finished.
     pub(super) fn look_at_all(&mut self) -> Result<Vec<Brief>, Fault>
-        ensures briefs { ShowsKept S.Store self.old self.new
-            (λ s briefs. briefs.items ≡ unfinished_of s.ledger) result }
-        ensures looks { Looks S.Store self.old self.new result }
+        ensures { Looks S.Store self.old self.new result
+            (λ s briefs. briefs.items ≡ unfinished_of s.ledger) }
     {
         let known = self.finished.min(LARGEST);
         let briefs = read_unfinished(self.alloc, &mut self.conn, known)?;
-        if let Some(first) = briefs.first() {
-            self.finished = first.id.saturating_sub(1);
-            return Ok(briefs);
-        }
-        let now = read_counts(&mut self.conn)?;
-        self.finished = now.journeys;
+        let finished = finished_before(&mut self.conn, briefs.first())?;
+        self.finished = finished;
         Ok(briefs)
     }
 
-    /// Returns how many journeys are unfinished. They are counted once, and the book remembers the number.
-    fn count(&mut self) -> Result<u64, Fault>
-        ensures number { ShowsKept S.Store self.old self.new
-            (λ s n. n ≡ length (unfinished_of s.ledger)) result }
-        ensures looks { Looks S.Store self.old self.new result }
-    {
-        if let Some(count) = self.unfinished {
-            return Ok(count);
-        }
-        let count = count_unfinished(&mut self.conn, self.finished)?;
-        self.unfinished = Some(count);
-        Ok(count)
-    }
-
-    /// Returns the numbers of events, journeys and unfinished journeys. Reads one row, once the unfinished ones were counted.
+    /// Returns the numbers of events, journeys and unfinished journeys. The unfinished ones are counted once, and the book
+    /// remembers their number; from then on one row is read.
     pub(super) fn tally(&mut self) -> Result<Counts, Fault>
-        ensures counts { ShowsKept S.Store self.old self.new
-            (λ s counts. counts ≡ counts_of s.ledger) result }
-        ensures looks { Looks S.Store self.old self.new result }
+        ensures { Looks S.Store self.old self.new result (λ s counts. counts ≡ counts_of s.ledger) }
     {
-        let unfinished = self.count()?;
+        let unfinished = count_if_unknown(&mut self.conn, self.unfinished, self.finished)?;
         let meta = read_counts(&mut self.conn)?;
+        self.unfinished = Some(unfinished);
         Ok(Counts {
             events: meta.events,
             journeys: meta.journeys,

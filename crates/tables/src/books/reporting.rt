@@ -50,13 +50,11 @@ impl<'a, S: Alter> Look<S> for TextOf<'a> {
 }
 
 impl<S: Alter> Reporting for TableBook<S> {
-    ghost use Rattle.tables.specs.BookTerms.{ShowsKept};
     ghost use Rattle.tables.specs.Reading.{Reads};
 
     fn report(&mut self, report: &Report) -> Result<Option<Vec<u8>>, Fault>
-        ensures text { ShowsKept S.Store self.old self.new (λ s found. OfReport report.now s.ledger
-            (λ text. option_map (λ bytes. bytes.items) found ≡ text)) result }
-        ensures reads { Reads S.Store self.old self.new result }
+        ensures { Reads S.Store self.old self.new result (λ s found. OfReport report.now s.ledger
+            (λ text. option_map (λ bytes. bytes.items) found ≡ text)) }
     {
         self.read(TextOf { report })
     }

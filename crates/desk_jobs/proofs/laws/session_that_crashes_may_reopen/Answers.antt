@@ -1,5 +1,4 @@
 -- The law is used as it stands, of the world that was reopened once.
-use Rattle.saga_core.specs.ChainExamples.{crashed_within_the_step}
 use Rattle.desk_jobs.proofs.laws.session_that_crashes_may_reopen.Goals as goal
 
 pub returns : goal.returns

@@ -4,10 +4,11 @@ use Rattle.sqlite.specs.Held.{state}
 use Rattle.ledger.specs.Answer.{start}
 use Rattle.ledger.specs.World.{after}
 use Rattle.saga_core.specs.Chains.{reopened}
+use Rattle.program_ends.specs.declared.ends.End.TheVariants as finish
 use Rattle.tables.specs.BookTerms.{LeavesBook, StandsBook}
 use Rattle.desk_jobs.proofs.ExecutionLemmas.{stands_reopened}
 use Rattle.desk_jobs.proofs.StageLemmas.{has_recovered, stopped_recovering}
-use Rattle.desk_jobs.proofs.EndLemmas.{book_fault, not_opening}
+use Rattle.desk_jobs.proofs.EndLemmas.{book_fault, no_opening, not_opening}
 use Rattle.desk_jobs.proofs.FollowLemmas.{book_stands}
 use Rattle.desk_jobs.proofs.ReasonLemmas.{acts_from, book_store, fails_as, may_recover, reason_from, run_store}
 use Rattle.desk_jobs.proofs.opening.ready_over.Goals as goal
@@ -39,11 +40,8 @@ returns-in-Err-recover-clause-failed g c =
     let did = c.in-Err-recover.ensures in
     let first = record c.in-Ok.book { conn = c.args.conn; outside = c.requires.idle.outside } in
     record {
-      opening = record {
-        refused = tt;
-        opening = λ why. absurd (not_opening c.in-Err-recover.fault c.from.result c.into.result c.from.ensures c.into.ensures why);
-        founding = λ why. absurd (not_opening c.in-Err-recover.fault c.from.result c.into.result c.from.ensures c.into.ensures why);
-      };
+      opening = no_opening store c.args.conn c.into_store.result (finish.Fault c.into.result) tt
+          (not_opening c.in-Err-recover.fault c.from.result c.into.result c.from.ensures c.into.ensures);
       reason = λ clean why. (
           let sound = c.into_store.ensures.sound clean in
           fails_as store c.args.conn c.into_store.result

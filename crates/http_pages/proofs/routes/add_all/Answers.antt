@@ -1,5 +1,5 @@
 -- One more path, and those behind it, are those that were left.
-use Rattle.std.proofs.Common.{ℕ, ◌≡◌, ◌∙◌, ◌+◌, suc, ap, sym, map, drop, length, arith}
+use Rattle.std.proofs.Common.{ℕ, ◌≡◌, ◌∙◌, ◌+◌, suc, ap, sym, map, drop, arith}
 use Rattle.std.proofs.Math.Seq.{drop-cons}
 use Rattle.http_pages.specs.Routes.{line_of, with_lines}
 use Rattle.http_pages.proofs.routes.add_all.Goals as goal

@@ -1,6 +1,6 @@
 -- Cells are passed over until one is asked for, or the source has none left.
 use Rattle.std.proofs.Common.{arith}
-use Rattle.reports.proofs.TakeLemmas.{given_one, takes_none, takes_row, takes_twice}
+use Rattle.reports.proofs.TakeLemmas.{given_one, takes_none, takes_twice}
 use Rattle.month_reports.proofs.MonthLemmas.{asked_none, asked_some, passes_more, passes_none}
 use Rattle.month_reports.proofs.months.next_asked.Goals as goal
 

@@ -1,8 +1,7 @@
 -- Cells are read while each goes on with the month of the one before it.
 use Rattle.std.proofs.Common.{◌≡◌, ◌∙◌, ◌+◌, ◌≤◌, ◌++◌, ◌∷◌, [], ap, arith, false, length, length-append, rules, subst, sym, true}
-use Rattle.std.proofs.lemmas.Result.{err_from_is_err_and}
 use Rattle.allotment.specs.Nights.{date_of}
-use Rattle.reports.proofs.TakeLemmas.{ends, goes, takes_apart, takes_none, takes_twice}
+use Rattle.reports.proofs.TakeLemmas.{ends, goes, takes_memory, takes_none, takes_twice}
 use Rattle.saga_core.specs.RowSources.{Hands}
 use Rattle.month_reports.specs.Months.{AskedRest, goes_on}
 use Rattle.month_reports.proofs.DayLemmas.{day_from_one}
@@ -61,10 +60,8 @@ returns-then-not-goes_on-clause-takes g c =
 pub returns-in_err-add-2-clause-takes : goal.returns-in_err-add-2-clause-takes
 returns-in_err-add-2-clause-takes g c =
     let source = g.R.RowSource in
-    let result = c.from_residual-in_err-add-2.result in
-    let failed = err_from_is_err_and result c.from_residual-in_err-add-2.ensures.1 in
-    takes_apart source (takes_twice source g.met.R.RowSource.joins c.loop-cells.invariant.takes (goes source c.in_ok-row.ensures.takes))
-    result c.from_residual-in_err-add-2.ensures.0 (λ is. cc (failed.1, failed.2, is))
+    takes_memory source (takes_twice source g.met.R.RowSource.joins c.loop-cells.invariant.takes (goes source c.in_ok-row.ensures.takes))
+    _ c.from_residual-in_err-add-2.ensures.1
 
 -- no cell is left
 pub returns-clause-month : goal.returns-clause-month

@@ -7,9 +7,9 @@ abbrev pub invariant-loop-row : goal.invariant-loop-row
 invariant-loop-row l =
     record {
       nights : l.sums.nights ≡ l.row-index;
-      allot : l.sums.allot ≡ (sums_of (take l.row-index l.month)).allot;
-      held : l.sums.held ≡ (sums_of (take l.row-index l.month)).held;
-      free : l.sums.free ≡ (sums_of (take l.row-index l.month)).free;
+      allot : l.sums.allot ≡ (sums_of (take l.row-index l.cells)).allot;
+      held : l.sums.held ≡ (sums_of (take l.row-index l.cells)).held;
+      free : l.sums.free ≡ (sums_of (take l.row-index l.cells)).free;
       allot_small : l.sums.allot ≤ 100000 * l.row-index;
       held_small : l.sums.held ≤ 100000 * l.row-index;
       free_small : l.sums.free ≤ 100000 * l.row-index;

@@ -4,7 +4,7 @@ use Rattle.std.proofs.lemmas.Result.{err_from_is_err_and}
 use Rattle.commands.specs.declared.replies.Fault.{Fault}
 use Rattle.reports.specs.Faults.{report_fault}
 use Rattle.reports.specs.declared.faults.ReportFault.TheVariants.{Write}
-use Rattle.reports.proofs.TakeLemmas.{ends, goes, takes_apart, takes_err, whole_list}
+use Rattle.reports.proofs.TakeLemmas.{ends, goes, takes_err, takes_memory, whole_list}
 use Rattle.previews.specs.Nights.{nights_in}
 use Rattle.previews.proofs.nights.read_nights.Goals as goal
 
@@ -17,17 +17,12 @@ pub returns-in_err-cells-clause-no_write : goal.returns-in_err-cells-clause-no_w
 returns-in_err-cells-clause-no_write g c = grind (arith, err_from_is_err_and, never_writes)
 
 pub returns-in_err-cells-clause-takes : goal.returns-in_err-cells-clause-takes
-returns-in_err-cells-clause-takes g c =
-    let failed = err_from_is_err_and c.from_residual.result c.from_residual.ensures.1 in
-    takes_err g.R.RowSource c.in_err-cells.ensures.takes c.from_residual.result failed.0 failed.1 failed.2
+returns-in_err-cells-clause-takes g c = takes_err g.R.RowSource c.in_err-cells.ensures.takes _ c.from_residual.ensures.1
 
 -- out of memory for the nights
 pub returns-in_err-nights-clause-takes : goal.returns-in_err-nights-clause-takes
 returns-in_err-nights-clause-takes g c =
-    let result = c.from_residual-in_err-nights.result in
-    let failed = err_from_is_err_and result c.from_residual-in_err-nights.ensures.1 in
-    takes_apart g.R.RowSource (goes g.R.RowSource c.in_ok-cells.ensures.takes) result c.from_residual-in_err-nights.ensures.0
-    (λ is. cc (failed.1, failed.2, is))
+    takes_memory g.R.RowSource (goes g.R.RowSource c.in_ok-cells.ensures.takes) _ c.from_residual-in_err-nights.ensures.1
 
 -- all were taken
 pub returns-clause-nights : goal.returns-clause-nights

@@ -4,16 +4,15 @@ use Rattle.sqlite.specs.Held.{state}
 use Rattle.desk_sql.specs.Causes.{HasFaulted}
 use Rattle.sql_model.proofs.Quieting.{quiet_clean, quiet_up}
 use Rattle.sql_model.proofs.Staying.{fails_twice}
-use Rattle.program_jobs.specs.Reporting.{IsDeskIn, Reports}
+use Rattle.program_jobs.specs.Reporting.{Reports}
 use Rattle.program_jobs.proofs.EndLemmas.{ends_begun, ends_unopened, fails_unopened, unopened_report}
-use Rattle.program_jobs.proofs.ShowLemmas.{still_in}
+use Rattle.program_jobs.proofs.ShowLemmas.{found_in, still_in}
 use Rattle.program_jobs.proofs.reporting.report_over.Goals as goal
 
 pub returns-clause-told : goal.returns-clause-told
 returns-clause-told g c clean v s was =
-    let is : IsDeskIn g.S.Store c.in-Ok.opened s =
-    record { desk = was.desk; keeps = λ at. c.in-Ok.ensures.opens.finds at v s was.stood } in
-    c.tell_report-end.ensures.shows.told (c.into_store.ensures.sound clean) s is
+    c.tell_report-end.ensures.shows.told (c.into_store.ensures.sound clean) s
+    (found_in g.S.Store c.args.conn c.in-Ok.opened v s c.in-Ok.ensures.opens was)
 
 pub returns-in-Err-clause-told : goal.returns-in-Err-clause-told
 returns-in-Err-clause-told g c clean v s was =
@@ -38,8 +37,7 @@ returns-clause-fails g c =
     let quiet = read.kept.quiet in
     record {
       reason = λ clean v s was spelled up is. (
-          let here : IsDeskIn g.S.Store c.in-Ok.opened s =
-          record { desk = was.desk; keeps = λ at. opens.finds at v s was.stood } in
+          let here = found_in g.S.Store c.args.conn c.in-Ok.opened v s opens was in
           let before = given.sound clean in
           subst (λ h. HasFaulted (state g.S.Store c.args.conn) (state g.S.Store h)) (sym given.same)
           (fails_twice g.S.Store c.args.conn c.in-Ok.opened.conn c.tell_report-end.new.opened.conn opens.up (quiet_up _ _ _ quiet)
@@ -58,8 +56,7 @@ returns-clause-keeps g c =
     let read = c.tell_report-end.ensures.shows.kept in
     record {
       same = λ clean v s was. (
-          let is : IsDeskIn g.S.Store c.in-Ok.opened s =
-          record { desk = was.desk; keeps = λ at. c.in-Ok.ensures.opens.finds at v s was.stood } in (
+          let is = found_in g.S.Store c.args.conn c.in-Ok.opened v s c.in-Ok.ensures.opens was in (
             c.tell_report-end.new.opened.version,
             record { desk = was.desk; stood = c.into_store.ensures.found s (still_in g.S.Store _ _ s read is).keeps },
           ));

@@ -7,11 +7,6 @@ returns-in-Ok-clause-serves g c =
     serves_up c.reopenings.ensures.reopens g.S.Store _ _ c.args.conn c.serve_ready.result.0 _ _ _ _ c.serve_ready.result.1 c.in-Ok.desk
     c.in-Ok.made c.in-Ok.ensures.ready c.serve_ready.ensures.leaves.sound c.note_recovered.ensures c.serve_ready.ensures.serves
 
-pub returns-in-Ok-clause-leaves : goal.returns-in-Ok-clause-leaves
-returns-in-Ok-clause-leaves g c =
-    let left = c.serve_ready.ensures.leaves in
-    record { idle = left.idle; sound = λ clean. c.in-Ok.ensures.ready.sound (left.sound clean) }
-
 pub returns-in-Err-clause-serves : goal.returns-in-Err-clause-serves
 returns-in-Err-clause-serves g c =
     serves_not_ready c.reopenings.ensures.reopens g.S.Store _ _ c.args.conn c.in-Err.conn _ _ c.in-Err.end c.from.result c.from.ensures

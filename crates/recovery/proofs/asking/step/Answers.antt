@@ -20,8 +20,8 @@ returns-in-Ok-clause-made g c sound following s here unfinished =
     step.forward step.allowed)
 
 -- at a fault the journey made its one step, or it did not
-pub returns-clause-fault : goal.returns-clause-fault
-returns-clause-fault g c sound following s here unfinished =
+pub returns-clause-made : goal.returns-clause-made
+returns-clause-made g c sound following s here unfinished =
     let j = c.args.id in
     let book = g.B.Book in
     let legal = g.met.B.Book.legal c.args.book.now s (standing book.stands book.may_act following c.args.book.now s here) in

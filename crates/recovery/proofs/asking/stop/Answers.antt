@@ -15,7 +15,7 @@ returns-in-Ok-clause-made g c sound following s here runs =
     (move-adds sound following s here (request.Stop j) tt j _ (stop-moves s.ledger j runs) c.in-Ok.ensures)
 
 -- at a fault the journey turned, or it did not
-pub returns-clause-fault : goal.returns-clause-fault
-returns-clause-fault g c sound following s here runs =
+pub returns-clause-made : goal.returns-clause-made
+returns-clause-made g c sound following s here runs =
     move-left sound following s here (request.Stop c.args.id) tt c.args.id _ (stop-moves s.ledger c.args.id runs) c.in-Err.fault
     g.met.B.Book.settled c.in-Err.ensures none one

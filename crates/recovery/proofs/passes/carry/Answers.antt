@@ -42,15 +42,15 @@ returns-in-Ok-Full-clause-came g c sound following s here =
     carried-cut t b first more (let fits = sum-fits c.in-Ok-Full.more t.grew more.grew.within in omega (arith, c.saturating_add.ensures, fits))
 
 -- a read of the book met a fault
-pub returns-in-Err-clause-fault : goal.returns-in-Err-clause-fault
-returns-in-Err-clause-fault g c sound following s here =
+pub returns-in-Err-clause-came : goal.returns-in-Err-clause-came
+returns-in-Err-clause-came g c sound following s here =
     let t = c.loop-round.invariant.carried (c.first_unfinished.ensures.reads.sound sound) following s here in
     carried-look t
     (left-read sound following (with_events s t.grew.events) t.grew.stands_there c.in-Err.fault g.met.B.Book.settled c.in-Err.ensures.reads)
 
 -- a fault within a journey
-pub returns-in-Err-carry_one-clause-fault : goal.returns-in-Err-carry_one-clause-fault
-returns-in-Err-carry_one-clause-fault g c sound following s here =
+pub returns-in-Err-carry_one-clause-came : goal.returns-in-Err-carry_one-clause-came
+returns-in-Err-carry_one-clause-came g c sound following s here =
     let book = g.B.Book in
     let looked = c.carry_one.ensures.serves.sound sound in
     let t = c.loop-round.invariant.carried (c.first_unfinished.ensures.reads.sound looked) following s here in
@@ -59,7 +59,7 @@ returns-in-Err-carry_one-clause-fault g c sound following s here =
     let first = sym c.in-Ok-Some.field-0-is
     ∙ c.in-Ok-Some.ensures.first looked u (standing book.stands book.may_act following c.loop-round.book u t.grew.stands_there) in
     carried-fault t b first
-    (c.in-Err-carry_one.ensures.fault sound following u (goes-read looked following u t.grew.stands_there c.in-Ok-Some.ensures.reads)
+    (c.in-Err-carry_one.ensures.came sound following u (goes-read looked following u t.grew.stands_there c.in-Ok-Some.ensures.reads)
     (goes-first c.args.pass u.ledger c.loop-round.after b first (sym c.goes_on.ensures ∙ c.if-goes_on.true)))
 
 -- one more journey: the pass stepped it, or has nothing to do with it

@@ -22,13 +22,13 @@ returns-then-not-goes_on-clause-came g c sound following s here on =
     (rw c.in-Ok-Some.field-0-is at c.in-Ok-Some.ensures.made sound following) (sym c.goes_on.ensures ∙ c.if-not-goes_on.true)
 
 -- the steps so far, and perhaps the one that met the fault
-pub returns-in-Err-clause-fault : goal.returns-in-Err-clause-fault
-returns-in-Err-clause-fault g c sound following s here on =
+pub returns-in-Err-clause-came : goal.returns-in-Err-clause-came
+returns-in-Err-clause-came g c sound following s here on =
     let book = g.B.Book in
     let t = c.loop-made.invariant.carried (c.step.ensures.serves.sound sound) following s here on in
     let u = with_events s t.events in
     one-fault t (g.met.B.Book.legal c.loop-made.book u (standing book.stands book.may_act following c.loop-made.book u t.stands_there))
-    (c.in-Err.ensures.fault sound following)
+    (c.in-Err.ensures.made sound following)
 
 -- more steps were made than there is room for
 pub returns-clause-came : goal.returns-clause-came

@@ -42,15 +42,15 @@ returns-in-Ok-false-clause-came g c sound following s here =
     (rw c.in-Ok-false.field-0-test at c.in-Ok-false.ensures.made sound following)
 
 -- a read of the book met a fault
-pub returns-in-Err-clause-fault : goal.returns-in-Err-clause-fault
-returns-in-Err-clause-fault g c sound following s here =
+pub returns-in-Err-clause-came : goal.returns-in-Err-clause-came
+returns-in-Err-clause-came g c sound following s here =
     let t = c.loop-round.invariant.turned (c.first_unfinished.ensures.reads.sound sound) following s here in
     turned-look t
     (left-read sound following (with_events s t.grew.events) t.grew.stands_there c.in-Err.fault g.met.B.Book.settled c.in-Err.ensures.reads)
 
 -- the turns so far, and perhaps the one that met the fault
-pub returns-in-Err-stop-clause-fault : goal.returns-in-Err-stop-clause-fault
-returns-in-Err-stop-clause-fault g c sound following s here =
+pub returns-in-Err-stop-clause-came : goal.returns-in-Err-stop-clause-came
+returns-in-Err-stop-clause-came g c sound following s here =
     let book = g.B.Book in
     let on = MayGoOn book.stands book.may_act following c.first_unfinished.new.self in
     let looked = c.stop.ensures.serves.sound sound in
@@ -59,7 +59,7 @@ returns-in-Err-stop-clause-fault g c sound following s here =
     turned-fault (turned-now t on (goes-read looked following u t.grew.stands_there c.in-Ok-Some.ensures.reads)) c.in-Ok-Some.brief
     (sym c.in-Ok-Some.field-0-is
     ∙ c.in-Ok-Some.ensures.first looked u (standing book.stands book.may_act following c.loop-round.book u t.grew.stands_there))
-    (sym c.is_running.ensures ∙ c.if-is_running.true) (c.in-Err-stop.ensures.fault sound following)
+    (sym c.is_running.ensures ∙ c.if-is_running.true) (c.in-Err-stop.ensures.made sound following)
 
 -- one more journey: it turned, or it does not run
 pub loop-round-preserved : goal.loop-round-preserved

@@ -46,23 +46,23 @@ returns-in-Ok-clause-recovered g c sound following s here =
     (omega (arith, c.saturating_add-in-Ok.ensures, c.saturating_add-back.ensures, c.made.ensures, fits))
 
 -- a fault in the turns
-pub returns-in-Err-clause-fault : goal.returns-in-Err-clause-fault
-returns-in-Err-clause-fault g c sound following s here =
+pub returns-in-Err-clause-recovered : goal.returns-in-Err-clause-recovered
+returns-in-Err-clause-recovered g c sound following s here =
     let book = g.B.Book in
     turns-fault (g.met.B.Book.legal c.args.book.now s (standing book.stands book.may_act following c.args.book.now s here))
-    (c.in-Err.ensures.fault sound following s here)
+    (c.in-Err.ensures.came sound following s here)
 
 -- a fault on the way back
-pub returns-in-Err-carry-clause-fault : goal.returns-in-Err-carry-clause-fault
-returns-in-Err-carry-clause-fault g c sound following s here =
+pub returns-in-Err-carry-clause-recovered : goal.returns-in-Err-carry-clause-recovered
+returns-in-Err-carry-clause-recovered g c sound following s here =
     let book = g.B.Book in
     let t = rw c.in-Ok-Through.field-0-is at c.in-Ok-Through.ensures.came (c.carry.ensures.serves.sound sound) following s here in
     back-fault (g.met.B.Book.legal c.args.book.now s (standing book.stands book.may_act following c.args.book.now s here)) t
-    (c.in-Err-carry.ensures.fault sound following (with_events s t.events) t.stands_there)
+    (c.in-Err-carry.ensures.came sound following (with_events s t.events) t.stands_there)
 
 -- a fault on the way on
-pub returns-in-Err-carry-2-clause-fault : goal.returns-in-Err-carry-2-clause-fault
-returns-in-Err-carry-2-clause-fault g c sound following s here =
+pub returns-in-Err-carry-2-clause-recovered : goal.returns-in-Err-carry-2-clause-recovered
+returns-in-Err-carry-2-clause-recovered g c sound following s here =
     let book = g.B.Book in
     let on_way = c.carry-2.ensures.serves.sound sound in
     let t = rw c.in-Ok-Through.field-0-is at c.in-Ok-Through.ensures.came
@@ -70,4 +70,4 @@ returns-in-Err-carry-2-clause-fault g c sound following s here =
     let b = rw c.in-Ok-Through-carry.field-0-is at c.in-Ok-Through-carry.ensures.came on_way following
     (with_events s t.events) t.stands_there in
     on-fault (g.met.B.Book.legal c.args.book.now s (standing book.stands book.may_act following c.args.book.now s here)) t b
-    (c.in-Err-carry-2.ensures.fault sound following (with_events (with_events s t.events) b.events) b.stands_there)
+    (c.in-Err-carry-2.ensures.came sound following (with_events (with_events s t.events) b.events) b.stands_there)

@@ -7,8 +7,7 @@ use Rattle.report_writers.proofs.asked_reports.write_found.Goals as goal
 
 pub returns : goal.returns
 returns g c = record {
-  shows = shows_rows g.S.Store c.in-Ok.ensures.quiet c.in-Ok.ensures.rows c.in-Ok.ensures.good
-      c.stock_lines.ensures.writes.takes.kept.under.quiet (search rules)
+  shows = shows_rows g.S.Store c.in-Ok.ensures.starts c.stock_lines.ensures.writes.takes.kept.under.quiet (search rules)
       (λ sound s begun rows are. c.stock_lines.ensures.writes.wrote sound rows (c.new.ensures.going, begun rows are))
       (λ sound good up. takes_fails c.stock_lines.ensures.writes.takes sound (ready_alone g.S.Store _ (c.new.ensures.going, good) up));
 }

@@ -1,31 +1,23 @@
 -- The rows that will be returned are those of the journeys that are asked for, and nothing changes, whether they start or not.
-use Rattle.std.proofs.Common.{refl, sym, subst}
+use Rattle.std.proofs.Common.{refl, subst, sym}
 use Rattle.saga_core.specs.JourneyFilters.{is_journey_asked}
-use Rattle.desk_sql.proofs.Quieting.{quiet_start}
-use Rattle.desk_sql.proofs.Selecting.{ok_then}
 use Rattle.sql_lists.specs.JourneyLists.{is_journey_listed}
 use Rattle.sql_lists.specs.ListedRows.{BriefsRest}
 use Rattle.sql_reads.proofs.Starting.{not_started}
-use Rattle.report_writers.proofs.HandedBriefs.{asked_agree, briefs_begin, good_begin}
+use Rattle.report_writers.proofs.HandedBriefs.{asked_agree, briefs_there, good_there}
+use Rattle.report_writers.proofs.StartLemmas.{started_good}
 use Rattle.report_writers.proofs.brief_rows.start_journeys.Goals as goal
 
 pub returns : goal.returns
 returns g c =
-    let store = g.S.Store in
-    let old = c.args.conn.now in
-    let made = c.hand_journeys.ensures in
-    let asked = c.args.filter.now in
-    let result = c.hand_journeys.result in (
-      (refl, c.hand_journeys.follows.holds, not_started store old c.hand_journeys.follows.lender-at-none result c.hand_journeys.follows.holds-at-none),
+    let it = c.hand_journeys in (
+      (refl, it.follows.holds, not_started g.S.Store c.args.conn.now it.follows.lender-at-none it.result it.follows.holds-at-none),
       record {
         fault = tt;
-        same_reference = made.same_reference;
-        rows = ok_then _ _ result (λ it told v clean s desk keeps briefs is.
-            subst (BriefsRest store it.conn.now) (sym is)
-            (briefs_begin store (is_journey_listed asked) (is_journey_asked asked) (asked_agree asked) old it.conn.now told clean s keeps)) made.started;
-        good = ok_then _ _ result (λ it told clean v s desk spelled keeps.
-            good_begin store (is_journey_listed asked) (is_journey_asked asked) (asked_agree asked) old it.conn.now told clean s keeps spelled)
-            made.started;
-        quiet = ok_then _ _ result (λ it told. quiet_start store old it.conn.now _ _ told) made.started;
+        starts = started_good c.args.conn _ it.result it.ensures.started
+            (λ v s desk t h begun briefs is. subst (BriefsRest g.S.Store h) (sym is)
+            (briefs_there (is_journey_listed c.args.filter.now) (is_journey_asked c.args.filter.now) (asked_agree c.args.filter.now) s t begun))
+            (λ v s desk spelled t.
+            (_, refl, good_there (is_journey_listed c.args.filter.now) (is_journey_asked c.args.filter.now) (asked_agree c.args.filter.now) s t spelled));
       },
     )

@@ -7,8 +7,7 @@ use Rattle.report_writers.proofs.holding.write_holdings.Goals as goal
 
 pub returns : goal.returns
 returns g c = record {
-  shows = shows_rows g.S.Store c.in-Ok.ensures.quiet c.in-Ok.ensures.rows c.in-Ok.ensures.good
-      c.holdings_text.ensures.writes.takes.kept.under.quiet (search rules)
+  shows = shows_rows g.S.Store c.in-Ok.ensures.starts c.holdings_text.ensures.writes.takes.kept.under.quiet (search rules)
       (λ sound s begun rows stock.
       wrote_rows _ _ (c.holdings_text.ensures.writes.wrote sound _ (c.new.ensures.going, begun _ (rows, stock, refl))))
       (λ sound good up. takes_fails c.holdings_text.ensures.writes.takes sound (ready_alone g.S.Store _ (c.new.ensures.going, good) up));

@@ -7,8 +7,7 @@ use Rattle.report_writers.proofs.month_reporting.write_months.Goals as goal
 
 pub returns : goal.returns
 returns g c = record {
-  shows = shows_rows g.S.Store c.in-Ok.ensures.quiet c.in-Ok.ensures.rows c.in-Ok.ensures.good
-      c.months_text.ensures.writes.takes.kept.under.quiet (search rules)
+  shows = shows_rows g.S.Store c.in-Ok.ensures.starts c.months_text.ensures.writes.takes.kept.under.quiet (search rules)
       (λ sound s begun rows stock. wrote_rows _ _ (c.months_text.ensures.writes.wrote sound rows (c.new.ensures.going, begun rows stock)))
       (λ sound good up. takes_fails c.months_text.ensures.writes.takes sound (ready_alone g.S.Store _ (c.new.ensures.going, good) up));
 }

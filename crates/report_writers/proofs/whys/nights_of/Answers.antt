@@ -13,8 +13,7 @@ returns g c =
     let w = c.args.want.now in
     let f = c.filter_of-filter.result in
     record {
-      shows = shows_rows g.S.Store c.in-Ok.ensures.quiet c.in-Ok.ensures.rows c.in-Ok.ensures.good
-          c.read_nights.ensures.takes.kept.under.quiet (search rules)
+      shows = shows_rows g.S.Store c.in-Ok.ensures.starts c.read_nights.ensures.takes.kept.under.quiet (search rules)
           (λ sound s begun rows stock. (
           let asked = filter (λ (r : Cell × Places). is_cell_of w.kind f r.0) rows in
           let rests = begun asked (rows, stock, ap (λ k. filter (λ (r : Cell × Places). is_cell_of k f r.0) rows) (sym c.kind.ensures.kind)) in

@@ -7,9 +7,9 @@ use Rattle.report_writers.proofs.whys.read_latest.Goals as goal
 
 pub returns : goal.returns
 returns g c = record {
-  shows = shows_items g.S.Store c.in-Ok.ensures.quiet c.in-Ok.ensures.rows
+  shows = shows_items g.S.Store c.in-Ok.ensures.under.quiet c.in-Ok.ensures.rows
       (λ clean s desk spelled keeps. at_start g.S.Store c.in-Ok.ensures.start s desk spelled
-      (quiet_keeps g.S.Store c.args.conn.now _ c.in-Ok.ensures.quiet c.args.version s keeps))
+      (quiet_keeps g.S.Store c.args.conn.now _ c.in-Ok.ensures.under.quiet c.args.version s keeps))
       c.latest_option.ensures.takes.kept.quiet (search rules)
       (λ sound s begun. c.latest_option.ensures.latest sound _ (begun _ refl))
       (λ sound good up e. takes_fails c.latest_option.ensures.takes sound (ready_alone g.S.Store _ good up) (reported_store _ e));

@@ -19,7 +19,7 @@ returns-in_err-taken g c =
 pub returns-in_err-next : goal.returns-in_err-next
 returns-in_err-next g c = record {
   shows = in_never g.S.Store c.in_ok-taken.ensures.shows (λ s fits. tt) (λ s desk found taken. (
-      let here : IsJourneyOf s.ledger c.args.id c.args.journey.now = record { legal = desk.legal; found = found } in
+      let here : IsJourneyOf s.ledger c.args.id c.args.journey.now = record { legal = desk.legal; found = sym found } in
       let there = c.in_err-next.ensures.there s.ledger c.args.id here taken in cc));
 }
 
@@ -38,7 +38,7 @@ returns g c = record {
   shows = in_then g.S.Store (in_as g.S.Store c.in_ok-taken.ensures.shows (λ s fits. tt) (λ e. e) (λ s desk fits told. told))
       (c.in_ok-nights.ensures.shows c.args.version) (λ s desk fits told. tt) (λ e. cc)
       (λ s desk found taken told rows stock. (
-      let here : IsJourneyOf s.ledger c.args.id c.args.journey.now = record { legal = desk.legal; found = found } in
+      let here : IsJourneyOf s.ledger c.args.id c.args.journey.now = record { legal = desk.legal; found = sym found } in
       let next = c.in_ok-next.ensures.next s.ledger c.args.id here taken in
       let nights = told rows stock in
       record {

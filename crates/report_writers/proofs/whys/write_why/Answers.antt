@@ -10,7 +10,7 @@ use Rattle.report_writers.proofs.whys.write_why.Goals as goal
 pub returns-in-Ok-Some : goal.returns-in-Ok-Some
 returns-in-Ok-Some g c = record {
   shows = in_then g.S.Store (in_done g.S.Store c.read_journey.ensures.quiet c.in-Ok-Some.ensures.shows) c.write_preview.ensures.shows
-      (λ s desk fits told. sym told ∙ c.in-Ok-Some.field-0-is) c.written.ensures.fails
+      (λ s desk fits told. sym c.in-Ok-Some.field-0-is ∙ told) c.written.ensures.fails
       (λ s desk fits told wrote stock is. (
       let found : record_of s.ledger c.args.id ≡ Some c.in-Ok-Some.journey = sym told ∙ c.in-Ok-Some.field-0-is in
       written_there _ _ (λ journey. why_of c.args.format s.ledger c.args.id (begun_as journey)) _ c.in-Ok-Some.journey _ found

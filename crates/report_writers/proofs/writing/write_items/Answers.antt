@@ -8,9 +8,9 @@ use Rattle.report_writers.proofs.writing.write_items.Goals as goal
 
 pub returns : goal.returns
 returns g c = record {
-  shows = shows_items g.S.Store c.in-Ok.ensures.quiet c.in-Ok.ensures.rows
+  shows = shows_items g.S.Store c.in-Ok.ensures.under.quiet c.in-Ok.ensures.rows
       (λ clean s desk spelled keeps. at_start g.S.Store c.in-Ok.ensures.start s desk spelled
-      (quiet_keeps g.S.Store c.args.conn.now _ c.in-Ok.ensures.quiet c.args.version s keeps))
+      (quiet_keeps g.S.Store c.args.conn.now _ c.in-Ok.ensures.under.quiet c.args.version s keeps))
       c.history_text.ensures.writes.takes.kept.quiet (search rules)
       (λ sound s begun. wrote_rows _ _ (c.history_text.ensures.writes.wrote sound _ (begun _ refl)))
       (λ sound good up. takes_fails c.history_text.ensures.writes.takes sound (ready_alone g.S.Store _ good up));

@@ -1,9 +1,9 @@
 -- The rows are written one after another, until the source has none left or a fault comes.
-use Rattle.std.proofs.Common.{◌≡◌, ◌∙◌, arith, subst, sym}
+use Rattle.std.proofs.Common.{arith, subst}
 use Rattle.std.proofs.lemmas.Result.{err_from_is_err_and}
 use Rattle.saga_core.specs.RowSources.{Hands}
 use Rattle.reports.proofs.RowLemmas.{written_all, written_less, written_more, written_part}
-use Rattle.reports.proofs.TakeLemmas.{given_none, given_one, none_left, takes_apart, takes_fault}
+use Rattle.reports.proofs.TakeLemmas.{given_none, given_one, none_left, takes_fault}
 use Rattle.reports.proofs.rows.send_rows.Goals as goal
 
 -- one more row was returned and written
@@ -11,7 +11,7 @@ pub loop-row-preserved : goal.loop-row-preserved
 loop-row-preserved g c = record {
   written = written_more c.loop-row.invariant.written g.met.R.RowSource.joins
       (record { kept = c.next_row.ensures.kept; sound = c.next_row.ensures.sound; reason = c.in_ok-row.ensures.reason })
-      (g.R.RowSource.rests c.next_row.new.self) c.in_ok-row.ensures.next c.in-Some.is c.in_ok-send_row.ensures.sent;
+      (g.R.RowSource.rests c.next_row.new.self) c.in_ok-row.ensures.next c.in-Some.is c.in_ok-send_row.ensures.sends;
   given = omega (arith, given_one _ _ c.in_ok-row.ensures.counted c.in-Some.is, c.loop-row.invariant.given);
 }
 
@@ -27,16 +27,11 @@ returns-in_err-row g c =
 
 -- a prefix of the bytes of a row was written
 pub returns-in_err-send_row : goal.returns-in_err-send_row
-returns-in_err-send_row g c =
-    let result = c.from_residual-in_err-send_row.result in
-    let failed = err_from_is_err_and result c.from_residual-in_err-send_row.ensures.1 in
-    record {
-      writes = written_part c.loop-row.invariant.written g.met.R.RowSource.joins
-          (takes_apart g.R.RowSource (record { kept = c.next_row.ensures.kept; sound = c.next_row.ensures.sound; reason = c.in_ok-row.ensures.reason })
-          result c.from_residual-in_err-send_row.ensures.0 (λ is. c.in_err-send_row.ensures.no_store (let same : failed.0 ≡ _ = cc (failed.1, is) in sym failed.2 ∙ same)))
-          (g.R.RowSource.rests c.next_row.new.self) c.in_ok-row.ensures.next c.in-Some.is c.send_row.ensures.front
-          c.from_residual-in_err-send_row.ensures.0;
-    }
+returns-in_err-send_row g c = record {
+  writes = written_part c.loop-row.invariant.written g.met.R.RowSource.joins
+      (record { kept = c.next_row.ensures.kept; sound = c.next_row.ensures.sound; reason = c.in_ok-row.ensures.reason })
+      (g.R.RowSource.rests c.next_row.new.self) c.in_ok-row.ensures.next c.in-Some.is c.in_err-send_row.ensures.sends _ c.from_residual-in_err-send_row.ensures.1;
+}
 
 -- all rows were written
 pub returns : goal.returns

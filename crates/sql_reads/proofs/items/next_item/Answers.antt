@@ -1,34 +1,33 @@
 -- The row that is read is the first of the query's answer; no row means that there is none.
 use Rattle.std.proofs.Common.{Some, None, rules}
-use Rattle.desk_sql.specs.declared.versions.Version.TheVariants.{Two}
 use Rattle.desk_sql.proofs.Asking.{is_read, not_asked, not_read}
 use Rattle.desk_sql.proofs.Writing.{pos_is}
 use Rattle.sql_reads.proofs.NextItems.{finds_next}
 use Rattle.sql_reads.proofs.items.next_item.Goals as goal
 
 pub first_row-requires : goal.first_row-requires
-first_row-requires g c = (finds_next Two c.args.journey c.args.after).selects
+first_row-requires g c = (finds_next c.args.version c.text_in.result.now c.args.journey c.args.after c.text_in.ensures).selects
 
 pub returns-in_ok-item-in-Some : goal.returns-in_ok-item-in-Some
 returns-in_ok-item-in-Some g c = record {
-  queries = is_read (finds_next Two c.args.journey c.args.after) (λ found. found) c.first_row.ensures.quiet (Some c.in-Some.row) _
+  queries = is_read (finds_next c.args.version c.text_in.result.now c.args.journey c.args.after c.text_in.ensures) (λ found. found) c.first_row.ensures.quiet (Some c.in-Some.row) _
       (simp (pos_is c.args.journey c.requires.journey, pos_is c.args.after c.requires.after, c.in-Some.is) at c.in_ok-row.ensures.row) c.in_ok-item-in-Some.ensures.shown (λ _. tt);
 }
 
 pub returns-in-None : goal.returns-in-None
 returns-in-None g c = record {
-  queries = is_read (finds_next Two c.args.journey c.args.after) (λ found. found) c.first_row.ensures.quiet None _
+  queries = is_read (finds_next c.args.version c.text_in.result.now c.args.journey c.args.after c.text_in.ensures) (λ found. found) c.first_row.ensures.quiet None _
       (simp (pos_is c.args.journey c.requires.journey, pos_is c.args.after c.requires.after, c.in-None.is) at c.in_ok-row.ensures.row) tt (λ _. tt);
 }
 
 pub returns-in_err-row : goal.returns-in_err-row
 returns-in_err-row g c = record {
-  queries = not_asked (finds_next Two c.args.journey c.args.after) (λ found. found) c.first_row.ensures.quiet
+  queries = not_asked (finds_next c.args.version c.text_in.result.now c.args.journey c.args.after c.text_in.ensures) (λ found. found) c.first_row.ensures.quiet
       (simp (pos_is c.args.journey c.requires.journey, pos_is c.args.after c.requires.after) at c.in_err-row.ensures.reason) (search rules);
 }
 
 pub returns-in_err-item-in-Some : goal.returns-in_err-item-in-Some
 returns-in_err-item-in-Some g c = record {
-  queries = not_read (finds_next Two c.args.journey c.args.after) (λ found. found) c.first_row.ensures.quiet (Some c.in-Some.row)
+  queries = not_read (finds_next c.args.version c.text_in.result.now c.args.journey c.args.after c.text_in.ensures) (λ found. found) c.first_row.ensures.quiet (Some c.in-Some.row)
       (simp (pos_is c.args.journey c.requires.journey, pos_is c.args.after c.requires.after, c.in-Some.is) at c.in_ok-row.ensures.row) (λ it. c.in_err-item-in-Some.ensures.reason it.0 it.1) (search rules);
 }

@@ -8,18 +8,16 @@ use Rattle.sql_reads.proofs.nights_read.nights_with.Goals as goal
 pub returns-in_default-clause-among : goal.returns-in_default-clause-among
 returns-in_default-clause-among g c =
     let x = c.args.cell.now in
-    both_ok c.read_nights.result (λ (read : NightsRead). read.first ≡ x) (λ (read : NightsRead). read.count ≡ c.nights_together.result)
-    (λ (read : NightsRead). read.first ≡ x) (λ read. IsAmong read x) (λ read first count _.
+    both_ok c.read_nights.result (λ (read : NightsRead). read.first ≡ x) AreFew (λ (read : NightsRead). read.first ≡ x) (λ read. IsAmong read x)
+    (λ read first few _.
     let here : IsLater x 0 x = record { kind = refl; supplier = refl; product = refl; night = omega arith } in
-    (0, subst (λ y. IsLater y 0 x) (sym first) here, omega arith))
-    c.read_nights.ensures.first c.read_nights.ensures.count c.read_nights.ensures.first
+    (0, subst (λ y. IsLater y 0 x) (sym first) here, omega (arith, few.0)))
+    c.read_nights.ensures.first c.read_nights.ensures.few c.read_nights.ensures.first
 
 -- as many nights are read as belong together
 pub returns-in_default-clause-few : goal.returns-in_default-clause-few
 returns-in_default-clause-few g c =
-    also_ok c.read_nights.result (λ (read : NightsRead). read.count ≡ c.nights_together.result)
-    (λ (read : NightsRead). IfSome c.args.read AreFew → AreFew read) (λ read count _.
-    (omega arith, omega arith)) c.read_nights.ensures.count
+    also_ok c.read_nights.result AreFew (λ (read : NightsRead). IfSome c.args.read AreFew → AreFew read) (λ read few _. few) c.read_nights.ensures.few
 
 pub returns-in-Some-clause-read : goal.returns-in-Some-clause-read
 returns-in-Some-clause-read g c = read_ok no_read (λ s desk _ were. search rules)

@@ -1,8 +1,8 @@
 -- The row with that number is chosen.
-use Rattle.std.proofs.Common.{◌≡◌, ◌+◌, min, length, sym, subst, rules, IfOk, ltb-true}
+use Rattle.std.proofs.Common.{◌≡◌, ◌+◌, min, length, refl, sym, subst, rules, IfOk, ltb-true}
+use Rattle.std.proofs.lemmas.Option.{slice_get_read}
 use Rattle.sql_reads.proofs.ReadLemmas.{also_ok}
 use Rattle.sql_reads.specs.OptionChoice.{IsOfRow, IsRowChosen}
-use Rattle.sql_reads.proofs.ChoiceLemmas.{got_there}
 use Rattle.sql_reads.proofs.plan_rows.choose_next.Goals as goal
 
 pub returns-in-Some-clause-chosen : goal.returns-in-Some-clause-chosen
@@ -15,6 +15,6 @@ returns-in-Some-clause-chosen c =
     (λ choice told. record {
       row = c.in-Some.row.now;
       from_one = search rules;
-      there = got_there rows _ c.in-Some.row.now (ltb-true _ _ (sym c.in-Some.ensures.lookup.0)) c.in-Some.ensures.lookup.1;
+      there = slice_get_read rows (length rows) _ c.in-Some.row.now refl (ltb-true _ _ (sym c.in-Some.ensures.lookup.0)) c.in-Some.ensures.lookup.1;
       is = told;
     }) c.choice_of.ensures.row)

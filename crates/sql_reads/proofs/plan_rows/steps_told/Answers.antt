@@ -1,5 +1,5 @@
 -- Each row gives the next option of the plan.
-use Rattle.std.proofs.Common.{◌≡◌, ◌<◌, ◌≤◌, ◌+◌, ◌++◌, ◌∷◌, [], ◌∙◌, inl, inr, length, get_or, rules, sym, ap, subst, refl, ◌==◌}
+use Rattle.std.proofs.Common.{◌≡◌, ◌+◌, ◌++◌, ◌∷◌, [], ◌∙◌, inl, inr, rules, sym, ap, subst, refl, ◌==◌}
 use Rattle.allotment.specs.Want.{Wanted}
 use Rattle.plan.specs.declared.steps.PlanStep.{PlanStep}
 use Rattle.sql_reads.specs.PlanRows.{Goes}
@@ -13,11 +13,8 @@ loop-at-init c id plan are = rw (c.new-steps.ensures.items, c.new-options.ensure
 
 pub returns-in_err-want-clause-there : goal.returns-in_err-want-clause-there
 returns-in_err-want-clause-there c id plan are =
-    let rows = c.args.rows.now in
-    let row = c.index-rows-at.result in
-    let inside : c.loop-at.at < length rows = search rules in
-    let is_row : row ≡ get_or rows c.loop-at.at row = search rules in
-    let next = next_option id plan rows c.loop-at.at c.loop-at.steps.items c.loop-at.options.items row (c.loop-at.invariant id plan are) inside is_row in
+    let next = next_option id plan c.args.rows.now c.loop-at.at c.loop-at.steps.items c.loop-at.options.items c.index-rows-at.result
+    (c.loop-at.invariant id plan are) (search rules) (search rules) in
     let memory : IsMemory c.in_err-want.field-0.0 = c.in_err-want.ensures.there next.want next.good next.tells in
     search rules
 
@@ -27,9 +24,7 @@ loop-at-preserved-then-is_of_place c id plan are =
     let at = c.loop-at.at in
     let row = c.index-rows-at.result in
     let options = c.loop-at.options.items in
-    let inside : c.loop-at.at < length rows = search rules in
-    let is_row : row ≡ get_or rows c.loop-at.at row = search rules in
-    let next = next_option id plan rows at c.loop-at.steps.items options row (c.loop-at.invariant id plan are) inside is_row in
+    let next = next_option id plan rows at c.loop-at.steps.items options row (c.loop-at.invariant id plan are) (search rules) (search rules) in
     let one = tells_one row next.want c.in_ok-want.want next.tells c.in_ok-want.ensures.told in
     let pushed : c.push.new.self.items ≡ options ++ (c.in_ok-want.want ∷ []) = search rules in
     elim next.after [
@@ -43,9 +38,7 @@ loop-at-preserved c id plan are =
     let at = c.loop-at.at in
     let row = c.index-rows-at.result in
     let options = c.loop-at.options.items in
-    let inside : c.loop-at.at < length rows = search rules in
-    let is_row : row ≡ get_or rows c.loop-at.at row = search rules in
-    let next = next_option id plan rows at c.loop-at.steps.items options row (c.loop-at.invariant id plan are) inside is_row in
+    let next = next_option id plan rows at c.loop-at.steps.items options row (c.loop-at.invariant id plan are) (search rules) (search rules) in
     let one = tells_one row next.want c.in_ok-want.want next.tells c.in_ok-want.ensures.told in
     let step : PlanStep = record { options = c.push.new.self; save = row.save == 1 } in
     let made : c.push-in-loop-at.new.self.items ≡ c.loop-at.steps.items ++ (step ∷ []) = search rules in
@@ -58,5 +51,4 @@ loop-at-preserved c id plan are =
 
 pub returns-clause-steps : goal.returns-clause-steps
 returns-clause-steps c id plan are =
-    let past : length c.args.rows.now ≤ c.loop-at.at = search rules in
-    at_end id plan c.args.rows.now c.loop-at.at c.loop-at.steps.items c.loop-at.options.items (c.loop-at.invariant id plan are) past
+    at_end id plan c.args.rows.now c.loop-at.at c.loop-at.steps.items c.loop-at.options.items (c.loop-at.invariant id plan are) (search rules)

@@ -15,6 +15,6 @@ returns-clause-there c want good tells =
     absurd (elim c.in_default-new.branch [
       | in_default-new-via-in-Ok-new+else-is_of_want w ↦
           let same : w.in-Ok-new.want ≡ want = cc in
-          let yes : w.is_of_want.result ≡ true = w.is_of_want.ensures.exact (subst (TellsWant c.args.row.now) (sym same) tells) in not_both w.is_of_want.result yes w.if-is_of_want.false
+          let yes : w.is_of_want.result ≡ true = w.is_of_want.ensures.1 (subst (TellsWant c.args.row.now) (sym same) tells) in not_both w.is_of_want.result yes w.if-is_of_want.false
       | in_default-new-via-in_default-new w ↦ w.in_default-new.not-Ok want is
     ])

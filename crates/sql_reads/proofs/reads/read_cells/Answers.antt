@@ -1,37 +1,18 @@
--- The nights in the rows are those of the want.
-use Rattle.std.proofs.Common.{◌+◌, ◌-◌, ◌∙◌, rules}
-use Rattle.saga_core.specs.Views.{ShowsCells}
-use Rattle.desk_sql.specs.declared.stock.NightRange.{NightRange}
-use Rattle.sql_model.specs.Reading.{IsRangeOf}
-use Rattle.sql_model.proofs.Readings.{nights_read}
-use Rattle.sql_reads.specs.Reading.{TellNights}
-use Rattle.sql_reads.proofs.ReadLemmas.{also_ok, found_rows, query_fails, read_so}
-use Rattle.sql_reads.proofs.ReadStock.{some_night}
-use Rattle.sql_reads.proofs.GoodStock.{good_nights}
+-- The nights of the want are those of its product from its first night on.
+use Rattle.std.proofs.Common.{◌≡◌, refl, map, subst, filter_map, option_map, arith}
+use Rattle.allotment.specs.Cells.{cells_of}
+use Rattle.saga_core.specs.Views.{at_night, night_said, places_of}
+use Rattle.sql_model.proofs.Plans.{want-nights}
+use Rattle.sql_reads.specs.NightsRead.{nights_from}
+use Rattle.sql_reads.proofs.ReadLemmas.{read_less}
 use Rattle.sql_reads.proofs.reads.read_cells.Goals as goal
 
--- each row tells a night of the want, with its places
-pub returns-in-Ok : goal.returns-in-Ok
-returns-in-Ok g c =
-    let rows = c.in-Ok.found.items in
-    let want = c.args.want.now in
-    let last = c.from-first.result + c.from-2.result - 1 in
-    let range : NightRange = record { kind = c.from.result; supplier = c.as_str.result; product = c.as_str-2.result; first = c.from-first.result; last = last } in
-    let is : IsRangeOf range want = record {
-      kind = search rules;
-      supplier = search rules;
-      product = search rules;
-      first = search rules;
-      last = search rules;
-    } in
-    let some = some_night want c.nights.ensures.limits in
-    read_so c.nights_told.result (found_rows c.in-Ok.ensures.queries)
-    (λ s desk at.
-    also_ok c.nights_told.result (λ nights. TellNights rows nights.items) (λ nights. ShowsCells want s nights.items)
-    (λ nights tell. tell ∙ nights_read at.tables s at.stands desk range want rows is some at.found) (search rules))
-    (λ s desk spelled _ at.
-    (simp c.as_slice.ensures.value at c.nights_told.ensures.there)
-    (good_nights s.ledger desk.legal want rows (nights_read at.tables s at.stands desk range want rows is some at.found)))
+pub read_places-requires : goal.read_places-requires
+read_places-requires g c = let some = want-nights c.args.want.now c.nights.ensures.limits in omega (arith, some)
 
-pub returns-in-Err : goal.returns-in-Err
-returns-in-Err g c = query_fails c.in-Err.ensures.queries c.fault_of.ensures.memory (λ t s st desk spelled _. tt)
+pub returns : goal.returns
+returns g c =
+    let same : cells_of (nights_from c.new-first.result c.from.result) ≡ cells_of c.args.want.now =
+    rw (c.new-first.ensures, c.kind.ensures.kind, c.supplier.ensures, c.product.ensures, c.first.ensures, c.from.ensures, c.nights.ensures.nights) refl in
+    read_less c.read_places.ensures (λ s places shown.
+    subst (λ cells. map night_said places.items ≡ filter_map (λ x. option_map (at_night x) (places_of s.ledger x)) cells) same shown)

@@ -10,7 +10,7 @@ use Rattle.sql_writes.proofs.begins.write_steps.Goals as goal
 -- the rows of one more step are written
 pub loop-step-preserved : goal.loop-step-preserved
 loop-step-preserved g c =
-    let id = c.args.id in
+    let id = c.args.numbers.journeys in
     let plan = c.args.plan.now in
     let n = c.loop-step.step in
     let first = step_rows_of id (first_steps n plan) in
@@ -26,7 +26,7 @@ loop-step-preserved g c =
 -- a step that fails does so for a reason
 pub returns-in_err-write_options : goal.returns-in_err-write_options
 returns-in_err-write_options g c =
-    let id = c.args.id in
+    let id = c.args.numbers.journeys in
     let plan = c.args.plan.now in
     let n = c.loop-step.step in
     record {
@@ -37,7 +37,7 @@ returns-in_err-write_options g c =
 -- all rows of the plan are written
 pub returns : goal.returns
 returns g c =
-    let id = c.args.id in
+    let id = c.args.numbers.journeys in
     let plan = c.args.plan.now in
     let all = ap (λ k. step_rows_of id (first_steps k plan)) (omega arith) ∙ step_rows-all none_taken id plan in
     let size = ap length all in

@@ -10,6 +10,6 @@ abbrev pub invariant-loop-step : goal.invariant-loop-step
 invariant-loop-step g l =
     record {
       bound : l.step-end ≡ step_count l.plan;
-      did : DidSoFar g.S.Store l.fn.tx.conn l.tx.conn (λ _. ⊤) (length (step_rows_of l.id (first_steps l.step l.plan)))
-          (adds_steps (step_rows_of l.id (first_steps l.step l.plan)));
+      did : DidSoFar g.S.Store l.fn.tx.conn l.tx.conn (λ _. ⊤) (length (step_rows_of l.numbers.journeys (first_steps l.step l.plan)))
+          (adds_steps (step_rows_of l.numbers.journeys (first_steps l.step l.plan)));
     }

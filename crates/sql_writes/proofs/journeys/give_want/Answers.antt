@@ -1,20 +1,11 @@
 -- The nights of the range are those of the want.
-use Rattle.std.proofs.Common.{sym, ap, subst, ◌∙◌, rules, arith}
+use Rattle.std.proofs.Common.{sym, ap, subst, ◌∙◌, arith}
 use Rattle.desk_sql.specs.Stock.{HaveRoom, gives_nights}
 use Rattle.desk_sql.specs.Writable.{MayGiveNights}
 use Rattle.sql_model.proofs.Ranges.{gives_range}
-use Rattle.sql_writes.proofs.Doing.{did_as, did_fail, numbered}
+use Rattle.sql_writes.proofs.Doing.{did_like, numbered}
 use Rattle.sql_writes.proofs.Permitting.{may_give}
 use Rattle.sql_writes.proofs.journeys.give_want.Goals as goal
-
-pub returns-in_err-give_nights : goal.returns-in_err-give_nights
-returns-in_err-give_nights g c =
-    let range = c.range_of-range in
-    let same = c.from.ensures ∙ c.count.ensures in
-    record {
-      did = did_fail (numbered c.in_err-give_nights.ensures.writes (λ _ it. it))
-          (λ t it. subst (λ n. MayGiveNights range.result n t) (sym same) (may_give c.args.want range.result t range.ensures.range it)) (omega arith) (search rules);
-    }
 
 pub returns : goal.returns
 returns g c =
@@ -23,6 +14,7 @@ returns g c =
     let is = c.range_of-range.ensures.range in
     let same = c.from.ensures ∙ c.count.ensures in
     record {
-      did = did_as (numbered c.in_ok-give_nights.ensures.writes (λ _ it. it))
-          (λ _ t _ fit. (subst (λ n. HaveRoom range n t) (sym same) (fit range is), ap (λ n. gives_nights range n t) same ∙ gives_range range w t is)) (omega arith);
+      did = did_like (numbered c.give_nights.ensures.writes (λ _ it. it))
+          (λ t fit. (subst (λ n. HaveRoom range n t) (sym same) (fit range is), ap (λ n. gives_nights range n t) same ∙ gives_range range w t is))
+          (λ t it. subst (λ n. MayGiveNights range n t) (sym same) (may_give w range t is it)) (omega arith);
     }

@@ -24,7 +24,7 @@ returns-in_err-briefs g c =
     let taken = c.in_err-briefs.ensures in
     read_err (search rules)
     (briefs_read c.args.most (is_owned_after agent after) (is_owned_above agent after) (owned_agree agent after) (search rules)
-    c.in-Ok.ensures.started taken.takes.kept.under.quiet (λ clean all rests. taken.taken clean all (c.new.ensures.going, rests))
+    c.in-Ok.ensures.started.starts taken.takes.kept.under.quiet (λ clean all rests. taken.taken clean all (c.new.ensures.going, rests))
     (λ clean good up store. takes_fails taken.takes clean (ready_alone g.S.Store _ (c.new.ensures.going, good) up) (reported_store _ store))) (λ s desk fits. fits)
 
 -- no journey has so large a number
@@ -37,7 +37,7 @@ returns-then-not-is_empty g c =
     let top : after ≡ 9223372036854775807 = search rules in
     read_never
     (briefs_read c.args.most (is_owned_after agent after) (is_owned_above agent after) (owned_agree agent after) (search rules)
-    c.in-Ok.ensures.started taken.takes.kept.under.quiet (λ clean all rests. taken.taken clean all (c.new.ensures.going, rests))
+    c.in-Ok.ensures.started.starts taken.takes.kept.under.quiet (λ clean all rests. taken.taken clean all (c.new.ensures.going, rests))
     (λ clean good up store. takes_fails taken.takes clean (ready_alone g.S.Store _ (c.new.ensures.going, good) up) (reported_store _ store)))
     (λ s desk spelled _ is.
     let few = few_journeys s.ledger in
@@ -54,7 +54,7 @@ returns g c =
     let briefs = c.in_ok-briefs.briefs in
     read_ok
     (briefs_read c.args.most (is_owned_after agent after) (is_owned_above agent after) (owned_agree agent after) (search rules)
-    c.in-Ok.ensures.started taken.takes.kept.under.quiet (λ clean all rests. taken.taken clean all (c.new.ensures.going, rests))
+    c.in-Ok.ensures.started.starts taken.takes.kept.under.quiet (λ clean all rests. taken.taken clean all (c.new.ensures.going, rests))
     (λ clean good up store. takes_fails taken.takes clean (ready_alone g.S.Store _ (c.new.ensures.going, good) up) (reported_store _ store)))
     (λ s desk is. elim c.else-after-gt-LARGEST.branch [
       | else-after-gt-LARGEST-via-then-after-gt-LARGEST+else-not-is_empty w ↦ (

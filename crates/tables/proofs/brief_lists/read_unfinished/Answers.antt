@@ -20,6 +20,6 @@ returns g c =
     let after = c.args.after in
     let taken = c.take_rows.ensures in
     read_less
-    (briefs_read 18446744073709551615 (is_unfinished_after after) (is_unfinished_above after) (unfinished_agree after) (search rules) c.in-Ok.ensures.started
+    (briefs_read 18446744073709551615 (is_unfinished_after after) (is_unfinished_above after) (unfinished_agree after) (search rules) c.in-Ok.ensures.started.starts
     taken.takes.kept.under.quiet (λ clean all rests. taken.taken clean all (c.new.ensures.going, rests))
     (λ clean good up store. takes_fails taken.takes clean (ready_alone g.S.Store _ (c.new.ensures.going, good) up) (reported_store _ store))) (λ s briefs is. whole_list briefs _ is)

@@ -23,8 +23,8 @@ returns-in-Ok-clause-keeps g c =
     subst (λ (h : Held g.row.S.Denot). Keeps g.S.Store old h) same (λ s keeps clean.
     keeps_indexed g.S.Store old late end s keeps wrote (omega (arith, c.commit.ensures.survives.clean, clean)) g.met.S.Store.settled (c.in-Ok.ensures.ok clean).1)
 
-pub returns-in-Ok-clause-gives : goal.returns-in-Ok-clause-gives
-returns-in-Ok-clause-gives g c =
+pub returns-in-Ok-clause-ends : goal.returns-in-Ok-clause-ends
+returns-in-Ok-clause-ends g c =
     let old = c.args.conn.now in
     let late = c.add_index.new.tx.conn.now in
     let end = c.commit.new.self.0 in
@@ -48,8 +48,8 @@ returns-in-Err-clause-keeps g c =
     (left_from g.S.Store old c.transaction-tx.result.conn.now late c.transaction-tx.ensures.begun c.add_index.ensures.goes.survives c.add_index.ensures.goes.commit)
     c.rollback.ensures.survives (λ clean. c.rollback.ensures.undone clean) clean)
 
-pub returns-in-Err-clause-fault : goal.returns-in-Err-clause-fault
-returns-in-Err-clause-fault g c = is_fault c.fault_of.result _ c.fault_of.ensures.memory c.fault_of.ensures.store
+pub returns-in-Err-clause-ends : goal.returns-in-Err-clause-ends
+returns-in-Err-clause-ends g c = is_fault c.fault_of.result _ c.fault_of.ensures.memory c.fault_of.ensures.store
 
 -- the commit failed: a crash leaves the index or not
 pub returns-in-Err-commit-clause-keeps : goal.returns-in-Err-commit-clause-keeps
@@ -64,5 +64,5 @@ returns-in-Err-commit-clause-keeps g c =
     subst (λ (h : Held g.row.S.Denot). Keeps g.S.Store old h) same (λ s keeps clean.
     keeps_uncommitted g.S.Store old late end s keeps wrote c.commit.ensures.survives _ (λ clean. c.in-Err-commit.ensures.err clean) clean)
 
-pub returns-in-Err-commit-clause-fault : goal.returns-in-Err-commit-clause-fault
-returns-in-Err-commit-clause-fault g c = inl refl
+pub returns-in-Err-commit-clause-ends : goal.returns-in-Err-commit-clause-ends
+returns-in-Err-commit-clause-ends g c = inl refl

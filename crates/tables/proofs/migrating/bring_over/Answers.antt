@@ -12,8 +12,8 @@ use Rattle.tables.proofs.Telling.{is_fault}
 use Rattle.tables.proofs.migrating.bring_over.Goals as goal
 
 -- the commit succeeded: the connection keeps the same state in the new tables, and a crash leaves only these
-pub returns-in-Ok-clause-brings : goal.returns-in-Ok-clause-brings
-returns-in-Ok-clause-brings g c =
+pub returns-in-Ok-clause-ends : goal.returns-in-Ok-clause-ends
+returns-in-Ok-clause-ends g c =
     let old = c.args.conn.now in
     let late = c.write_new.new.tx.conn.now in
     let end = c.commit.new.self.0 in
@@ -30,8 +30,8 @@ returns-in-Ok-clause-brings g c =
     })
 
 -- the new tables were not written, because the disk failed or refused, or out of memory
-pub returns-in-Err-clause-fails : goal.returns-in-Err-clause-fails
-returns-in-Err-clause-fails g c =
+pub returns-in-Err-clause-ends : goal.returns-in-Err-clause-ends
+returns-in-Err-clause-ends g c =
     let old = c.args.conn.now in
     let late = c.write_new.new.tx.conn.now in
     let end = c.rollback.new.self.0 in
@@ -55,8 +55,8 @@ returns-in-Err-clause-fails g c =
     }
 
 -- they were not committed: a crash leaves the old tables or the new ones
-pub returns-in-Err-commit-clause-fails : goal.returns-in-Err-commit-clause-fails
-returns-in-Err-commit-clause-fails g c =
+pub returns-in-Err-commit-clause-ends : goal.returns-in-Err-commit-clause-ends
+returns-in-Err-commit-clause-ends g c =
     let old = c.args.conn.now in
     let late = c.write_new.new.tx.conn.now in
     let end = c.commit.new.self.0 in

@@ -1,10 +1,8 @@
 -- What a crash leaves, and what the connection shows, whether the migration was completed or not.
-use Rattle.std.proofs.Common.{◌≡◌, inl, inr, Ok, Err, ap, sym, ◌∙◌, rules}
+use Rattle.std.proofs.Common.{◌≡◌, inl, inr, Err, ap, rules}
 use Rattle.desk_sql.specs.Rows.{MetaRow}
-use Rattle.desk_sql.specs.Schema.{no_schema}
 use Rattle.sql_model.proofs.Quieting.{quiet_up}
 use Rattle.tables.specs.MigrateReasons.{HasTooMany}
-use Rattle.tables.specs.declared.migrate_faults.MigrateFault.TheVariants.{UnknownSchema}
 use Rattle.tables.proofs.FailLemmas.{fails_later}
 use Rattle.tables.proofs.Quiet.{as_before}
 use Rattle.tables.proofs.Stopping.{kept_there, left_as_before, left_either, refuses_others, shows_as_before, shows_either, was_not_new}
@@ -20,9 +18,9 @@ returns-in_err-meta-clause-fails g c =
     let why = c.in_err-meta.field-0.0 in
     let same : c.from_residual.result ≡ Err why = search rules in
     rw same (record {
-      told = c.in_err-meta.ensures.told;
-      only_old = refuses_others g.S.Store old mid quiet why c.in_err-meta.ensures.told;
-      reason = λ clean s stood up store. elim (c.in_err-meta.ensures.store clean s stood up store) [
+      told = c.in_err-meta.ensures.tries.told;
+      only_old = refuses_others g.S.Store old mid quiet why c.in_err-meta.ensures.tries.told;
+      reason = λ clean s stood up store. elim (c.in_err-meta.ensures.tries.store clean s stood up store) [
         | inl faulted ↦ inl faulted
         | inr many ↦ inr (inr many)
       ];
@@ -38,11 +36,9 @@ returns-in_err-bring_over-clause-fails g c =
     let new = c.bring_over.new.conn in
     let m = c.in_ok-meta.meta in
     let quiet = c.read_old.ensures.quiet in
-    let read = c.in_ok-meta.ensures.reads in
+    let read = c.in_ok-meta.ensures.tries in
     let sound = c.bring_over.ensures.idle.sound in
-    let failed = c.in_err-bring_over.ensures.fails in
-    let filled : old.schema ≡ no_schema → ⊥ = λ none.
-    let never : Ok m ≡ Err (UnknownSchema 0) = sym c.in_ok-meta.was ∙ c.read_old.ensures.bare none in cc in
+    let failed = c.in_err-bring_over.ensures.ends in
     let why = c.in_err-bring_over.field-0.0 in
     let same : c.from_residual-in_err-bring_over.result ≡ Err why = search rules in
     rw same (record {
@@ -50,8 +46,8 @@ returns-in_err-bring_over-clause-fails g c =
       only_old = λ refused. absurd (not_refused why failed.fault refused);
       reason = λ clean s stood up store. fails_later g.S.Store old mid new s (quiet_up g.S.Store old mid quiet) failed.up (sound clean) up {Q = HasTooMany s}
           (λ still. failed.store clean s (read.numbers (sound clean) s stood) (kept_there g.S.Store old mid quiet s stood) still store);
-      shows = shows_either g.S.Store old mid new m quiet read.version filled sound failed.shows;
-      stop = left_either g.S.Store old mid new m quiet read.version filled sound read.numbers failed.stop;
+      shows = shows_either g.S.Store old mid new m quiet read.version read.filled sound failed.shows;
+      stop = left_either g.S.Store old mid new m quiet read.version read.filled sound read.numbers failed.stop;
     })
 
 -- the connection kept the state when the transaction began, so the new tables have the same state, and a crash leaves only these
@@ -60,15 +56,13 @@ returns-clause-migrates g c =
     let old = c.args.conn.now in
     let mid = c.read_old.new.conn in
     let quiet = c.read_old.ensures.quiet in
-    let read = c.in_ok-meta.ensures.reads in
+    let read = c.in_ok-meta.ensures.tries in
     let sound = c.bring_over.ensures.idle.sound in
-    let brought = c.in_ok-bring_over.ensures.brings in
-    let filled : old.schema ≡ no_schema → ⊥ = λ none.
-    let never : Ok c.in_ok-meta.meta ≡ Err (UnknownSchema 0) = sym c.in_ok-meta.was ∙ c.read_old.ensures.bare none in cc in
+    let brought = c.in_ok-bring_over.ensures.ends in
     record {
       same_state = λ clean s stood. brought.done s (read.numbers (sound clean) s stood) (kept_there g.S.Store old mid quiet s stood) clean;
       left = λ clean s stood. brought.left clean s (read.numbers (sound clean) s stood) (kept_there g.S.Store old mid quiet s stood);
-      only_old = was_not_new g.S.Store old mid c.bring_over.new.conn c.in_ok-meta.meta quiet read.version filled sound;
+      only_old = was_not_new g.S.Store old mid c.bring_over.new.conn c.in_ok-meta.meta quiet read.version read.filled sound;
       events = λ clean s stood. ap (λ (r : MetaRow). r.events) (read.numbers (sound clean) s stood);
       version = λ clean v t sees. read.version (sound clean) v t sees;
     }

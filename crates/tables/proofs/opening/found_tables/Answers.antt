@@ -8,8 +8,8 @@ use Rattle.tables.specs.declared.faults.OpenFault.TheVariants.{Store}
 use Rattle.tables.proofs.Founding.{made_all, not_kept, not_made}
 use Rattle.tables.proofs.opening.found_tables.Goals as goal
 
-pub returns-in-Ok-clause-opens : goal.returns-in-Ok-clause-opens
-returns-in-Ok-clause-opens g c =
+pub returns-in-Ok : goal.returns-in-Ok
+returns-in-Ok g c =
     let old = c.args.conn.now in
     let late = c.make_tables.new.tx.conn.now in
     let end = c.commit.new.self.0 in
@@ -21,8 +21,8 @@ returns-in-Ok-clause-opens g c =
     (rw from at c.in_default.ensures.made) (rw from at c.in_default.ensures.goes.live) g.met.S.Store.settled (λ clean. (c.in-Ok.ensures.ok clean).1))
 
 -- the tables were not created, so the write was rolled back
-pub returns-in-Err-clause-fails : goal.returns-in-Err-clause-fails
-returns-in-Err-clause-fails g c =
+pub returns-in-Err : goal.returns-in-Err
+returns-in-Err g c =
     let old = c.args.conn.now in
     let late = c.make_tables.new.tx.conn.now in
     let end = c.rollback.new.self.0 in
@@ -35,8 +35,8 @@ returns-in-Err-clause-fails g c =
     (rw from at c.in-Err.ensures.reason) c.fault_of.ensures.memory c.opening_fault.ensures.memory c.opening_fault.ensures.store)
 
 -- the commit failed and was rolled back
-pub returns-in-Err-commit-clause-fails : goal.returns-in-Err-commit-clause-fails
-returns-in-Err-commit-clause-fails g c =
+pub returns-in-Err-commit : goal.returns-in-Err-commit
+returns-in-Err-commit g c =
     let old = c.args.conn.now in
     let late = c.make_tables.new.tx.conn.now in
     let end = c.commit.new.self.0 in

@@ -4,17 +4,18 @@ use Rattle.sqlite.specs.Held.{state}
 use Rattle.commands.specs.declared.replies.Fault.TheVariants as fault
 use Rattle.desk_sql.specs.declared.versions.Version.{Version}
 use Rattle.desk_sql.specs.declared.versions.Version.TheVariants.{Two}
-use Rattle.desk_sql.specs.Versions.{number_of, AreOfVersion}
+use Rattle.desk_sql.specs.Versions.{number_of, SawVersion}
 use Rattle.sql_model.proofs.KeepLemmas.{seen_by}
 use Rattle.sql_model.proofs.Quieting.{quiet_clean, quiet_leaves, quiet_sees, quiet_up}
 use Rattle.sql_model.proofs.Staying.{of_error}
 use Rattle.sql_reads.proofs.ReadReasons.{meta_there}
 use Rattle.tables.specs.declared.faults.OpenFault.TheVariants.{UnknownSchema, Store}
-use Rattle.tables.proofs.OpenKept.{fails_quietly, has_number, has_version, is_named, keeps_named, quiet_idle, tells_fault}
+use Rattle.tables.proofs.OpenKept.{fails_quietly, has_number, is_named, keeps_named, quiet_idle, tells_fault}
+use Rattle.tables.proofs.Telling.{saw_read}
 use Rattle.tables.proofs.opening.read_version.Goals as goal
 
-pub returns-in-Some-clause-opens : goal.returns-in-Some-clause-opens
-returns-in-Some-clause-opens g c =
+pub returns-in-Some : goal.returns-in-Some
+returns-in-Some g c =
     let store = g.S.Store in
     let old = c.args.conn.now in
     let new = c.read_meta.new.conn in
@@ -28,7 +29,7 @@ returns-in-Some-clause-opens g c =
           (stood (quiet_clean store old new quiet clean)) c.requires.filled now named (quiet_leaves store old new quiet clean);
       only = λ clean v s stood. is_named (state store old) (state store new) m (λ w t sees. (c.in-Ok.ensures.queries w).found clean t sees) v s
           (stood (quiet_clean store old new quiet clean)) c.requires.filled now named;
-      version = λ clean v t sees. subst (λ n. AreOfVersion n t) ((named now).0 refl) (has_version t m ((c.in-Ok.ensures.queries v).found clean t sees).1);
+      version = subst (SawVersion store old new) ((named now).0 refl) (saw_read store old new m (λ v. (c.in-Ok.ensures.queries v).found));
       idle = quiet_idle store old new quiet c.requires.idle;
       sound = quiet_clean store old new quiet;
       up = quiet_up store old new quiet;
@@ -36,8 +37,8 @@ returns-in-Some-clause-opens g c =
     }
 
 -- no version has this number
-pub returns-in-None-clause-fails : goal.returns-in-None-clause-fails
-returns-in-None-clause-fails g c =
+pub returns-in-None : goal.returns-in-None
+returns-in-None g c =
     let store = g.S.Store in
     let old = c.args.conn.now in
     let new = c.read_meta.new.conn in
@@ -49,15 +50,15 @@ returns-in-None-clause-fails g c =
     absurd (let never : None ≡ Some v = sym none ∙ some in cc) in
     fails_quietly store old new quiet c.requires.idle c.requires.filled (UnknownSchema m.version) (
       other,
-      λ clean v t sees. has_version t m ((c.in-Ok.ensures.queries v).found clean t sees).1,
+      saw_read store old new m (λ v. (c.in-Ok.ensures.queries v).found),
       λ clean v s stood. other v (has_number (state store old) (state store new) m (λ w t sees. (c.in-Ok.ensures.queries w).found clean t sees) v s
           (stood (quiet_clean store old new quiet clean)) c.requires.filled),
     )
     (λ clean v s keeps up is. absurd (let never : UnknownSchema m.version ≡ Store = is in cc))
 
 -- an error of the store has a reason
-pub returns-in-Err-clause-fails : goal.returns-in-Err-clause-fails
-returns-in-Err-clause-fails g c =
+pub returns-in-Err : goal.returns-in-Err
+returns-in-Err g c =
     let store = g.S.Store in
     let old = c.args.conn.now in
     let new = c.read_meta.new.conn in

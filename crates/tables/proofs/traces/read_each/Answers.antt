@@ -15,14 +15,14 @@ pub returns : goal.returns
 returns g c =
     let taken = c.take_rows.ensures in
     let begun = c.in-Ok.ensures in
-    list_read (search rules) begun.quiet taken.takes.kept.quiet
+    list_read (search rules) begun.under.quiet taken.takes.kept.quiet
     (λ clean began s desk keeps.
     let all = history s.ledger c.args.id in
     also_ok c.take_rows.result (λ items. items.items ≡ take 18446744073709551615 all) (λ items. items.items ≡ all)
     (λ items is. whole_list items all is) (taken.taken clean all (begun.rows began s desk keeps all refl)))
     (λ clean began s desk spelled keeps up store.
     takes_fails taken.takes clean
-    (ready_alone g.S.Store _ (at_start g.S.Store begun.start s desk spelled (quiet_keeps g.S.Store c.args.conn.now _ begun.quiet Two s keeps)) up)
+    (ready_alone g.S.Store _ (at_start g.S.Store begun.start s desk spelled (quiet_keeps g.S.Store c.args.conn.now _ begun.under.quiet Two s keeps)) up)
     (reported_store _ store))
 
 -- they could not be started

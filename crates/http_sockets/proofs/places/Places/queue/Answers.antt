@@ -9,8 +9,9 @@ invariant_of-self-2 c = let slot = found _ c.args.at c.in-Some.place.now c.in-So
     record { turns = rw c.in_ok-push_back.ensures.items (turns_more _ _ _ _ _ _ c.args.self.now.turns slot c.if-place.false refl) }
 
 pub returns-clause-queued : goal.returns-clause-queued
-returns-clause-queued c = let slot = found _ c.args.at c.in-Some.place.now c.in-Some.ensures.item.3.0 c.in-Some.ensures.value in
-    changed queued c.args.self.now.places.items c.args.at _ _ slot (queued_anew c.in-Some.place.now (c.is_none.ensures ∙ ap not c.if-is_none.false))
+returns-clause-queued c =
+    changed queued _ c.args.at c.in-Some.place.now _ c.in-Some.ensures.item.3.0 c.in-Some.ensures.value
+    (queued_anew c.in-Some.place.now (c.is_none.ensures ∙ ap not c.if-is_none.false))
 
 pub returns-clause-waiting : goal.returns-clause-waiting
 returns-clause-waiting c = let slot = found _ c.args.at c.in-Some.place.now c.in-Some.ensures.item.3.0 c.in-Some.ensures.value in

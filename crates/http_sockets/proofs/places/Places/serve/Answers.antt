@@ -12,6 +12,7 @@ pub invariant_of-self-in_default : goal.invariant_of-self-in_default
 invariant_of-self-in_default c =
     record { turns = turns_gone _ c.in_ok-at.at _ _ _ c.args.self.now.turns c.in_ok-at.ensures.items c.in_default.ensures.item.3 }
 
-pub returns-in-Some-clause-slots : goal.returns-in-Some-clause-slots
-returns-in-Some-clause-slots c = let slot = found _ c.in_ok-at.at c.in-Some.place.now c.in-Some.ensures.item.3.0 c.in-Some.ensures.value in
-    changed served c.args.self.now.places.items c.in_ok-at.at _ _ slot refl
+pub returns-in-Some : goal.returns-in-Some
+returns-in-Some c = record {
+  served = (changed served _ c.in_ok-at.at _ _ c.in-Some.ensures.item.3.0 c.in-Some.ensures.value refl, c.in_ok-at.ensures.items);
+}

@@ -15,9 +15,7 @@ returns-in-Some c =
     ap (option_map kept_said) (c.in-Some.ensures.value
     ∙ ap (tree.get ask_key_cmp answers.kept)
     (ask_key-is c.of.result ask.agent ask.key c.of.ensures.agent c.of.ensures.key)) in
-    record {
-      known = λ s.
-          ap Some (c.again.ensures.reply s
-          ∙ ap (λ t. (answered_again s t (kept_said kept)).reply) c.text.ensures.text)
-          ∙ ap (option_map (λ k. (answered_again s ask.text k).reply)) found;
-    }
+    λ s.
+    ap Some (c.again.ensures.reply s
+    ∙ ap (λ t. (answered_again s t (kept_said kept)).reply) c.text.ensures.text)
+    ∙ ap (option_map (λ k. (answered_again s ask.text k).reply)) found

@@ -1,6 +1,4 @@
-use Rattle.std.proofs.Common.{ap, sym, ◌∙◌, ◌&&◌, bytes_eq, if◌then◌else◌, Some}
-use Rattle.std.specs.Option.{option_copied}
-use Rattle.ledger.specs.Answer.{kept_after}
+use Rattle.std.proofs.Common.{◌∙◌, ◌&&◌, bytes_eq, if◌then◌else◌, Some}
 use Rattle.memory_book.specs.MemoryAnswers.{kept_in}
 use Rattle.memory_book.proofs.KeptLemmas.{kept_in-insert}
 use Rattle.memory_book.proofs.answers.Answers.keep.Goals as goal
@@ -9,11 +7,8 @@ use Rattle.memory_book.proofs.answers.Answers.keep.Goals as goal
 pub returns-clause-kept : goal.returns-clause-kept
 returns-clause-kept c agent key =
     let old = c.args.self.now in
-    let ask = c.in-Some.ask.now in
-    kept_in-insert old (record { kept = c.insert.new.self }) c.of.result
+    rw c.in-Some.is (kept_in-insert old (record { kept = c.insert.new.self }) c.of.result
     (record { text = c.in_ok-text.text; reply = c.args.reply }) c.in_ok-insert.ensures.updates agent key
     ∙ (λ i. if bytes_eq agent (c.of.ensures.agent i) && bytes_eq key (c.of.ensures.key i)
     then Some (record { text = (c.in_ok-text.ensures.items ∙ c.text.ensures.text) i; reply = c.args.reply })
-    else kept_in old agent key)
-    ∙ ap (λ o. kept_after (kept_in old) (option_copied o) c.args.reply agent key)
-    (sym c.in-Some.is)
+    else kept_in old agent key))

@@ -5,8 +5,8 @@ use Rattle.memory_book.proofs.LoadLemmas.{has_name, named-kept, none_first, carr
 use Rattle.memory_book.proofs.mem_book.MemBook.load.Goals as goal
 
 -- the name is known
-pub returns-in-Some-clause-answer : goal.returns-in-Some-clause-answer
-returns-in-Some-clause-answer c s here =
+pub returns-in-Some : goal.returns-in-Some
+returns-in-Some c s here =
     let m = c.args.self.now in
     let batch = c.args.batch.now in
     carried_out-known m s (option_copied c.args.ask) batch.name batch.rows c.in-Some.known.now.rows
@@ -16,10 +16,10 @@ returns-in-Some-clause-answer c s here =
     c.loaded_again.ensures.again
 
 -- the name is new
-pub returns-in-None-clause-answer : goal.returns-in-None-clause-answer
-returns-in-None-clause-answer c s here =
+pub returns-in-None : goal.returns-in-None
+returns-in-None c s here =
     let m = c.args.self.now in
     let name = c.args.batch.now.name in
-    c.load_new.ensures.answer s here
+    c.load_new.ensures s here
     (none_first (batches_named s.ledger name) (named-kept m s here name None
     (c.in-None.ensures.first ∙ ap (λ n. find (has_name n) m.batches.items) c.name.ensures.name)))

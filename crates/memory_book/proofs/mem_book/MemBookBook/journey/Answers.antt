@@ -1,19 +1,16 @@
-use Rattle.std.proofs.Common.{refl}
-use Rattle.std.proofs.lemmas.Option.{slice_get_read}
-use Rattle.memory_book.proofs.StandLemmas.{record_of-past, record_of-kept}
+use Rattle.std.proofs.Common.{Some, ap, sym, ◌∙◌, option_map}
+use Rattle.ledger.specs.Ledger.{history}
+use Rattle.saga_core.specs.Views.{record_of_journey}
+use Rattle.memory_book.proofs.StandLemmas.{record_of-kept}
 use Rattle.memory_book.proofs.mem_book.MemBookBook.journey.Goals as goal
 
 -- there is no such journey
 pub returns-in-None-clause-journey : goal.returns-in-None-clause-journey
 returns-in-None-clause-journey c _ s here =
-    record_of-past c.args.self.now s here c.args.id c.in-None.ensures.none
+    ap (option_map (record_of_journey (history s.ledger c.args.id))) (sym (c.in-None.ensures s here))
 
 -- what is kept of the journey is copied
 pub returns-in-Ok-clause-journey : goal.returns-in-Ok-clause-journey
 returns-in-Ok-clause-journey c _ s here =
-    let m = c.args.self.now in
-    let at = slice_get_read m.journeys.items _ c.in-Some.place c.index.result.now refl
-    c.in-Some.ensures.within c.index.ensures in
-    record_of-kept m s here c.args.id c.in-Some.place c.index.result.now at c.in-Some.ensures.number
-    c.in-Ok.«record» c.in-Ok.ensures.agent c.in-Ok.ensures.plan c.in-Ok.ensures.cursor
-    c.in-Ok.ensures.marks
+    ap Some c.in-Ok.ensures.shown
+    ∙ sym (record_of-kept s.ledger c.args.id c.in-Some.journey.now (c.in-Some.ensures s here))

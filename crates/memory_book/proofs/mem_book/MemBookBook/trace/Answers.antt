@@ -1,31 +1,21 @@
-use Rattle.std.proofs.Common.{◌≡◌, ◌+◌, ap, sym, ◌∙◌, refl, arith, Some}
-use Rattle.std.proofs.lemmas.Option.{slice_get_read}
-use Rattle.memory_book.proofs.StandLemmas.{history-kept}
-use Rattle.memory_book.proofs.UnfinishedLemmas.{brief_is, brief_of-kept, brief_of-past}
+use Rattle.std.proofs.Common.{Some, ap, sym, ◌∙◌, option_map}
+use Rattle.ledger.specs.Ledger.{history}
+use Rattle.saga_core.specs.Views.{brief_of_journey}
+use Rattle.memory_book.proofs.StandLemmas.{brief_of-kept}
 use Rattle.memory_book.proofs.mem_book.MemBookBook.trace.Goals as goal
 
 -- there is no such journey
 pub returns-in-None-clause-brief : goal.returns-in-None-clause-brief
-returns-in-None-clause-brief c _ s here = brief_of-past c.args.self.now s here c.args.id c.in-None.ensures.none
+returns-in-None-clause-brief c _ s here =
+    ap (option_map (brief_of_journey c.args.id (history s.ledger c.args.id))) (sym (c.in-None.ensures s here))
 
 -- what is kept of the journey is told
 pub returns-in-Ok-clause-brief : goal.returns-in-Ok-clause-brief
 returns-in-Ok-clause-brief c _ s here =
-    let m = c.args.self.now in
-    let k = c.index.result.now in
-    let b = c.brief-brief in
-    let next : c.args.id ≡ 1 + c.in-Some.place = omega (arith, c.in-Some.ensures.number) in
-    ap Some (brief_is b.result c.args.id k b.ensures.number b.ensures.agent b.ensures.cursor)
-    ∙ sym (brief_of-kept m s here c.in-Some.place k
-    (slice_get_read m.journeys.items _ c.in-Some.place k refl c.in-Some.ensures.within
-    c.index.ensures) c.args.id next)
+    ap Some c.brief-brief.ensures.brief
+    ∙ sym (brief_of-kept s.ledger c.args.id c.in-Some.journey.now (c.in-Some.ensures s here))
 
 -- the items are copied
 pub returns-in-Ok-clause-items : goal.returns-in-Ok-clause-items
 returns-in-Ok-clause-items c _ s here =
-    let m = c.args.self.now in
-    let k = c.index-in-Some.result.now in
-    c.in-Ok.ensures.items ∙ c.deref.ensures.value
-    ∙ history-kept m s here c.args.id c.in-Some.place k
-    (slice_get_read m.journeys.items _ c.in-Some.place k refl c.in-Some.ensures.within
-    c.index-in-Some.ensures) c.in-Some.ensures.number
+    c.in-Ok.ensures.items ∙ c.deref.ensures.value ∙ (c.in-Some.ensures s here).told.items

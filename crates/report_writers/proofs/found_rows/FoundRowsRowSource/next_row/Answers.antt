@@ -13,13 +13,13 @@ returns-in-Ok-None-clause-next g c clean rows rests = grind (arith, going, c.in-
 -- the later rows can be read too, or something failed
 pub returns-else-given-clause-reason : goal.returns-else-given-clause-reason
 returns-else-given-clause-reason g c first clean ready =
-    ready_on g.S.Store ready c.next_found.ensures.quiet clean (λ good. (refl, c.in-Ok-Some.ensures.good clean good.1))
+    ready_on g.S.Store ready c.next_found.ensures.under.quiet clean (λ good. (refl, c.in-Ok-Some.ensures.good clean good.1))
 
 pub returns-in-Ok-None-clause-reason : goal.returns-in-Ok-None-clause-reason
 returns-in-Ok-None-clause-reason g c first clean ready =
-    ready_on g.S.Store ready c.next_found.ensures.quiet clean (λ good. (refl, c.in-Ok-None.ensures.good clean good.1))
+    ready_on g.S.Store ready c.next_found.ensures.under.quiet clean (λ good. (refl, c.in-Ok-None.ensures.good clean good.1))
 
 -- the row could not be read, for a reason
 pub returns-in-Err-clause-reason : goal.returns-in-Err-clause-reason
 returns-in-Err-clause-reason g c first clean ready =
-    fails_by _ (λ store. ready_fails g.S.Store ready c.next_found.ensures.quiet (λ good up. c.in-Err.ensures.store clean good.1 up (ap Err store)))
+    fails_by _ (λ store. ready_fails g.S.Store ready c.next_found.ensures.under.quiet (λ good up. c.in-Err.ensures.store clean good.1 up (ap Err store)))

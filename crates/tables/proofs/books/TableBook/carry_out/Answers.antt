@@ -23,15 +23,15 @@ returns-in-Ok g c =
     record {
       executes = executed g.S.Store c.args.self.now _ c.args.ask asked did.sound did.up
           (λ clean s here m has up. did.rowids clean s here.keeps here.desk m has up)
-          (λ s spelled. outcome_spelled s ask asked spelled c.know_agent.ensures.form) _ c.if-self.false
+          (λ s spelled. outcome_spelled s ask asked c.know_limits.ensures.limits spelled c.know_agent.ensures.form) _ c.if-self.false
           (λ clean s here. c.in-Ok.ensures.executes.reply clean s here.keeps here.desk)
           (λ clean s here. let next = outcome_keeps s ask asked here.desk c.know_limits.ensures.limits in record {
             working = here.working;
             known = finished-kept s ask asked c.args.self.now.finished next.legal here.known;
             counted =
-                count_kept s ask asked c.in-Ok.answered c.args.self.now.unfinished c.counted_after-self.result here.desk.legal next.legal
-                (c.in-Ok.ensures.executes.reply clean s here.keeps here.desk) (c.in-Ok.ensures.new clean s here.desk here.keeps)
-                c.counted_after-self.ensures.count here.counted;
+                count_kept s ask asked c.in-Ok.answered c.args.self.now.unfinished c.counted_after-self.result c.know_limits.ensures.limits
+                here.desk.legal next.legal (c.in-Ok.ensures.executes.reply clean s here.keeps here.desk)
+                (c.in-Ok.ensures.new clean s here.desk here.keeps) c.counted_after-self.ensures.count here.counted;
             desk = next;
             keeps = c.in-Ok.ensures.executes.after s here.keeps here.desk;
           })
@@ -46,7 +46,8 @@ returns-in-Err-Memory g c =
     record {
       executes = executed g.S.Store c.args.self.now _ c.args.ask (request_of c.args.command.now) did.sound did.up
           (λ clean s here m has up. did.rowids clean s here.keeps here.desk m has up)
-          (λ s spelled. outcome_spelled s (option_copied c.args.ask) (request_of c.args.command.now) spelled c.know_agent.ensures.form) _ c.if-self.false
+          (λ s spelled. outcome_spelled s (option_copied c.args.ask) (request_of c.args.command.now) c.know_limits.ensures.limits spelled
+          c.know_agent.ensures.form) _ c.if-self.false
           (λ clean s here. tt) (λ clean s here. tt)
           (λ clean s here. record {
             working = here.working;
@@ -66,7 +67,8 @@ returns-in-Err-Store g c =
     record {
       executes = executed g.S.Store c.args.self.now _ c.args.ask (request_of c.args.command.now) did.sound did.up
           (λ clean s here m has up. did.rowids clean s here.keeps here.desk m has up)
-          (λ s spelled. outcome_spelled s (option_copied c.args.ask) (request_of c.args.command.now) spelled c.know_agent.ensures.form) _ c.if-self.false
+          (λ s spelled. outcome_spelled s (option_copied c.args.ask) (request_of c.args.command.now) c.know_limits.ensures.limits spelled
+          c.know_agent.ensures.form) _ c.if-self.false
           (λ clean s here. tt) (λ clean s here. tt) (λ clean. tt) (λ clean s here. did.left s here.keeps here.desk) (search rules)
           (λ clean s here spelled short has up is. did.store clean s spelled here.keeps here.desk short has up failed);
     }
