@@ -8,6 +8,7 @@ from pathlib import Path
 from lanes import Task
 from tables import LAST_CHECK
 from tried import Tried
+from turns import LONGEST
 
 # The scripts that do not drive the program, and so need not wait for it.
 WITHOUT_PROGRAM = {f"{it}.sh" for it in ("build", "gate", "layout", "memory_of_crates", "mutants", "parts", "pictures", "spoiled")}
@@ -55,17 +56,24 @@ def mutant_tasks(gate, choice, results):
     """Returns the tries of mutants, each once its crate is proved."""
     tables, tasks = gate.tables, []
     tried = Tried(tables, tables.top / "out/tried") if choice.is_whole else None
-    for name, mutants in choice.mutants.items():
+    for name, mutants in side_by_side(tables, choice):
         if tried and tried.has(name, mutants):
             results.say(f"{len(mutants)} mutants of {name}: each rejected by an earlier run over the same sources")
             results.rejected += len(mutants)
             continue
         minutes = tables.proof(name) + LAST_CHECK + len(mutants) * tables.mutant(name)
         script = [sys.executable, "-B", str(tables.top / "scripts/mutants.py"), "--libraries", str(gate.copy), name]
-        task = Task((name, "mutants"), minutes, [(name, "proof")], fills=True, proves=True, yields=True)
+        task = Task((name, "mutants", Path(mutants[0]).stem), minutes, [(name, "proof")], fills=True, proves=True, yields=True)
         task.words, task.ended = script + [Path(it).name for it in mutants], partial(results.mutants_ended, name, mutants, tried)
         tasks.append(task)
     return tasks
+
+
+def side_by_side(tables, choice):
+    """Returns the mutants of each crate, in parts where they would take longer than one part may."""
+    for name, mutants in choice.mutants.items():
+        parts = max(1, round(len(mutants) * tables.mutant(name) / LONGEST))
+        yield from ((name, mutants[k::parts]) for k in range(parts))
 
 
 def script_tasks(gate, choice, results):

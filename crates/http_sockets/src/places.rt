@@ -1,6 +1,8 @@
 //! The two ends of a connection over a socket, and what is known of each slot: its socket, what its peer owes, and since when.
 
-ghost use Rattle.std.specs.Prelude.{◌≡◌, ◌++◌, All, IfOk, OnErr, OnOk, ◌↔◌, IsTrue, if◌then◌else◌, [], length, true};
+ghost use Rattle.std.specs.Prelude.{◌≡◌, ◌++◌, All, IfOk, OnErr, OnOk, ◌↔◌, IsTrue, if◌then◌else◌, [], length, take, true, ◌<◌};
+ghost use Rattle.std.specs.Io.{ReadsAtMost, WritesAtMost};
+ghost use Rattle.std.specs.Io.KnownBytes.{Appends, Consumes, IsAtEnd, Keeps};
 ghost use Rattle.http_sockets.specs.Owed.{is_owed_anew, owed_after, shows_life};
 ghost use Rattle.http_sockets.specs.Slots.{HaveTurns};
 
@@ -345,11 +347,11 @@ impl Read for ReadEnd {
         match &*self.0 {
             Socket::Port(stream) => {
                 let mut stream = stream;
-                stream.read(buffer)
+                read_from(&mut stream, buffer)
             }
             Socket::Path(stream) => {
                 let mut stream = stream;
-                stream.read(buffer)
+                read_from(&mut stream, buffer)
             }
         }
     }
@@ -360,11 +362,11 @@ impl Write for WriteEnd {
         match &*self.0 {
             Socket::Port(stream) => {
                 let mut stream = stream;
-                stream.write(bytes)
+                write_to(&mut stream, bytes)
             }
             Socket::Path(stream) => {
                 let mut stream = stream;
-                stream.write(bytes)
+                write_to(&mut stream, bytes)
             }
         }
     }
@@ -372,4 +374,26 @@ impl Write for WriteEnd {
     fn flush(&mut self) -> io::Result<()> {
         Ok(())
     }
+}
+
+/// Reads once. Of what the reader gives, nothing is lost.
+fn read_from<R: Read>(reader: &mut R, buffer: &mut [u8]) -> io::Result<usize>
+    ensures bound { ReadsAtMost result buffer.new }
+    ensures consumed { IfOk result (λ count.
+        Consumes (R.remaining reader.old) (R.remaining reader.new) (take count buffer.new)) }
+    ensures end { IfOk result (λ count.
+        count ≡ 0 → 0 < length buffer.new → IsAtEnd (R.remaining reader.new)) }
+    ensures err { OnErr result (Keeps (R.remaining reader.old) (R.remaining reader.new)) }
+{
+    reader.read(buffer)
+}
+
+/// Writes once. So many bytes as are told were taken.
+fn write_to<W: Write>(writer: &mut W, bytes: &[u8]) -> io::Result<usize>
+    ensures bound { WritesAtMost result bytes.now }
+    ensures appended { IfOk result (λ count.
+        Appends (W.contents writer.old) (W.contents writer.new) (take count bytes.now)) }
+    ensures err { OnErr result (Keeps (W.contents writer.old) (W.contents writer.new)) }
+{
+    writer.write(bytes)
 }
