@@ -157,6 +157,11 @@ gate 0 --all -- "mutants: 40 rejected"
 same "a whole run goes on: what has changed since" "high 8" "$(tried)"
 git checkout -q crates
 rm -r out/tried
+minutes 24 >docs/minutes.tsv
+gate 0 --all -- "mutants: 40 rejected"
+same "mutants that would take 24 minutes are tried in two parts" 2 "$(grep -c '4 mutants of high' "$work/said")"
+rm -r out/tried
+git checkout -q docs
 
 # what has changed comes first
 echo two >crates/mid/src/lib.rt
