@@ -3,7 +3,7 @@ ghost use Rattle.std.specs.Prelude.{◌≡◌, ◌<◌, ◌^◌};
 
 use crate::reads::LARGEST;
 
-/// Where the items of a journey are in a store, which can be asked for both numbers.
+/// Where the items of a journey are in a store.
 #[derive(Drop)]
 pub(crate) struct Sought {
     /// The number of the journey in the store; 0, which no journey has, if there is none.
@@ -12,14 +12,13 @@ pub(crate) struct Sought {
     pub after: u64,
     /// The number of steps in its plan; 0 if there is no journey.
     pub steps: u64,
-    ghost journey_low: { journey < 2 ^ 63 },
-    ghost after_low: { after < 2 ^ 63 },
 }
 
 impl Sought {
     /// The search for a journey that does not exist, which finds nothing.
     pub fn nowhere() -> Sought
-        ensures { result.journey ≡ 0 }
+        ensures journey { result.journey ≡ 0 }
+        ensures small { result.after < 2 ^ 63 }
     {
         Sought {
             journey: 0,

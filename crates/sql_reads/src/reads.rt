@@ -7,7 +7,7 @@ ghost use Rattle.sql_reads.specs.Reading.{AreMarksAt, AreTakenIn, HasNone, HasSt
 ghost use Rattle.desk_sql.specs.declared.versions.Version.TheVariants.{Two};
 ghost use Rattle.plan.specs.PlanModel.{step_count};
 ghost use Rattle.sql_reads.specs.FoundJourney.{IsRowAt};
-ghost use Rattle.sql_reads.specs.ItemSearch.{AreSoughtAt, IsNextRow};
+ghost use Rattle.sql_reads.specs.ItemSearch.{AreSoughtAt, IsLow, IsNextRow};
 
 use crate::item_search::Sought;
 use crate::next_item;
@@ -84,7 +84,8 @@ pub(crate) fn find_row<S: Alter>(
 
 /// Finds where the items of the journey of that number are in the store.
 pub(crate) fn find_sought<S: Alter>(conn: &mut Connection<S>, id: u64) -> Result<Sought, Fault>
-    ensures { ReadEach S.Store conn.old conn.new result AnyDesk (AreSoughtAt id) }
+    ensures low { IfOk result IsLow }
+    ensures read { ReadEach S.Store conn.old conn.new result AnyDesk (AreSoughtAt id) }
 {
     let row = find_row(conn, id)?;
     match row {
@@ -104,8 +105,12 @@ pub(crate) fn find_next<S: Alter>(
     version: Version,
     sought: &Sought,
 ) -> Result<Option<ItemFound>, Fault>
-    ensures { ReadIn S.Store conn.old conn.new version result AnyDesk (IsNextRow sought.now) }
+    ensures { ReadIn S.Store conn.old conn.new version result (λ _. IsLow sought.now)
+        (IsNextRow sought.now) }
 {
+    if sought.journey > LARGEST || sought.after > LARGEST {
+        return Err(Fault::Store);
+    }
     match next_item(conn, version, sought.journey, sought.after) {
         Ok(found) => Ok(found),
         Err(error) => Err(fault_of(&error)),

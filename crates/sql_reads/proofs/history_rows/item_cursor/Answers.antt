@@ -7,7 +7,7 @@ use Rattle.sql_reads.proofs.history_rows.item_cursor.Goals as goal
 pub returns-in-Ok-clause-rows : goal.returns-in-Ok-clause-rows
 returns-in-Ok-clause-rows g c clean s desk keeps items is =
     let w = c.in-Ok.sought in
-    let read = c.in-Ok.ensures c.args.version in
+    let read = c.in-Ok.ensures.read c.args.version in
     let at = read.shows clean s desk keeps in
     let all = at.items ∙ sym is in (
       refl,
@@ -24,11 +24,11 @@ returns-in-Ok-clause-rows g c clean s desk keeps items is =
     )
 
 pub returns-in-Ok-clause-quiet : goal.returns-in-Ok-clause-quiet
-returns-in-Ok-clause-quiet g c = (c.in-Ok.ensures c.args.version).quiet
+returns-in-Ok-clause-quiet g c = (c.in-Ok.ensures.read c.args.version).quiet
 
 pub returns-in-Err-clause-quiet : goal.returns-in-Err-clause-quiet
-returns-in-Err-clause-quiet g c = (c.in-Err.ensures c.args.version).quiet
+returns-in-Err-clause-quiet g c = (c.in-Err.ensures.read c.args.version).quiet
 
 pub returns-in-Err-clause-store : goal.returns-in-Err-clause-store
 returns-in-Err-clause-store g c v clean s desk spelled keeps up store =
-    (c.in-Err.ensures v).store clean s desk spelled keeps tt up (ap Err cc)
+    (c.in-Err.ensures.read v).store clean s desk spelled keeps tt up (ap Err cc)
