@@ -49,7 +49,7 @@ pub returns : goal.returns
 returns g c =
     let old = c.args.conn.now in
     let mid = c.in-Ok.rows.conn.now in
-    let started = c.in-Ok.ensures.started in
+    let started = c.in-Ok.ensures.started.starts in
     let taken = c.take_rows.ensures in
     list_read (search rules) (quiet_start g.S.Store old mid _ _ started) taken.takes.kept.under.quiet
     (λ clean began s desk keeps.
