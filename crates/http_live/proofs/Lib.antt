@@ -6,5 +6,3 @@ mod GainLemmas
 pub mod Ends
 mod DoorLemmas
 mod TurnLemmas
-mod SlotLemmas
-mod TextLemmas

@@ -1,3 +1,1 @@
 pub mod EndLemmas
-mod FolderLemmas
-pub mod ImageLemmas

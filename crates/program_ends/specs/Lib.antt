@@ -1,5 +1,3 @@
 pub mod Causes
 pub mod Ends
 pub mod Lines
-pub mod FileCauses
-pub mod Images

@@ -12,8 +12,6 @@ use std::test::Fail;
 
 mod counting;
 mod failing;
-mod plain;
-mod random;
 
 use counting::CountingBook;
 use failing::FailingBook;

@@ -6,5 +6,3 @@ pub mod PartLemmas
 pub mod PlainLemmas
 pub mod RowLemmas
 pub mod TakeLemmas
-pub mod SumLemmas
-pub mod CellSumLemmas

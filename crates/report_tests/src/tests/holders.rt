@@ -4,7 +4,8 @@ use super::fakes::Failing;
 use super::{ROOM, is_told, with_room};
 use commands::Fault;
 use failing_streams::Sink;
-use reports::{Holder, ReportFault, holders_text};
+use holder_reports::{Holder, holders_text};
+use reports::ReportFault;
 use saga_core::{Format, Listed};
 use std::alloc::AllocError;
 

@@ -1,0 +1,6 @@
+pub mod Holders
+pub mod Holdings
+pub mod Layouts
+pub mod HoldingLayouts
+pub mod Examples
+pub mod HoldingExamples

@@ -1,0 +1,4 @@
+pub mod Ends
+pub mod Logging
+pub mod Requests
+pub mod Seen
