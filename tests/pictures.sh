@@ -51,7 +51,7 @@ ends "a picture too many" 1 "docs/pictures/other.svg is not drawn by anything; $
 rm copy/docs/pictures/other.svg
 sed -i 's/^1. \*\*Read the line/1. **Read a line/' copy/docs/ARCHITECTURE.md
 ends "another item on the page" 1 \
-  "pictures.py: way.dot is not docs/ARCHITECTURE.md in 1. Read a line: desk_lines; 1. Read the line: desk_lines" --check
+  "pictures.py: way.dot is not docs/ARCHITECTURE.md in 1. Read a line: recovery; 1. Read the line: recovery" --check
 cp "$top/docs/ARCHITECTURE.md" copy/docs
 sed -i 's/Run -> Ended/Run -> Undone/' copy/docs/pictures/phases.dot
 ends "another arrow" 1 "docs/pictures/phases.svg is not what is drawn now; $again" --check

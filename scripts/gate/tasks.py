@@ -3,6 +3,7 @@
 import subprocess
 import sys
 from functools import partial
+from math import ceil
 from pathlib import Path
 
 from lanes import Task
@@ -72,7 +73,7 @@ def mutant_tasks(gate, choice, results):
 def side_by_side(tables, choice):
     """Returns the mutants of each crate, in parts where they would take longer than one part may."""
     for name, mutants in choice.mutants.items():
-        parts = max(1, round(len(mutants) * tables.mutant(name) / LONGEST))
+        parts = max(1, ceil(len(mutants) * tables.mutant(name) / LONGEST))
         yield from ((name, mutants[k::parts]) for k in range(parts))
 
 

@@ -2,7 +2,7 @@
 use Rattle.std.proofs.Common.{◌≡◌, refl, ap, sym, subst, inl, inr, ℕ, Bool, Global, String, List, Option, None, Some, option_map, string_bytes}
 use Rattle.std.specs.Io.KnownBytes.{Keeps}
 use Rattle.sqlite.specs.Store.{Ghosts}
-use Rattle.streams.proofs.ByteLemmas.{keeps_same}
+use Rattle.saga_core.proofs.ByteLemmas.{keeps_same}
 use Rattle.command_line.specs.declared.asking.Socket.{Socket}
 use Rattle.command_line.specs.declared.jobs.Job.{Job}
 use Rattle.command_line.specs.declared.jobs.Job.TheVariants.{Run, Serve, Recover, Load, Stock, Calendar, Summary, Holders, Holdings, Unfinished, Journeys, History, Why, Migrate, Index, Version}

@@ -1,6 +1,6 @@
 -- What is noted where a job stops before its notes, or has only one. For `loads` and `programs`.
 use Rattle.std.proofs.Common.{ℕ, List, Option, None, inl}
-use Rattle.streams.proofs.ByteLemmas.{keeps_same}
+use Rattle.saga_core.proofs.ByteLemmas.{keeps_same}
 use Rattle.desk_jobs.specs.Notes.{MayNote, MayNoteAll}
 
 -- of two notes there is the first at most

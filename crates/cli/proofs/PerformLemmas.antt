@@ -2,11 +2,11 @@
 use Rattle.std.proofs.Common.{◌≡◌, ◌≤◌, ◌∙◌, sym, subst, inl, inr, ℕ, List, [], take, Option, arith, append-nil}
 use Rattle.std.proofs.Math.Seq.{take-nil}
 use Rattle.std.specs.Io.KnownBytes.{Appends, Keeps}
-use Rattle.streams.proofs.ByteLemmas.{appends_more, appends_none}
-use Rattle.streams.specs.Written.{WroteFront}
+use Rattle.saga_core.proofs.ByteLemmas.{appends_more, appends_none}
+use Rattle.saga_core.specs.Written.{WroteFront}
 use Rattle.commands.specs.Texts.{refusal_line, reply_line}
 use Rattle.commands.specs.declared.replies.Refusal.TheVariants as refusal
-use Rattle.streams.specs.Scenes.{ended}
+use Rattle.saga_core.specs.StreamScenes.{ended}
 use Rattle.command_line.specs.Version.{version_line}
 use Rattle.command_line.specs.declared.jobs.Job.{Job}
 use Rattle.command_line.specs.declared.jobs.Job.TheVariants.{Run, Serve, Recover, Load, Stock, Calendar, Summary, Holders, Holdings, Unfinished, Journeys, History, Why, Migrate, Index, Version}

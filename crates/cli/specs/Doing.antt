@@ -8,7 +8,7 @@ use Rattle.commands.specs.declared.replies.Refusal.TheVariants as refusal
 use Rattle.command_line.specs.Version.{version_line}
 use Rattle.command_line.specs.declared.asking.Socket.{Socket}
 use Rattle.command_line.specs.declared.jobs.Job.{Job}
-use Rattle.desk_files.specs.declared.closing.Left.{Left}
+use Rattle.program_ends.specs.declared.closing.Left.{Left}
 use Rattle.desk_jobs.specs.Notes.{MayNoteAll}
 use Rattle.http_conversations.specs.Worlds.{Exchange}
 use Rattle.program_ends.specs.Causes.{Explains}
@@ -20,7 +20,7 @@ use Rattle.program_ends.specs.declared.faults.ProgramFault.TheVariants as fault
 use Rattle.program_jobs.specs.Streams.{IsOnlyWritten, IsUntouched, Streams, streams}
 use Rattle.program_jobs.specs.Doing.{Did}
 use Rattle.program_jobs.specs.InvokedTasks.{RanOver}
-use Rattle.streams.specs.Written.{WroteFront}
+use Rattle.saga_core.specs.Written.{WroteFront}
 use Rattle.cli.specs.Actions.{IsActionOf, IsOfLoad}
 use Rattle.cli.specs.Ends.{HasBadId, ReadsFor, TellsOf}
 use Rattle.cli.specs.declared.actions.Action.{Action}

@@ -2,7 +2,7 @@
 use Rattle.std.specs.Prelude.{◌≡◌, ◌≢◌, ⊤, ℕ, List, codes, Option, None}
 use Rattle.std.specs.String.{string_bytes}
 use Rattle.std.specs.Io.KnownBytes.{Appends, IsAtEnd}
-use Rattle.desk_lines.specs.Lines.{journey_in}
+use Rattle.recovery.specs.Lines.{journey_in}
 use Rattle.desk_jobs.specs.Ends.{recovered_line, TellsAccepted}
 use Rattle.desk_jobs.specs.Migrating.{indexed_line, migrated_line}
 use Rattle.tables.specs.declared.indexing.Indexed.{Indexed}

@@ -10,10 +10,10 @@ use commands::Refusal;
 use http_pages::{Answer, Unanswered, ask, is_target};
 use program_ends::{Cause, End, Ended, ProgramFault, end_of_connecting};
 use report_words::target_of;
+use saga_core::send;
 use std::alloc::Global;
 use std::io::{Read, Write};
 use std::os::unix::net::UnixStream;
-use streams::send;
 
 /// Prints a report of the desk that serves at a Unix socket. Words that cannot be sent are refused before the desk is asked.
 pub(crate) fn asked_report<O: Write>(

@@ -15,15 +15,14 @@ use crate::actions::{Action, file_of};
 use crate::asking::asked_report;
 use command_line::{Call, Socket, version_line};
 use commands::Refusal;
-use desk_files::Left;
 use http_live::Turns;
-use program_ends::{End, Ended, ProgramFault};
+use program_ends::{End, Ended, Left, ProgramFault};
 use program_jobs::{Environment, do_over_file};
+use saga_core::send;
 use sqlite::{File, FileFrom, FileStore, Start, Unknown};
 use sqlite_trees::store::Store;
 use std::alloc::Global;
 use std::io::{Read, Write};
-use streams::send;
 
 /// Does what a call asks for, over a file that held what `S` says. Returns the end, and what is left of the files of a task.
 pub fn do_action<S: Start, E: Environment, R: Read, O: Write, N: Write>(

@@ -2,8 +2,8 @@
 ghost use Rattle.std.specs.Prelude.{◌≡◌, ◌≤◌, Option};
 ghost use Rattle.std.specs.Io.KnownBytes.{Keeps};
 ghost use Rattle.commands.specs.Texts.{refusal_line};
-ghost use Rattle.streams.specs.Written.{WroteFront};
-ghost use Rattle.streams.specs.Scenes.{ended};
+ghost use Rattle.saga_core.specs.Written.{WroteFront};
+ghost use Rattle.saga_core.specs.StreamScenes.{ended};
 ghost use Rattle.http_sockets.specs.Ends.{is_failed};
 ghost use Rattle.program_ends.specs.Ends.{TellsNoneOrFault};
 ghost use Rattle.program_jobs.specs.Serving.{CameFrom};

@@ -21,8 +21,8 @@ use Rattle.desk_http.specs.Monitored.{AsksForMetrics, GetsCounted, ShowsCounted}
 use Rattle.desk_http.specs.declared.answering.Answer.{Answer}
 use Rattle.desk_http.specs.declared.doors.Door.{Door}
 use Rattle.desk_http.specs.declared.doors.Door.TheVariants.{Port, House, Page}
-use Rattle.streams.specs.declared.serve_faults.ServeFault.{ServeFault}
-use Rattle.streams.specs.declared.serve_faults.ServeFault.TheVariants.{Memory}
+use Rattle.saga_core.specs.declared.serve_faults.ServeFault.{ServeFault}
+use Rattle.saga_core.specs.declared.serve_faults.ServeFault.TheVariants.{Memory}
 use Rattle.saga_core.specs.Runs.{Asks}
 use Rattle.desk_http.proofs.ReasonLemmas.{view_goes_on}
 

@@ -1,8 +1,8 @@
 -- A book of which something is read, or that may act for the command of a message. For what is shown, and for who lays out pages.
 use Rattle.std.proofs.Common.{◌≡◌, sym, subst, inl, inr, Bool, Option, None, Result, Ok, Err, IfErr}
 use Rattle.ledger.specs.Answer.{State}
-use Rattle.streams.specs.declared.serve_faults.ServeFault.{ServeFault}
-use Rattle.streams.specs.declared.serve_faults.ServeFault.TheVariants.{Memory, Read, Store, Write}
+use Rattle.saga_core.specs.declared.serve_faults.ServeFault.{ServeFault}
+use Rattle.saga_core.specs.declared.serve_faults.ServeFault.TheVariants.{Memory, Read, Store, Write}
 use Rattle.saga_core.specs.Calls.{Reads}
 use Rattle.saga_core.specs.Runs.{Asks}
 use Rattle.desk_http.specs.Pages.{Command}

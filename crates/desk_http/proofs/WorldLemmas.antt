@@ -11,11 +11,11 @@ use Rattle.saga_core.proofs.WorldLemmas.{KeepLimits-append, ends-with, ends-afte
 use Rattle.desk_http.specs.declared.doors.Door.{Door}
 use Rattle.desk_http.specs.declared.doors.Door.TheVariants.{Port}
 use Rattle.desk_http.specs.Pages.{Command, command_in, state_after, state_after_all, state_by}
-use Rattle.streams.specs.Scenes.{Scene}
+use Rattle.saga_core.specs.StreamScenes.{Scene}
 use Rattle.desk_http.specs.Serving.{ServesAll, ServesSome}
 use Rattle.desk_http.specs.Worlds.{asks_by, asks_in, EndsAmongMessages, EndsWithMessages, GoesOnAmongMessages, GoesOnWithMessages}
-use Rattle.streams.specs.declared.serve_faults.ServeFault.{ServeFault}
-use Rattle.streams.specs.declared.serve_faults.ServeFault.TheVariants.{Memory, Read, Store, Write}
+use Rattle.saga_core.specs.declared.serve_faults.ServeFault.{ServeFault}
+use Rattle.saga_core.specs.declared.serve_faults.ServeFault.TheVariants.{Memory, Read, Store, Write}
 use Rattle.desk_http.proofs.RequestLemmas.{command_of}
 use Rattle.desk_http.proofs.ServeLemmas.{after_more}
 

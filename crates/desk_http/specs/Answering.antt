@@ -6,8 +6,8 @@ use Rattle.http_pages.specs.Pages.{Paged, page_text}
 use Rattle.desk_http.specs.Pages.{IsPage, closes, state_after}
 use Rattle.desk_http.specs.declared.answering.Answer.{Answer}
 use Rattle.desk_http.specs.declared.doors.Door.{Door}
-use Rattle.streams.specs.declared.serve_faults.ServeFault.{ServeFault}
-use Rattle.streams.specs.declared.serve_faults.ServeFault.TheVariants.{Memory, Store}
+use Rattle.saga_core.specs.declared.serve_faults.ServeFault.{ServeFault}
+use Rattle.saga_core.specs.declared.serve_faults.ServeFault.TheVariants.{Memory, Store}
 
 -- the page was laid out as bytes, closes and stops the desk as it was to; or out of memory
 pub record LaidOut (result : Result Answer ServeFault) (page : Paged) (is_head ends stopped : Bool) : Type 0 where

@@ -20,7 +20,7 @@ use Rattle.http_messages.specs.Examples.{get_page}
 use Rattle.http_messages.specs.Heads.{IsHead, most_fields, most_head_bytes}
 use Rattle.http_messages.specs.Messages.{Message, Asks, BeginsWithRequest}
 use Rattle.http_pages.specs.Routes.{routes}
-use Rattle.streams.specs.declared.serve_faults.ServeFault.TheVariants.{Memory, Store}
+use Rattle.saga_core.specs.declared.serve_faults.ServeFault.TheVariants.{Memory, Store}
 use Rattle.saga_core.specs.Runs as runs
 use Rattle.desk_http.specs.Demands.{Carry, SeeStock}
 use Rattle.desk_http.specs.Laws.{MakesEvent}

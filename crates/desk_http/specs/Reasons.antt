@@ -8,8 +8,8 @@ use Rattle.http_messages.specs.Heads.{Parts}
 use Rattle.http_messages.specs.Messages.{Message}
 use Rattle.http_pages.specs.Pages.{page_said}
 use Rattle.http_pages.specs.declared.answers.Page.{Page}
-use Rattle.streams.specs.declared.serve_faults.ServeFault.{ServeFault}
-use Rattle.streams.specs.declared.serve_faults.ServeFault.TheVariants.{Memory, Store}
+use Rattle.saga_core.specs.declared.serve_faults.ServeFault.{ServeFault}
+use Rattle.saga_core.specs.declared.serve_faults.ServeFault.TheVariants.{Memory, Store}
 use Rattle.desk_http.specs.Answering.{Comes, Shows}
 use Rattle.desk_http.specs.Demands.{Demand, demand_of}
 use Rattle.desk_http.specs.Hosts.{refusal_at}

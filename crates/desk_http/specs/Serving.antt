@@ -5,9 +5,9 @@ use Rattle.ledger.specs.Answer.{State}
 use Rattle.http_messages.specs.Messages.{Message, BeginsWith, BeginsWithAll, HasNoMessage}
 use Rattle.desk_http.specs.Pages.{ArePages, IsPage, closes, state_after, state_after_all, stays_open}
 use Rattle.desk_http.specs.declared.doors.Door.TheVariants.{Port}
-use Rattle.streams.specs.Scenes.{Scene, Wrote}
-use Rattle.streams.specs.declared.serve_faults.ServeFault.{ServeFault}
-use Rattle.streams.specs.declared.serve_faults.ServeFault.TheVariants.{Memory, Store, Read, Write}
+use Rattle.saga_core.specs.StreamScenes.{Scene, Wrote}
+use Rattle.saga_core.specs.declared.serve_faults.ServeFault.{ServeFault}
+use Rattle.saga_core.specs.declared.serve_faults.ServeFault.TheVariants.{Memory, Store, Read, Write}
 
 -- the messages are a prefix of the input, before the rest; their pages are these
 pub record Answered (s : State) (input : List ℕ) (messages : List Message) (rest : List ℕ) (pages : List (List ℕ))

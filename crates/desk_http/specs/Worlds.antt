@@ -9,10 +9,10 @@ use Rattle.http_messages.specs.Messages.{Message, BeginsWith}
 use Rattle.desk_http.specs.Pages.{Command, command_in}
 use Rattle.desk_http.specs.Serving.{ServesAll, ServesSome}
 use Rattle.desk_http.specs.declared.doors.Door.TheVariants.{Port}
-use Rattle.streams.specs.Faults.{is_store}
-use Rattle.streams.specs.Scenes.{Scene}
-use Rattle.streams.specs.declared.serve_faults.ServeFault.{ServeFault}
-use Rattle.streams.specs.declared.serve_faults.ServeFault.TheVariants.{Memory, Store, Read, Write}
+use Rattle.saga_core.specs.StreamFaults.{is_store}
+use Rattle.saga_core.specs.StreamScenes.{Scene}
+use Rattle.saga_core.specs.declared.serve_faults.ServeFault.{ServeFault}
+use Rattle.saga_core.specs.declared.serve_faults.ServeFault.TheVariants.{Memory, Store, Read, Write}
 
 -- the command of a message, if it makes one
 abbrev pub asks_by : Option Command → Asks

@@ -31,8 +31,8 @@ use http_pages::{
     Body, Page, Paths, denied_page, page_bytes, refused_page, reply_page, shown_page, stopping_body,
 };
 use report_kinds::Reporting;
+use saga_core::ServeFault;
 use std::alloc::Global;
-use streams::ServeFault;
 
 /// The bytes of a page, and whether the connection ends after it.
 #[derive(Drop)]

@@ -7,9 +7,8 @@ ghost use Rattle.desk_http.specs.Reasons.{Sees, Views};
 use crate::doors::Asker;
 use commands::{Key, Refusal, Reply};
 use http_pages::{Body, Page, brief_body, refused_page, shown_page};
-use saga_core::{Book, Brief};
+use saga_core::{Book, Brief, ServeFault};
 use std::alloc::Global;
-use streams::ServeFault;
 
 /// The page of the journey that who asks began under a key. The house's own are those of the agent `desk`.
 pub(crate) fn see_begun<B: Book>(

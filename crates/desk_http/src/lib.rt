@@ -27,4 +27,4 @@ pub use law_examples::{
     step_is_retried,
 };
 pub use laws::{again, asks_are_short, commands_are_for_whom_is_meant, reports_are_for_the_house};
-pub use streams::ServeFault;
+pub use saga_core::ServeFault;

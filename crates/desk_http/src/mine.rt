@@ -4,9 +4,8 @@ ghost use Rattle.desk_http.specs.Reasons.{Sees};
 
 use crate::doors::Asker;
 use http_pages::{Body, Page, mine_body, shown_page};
-use saga_core::Book;
+use saga_core::{Book, ServeFault};
 use std::alloc::Global;
-use streams::ServeFault;
 
 /// How many journeys a page shows, at most.
 const MOST_SHOWN: usize = 100;

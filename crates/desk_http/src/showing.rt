@@ -24,11 +24,10 @@ use http_pages::{
 use plan::{Plan, PlanFault, json_is_read_back};
 use report_kinds::Reporting;
 use reports::stock_text;
-use saga_core::{Book, Brief, CellFilter, Format, Listed, Record, Report};
+use saga_core::{Book, Brief, CellFilter, Format, Listed, Record, Report, ServeFault};
 use serde_json::Value;
 use std::alloc::{AllocError, Global};
 use std::str;
-use streams::ServeFault;
 
 /// The page of a journey that who asks sees. A journey of another agent gets the page of one that does not exist.
 pub(crate) fn see_journey<B: Book>(

@@ -14,9 +14,8 @@ use crate::showing::own_journey;
 use commands::{Phase, Refusal};
 use http_pages::{Body, Page, refused_page, shown_page};
 use previews::{FreeNight, NextStep, latest_option, look_ahead, next_step, nights_shown, why_body};
-use saga_core::{Book, Listed, Record};
+use saga_core::{Book, Listed, Record, ServeFault};
 use std::alloc::Global;
-use streams::ServeFault;
 
 /// The page of why a journey that who asks sees goes on or does not. A journey of another agent gets the page of one that
 /// does not exist.

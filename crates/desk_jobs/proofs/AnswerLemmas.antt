@@ -4,11 +4,11 @@ use Rattle.std.proofs.lemmas.List.{take_min}
 use Rattle.std.proofs.Math.Seq.{take-append-add, take-append-le}
 use Rattle.std.specs.Io.KnownBytes.{Appends}
 use Rattle.ledger.specs.Answer.{State}
-use Rattle.streams.specs.Written.{WroteFront}
-use Rattle.streams.specs.Scenes.{Scene, ended}
-use Rattle.streams.specs.declared.serve_faults.ServeFault.{ServeFault}
-use Rattle.desk_lines.specs.Lines.{answer_line, answer_lines, state_after_lines, written}
-use Rattle.desk_lines.specs.Serving.{AnswersSome, ForNext, IsCut, WroteAll}
+use Rattle.saga_core.specs.Written.{WroteFront}
+use Rattle.saga_core.specs.StreamScenes.{Scene, ended}
+use Rattle.saga_core.specs.declared.serve_faults.ServeFault.{ServeFault}
+use Rattle.recovery.specs.Lines.{answer_line, answer_lines, state_after_lines, written}
+use Rattle.recovery.specs.Serving.{AnswersSome, ForNext, IsCut, WroteAll}
 use Rattle.reports.proofs.FrontLemmas.{front_before, front_whole}
 use Rattle.program_ends.specs.Ends.{EndsBadly, IfDone}
 use Rattle.program_ends.specs.declared.ends.End.{End}

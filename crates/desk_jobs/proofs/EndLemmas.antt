@@ -12,8 +12,8 @@ use Rattle.program_ends.specs.declared.ends.End.{End}
 use Rattle.program_ends.specs.declared.ends.End.TheVariants as finish
 use Rattle.program_ends.specs.declared.faults.ProgramFault.{ProgramFault}
 use Rattle.program_ends.specs.declared.faults.ProgramFault.TheVariants as fault
-use Rattle.streams.specs.Faults.{served_fault}
-use Rattle.streams.specs.declared.serve_faults.ServeFault.{ServeFault}
+use Rattle.saga_core.specs.StreamFaults.{served_fault}
+use Rattle.saga_core.specs.declared.serve_faults.ServeFault.{ServeFault}
 use Rattle.tables.specs.Making.{GivesBack, MakesNoBook}
 use Rattle.tables.specs.Opening.{FailsOpening, FailsToFound, FailsToOpen, Opens, Tells}
 use Rattle.tables.specs.declared.faults.OpenFault.{OpenFault}

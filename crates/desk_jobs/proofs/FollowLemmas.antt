@@ -12,8 +12,8 @@ use Rattle.allotment_csv.specs.declared.faults.CsvFault.{CsvFault}
 use Rattle.ledger.specs.Answer.{State, start}
 use Rattle.ledger.specs.World.{Moment, after}
 use Rattle.saga_core.specs.Worlds.{StandsAtEnd}
-use Rattle.streams.specs.Written.{WroteFront}
-use Rattle.streams.proofs.ByteLemmas.{appends_none, keeps_same}
+use Rattle.saga_core.specs.Written.{WroteFront}
+use Rattle.saga_core.proofs.ByteLemmas.{appends_none, keeps_same}
 use Rattle.reports.proofs.FrontLemmas.{front_whole}
 use Rattle.sql_model.specs.Keeping.{StoodFor}
 use Rattle.sql_model.specs.Standing.{IsDesk}

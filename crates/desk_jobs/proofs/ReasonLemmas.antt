@@ -20,9 +20,9 @@ use Rattle.program_ends.specs.Ends.{fault_of_run}
 use Rattle.program_ends.specs.declared.ends.End.TheVariants as finish
 use Rattle.program_ends.specs.declared.faults.ProgramFault.{ProgramFault}
 use Rattle.program_ends.specs.declared.faults.ProgramFault.TheVariants as fault
-use Rattle.streams.specs.Faults.{served_fault}
-use Rattle.streams.specs.declared.serve_faults.ServeFault.{ServeFault}
-use Rattle.streams.specs.declared.serve_faults.ServeFault.TheVariants as serve
+use Rattle.saga_core.specs.StreamFaults.{served_fault}
+use Rattle.saga_core.specs.declared.serve_faults.ServeFault.{ServeFault}
+use Rattle.saga_core.specs.declared.serve_faults.ServeFault.TheVariants as serve
 use Rattle.tables.specs.declared.faults.OpenFault.{OpenFault}
 use Rattle.tables.specs.declared.faults.OpenFault.TheVariants as opening
 use Rattle.desk_jobs.specs.Connections.{Represents}

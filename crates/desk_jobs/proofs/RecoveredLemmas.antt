@@ -9,8 +9,8 @@ use Rattle.recovery.specs.Recovers.{AreRecovery, HasOneRecovery, IsRecovery}
 use Rattle.reports.proofs.FrontLemmas.{front_none}
 use Rattle.program_ends.specs.Ends.{IfDone}
 use Rattle.program_ends.specs.declared.ends.End.{End}
-use Rattle.streams.specs.Written.{WroteFront}
-use Rattle.streams.proofs.ByteLemmas.{keeps_same}
+use Rattle.saga_core.specs.Written.{WroteFront}
+use Rattle.saga_core.proofs.ByteLemmas.{keeps_same}
 use Rattle.tables.specs.declared.books.TableBook.{TableBook}
 use Rattle.desk_jobs.specs.Jobs.{NotesRun, Readies}
 use Rattle.desk_jobs.specs.Notes.{recovered_note, NotesEvents}

@@ -9,17 +9,17 @@ use Rattle.recovery.specs.Growing.{Grew, with_events}
 use Rattle.recovery.specs.Recovers.{AreRecovery}
 use Rattle.saga_core.specs.Reasons.{FailsAmong}
 use Rattle.saga_core.specs.Worlds.{GoesOnWith}
-use Rattle.streams.specs.Scenes.{Scene, scene}
-use Rattle.streams.specs.declared.serve_faults.ServeFault.{ServeFault}
-use Rattle.streams.specs.declared.serve_faults.ServeFault.TheVariants as serve
+use Rattle.saga_core.specs.StreamScenes.{Scene, scene}
+use Rattle.saga_core.specs.declared.serve_faults.ServeFault.{ServeFault}
+use Rattle.saga_core.specs.declared.serve_faults.ServeFault.TheVariants as serve
 use Rattle.reports.proofs.FrontLemmas.{front_whole}
 use Rattle.tables.specs.Acting.{HasReasonSince, MayActSince}
 use Rattle.tables.specs.BookTerms.{LeavesBook, StandsBook}
 use Rattle.tables.specs.Making.{LetsGo}
 use Rattle.tables.specs.declared.books.TableBook.{TableBook}
-use Rattle.desk_lines.specs.Lines.{lines}
-use Rattle.desk_lines.specs.Serving.{AnswersAll, AnswersSome}
-use Rattle.desk_lines.specs.Worlds.{GoesOnAmongLines, asks_in}
+use Rattle.recovery.specs.Lines.{lines}
+use Rattle.recovery.specs.Serving.{AnswersAll, AnswersSome}
+use Rattle.recovery.specs.LineWorlds.{GoesOnAmongLines, asks_in}
 use Rattle.program_ends.specs.Ends.{IfDone, fault_of_run}
 use Rattle.program_ends.specs.declared.ends.End.TheVariants as finish
 use Rattle.program_ends.specs.declared.faults.ProgramFault.TheVariants as fault

@@ -12,11 +12,11 @@ use Rattle.saga_core.specs.Worlds.{KeepLimits, Progress, StandsAtEnd, EndsWith, 
 use Rattle.sql_model.specs.Keeping.{MayLeave}
 use Rattle.recovery.specs.Recovers.{HasOneRecovery}
 use Rattle.recovery.specs.Worlds.{EndsRecovered, EndsRecovering, orders_of}
-use Rattle.streams.specs.Scenes.{Scene}
-use Rattle.streams.specs.declared.serve_faults.ServeFault.{ServeFault}
-use Rattle.desk_lines.specs.Lines.{lines}
-use Rattle.desk_lines.specs.Serving as of_lines
-use Rattle.desk_lines.specs.Worlds as by_line
+use Rattle.saga_core.specs.StreamScenes.{Scene}
+use Rattle.saga_core.specs.declared.serve_faults.ServeFault.{ServeFault}
+use Rattle.recovery.specs.Lines.{lines}
+use Rattle.recovery.specs.Serving as of_lines
+use Rattle.recovery.specs.LineWorlds as by_line
 use Rattle.http_conversations.specs.Worlds.{Exchange}
 use Rattle.http_conversations.specs.Worlds as by_exchange
 use Rattle.desk_jobs.specs.Openings.{Input, Lines, Connections, AsksFor, IsAnsweredBy}

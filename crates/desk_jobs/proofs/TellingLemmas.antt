@@ -5,12 +5,12 @@ use Rattle.std.proofs.lemmas.List.{take-append-drop}
 use Rattle.std.proofs.KnownBytes.{Appends-nil}
 use Rattle.ledger.specs.Answer.{State}
 use Rattle.saga_core.specs.Runs.{Asks}
-use Rattle.streams.specs.Scenes.{Scene, ended}
-use Rattle.streams.specs.declared.serve_faults.ServeFault.{ServeFault}
-use Rattle.streams.specs.declared.serve_faults.ServeFault.TheVariants.{Memory, Store, Read, Write}
-use Rattle.desk_lines.specs.Lines.{lines, answer_line, answer_lines, state_after_lines, written}
-use Rattle.desk_lines.specs.Serving as of_lines
-use Rattle.desk_lines.specs.Worlds as by_line
+use Rattle.saga_core.specs.StreamScenes.{Scene, ended}
+use Rattle.saga_core.specs.declared.serve_faults.ServeFault.{ServeFault}
+use Rattle.saga_core.specs.declared.serve_faults.ServeFault.TheVariants.{Memory, Store, Read, Write}
+use Rattle.recovery.specs.Lines.{lines, answer_line, answer_lines, state_after_lines, written}
+use Rattle.recovery.specs.Serving as of_lines
+use Rattle.recovery.specs.LineWorlds as by_line
 use Rattle.desk_http.specs.Pages.{state_after}
 use Rattle.http_conversations.specs.Modes.{Said, Says}
 use Rattle.http_conversations.specs.Worlds.{Exchange, AreDone, HasPage, Heard, asks_of}

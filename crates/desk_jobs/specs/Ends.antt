@@ -4,10 +4,10 @@ use Rattle.std.specs.Io.KnownBytes.{Appends}
 use Rattle.commands.specs.Texts.{reply_line, sentence}
 use Rattle.commands.specs.declared.replies.Reply.{Reply}
 use Rattle.commands.specs.declared.replies.Reply.TheVariants as reply
-use Rattle.streams.specs.Scenes.{ended}
-use Rattle.streams.specs.Written.{WroteFront}
-use Rattle.streams.specs.declared.serve_faults.ServeFault.{ServeFault}
-use Rattle.streams.specs.declared.serve_faults.ServeFault.TheVariants as serve
+use Rattle.saga_core.specs.StreamScenes.{ended}
+use Rattle.saga_core.specs.Written.{WroteFront}
+use Rattle.saga_core.specs.declared.serve_faults.ServeFault.{ServeFault}
+use Rattle.saga_core.specs.declared.serve_faults.ServeFault.TheVariants as serve
 use Rattle.program_ends.specs.Ends.{IfDone, fault_of_run}
 use Rattle.program_ends.specs.declared.ends.End.{End}
 use Rattle.program_ends.specs.declared.ends.End.TheVariants as finish

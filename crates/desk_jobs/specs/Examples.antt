@@ -11,7 +11,7 @@ use Rattle.commands.specs.declared.replies.Reply.TheVariants.{Loaded, Refused}
 use Rattle.ledger.specs.Answer.{start}
 use Rattle.ledger.specs.Examples.{row}
 use Rattle.ledger.specs.World.{Moment, Done, Reopened, after}
-use Rattle.streams.specs.Scenes.{ended}
+use Rattle.saga_core.specs.StreamScenes.{ended}
 use Rattle.saga_core.specs.Chains.{reopened}
 use Rattle.saga_core.specs.Runs.{Asks}
 use Rattle.saga_core.specs.Worlds.{continued, cut_off}

@@ -5,8 +5,8 @@ use Rattle.sqlite.specs.Held.{Held, state}
 use Rattle.sqlite.specs.State.{HasCleanDisk}
 use Rattle.commands.specs.BatchData.{Batched}
 use Rattle.allotment_csv.specs.declared.faults.CsvFault.{CsvFault}
-use Rattle.desk_lines.specs.Lines.{lines}
-use Rattle.desk_lines.specs.Worlds.{asks_in}
+use Rattle.recovery.specs.Lines.{lines}
+use Rattle.recovery.specs.LineWorlds.{asks_in}
 use Rattle.ledger.specs.Answer.{State}
 use Rattle.desk_jobs.specs.Executions.{HasComeUp, HasNotComeUp}
 use Rattle.desk_jobs.specs.Connections.{MayBeLeft, RefusesOtherTables, Represents}

@@ -12,10 +12,10 @@ use Rattle.commands.specs.declared.replies.Reply.TheVariants as reply
 use Rattle.allotment_csv.specs.declared.faults.CsvFault.{CsvFault}
 use Rattle.allotment_csv.specs.declared.faults.CsvFault.TheVariants as csv
 use Rattle.ledger.specs.Answer.{State, outcome}
-use Rattle.streams.specs.Written.{WroteFront}
-use Rattle.streams.specs.Scenes.{ended}
-use Rattle.streams.specs.declared.serve_faults.ServeFault.{ServeFault}
-use Rattle.streams.specs.declared.serve_faults.ServeFault.TheVariants.{Memory, Store}
+use Rattle.saga_core.specs.Written.{WroteFront}
+use Rattle.saga_core.specs.StreamScenes.{ended}
+use Rattle.saga_core.specs.declared.serve_faults.ServeFault.{ServeFault}
+use Rattle.saga_core.specs.declared.serve_faults.ServeFault.TheVariants.{Memory, Store}
 use Rattle.program_ends.specs.declared.ends.End.{End}
 use Rattle.program_ends.specs.declared.ends.End.TheVariants as finish
 use Rattle.desk_jobs.specs.Ends.{IsAccepted}

@@ -13,7 +13,7 @@ use Rattle.program_ends.specs.Ends.{EndsBadly}
 use Rattle.program_ends.specs.declared.ends.End.{End}
 use Rattle.program_ends.specs.declared.ends.End.TheVariants as finish
 use Rattle.program_ends.specs.declared.faults.ProgramFault.TheVariants as fault
-use Rattle.streams.specs.Scenes.{ended}
+use Rattle.saga_core.specs.StreamScenes.{ended}
 
 -- the line with the number of migrated events: `migrated 1 to 2 events 7`
 abbrev pub migrated_line : ℕ → List ℕ

@@ -6,8 +6,8 @@ use Rattle.commands.specs.declared.replies.CsvCause.{CsvCause}
 use Rattle.commands.specs.declared.replies.CsvCause.TheVariants as csv
 use Rattle.commands.specs.declared.replies.Refusal.TheVariants as refusal
 use Rattle.allotment_csv.specs.WrongFields.{FieldText, column_name, wrong_field_in}
-use Rattle.streams.specs.Written.{WroteFront}
-use Rattle.streams.specs.Scenes.{ended}
+use Rattle.saga_core.specs.Written.{WroteFront}
+use Rattle.saga_core.specs.StreamScenes.{ended}
 use Rattle.program_ends.specs.declared.ends.End.{End}
 use Rattle.program_ends.specs.declared.ends.End.TheVariants as finish
 

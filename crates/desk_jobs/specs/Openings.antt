@@ -13,9 +13,9 @@ use Rattle.saga_core.specs.Runs.{Asks}
 use Rattle.saga_core.specs.Worlds.{continued}
 use Rattle.recovery.specs.Recovers.{IsRecovery}
 use Rattle.recovery.specs.Worlds.{orders_of}
-use Rattle.streams.specs.Scenes.{ended}
-use Rattle.desk_lines.specs.Lines.{lines, answer_lines, written}
-use Rattle.desk_lines.specs.Worlds as by_line
+use Rattle.saga_core.specs.StreamScenes.{ended}
+use Rattle.recovery.specs.Lines.{lines, answer_lines, written}
+use Rattle.recovery.specs.LineWorlds as by_line
 use Rattle.http_conversations.specs.Worlds.{Exchange, AreDone, Heard, asks_of}
 
 -- What comes to a desk that was opened: the bytes of lines, or the exchanges with many connections, in the order in which their

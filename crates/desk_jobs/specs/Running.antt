@@ -5,9 +5,9 @@ use Rattle.ledger.specs.Answer.{State}
 use Rattle.ledger.specs.Ledger.{Event}
 use Rattle.recovery.specs.Growing.{with_events}
 use Rattle.recovery.specs.Recovers.{IsRecovery}
-use Rattle.streams.specs.Written.{WroteFront}
+use Rattle.saga_core.specs.Written.{WroteFront}
 use Rattle.desk_jobs.specs.Notes.{recovered_note}
-use Rattle.desk_lines.specs.Lines.{lines, answer_lines, state_after_lines, written}
+use Rattle.recovery.specs.Lines.{lines, answer_lines, state_after_lines, written}
 
 -- the answers to the lines of an input, as bytes
 abbrev pub answers_to : State → List ℕ → List ℕ

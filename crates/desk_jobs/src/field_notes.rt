@@ -1,15 +1,15 @@
 //! The note of the field because of which a load was refused.
 ghost use Rattle.std.specs.Prelude.{◌≡◌, IfOk, map, take};
 ghost use Rattle.allotment_csv.specs.WrongFields.{field_text};
-ghost use Rattle.streams.specs.Written.{WroteFront};
+ghost use Rattle.saga_core.specs.Written.{WroteFront};
 ghost use Rattle.desk_jobs.specs.Notes.{field_note, is_of_field, refused_field, refused_row, shown_byte, shown_text, NotesField};
 
 use allotment_csv::{WrongField, wrong_field};
 use commands::{CsvCause, Refusal};
 use program_ends::End;
+use saga_core::send;
 use std::alloc::{AllocError, Global};
 use std::io::Write;
-use streams::send;
 
 /// Whether the fault is of one field of a row.
 fn is_of_field(cause: CsvCause) -> bool

@@ -4,7 +4,7 @@ ghost use Rattle.commands.specs.Texts.{reply_line};
 ghost use Rattle.allotment_csv.specs.Files.{batch_of};
 ghost use Rattle.desk_jobs.specs.Openings.{File};
 ghost use Rattle.ledger.specs.Answer.{State};
-ghost use Rattle.streams.specs.Scenes.{ended};
+ghost use Rattle.saga_core.specs.StreamScenes.{ended};
 ghost use Rattle.program_ends.specs.Ends.{IfDone};
 ghost use Rattle.desk_jobs.specs.Ends.{IsFaultOfLoad, IsOfBook, SendsLine, TellsAccepted};
 ghost use Rattle.desk_jobs.specs.Following.{FollowsDesk};
@@ -17,11 +17,10 @@ use allotment_csv::{CsvFault, read_batch};
 use commands::{Command, Refusal, Reply};
 use program_ends::{End, ProgramFault};
 use recovery::Ready;
-use saga_core::Book;
+use saga_core::{Book, ServeFault, send};
 use sqlite::{Alter, Connection};
 use std::alloc::Global;
 use std::io::Write;
-use streams::{ServeFault, send};
 use tables::TableBook;
 
 /// Loads the bytes of an allotment file under a name into a recovered desk, and writes the line of the reply. Returns the

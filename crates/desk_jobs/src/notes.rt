@@ -1,12 +1,12 @@
 //! The note that an opening recovered events.
 ghost use Rattle.std.specs.Prelude.{◌≡◌, IfOk};
 ghost use Rattle.std.specs.String.{string_bytes};
-ghost use Rattle.streams.specs.Written.{WroteFront};
+ghost use Rattle.saga_core.specs.Written.{WroteFront};
 ghost use Rattle.desk_jobs.specs.Notes.{recovered_note, NotesEvents};
 
+use saga_core::send;
 use std::alloc::{AllocError, Global};
 use std::io::Write;
-use streams::send;
 
 /// Writes a line that says how many events an opening recovered, if there were any. A failure of that is ignored: a note
 /// changes no end.

@@ -8,9 +8,9 @@ use crate::ends::end_of_opening;
 use crate::reopenings;
 use program_ends::End;
 use recovery::{Ready, recover};
+use saga_core::ServeFault;
 use sqlite::{Alter, Connection};
 use std::alloc::Global;
-use streams::ServeFault;
 use tables::{TableBook, new_desk_may_act, open_from};
 
 /// Opens the desk of a connection and recovers it. Returns the recovered desk, and how many events recovery made; if

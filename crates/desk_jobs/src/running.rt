@@ -11,13 +11,12 @@ ghost use Rattle.desk_jobs.specs.Jobs.{EndsRun, Leaves, NotesRun, RunsOver};
 use crate::notes::note_recovered;
 use crate::opening::{let_go, ready_over};
 use crate::reopenings;
-use desk_lines::run_lines;
 use program_ends::End;
-use recovery::one_recovery;
+use recovery::{one_recovery, run_lines};
+use saga_core::ServeFault;
 use sqlite::{Alter, Connection};
 use std::alloc::Global;
 use std::io::{Read, Write};
-use streams::ServeFault;
 
 /// Recovers the desk of a connection, and answers the lines of a reader. Returns the connection, and the end. If recovery
 /// made events, a note says so first. It is refused only for tables of a version other than the newest.

@@ -4,9 +4,9 @@ ghost use Rattle.std.specs.String.{string_bytes};
 ghost use Rattle.desk_jobs.specs.Ends.{SendsLine, TellsLine};
 
 use program_ends::End;
+use saga_core::{ServeFault, send};
 use std::alloc::AllocError;
 use std::io::Write;
-use streams::{ServeFault, send};
 
 /// Writes a line that was made, and flushes it. At a fault a prefix of the line was written.
 pub fn send_line<O: Write>(line: Result<String, AllocError>, out: &mut O) -> Result<(), ServeFault>

@@ -61,17 +61,7 @@ record IsNewIndex : Type 0 where
 
 text_is : IsNewIndex
 unfolding understood everything value_cmp fits_kind is_free_name same_name begins lib.Ieee.is_nan lib.Ieee.lt
-text_is = record {
-  meant = refl;
-  plain = (refl, refl);
-  alone = refl;
-  whole = refl;
-  defined = refl;
-  unused = refl;
-  unreserved = refl;
-  listed = refl;
-  becomes = refl;
-}
+text_is = grind arith
 
 -- the index that the text defines
 only : (index : Index) → index_defined_by owner text ≡ Ok index → index ≡ agent_index_at 0

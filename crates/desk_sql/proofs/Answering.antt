@@ -1,5 +1,5 @@
 -- The answer of a query over a table of values, as values. For the lemmas of each query.
-use Rattle.std.proofs.Common.{◌≡◌, ◌⊎◌, inl, inr, ℕ, ℤ, List, [], ◌∷◌, map, filter, Bool, refl, sym, ap, ap₂, subst, ◌∙◌, IsPermutation}
+use Rattle.std.proofs.Common.{◌≡◌, ◌⊎◌, inl, inr, ℕ, ℤ, List, [], ◌∷◌, map, filter, Bool, refl, sym, ap, ap₂, subst, ◌∙◌, IsPermutation, rules, arith}
 use Rattle.std.specs.List.{AllByRecursion}
 use Rattle.std.proofs.lemmas.List.Sorted.{IsPermutation-map}
 use Rattle.sqlite.specs.Order.{Row}
@@ -39,9 +39,7 @@ module _ (tree : ℕ) (tests project : List Term) (order : List (Term × Key)) (
     out_of x = output q (env_of params (f x))
 
     outputs_are : (ys : List X) → outputs_of q params (filter (passes tests params) (map f ys)) ≡ map out_of (filter test ys)
-    outputs_are ys =
-        ap (outputs_of q params) (filter-map (passes tests params) f ys ∙ (λ i. map f (filter (λ y. test_is y i) ys)))
-        ∙ ap (map (output q)) (map-map (env_of params) f (filter test ys)) ∙ map-map (output q) (λ y. env_of params (f y)) (filter test ys)
+    outputs_are ys = search (rules, arith, filter-map, map-map)
 
     pub answers : Answers q out_of (filter test xs) rows
     answers =

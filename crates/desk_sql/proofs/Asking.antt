@@ -1,6 +1,5 @@
 -- What a query on one table finds whenever it is run, and what its contract says of one run. For each statement that reads.
 use Rattle.std.proofs.Common.{◌≡◌, ◌≤◌, ◌⊎◌, inl, inr, ℕ, ℤ, List, [], ◌∷◌, map, filter, Bool, Option, Some, None, Result, Err, IfOk, IfErr, refl, sym, ap, subst, ◌∙◌, arith, option_map}
-use Rattle.std.specs.Prelude.{⊤}
 use Rattle.std.specs.List.{AllByRecursion}
 use Rattle.sqlite.specs.declared.error.Error.{Error}
 use Rattle.sqlite.specs.declared.error.Error.TheVariants.{QueryReturnedNoRows}
@@ -18,6 +17,7 @@ use Rattle.desk_sql.specs.declared.versions.Version.{Version}
 use Rattle.desk_sql.specs.Lists.{numbered_row, IsTableOf, IsNumbered, IsListed, IsOneOf, IsLeastOf}
 use Rattle.desk_sql.specs.Rows.{Tables, ShowsIn}
 use Rattle.desk_sql.specs.Calls.{MaySeeIn, Quiet}
+use Rattle.desk_sql.specs.FoundRows.{IfRow, ReadsOne}
 use Rattle.desk_sql.specs.Causes.{IsUp, IsMemory, HasReason}
 use Rattle.desk_sql.specs.Queries.{IsSelect, one_row, GivesRow, GivesRows}
 use Rattle.desk_sql.specs.Statements.{QueriesIn}
@@ -92,35 +92,25 @@ asks_own {params = params} tree tests project order says seen number row_of valu
     (λ db t shows rows asked.
     numbered_answers tree tests project order db params rows asked (seen db) number row_of (values t) (shown db t shows) test test_is)
 
--- what is read of a first row, if there is one
-abbrev pub ReadsOne : {V C : Type 0} → (V → C) → (Row → C) → Option Row → Option V → Type 0
-ReadsOne show read (Some row) (Some f) = show f ≡ read row
-ReadsOne show read None None = ⊤
-ReadsOne show read row f = ⊥
-
--- what holds of a first row, if there is one
-abbrev pub IfRow : (Row → Type 0) → Option Row → Type 0
-IfRow Good (Some row) = Good row
-IfRow Good None = ⊤
-
 -- what is read of the answer that the query gives is what the tables have; it can be read where the rows fit
-pub record Finds (v : Version) (text : List ℕ) (params : Row) {A V : Type 0} (Gives : State → State → A → Type 0)
+pub record Finds (v : Version) (text : List ℕ) (params : Row) {A V : Type 0} (Gives : Row → State → State → A → Type 0)
     (Reads : A → V → Type 0) (Found : Tables → V → Type 0) (Fits : Tables → Type 0) (Good : A → Type 0) : Type 1 where
   pub selects : IsSelect text
-  pub found : (old new : State) (t : Tables) → MaySeeIn v old t → (a : A) (f : V) → Reads a f → IsUnchanged old new × Gives old new a → Found t f
-  pub good : (old new : State) (t : Tables) → MaySeeIn v old t → Fits t → (a : A) → IsUnchanged old new × Gives old new a → Good a
+  pub found : (old new : State) (t : Tables) → MaySeeIn v old t → (a : A) (f : V) → Reads a f → IsUnchanged old new × Gives
+      params old new a → Found t f
+  pub good : (old new : State) (t : Tables) → MaySeeIn v old t → Fits t → (a : A) → IsUnchanged old new × Gives params old new a → Good a
   pub reason : (old new : State) (t : Tables) → MaySeeIn v old t → IsUp old → (e : Error) → FailsToQuery text params old new e → HasReason old new e
 
 -- the same, of the first row, and of all rows
 abbrev pub FindsOne : Version → List ℕ → Row → {V C : Type 0} → (V → C) → (Row → C) → (Tables → Option V → Type 0) → (Tables → Type 0)
     → (Row → Type 0) → Type 1
 FindsOne v text params show read Found Fits Good =
-    Finds v text params (λ old new row. QueriesRow text params old new (one_row row)) (ReadsOne show read) Found Fits (IfRow Good)
+    Finds v text params (λ given old new row. QueriesRow text given old new (one_row row)) (ReadsOne show read) Found Fits (IfRow Good)
 
 abbrev pub FindsList : Version → List ℕ → Row → {V C : Type 0} → (V → C) → (Row → C) → (Tables → List V → Type 0) → (Tables → Type 0)
     → (Row → Type 0) → Type 1
 FindsList v text params show read Found Fits Good =
-    Finds v text params (Shown text params) (λ rows found. map show found ≡ map read rows) Found Fits (AllByRecursion Good)
+    Finds v text params (Shown text) (λ rows found. map show found ≡ map read rows) Found Fits (AllByRecursion Good)
 
 -- A query whose rows show what is read of them.
 module _ {X V C : Type 0} {v : Version} {text : List ℕ} {params : Row} {q : Query} {out : X → Output} {passing : Tables → List X}
@@ -176,13 +166,14 @@ module _ {X V C : Type 0} {v : Version} {text : List ℕ} {params : Row} {q : Qu
   }
 
 -- One run, as contracts say it.
-module _ {v : Version} {text : List ℕ} {params : Row} {A V W : Type 0} {Gives : State → State → A → Type 0} {Reads : A → V → Type 0}
+module _ {v : Version} {text : List ℕ} {params : Row} {A V W : Type 0} {Gives : Row → State → State → A → Type 0} {Reads : A → V → Type 0}
     {Found : Tables → V → Type 0} {Fits : Tables → Type 0} {Good : A → Type 0} (it : Finds v text params Gives Reads Found Fits Good) (items : W → V)
     {S : Type 0} {g : Ghosts S} {old new : Held S} (quiet : Quiet g old new) where
   -- the answer is given, and read unless there is no memory
   pub is_read : (a : A) (result : Result W Error)
-      → (HasCleanDisk (state g new) → IsUnchanged (state g old) (state g new) × Gives (state g old) (state g new) a)
-      → IfOk result (λ found. Reads a (items found)) → (Good a → IfErr result IsMemory) → QueriesIn g old new v result (λ t found. Found t (items found)) Fits
+      → (HasCleanDisk (state g new) → IsUnchanged (state g old) (state g new) × Gives params (state g old) (state g new) a)
+      → IfOk result (λ found. Reads a (items found)) → (Good a → IfErr result IsMemory) → QueriesIn g old new v result
+      (λ t found. Found t (items found)) Fits
   is_read a result gives reads memory = record {
     found = λ clean t sees. ok_then _ _ result
         (λ f shown. ((gives clean).0, it.found (state g old) (state g new) t sees a (items f) shown (gives clean))) reads;
@@ -192,7 +183,7 @@ module _ {v : Version} {text : List ℕ} {params : Row} {A V W : Type 0} {Gives 
 
   -- it cannot be read
   pub not_read : (a : A) {result : Result W Error} {e : Error}
-      → (HasCleanDisk (state g new) → IsUnchanged (state g old) (state g new) × Gives (state g old) (state g new) a)
+      → (HasCleanDisk (state g new) → IsUnchanged (state g old) (state g new) × Gives params (state g old) (state g new) a)
       → (Good a → IsMemory e) → result ≡ Err e → QueriesIn g old new v result (λ t found. Found t (items found)) Fits
   not_read a {e = e} gives memory is = rw is (is_read a (Err e) gives tt memory)
 
@@ -204,3 +195,15 @@ module _ {v : Version} {text : List ℕ} {params : Row} {A V W : Type 0} {Gives 
     reason = λ clean t sees fits up. it.reason (state g old) (state g new) t sees up e (fails clean);
     quiet = quiet;
   })
+
+  -- the same, where the query was given values that are those that it takes
+  pub is_read_at : (a : A) (result : Result W Error) (given : Row)
+      → (HasCleanDisk (state g new) → IsUnchanged (state g old) (state g new) × Gives given (state g old) (state g new) a) → given ≡ params
+      → IfOk result (λ found. Reads a (items found)) → (Good a → IfErr result IsMemory) → QueriesIn g old new v result
+      (λ t found. Found t (items found)) Fits
+  is_read_at a result given gives same = is_read a result (rw same at gives)
+
+  pub not_asked_at : {result : Result W Error} {e : Error} (given : Row)
+      → (HasCleanDisk (state g new) → FailsToQuery text given (state g old) (state g new) e) → given ≡ params
+      → result ≡ Err e → QueriesIn g old new v result (λ t found. Found t (items found)) Fits
+  not_asked_at given fails same = not_asked (rw same at fails)

@@ -1,5 +1,5 @@
 -- When the rules of SQL allow an UPDATE that keeps each row's rowid and keys. For the lemmas of each statement that updates.
-use Rattle.std.proofs.Common.{◌≡◌, ◌≢◌, ◌<ℤ◌, inl, inr, ℤ, List, [], ◌∷◌, map, filter, drop, length, Bool, true, false, not, ◌&&◌, if◌then◌else◌, Less, is_eq, refl, sym, ap, subst, ◌∙◌, nat_lt, Ordering, ◌||◌, IsPermutation, arith, rules}
+use Rattle.std.proofs.Common.{◌≡◌, ◌≢◌, ◌<ℤ◌, inl, inr, ℤ, List, [], ◌∷◌, map, filter, drop, length, Bool, true, false, not, ◌&&◌, if◌then◌else◌, Less, is_eq, refl, sym, ap, subst, ◌∙◌, nat_lt, ◌||◌, IsPermutation, arith, rules}
 use Rattle.std.specs.List.{IsDistinct, list_all}
 use Rattle.std.proofs.lemmas.Bool.{or_cases, or_left, or_right, and_from, false_from_ne_true}
 use Rattle.std.proofs.lemmas.Map.Keys.{IsDistinct-IsPermutation}
@@ -37,7 +37,6 @@ use Rattle.desk_sql.proofs.Refusing.{IsSafe}
 use Rattle.desk_sql.proofs.NewRow.{desk_apart, IsFit, edit_safe}
 use Rattle.desk_sql.proofs.Writing.{Lands}
 use Rattle.sqlite_trees.proofs.ListLemmas.{all-map, all_weaker, ascending-filter, filter-map, map-map}
-use Rattle.std.specs.Ordering.{ordering_reverse}
 
 -- a row keeps its own rowid and keys
 twin_self : (table : Table) (r : Row) → Twins desk_schema table r r
@@ -48,10 +47,7 @@ abbrev pub is_same : Row → Row → Bool
 is_same a b = is_eq (value_cmp (rowid a) (rowid b))
 
 flips : (a b : Row) → is_same a b ≡ is_same b a
-flips a b = ap is_eq (value_cmp_total.antisymm (rowid a) (rowid b)) ∙ even (value_cmp (rowid b) (rowid a))
-  where
-    even : (o : Ordering) → is_eq (ordering_reverse o) ≡ is_eq o
-    even o = search (rules, arith)
+flips a b = search (rules, arith, value_cmp_total)
 
 -- rows whose rowids differ, from each other and from those that are there, are fresh
 fresh_all : (news rows : List Row) → IsDistinct is_same news → ((x n : Row) → Has rows x → Has news n → is_same x n ≡ false) → are_fresh rows news ≡ true
@@ -119,11 +115,7 @@ module _ {X : Type 0} {f : X → Row} {id : X → ℤ} {db : Trees} {table : Tab
   )
 
   distinct_answer : IsDistinct is_same answer
-  distinct_answer =
-      let shown : map shows (filter test_of (map f xs)) ≡ map (λ x. shows (f x)) (filter test xs)
-      = ap (map shows) (filter-map test_of f xs ∙ (λ i. map f (filter (λ x. it.test_is x i) xs))) ∙ map-map shows f (filter test xs) in
-      IsDistinct-IsPermutation is_same flips (map shows (filter test_of (map f xs))) answer same
-      (subst (IsDistinct is_same) (sym shown) (apart_shown (filter test xs) (ascending-filter _ test xs it.rise)))
+  distinct_answer = search (rules, arith, filter-map, map-map, IsDistinct-IsPermutation, flips, same, apart_shown, ascending-filter)
 
   distinct_news : (ss : List Row) → ((s : Row) → Has ss s → Has answer s) → IsDistinct is_same ss → IsDistinct is_same (map write ss)
   unfolding IsDistinct
@@ -162,13 +154,7 @@ module _ {X : Type 0} {f : X → Row} {id : X → ℤ} {db : Trees} {table : Tab
     twins = record { before = before; after = after; keys = serves }
       where
         before : (r : Row) → Has (next table.tree) r → (o : Row) × Has (db table.tree) o × Twins desk_schema table o r
-        before r there =
-            let y = has_mapped f (changed test change xs) r (subst (λ rs. Has rs r) (rows ∙ edited_is) there) in
-            let x = has_mapped becomes xs y.0 y.1 in (
-              f x.0,
-              subst (λ rs. Has rs (f x.0)) (sym it.has) (mapped_has f xs x.0 x.1),
-              subst (Twins desk_schema table (f x.0)) (sym (y.2 ∙ ap f x.2)) (pair x.0),
-            )
+        before r there = search (rules, arith, has_mapped, edited_is, mapped_has, pair)
 
         after : (o : Row) → Has (db table.tree) o → (r : Row) × Has (next table.tree) r × Twins desk_schema table o r
         after o there =

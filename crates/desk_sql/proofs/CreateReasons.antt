@@ -1,6 +1,6 @@
 -- Why a text that creates a table fails: out of memory, or the disk failed. No rule refuses a text whose names are new and which the
 -- list of objects can hold. For `founding`, and for the migration of older tables.
-use Rattle.std.proofs.Common.{◌≡◌, ◌<◌, ◌≤◌, ◌+◌, ◌*◌, ◌^◌, ◌∙◌, ℕ, zero, suc, List, [], ◌∷◌, length, codes, Option, None, Ok, Err, Bool, true, false, not, ◌==◌, eqb-true, nat_lt, IsTrue, IsUtf8, IsAscii, refl, subst, arith, rules}
+use Rattle.std.proofs.Common.{◌≡◌, ◌⊎◌, inl, inr, ◌<◌, ◌≤◌, ◌+◌, ◌*◌, ◌^◌, ◌∙◌, ℕ, zero, suc, List, [], ◌∷◌, length, codes, Option, None, Ok, Err, Bool, true, false, not, ◌==◌, eqb-true, nat_lt, IsTrue, IsUtf8, IsAscii, refl, subst, MutBor, arith, rules}
 use Rattle.std.specs.List.{AllByRecursion, list_all}
 use Rattle.std.proofs.lemmas.Bool.{and_parts, not-true}
 use Rattle.std.proofs.lemmas.Bool.Decides.{nat_tests}
@@ -21,19 +21,23 @@ use Rattle.sqlite.specs.Command.TheVariants.{CreateTable}
 use Rattle.sqlite.specs.Compile.{table_defined_by}
 use Rattle.sqlite.specs.Change.{created, next_tree, is_used, is_reserved, automatics}
 use Rattle.sqlite.specs.Rows.{Then}
+use Rattle.sqlite.specs.Effect.{IsDatabase}
+use Rattle.sqlite.specs.Store.{Ghosts}
+use Rattle.sqlite.specs.Held.{Held, state}
 use Rattle.sqlite.specs.Does.{Does, Defines, MakesTable, MakesSequence, lacks_sequence}
 use Rattle.sqlite.specs.declared.error.Error.{Error}
 use Rattle.sqlite.specs.Listing.{understood}
 use Rattle.sqlite.specs.State.{State, mode_of, HasCleanDisk, ExecutesInside, Survives}
 use Rattle.sqlite.proofs.Callers.{IsPlain, command_of, statement_of}
 use Rattle.sqlite_tied.specs.Compute.{everything}
-use Rattle.desk_sql.specs.Schema.{meta_at, stock_at, batch_at, journey_at, step_at, entry_at, answer_at, entry2_at, mark_at, no_schema, first_schema, seven_schema}
+use Rattle.desk_sql.specs.Schema.{meta_at, stock_at, batch_at, journey_at, step_at, entry_at, answer_at, entry2_at, mark_at, no_schema, seven_schema, desk_schema}
 use Rattle.desk_sql.specs.Texts.{meta_text, stock_text, batch_text, step_text, journey_text, entry_text, answer_text, entry2_text, mark_text}
-use Rattle.desk_sql.specs.Calls.{MayBuild, Builds}
+use Rattle.desk_sql.specs.Calls.{MayBuild, IsEmptyWith, LeavesNoMore, CommitsNothing}
 use Rattle.desk_sql.specs.Causes.{IsUp, HasReason}
+use Rattle.desk_sql.specs.Indexing.{MayIndex}
 use Rattle.desk_sql.proofs.Causing.{takes}
-use Rattle.desk_sql.proofs.Making.{creates, schema_1, schema_2, schema_3, schema_5, schema_6, schema_8, builds_then, then_build}
-use Rattle.desk_sql.proofs.Quieting.{faulted_later, survives_twice}
+use Rattle.desk_sql.proofs.Making.{creates, schema_8, then_build}
+use Rattle.desk_sql.proofs.Quieting.{faulted_earlier, faulted_later, survives_alone, survives_twice}
 use Rattle.desk_sql.proofs.Refusing.{gives_on, seen_with, statement_reason}
 
 -- each byte is ASCII
@@ -103,89 +107,96 @@ module _ (schema : Schema) (sql : List ℕ) (table : Table) (it : IsNewTable sch
       e ran
 
 -- it needs no counter
-pub uncounted : {schema : Schema} {sql : List ℕ} {table : Table} → IsNewTable schema sql table → lacks_sequence (created schema table) ≡ false
+uncounted : {schema : Schema} {sql : List ℕ} {table : Table} → IsNewTable schema sql table → lacks_sequence (created schema table) ≡ false
 uncounted {schema = schema} {sql = sql} {table = table} it = let known = each schema sql table it in search (rules, not-true)
-
--- One text after another.
-
--- Tables were created: from these tables without rows to those, and a crash leaves no more than before.
-pub record Stage (a b : State) (before after : Schema) : Type 0 where
-  pub survives : Survives a b (λ _. ⊥)
-  pub made : HasCleanDisk b → MayBuild before a → Builds a b after
-
-pub staged : {a b : State} {before after : Schema} → Survives a b (λ _. ⊥) → (HasCleanDisk b → MayBuild before a → Builds a b after)
-    → Stage a b before after
-staged survives made = record { survives = survives; made = made }
-
-pub stage_then : {a b c : State} {s t u : Schema} → Stage a b s t → Stage b c t u → Stage a c s u
-stage_then {a = a} {b = b} {c = c} {t = t} {u = u} p q = record {
-  survives = survives_twice a b c p.survives q.survives;
-  made = λ clean start. (
-      let mid : HasCleanDisk b = omega (arith, q.survives.clean, clean) in
-      builds_then a b c t u (p.made mid start) (q.made clean (then_build a b t (p.made mid start))));
-}
-
--- a text that was run has created its table
-pub created_by : {a b : State} {schema after : Schema} {sql : List ℕ} {table : Table} → IsNewTable schema sql table
-    → created schema table ≡ after → (count : ℕ) → Survives a b (λ _. ⊥) → (HasCleanDisk b → IsTrue a.in_transaction → ExecutesInside 0 sql [] a b (Ok count))
-    → Stage a b schema after
-created_by {a = a} {b = b} {schema = schema} {sql = sql} {table = table} it is count survives runs = record {
-  survives = survives;
-  made = λ clean start. subst (Builds a b) is
-      (creates sql a b schema table (Ok count) it.meant it.plain it.alone it.defined (uncounted it) start (runs clean start.inside));
-}
-
--- a store that was up is so once tables were created
-up_built : (a b : State) (s : Schema) → Survives a b (λ _. ⊥) → Builds a b s → IsUp a → IsUp b
-up_built a b s survives built up = record { is_open = built.is_open; unlimited = survives.limit ∙ up.unlimited }
 
 -- a reason of a later statement is one of all
 pub reason_since : (a b c : State) (e : Error) → a.faults ≤ b.faults → HasReason b c e → HasReason a c e
 reason_since a b c e low x = search (rules, arith, faulted_later)
 
--- what comes after them fails for a reason of its own
-pub fails_after : {a b c : State} {before at : Schema} (e : Error) → Stage a b before at → Survives b c (λ _. ⊥)
-    → (HasCleanDisk c → Builds a b at → IsUp b → HasReason b c e) → HasCleanDisk c → MayBuild before a → IsUp a → HasReason a c e
-fails_after {a = a} {b = b} {c = c} {at = at} e stage survives fails clean start up =
-    search (rules, arith, reason_since, up_built)
+-- so is a failure after calls that left the store up, if they did
+pub fails_later : (a b c : State) (e : Error) → Survives a b (λ _. ⊥) → HasCleanDisk b → IsUp a → b.faults ≤ c.faults
+    → (IsUp b → HasReason b c e) → HasReason a c e
+fails_later a b c e one clean up low fails = search (rules, arith, reason_since, faulted_earlier)
 
-pub text_fails : {a b c : State} {before at : Schema} {sql : List ℕ} {table : Table} (e : Error) → Stage a b before at → IsNewTable at sql table
-    → Survives b c (λ _. ⊥) → (HasCleanDisk c → IsTrue b.in_transaction → ExecutesInside 0 sql [] b c (Err e))
-    → HasCleanDisk c → MayBuild before a → IsUp a → HasReason a c e
-text_fails {b = b} {c = c} {at = at} {sql = sql} {table = table} e stage it survives runs =
-    fails_after e stage survives (λ clean built up. create_reason at sql table it b c e up built.made.is (runs clean built.inside))
+-- One text after another.
 
--- The texts, each beside the tables that those before it created.
+-- the text creates a table beside these tables, and more holds of those that there are then
+pub record Leads (at : Schema) (text : List ℕ) (More : Schema → Type 0) : Type 0 where
+  pub table : Table
+  pub new : IsNewTable at text table
+  pub more : More (created at table)
+
+led : {at : Schema} {text : List ℕ} {More : Schema → Type 0} (table : Table) → IsNewTable at text table → More (created at table) → Leads at text More
+led table new more = record { table = table; new = new; more = more }
+
+-- each text creates a table beside those before it, and they lead to all tables of the desk
+abbrev pub Lead : List (List ℕ) → Schema → Type 0
+Lead [] at = at ≡ desk_schema
+Lead (text ∷ texts) at = Leads at text (Lead texts)
+
+-- these texts do, beside the tables of the connection, which have no row
+pub record Reaches (s : State) (texts : List (List ℕ)) : Type 0 where
+  pub at : Schema
+  pub lead : Lead texts at
+  pub may : MayBuild at s
+  pub sound : (at ≡ no_schema) ⊎ (IsTrue s.is_open → IsDatabase s.now)
+
+-- where no text is left, the tables are all there, and the index can be made
+pub all_reached : (s : State) → Reaches s [] → MayIndex s × (IsTrue s.is_open → IsEmptyWith desk_schema s)
+all_reached s it = search (rules, arith)
+
+-- The texts were run in the transaction up to these.
+pub record Runs {S : Type 0} (g : Ghosts S) (old new : MutBor (Held S)) (texts : List (List ℕ)) : Type 0 where
+  pub same_reference : new.ghost_name ≡ old.ghost_name
+  pub survives : LeavesNoMore g old.now new.now
+  pub inside : HasCleanDisk (state g new.now) → IsTrue (state g old.now).in_transaction → IsTrue (state g new.now).in_transaction
+  pub commit : CommitsNothing g old.now new.now
+  pub reached : HasCleanDisk (state g new.now) → MayBuild no_schema (state g old.now) → Reaches (state g new.now) texts
+
+module _ {S : Type 0} (g : Ghosts S) (a b c : MutBor (Held S)) (text : List ℕ) (same : c.ghost_name ≡ b.ghost_name)
+    (survives : LeavesNoMore g b.now c.now) (left texts : List (List ℕ)) (it : Runs g a b left) where
+  clean_before : HasCleanDisk (state g c.now) → HasCleanDisk (state g b.now)
+  clean_before clean = omega (arith, survives.clean, clean)
+
+  -- so they were up to the text after the next
+  pub runs_next : (count : ℕ)
+      → (HasCleanDisk (state g c.now) → IsTrue (state g b.now).in_transaction → ExecutesInside 0 text [] (state g b.now) (state g c.now) (Ok count))
+      → left ≡ text ∷ texts → Runs g a c texts
+  runs_next count runs next = record {
+    same_reference = same ∙ it.same_reference;
+    survives = survives_twice (state g a.now) (state g b.now) (state g c.now) it.survives survives;
+    inside = λ clean inside. (runs clean (it.inside (clean_before clean) inside)).1.mode;
+    commit = λ clean inside. (
+        let ran = (runs clean (it.inside (clean_before clean) inside)).1 in
+        let before = it.commit (clean_before clean) inside in
+        record { was_open = λ _. before.was_open ran.was_open; committed = λ _. ran.committed_is ∙ before.committed ran.was_open });
+    reached = λ clean start. (
+        let was = subst (Reaches (state g b.now)) next (it.reached (clean_before clean) start) in
+        let new = was.lead.new in
+        let made = creates text (state g b.now) (state g c.now) was.at was.lead.table (Ok count) new.meant new.plain new.alone
+        new.defined (uncounted new)
+        was.may (runs clean was.may.inside) in
+        record { at = created was.at was.lead.table; lead = was.lead.more; may = then_build _ _ _ made; sound = inr (λ _. made.sound) });
+  }
+
+  pub text_fails : (e : Error)
+      → (HasCleanDisk (state g c.now) → IsTrue (state g b.now).in_transaction → ExecutesInside 0 text [] (state g b.now) (state g c.now) (Err e))
+      → left ≡ text ∷ texts → HasCleanDisk (state g c.now) → MayBuild no_schema (state g a.now) → IsUp (state g a.now)
+      → HasReason (state g a.now) (state g c.now) e
+  text_fails e runs next clean start up =
+      let was = subst (Reaches (state g b.now)) next (it.reached (clean_before clean) start) in
+      fails_later (state g a.now) (state g b.now) (state g c.now) e it.survives (clean_before clean) up survives.counts
+      (λ live. create_reason was.at text was.lead.table was.lead.new (state g b.now) (state g c.now) e live (was.may.empty live.is_open).is
+      (runs clean was.may.inside))
+
+-- The texts.
+
+-- they are those of `make_tables`
+abbrev pub table_texts : List (List ℕ)
+table_texts = meta_text ∷ stock_text ∷ batch_text ∷ journey_text ∷ step_text ∷ entry_text ∷ answer_text ∷ entry2_text ∷ mark_text ∷ []
 
 -- each of their facts is found by computing
-pub meta_is_new : IsNewTable no_schema meta_text (meta_at 0)
-unfolding understood everything value_cmp fits_kind is_free_name same_name begins lib.Ieee.is_nan lib.Ieee.lt
-meta_is_new = record { meant = refl; plain = (refl, refl); alone = refl; whole = refl; defined = refl; tests = refl }
-
-pub stock_is_new : IsNewTable schema_1 stock_text (stock_at 0)
-unfolding understood everything value_cmp fits_kind is_free_name same_name begins lib.Ieee.is_nan lib.Ieee.lt
-stock_is_new = record { meant = refl; plain = (refl, refl); alone = refl; whole = refl; defined = refl; tests = refl }
-
-pub batch_is_new : IsNewTable schema_2 batch_text (batch_at 0)
-unfolding understood everything value_cmp fits_kind is_free_name same_name begins lib.Ieee.is_nan lib.Ieee.lt
-batch_is_new = record { meant = refl; plain = (refl, refl); alone = refl; whole = refl; defined = refl; tests = refl }
-
-pub journey_is_new : IsNewTable schema_3 journey_text (journey_at 0)
-unfolding understood everything value_cmp fits_kind is_free_name same_name begins lib.Ieee.is_nan lib.Ieee.lt
-journey_is_new = record { meant = refl; plain = (refl, refl); alone = refl; whole = refl; defined = refl; tests = refl }
-
-pub step_is_new : IsNewTable first_schema step_text (step_at 0)
-unfolding understood everything value_cmp fits_kind is_free_name same_name begins lib.Ieee.is_nan lib.Ieee.lt
-step_is_new = record { meant = refl; plain = (refl, refl); alone = refl; whole = refl; defined = refl; tests = refl }
-
-pub entry_is_new : IsNewTable schema_5 entry_text (entry_at 0)
-unfolding understood everything value_cmp fits_kind is_free_name same_name begins lib.Ieee.is_nan lib.Ieee.lt
-entry_is_new = record { meant = refl; plain = (refl, refl); alone = refl; whole = refl; defined = refl; tests = refl }
-
-pub answer_is_new : IsNewTable schema_6 answer_text (answer_at 0)
-unfolding understood everything value_cmp fits_kind is_free_name same_name begins lib.Ieee.is_nan lib.Ieee.lt
-answer_is_new = record { meant = refl; plain = (refl, refl); alone = refl; whole = refl; defined = refl; tests = refl }
-
 pub entry2_is_new : IsNewTable seven_schema entry2_text (entry2_at 0)
 unfolding understood everything value_cmp fits_kind is_free_name same_name begins lib.Ieee.is_nan lib.Ieee.lt
 entry2_is_new = record { meant = refl; plain = (refl, refl); alone = refl; whole = refl; defined = refl; tests = refl }
@@ -193,3 +204,25 @@ entry2_is_new = record { meant = refl; plain = (refl, refl); alone = refl; whole
 pub mark_is_new : IsNewTable schema_8 mark_text (mark_at 0)
 unfolding understood everything value_cmp fits_kind is_free_name same_name begins lib.Ieee.is_nan lib.Ieee.lt
 mark_is_new = record { meant = refl; plain = (refl, refl); alone = refl; whole = refl; defined = refl; tests = refl }
+
+all_lead : Lead table_texts no_schema
+unfolding understood everything value_cmp fits_kind is_free_name same_name begins lib.Ieee.is_nan lib.Ieee.lt
+all_lead =
+    led (meta_at 0) (record { meant = refl; plain = (refl, refl); alone = refl; whole = refl; defined = refl; tests = refl })
+    (led (stock_at 0) (record { meant = refl; plain = (refl, refl); alone = refl; whole = refl; defined = refl; tests = refl })
+    (led (batch_at 0) (record { meant = refl; plain = (refl, refl); alone = refl; whole = refl; defined = refl; tests = refl })
+    (led (journey_at 0) (record { meant = refl; plain = (refl, refl); alone = refl; whole = refl; defined = refl; tests = refl })
+    (led (step_at 0) (record { meant = refl; plain = (refl, refl); alone = refl; whole = refl; defined = refl; tests = refl })
+    (led (entry_at 0) (record { meant = refl; plain = (refl, refl); alone = refl; whole = refl; defined = refl; tests = refl })
+    (led (answer_at 0) (record { meant = refl; plain = (refl, refl); alone = refl; whole = refl; defined = refl; tests = refl })
+    (led (entry2_at 0) entry2_is_new (led (mark_at 0) mark_is_new refl))))))))
+
+-- before any of them is run, all are left
+pub runs_none : {S : Type 0} (g : Ghosts S) (h : MutBor (Held S)) → Runs g h h table_texts
+runs_none g h = record {
+  same_reference = refl;
+  survives = survives_alone (state g h.now);
+  inside = λ clean inside. inside;
+  commit = λ clean inside. record { was_open = λ live. live; committed = λ live. refl };
+  reached = λ clean start. record { at = no_schema; lead = all_lead; may = start; sound = inl refl };
+}

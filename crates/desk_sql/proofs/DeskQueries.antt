@@ -1,5 +1,5 @@
 -- The queries for the numbers of meta, a kept reply, a batch, journeys, and the nights of a range. For the functions that read one table.
-use Rattle.std.proofs.Common.{◌≡◌, ◌<◌, inl, inr, List, [], ◌∷◌, filter, true, Some, None, arith, refl, sym, ap, subst, ◌∙◌, ℕ, Option, eqb-true, rules}
+use Rattle.std.proofs.Common.{◌≡◌, ◌<◌, List, [], ◌∷◌, filter, true, Some, None, arith, refl, sym, subst, ◌∙◌, ℕ, Option, option_map, eqb-true, rules}
 use Rattle.sqlite.specs.Order.{Row}
 use Rattle.sqlite.specs.State.{State, QueriesRow}
 use Rattle.sqlite.specs.Query.{Output}
@@ -8,19 +8,19 @@ use Rattle.sqlite_tied.specs.Compute.{everything}
 use Rattle.sqlite_trees.specs.Tree.{IsAscending}
 use Rattle.sqlite_trees.proofs.ListLemmas.{filter_all, all_of}
 use Rattle.sqlite_rules.specs.Lists.{Has}
+use Rattle.desk_sql.specs.Lists.{IsOneOf}
 use Rattle.desk_sql.specs.Rows.{whole, Tables, MetaRow, meta_row, AnswerRow, answer_columns, BatchRow, batch_columns, JourneyRow, journey_row, StockRow, stock_columns}
 use Rattle.desk_sql.specs.declared.versions.Version.{Version}
 use Rattle.desk_sql.specs.declared.versions.Version.TheVariants.{One, Two}
 use Rattle.desk_sql.specs.Calls.{MaySeeIn}
 use Rattle.desk_sql.specs.Queries.{GivesRow, one_row}
-use Rattle.desk_sql.specs.FoundRows.{meta_of, IsMeta, shows_meta, three_of, is_for, answer_of, FindsAnswer, shows_answer, two_of, is_named, batch_of, FindsBatch, shows_batch, journey_of, is_numbered, is_unfinished_after, FindsJourney, FindsUnfinished, shows_journey, nine_of}
+use Rattle.desk_sql.specs.FoundRows.{HasRow, meta_of, IsMeta, shows_meta, three_of, is_for, answer_of, FindsAnswer, shows_answer, two_of, is_named, batch_of, FindsBatch, shows_batch, journey_of, is_numbered, is_unfinished_after, FindsJourney, FindsUnfinished, shows_journey, nine_of}
 use Rattle.desk_sql.specs.Readable.{HasMeta, meta_shown, ShowsOne, IsReplyText, HasReplyText, answer_shown, Any, batch_shown, IsAgentText, HasAgentText, HaveAgentTexts, night_shown}
 use Rattle.desk_sql.specs.declared.meta.Meta.{Meta}
 use Rattle.desk_sql.specs.Texts.{read_meta_text, find_answer_text, find_batch_text, find_journey_text, first_unfinished_text, find_nights_text}
 use Rattle.desk_sql.specs.Meanings.{read_meta_query, read_meta_names, find_answer_query, find_answer_names, find_batch_query, find_batch_names, find_journey_query, first_unfinished_query, journey_names, journey_project, find_nights_query, find_nights_names}
-use Rattle.desk_sql.proofs.Asking.{SaysQuery, Asks, asks_own, Finds, FindsOne, asks_chosen, one_of, least_of, FindsList, lists}
+use Rattle.desk_sql.proofs.Asking.{SaysQuery, asks_own, Finds, FindsOne, asks_chosen, one_of, least_of, FindsList, lists}
 use Rattle.desk_sql.proofs.Changing.{meta_passes}
-use Rattle.desk_sql.proofs.Answering.{first_of}
 use Rattle.std.proofs.lemmas.Bool.{and_parts}
 use Rattle.std.proofs.lemmas.Slice.Eq.{bytes_eq-Decides}
 use Rattle.sqlite.specs.declared.types.Value.TheVariants.{Text, Blob}
@@ -36,27 +36,14 @@ use Rattle.desk_sql.specs.declared.stock.NightRange.{NightRange}
 
 -- The query on meta.
 
--- there is a row, of which this holds
-abbrev pub HasRow : Option Row → (Row → Type 0) → Type 0
-HasRow (Some row) Holds = Holds row
-HasRow None Holds = ⊥
-
-abbrev meta_out : MetaRow → Output
-meta_out m = ([], whole m.version ∷ whole m.events ∷ whole m.journeys ∷ [])
-
--- at most one value has rowid 1
-one_at_most : (m : MetaRow) (ms : List MetaRow) → IsAscending (λ (x y : MetaRow). 1 < 1) (m ∷ ms) → m ∷ ms ≡ m ∷ []
-one_at_most m [] rise = refl
-one_at_most m (n ∷ ms) rise = absurd (let low = rise.0.0 in omega (arith, low))
-
 all_pass : (ms : List MetaRow) → filter (λ _. true) ms ≡ ms
 all_pass ms = filter_all (λ (_ : MetaRow). true) ms (all_of (λ (_ : MetaRow). true ≡ true) (λ _. refl) ms)
 
+-- at most one value has rowid 1
 only_one : (ms : List MetaRow) (m : MetaRow) → IsAscending (λ (x y : MetaRow). 1 < 1) ms → Has ms m → ms ≡ m ∷ []
 only_one [] m rise h = absurd h
-only_one (n ∷ ms) m rise h =
-    let alone = one_at_most n ms rise in
-    alone ∙ ap (λ x. x ∷ []) (elim (subst (λ xs. Has xs m) alone h) [ inl is ↦ sym is | inr none ↦ absurd none ])
+only_one (n ∷ []) m rise h = search (rules, arith)
+only_one (n ∷ o ∷ ms) m rise h = absurd (let low = rise.0.0 in omega (arith, low))
 
 same_meta : (r : Meta) (m : MetaRow) → shows_meta r ≡ whole m.version ∷ whole m.events ∷ whole m.journeys ∷ [] → m ≡ meta_of r
 same_meta r m shown = search (rules, arith)
@@ -67,34 +54,29 @@ meta_says One = record { means = λ _. record { is = refl; plain = (refl, refl);
 meta_says Two = record { means = λ _. record { is = refl; plain = (refl, refl); unlisted = refl; selects = refl }; takes = λ _. record { whole = refl; typed = refl } }
 
 -- the row that is read is that of meta, and where meta has a row, one is given
-pub finds_meta : (v : Version) → Finds v read_meta_text [] (λ old new row. QueriesRow read_meta_text [] old new (one_row row))
-    (λ row m. HasRow row (λ r. shows_meta m ≡ three_of r)) IsMeta HasMeta (λ row. HasRow row (λ r. (m : MetaRow) × (r ≡ meta_shown m)))
+pub finds_meta : (v : Version) → Finds v read_meta_text [] (λ given old new row. QueriesRow read_meta_text given old new (one_row row))
+    (λ row m. HasRow (λ r. shows_meta m ≡ three_of r) row) IsMeta HasMeta (HasRow (ShowsOne meta_shown (λ _. ⊤)))
 finds_meta v = record { selects = asked.selects; found = found; good = good; reason = asked.reason }
   where
-    asked : Asks v read_meta_text [] read_meta_query meta_out (λ t. filter (λ _. true) t.meta)
+    asked : FindsOne v read_meta_text [] shows_meta three_of (λ t found. IsOneOf (filter (λ _. true) t.meta) (option_map meta_of found)) HasMeta
+        (ShowsOne meta_shown (λ _. ⊤))
     asked =
-        asks_own 0 read_meta_query.filter read_meta_query.project [] (meta_says v) (λ _. refl) (λ (m : MetaRow). 1) meta_row (λ t. t.meta)
-        (λ _ _ s. s.meta) (λ _. true) (meta_passes [])
+        one_of (asks_own 0 read_meta_query.filter read_meta_query.project [] (meta_says v) (λ _. refl) (λ (m : MetaRow). 1) meta_row (λ t. t.meta)
+        (λ _ _ s. s.meta) (λ _. true) (meta_passes [])) meta_of shows_meta three_of (λ t f m there shown. sym (same_meta f m shown))
+        HasMeta (ShowsOne meta_shown (λ _. ⊤)) (λ t has m there. (m, refl, tt))
 
-    first : (old new : State) (t : Tables) → MaySeeIn v old t → (row : Row) → GivesRow read_meta_text [] old new (Some row)
-        → (m : MetaRow) × Has t.meta m × (row ≡ meta_shown m)
-    first old new t sees row given =
-        let all = asked.first old new t sees row given in
-        let it = first_of read_meta_query meta_out (filter (λ _. true) t.meta) row all.0 all.1 in
-        (it.0, subst (λ ms. Has ms it.0) (all_pass t.meta) it.1, it.2)
-
-    found : (old new : State) (t : Tables) → MaySeeIn v old t → (row : Option Row) (m : Meta) → HasRow row (λ r. shows_meta m ≡ three_of r)
+    found : (old new : State) (t : Tables) → MaySeeIn v old t → (row : Option Row) (m : Meta) → HasRow (λ r. shows_meta m ≡ three_of r) row
         → GivesRow read_meta_text [] old new row → IsMeta t m
     found old new t sees (Some row) m read given =
-        let it = first old new t sees row given in
-        only_one t.meta it.0 (sees given.0.0.was_open).rows.meta.rise it.1 ∙ ap (λ x. x ∷ []) (same_meta m it.0 (read ∙ ap three_of it.2))
+        only_one t.meta (meta_of m) (sees given.0.0.was_open).rows.meta.rise
+        (subst (λ ms. Has ms (meta_of m)) (all_pass t.meta) (asked.found old new t sees (Some row) (Some m) read given))
     found old new t sees None m read given = absurd read
 
     good : (old new : State) (t : Tables) → MaySeeIn v old t → HasMeta t → (row : Option Row) → GivesRow read_meta_text [] old new row
-        → HasRow row (λ r. (m : MetaRow) × (r ≡ meta_shown m))
-    good old new t sees has (Some row) given = let it = first old new t sees row given in (it.0, it.2)
+        → HasRow (ShowsOne meta_shown (λ _. ⊤)) row
+    good old new t sees has (Some row) given = asked.good old new t sees has (Some row) given
     good old new t sees has None given =
-        let bad : has.0 ∷ [] ≡ [] = sym has.1 ∙ (sym (all_pass t.meta) ∙ asked.none old new t sees given) in cc
+        let bad : has.0 ∷ [] ≡ [] = sym has.1 ∙ (sym (all_pass t.meta) ∙ asked.found old new t sees None None tt given) in cc
 
 -- The reply that is kept under an agent's key.
 

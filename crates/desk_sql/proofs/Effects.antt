@@ -44,11 +44,13 @@ if_done x y r ran so = search (rules, arith)
 
 module _ {S : Type 0} {g : Ghosts S} {old new : MutBor (Held S)} {result : Result ℕ Error} {text : List ℕ} {params : Row}
     {Seen Fits : Tables → Type 0} {after : Tables → Tables} where
-  pub keyed : Effect text params Seen after (λ _. ⊤) Fits (λ _. ⊤) (λ n. n)
+  -- the run was given values that are those of the statement
+  pub keyed : Effect text params Seen after (λ _. ⊤) Fits (λ _. ⊤) (λ n. n) → (given : Row)
       → (HasCleanDisk (state g new.now) → IsTrue (state g old.now).in_transaction
-      → ExecutesInside 0 text params (state g old.now) (state g new.now) result)
-      → GoesOn g old new result → WritesKeyed g old new result Seen Fits after
-  keyed it runs goes =
+      → ExecutesInside 0 text given (state g old.now) (state g new.now) result)
+      → given ≡ params → GoesOn g old new result → WritesKeyed g old new result Seen Fits after
+  keyed it given ran same goes =
+      let runs = rw same at ran in
       let a = state g old.now in
       let b = state g new.now in
       let Ran = ExecutesInside 0 text params a b in
@@ -76,3 +78,11 @@ module _ {S : Type 0} {g : Ghosts S} {old new : MutBor (Held S)} {result : Resul
         rowids = λ clean t may left n has. if_done (HasRowids n b.now.trees) Ran result (runs clean may.inside)
             (λ count ran. it.rowids a b t count may left ran n (subst (λ k. HasRowids k a.now.trees) (counted n) has));
       }
+
+  -- so it was here
+  pub numbered_at : {Left : Tables → Type 0} {taken : ℕ → ℕ} {added : ℕ} → Effect text params Seen after (HasRowids added) Fits Left taken
+      → ((n : ℕ) → added + n ≡ taken n) → (given : Row)
+      → (HasCleanDisk (state g new.now) → IsTrue (state g old.now).in_transaction
+      → ExecutesInside 0 text given (state g old.now) (state g new.now) result)
+      → given ≡ params → GoesOn g old new result → WritesNumbered g old new result Seen Fits Left added after
+  numbered_at it counted given runs same = numbered it counted (rw same at runs)

@@ -17,16 +17,7 @@ ready_of s t may here = record { inside = may.inside; schema = (may.sees here).s
 -- trees that are the same show the same rows
 pub shows_same : (f g : Trees) (t : Tables) → f 0 ≡ g 0 → f 1 ≡ g 1 → f 3 ≡ g 3 → f 6 ≡ g 6 → f 8 ≡ g 8 → f 11 ≡ g 11 → f 13 ≡ g 13
     → f 14 ≡ g 14 → Shows g t → Shows f t
-shows_same f g t m s b j p a e k it = record {
-  meta = rw m it.meta;
-  stock = rw s it.stock;
-  batch = rw b it.batch;
-  journey = rw j it.journey;
-  step = rw p it.step;
-  answer = rw a it.answer;
-  entries = rw e it.entries;
-  mark = rw k it.mark;
-}
+shows_same f g t m s b j p a e k it = search (rules, arith)
 
 module _ (old new : State) (edit : Edit) (it : Edits old new edit) where
   abbrev next : Trees

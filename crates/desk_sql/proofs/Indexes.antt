@@ -1,5 +1,5 @@
 -- What indexes beside those of the keys do not change: the rules, the references and the conflicts of rows. For Writing and Refusing.
-use Rattle.std.proofs.Common.{◌≡◌, inl, inr, ℕ, List, [], ◌∷◌, ◌++◌, Option, None, Some, Bool, true, false, not, ◌&&◌, refl, sym, ap, ◌∙◌, bytes_eq, length, ◌==◌, ◌||◌, arith, rules}
+use Rattle.std.proofs.Common.{◌≡◌, inl, inr, ℕ, List, [], ◌∷◌, ◌++◌, Option, Bool, true, false, not, ◌&&◌, refl, sym, ap, ◌∙◌, length, ◌||◌, arith, rules}
 use Rattle.std.specs.List.{AllByRecursion, list_all, list_any}
 use Rattle.std.proofs.lemmas.Bool.{and_parts, and_from, or_cases, or_left, or_right, false_from_ne_true}
 use Rattle.sqlite.specs.Order.{Row}
@@ -9,7 +9,7 @@ use Rattle.sqlite_schema.specs.declared.schema.Constraint.TheVariants.{Datatype,
 use Rattle.sqlite_schema.specs.declared.schema.Keys.TheVariants.{Enforced}
 use Rattle.sqlite_schema.specs.declared.schema.Reference.{Reference}
 use Rattle.sqlite_schema.specs.declared.schema.Index.{Index}
-use Rattle.sqlite_schema.specs.Rules.{guards, clashes, is_key_of, is_key_if_to, is_index_for, is_unique_key, ParentKey, parent_key, agree, Keeps, Obeys}
+use Rattle.sqlite_schema.specs.Rules.{guards, clashes, is_key_of, is_key_if_to, is_unique_key, ParentKey, parent_key, agree, Keeps, Obeys}
 use Rattle.sqlite_rules.specs.declared.error.Refusal.{Refusal}
 use Rattle.sqlite_rules.specs.declared.error.Refusal.TheVariants.{Violates, BadReference}
 use Rattle.sqlite_rules.specs.Edit.{Edit, edited, IsRefused, is_referred}
@@ -68,13 +68,7 @@ module _ (extra : List Index) (are : AllByRecursion IsExtra extra) where
     where
       found_more : (width : ℕ) (key : Option ParentKey) → is_unique_key desk_schema.indexes width key ≡ true
           → is_unique_key (desk_with extra).indexes width key ≡ true
-      found_more width None none = none
-      found_more width (Some key) some =
-          let parts = and_parts (length key.1 == width) (bytes_eq key.1 (0 ∷ []) || list_any (is_index_for key) desk_schema.indexes) some in
-          and_from (length key.1 == width) (bytes_eq key.1 (0 ∷ []) || list_any (is_index_for key) (desk_with extra).indexes) parts.0
-          (either_more (bytes_eq key.1 (0 ∷ [])) (list_any (is_index_for key) desk_schema.indexes) (list_any (is_index_for key) (desk_with extra).indexes) (λ found.
-          let i = some_has (is_index_for key) desk_schema.indexes found in
-          some_from (is_index_for key) (desk_with extra).indexes i.0 (has_left desk_schema.indexes extra i.0 i.1) i.2) parts.1)
+      found_more width key it = search (rules, arith, and_parts, and_from, either_more, some_has, some_from, has_left)
 
   to_more : (table : Table) (ref : Reference) → is_key_if_to desk_schema table ref ≡ true → is_key_if_to (desk_with extra) table ref ≡ true
   to_more table ref it = either_more _ (is_key_of desk_schema ref) (is_key_of (desk_with extra) ref) (key_more ref) it

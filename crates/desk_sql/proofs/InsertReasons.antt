@@ -1,8 +1,8 @@
 -- The effect of an INSERT of one row, from what its text means and what its row obeys. For each statement that inserts.
-use Rattle.std.proofs.Common.{◌≡◌, ◌<◌, ◌^◌, ℕ, ℤ, suc, pos, List, [], ◌∷◌, ◌++◌, filter, Ok, true, false, refl, sym, subst, arith}
+use Rattle.std.proofs.Common.{◌≡◌, ◌<◌, ◌^◌, ℕ, ℤ, suc, pos, List, [], ◌∷◌, ◌++◌, Ok, true, false, refl, sym, subst, arith}
 use Rattle.std.specs.Prelude.{⊤}
 use Rattle.std.specs.List.{AllByRecursion, list_all}
-use Rattle.std.proofs.lemmas.Bool.{and_from, eqb-false}
+use Rattle.std.proofs.lemmas.Bool.{and_from}
 use Rattle.sqlite.specs.declared.types.Value.TheVariants.{Int}
 use Rattle.sqlite.specs.Order.{Row}
 use Rattle.sqlite.specs.Ops.{fits_i64}
@@ -12,9 +12,7 @@ use Rattle.sqlite.specs.Tree.{Trees, rowid, put_row, IsTable}
 use Rattle.sqlite.specs.Edit.{next_rowid, is_taken}
 use Rattle.sqlite.specs.State.{State, ExecutesInside}
 use Rattle.sqlite_schema.specs.declared.schema.Constraint.TheVariants.{Datatype, NotNull, Check}
-use Rattle.sqlite_schema.specs.declared.schema.Reference.{Reference}
-use Rattle.sqlite_schema.specs.declared.schema.Index.{Index}
-use Rattle.sqlite_schema.specs.Rules.{passes, guards, agree, has_parent, is_key_of, Obeys}
+use Rattle.sqlite_schema.specs.Rules.{passes, is_key_of, Obeys}
 use Rattle.sqlite_rules.proofs.ListLemmas.{has_got}
 use Rattle.sqlite_typing.specs.Types.{accepts_terms}
 use Rattle.desk_sql.specs.Schema.{desk_schema}
@@ -24,14 +22,14 @@ use Rattle.desk_sql.specs.Calls.{Sees, MayRun}
 use Rattle.desk_sql.specs.Writable.{AreLow, HasRowids}
 use Rattle.desk_sql.proofs.Meaning.{insert}
 use Rattle.desk_sql.proofs.Refusing.{write_reason, insert_goes, IsSafe}
-use Rattle.desk_sql.proofs.NewRow.{put_edit, put_safe}
+use Rattle.desk_sql.proofs.NewRow.{AreOther, HasParents, put_edit, put_safe}
 use Rattle.desk_sql.proofs.Writing.{inserts, source_edit, Edits}
 use Rattle.desk_sql.proofs.Framing.{ready_of, makes_at}
 use Rattle.desk_sql.proofs.Keyed.{appended, numbered_last}
 use Rattle.desk_sql.proofs.Indexes.{obeys_bare}
 use Rattle.desk_sql.proofs.Storing.{NeverOversized, next_fits, fits_whole, chosen_free, number_free, table_of, table_numbered}
-use Rattle.desk_sql.proofs.Rowids.{rowids_fewer, low_put, rowids_same, rowids_kept}
-use Rattle.desk_sql.proofs.Places.{Place, IsOwn}
+use Rattle.desk_sql.proofs.Rowids.{IsOwn, rowids_fewer, low_put, rowids_same, rowids_kept}
+use Rattle.desk_sql.proofs.Places.{Place}
 use Rattle.desk_sql.proofs.Effects.{Says, Effect}
 
 -- the trees obey the desk's schema
@@ -48,9 +46,8 @@ pub record Admits (table : Table) (db : Trees) (new : Row) : Type 0 where
   pub alone : (passes Datatype desk_schema db table new ≡ true) × (passes NotNull desk_schema db table new ≡ true)
       × (passes Check desk_schema db table new ≡ true)
   pub storable : NeverOversized table new
-  pub single : AllByRecursion (λ (i : Index). AllByRecursion (λ r. agree i.order i.columns r i.columns new ≡ false) (db table.tree))
-      (filter (λ i. guards i table) desk_schema.indexes)
-  pub parents : AllByRecursion (λ (ref : Reference). has_parent desk_schema.tables db new ref ≡ true) table.references
+  pub single : AreOther table (db table.tree) new
+  pub parents : HasParents table db new
 
 -- A text inserts one row, given those that are there, and its value is appended.
 module _ {X : Type 0} {at : ℕ} {table : Table} {IsRows : List Row → List X → Type 0} {values : Tables → List X}
@@ -138,6 +135,4 @@ module _ {X : Type 0} {at : ℕ} {table : Table} {number : X → ℕ} {row_of : 
       (λ rows t seen it. numbered_last number row_of keyed rows (values t) x it (below t seen)) (table_numbered number row_of keyed)
       (λ rows t seen it. number_free number row_of keyed rows (values t) x it (below t seen))
       (λ _. pos (number x)) (λ _. keyed x) (λ db any. fits_whole (number x) small)
-      (λ old new it n has. rowids_same old new _ it n has (eqb-false 1 table.tree its_own.0) (eqb-false 3 table.tree its_own.1.0)
-      (eqb-false 8 table.tree its_own.1.1.0) (eqb-false 11 table.tree its_own.1.1.1.0) (eqb-false 14 table.tree its_own.1.1.1.1.0))
-      admits
+      (λ old new it n has. rowids_same old new _ it n has its_own) admits

@@ -40,14 +40,12 @@ cast_int n = same_int _ n
 abbrev answer_params : AnswerRow → Row
 answer_params a = Text a.agent ∷ Text a.mark ∷ Blob a.ask ∷ Text a.reply ∷ []
 
-answer_says : (a : AnswerRow) → SaysInsert Texts.insert_answer_text 6 Meanings.insert_answer_terms 5 (answer_params a)
-unfolding understood everything
-answer_says a = record { means = λ _. record { is = refl; plain = (refl, refl) }; whole = λ _. refl; types = λ _. refl }
-
 pub keeps_answer : (a : AnswerRow)
     → Effect Texts.insert_answer_text (answer_params a) (λ _. ⊤) (adds_answer a) (HasRowids 1) (MayKeep a) (λ _. ⊤) suc
+unfolding understood everything
 keeps_answer a =
-    adds_next Places.answers (λ n db has. has.answer) (answer_says a) a (λ db. simp cast_null) (MayKeep a) (λ db t fits shown. record {
+    adds_next Places.answers (λ n db has. has.answer) {terms = Meanings.insert_answer_terms} {width = 5} (grind arith) a
+    (λ db. simp cast_null) (MayKeep a) (λ db t fits shown. record {
       alone = (refl, refl, refl);
       storable = held_from (answer_at 11) _ (storable _ _ refl refl (omega (arith, fits.short)), omega arith)
           (storable _ _ refl refl (omega (arith, fits.short)), tt) tt;
@@ -64,14 +62,12 @@ keeps_answer a =
 abbrev batch_params : BatchRow → Row
 batch_params b = Text b.name ∷ whole b.num ∷ Blob b.content ∷ []
 
-batch_says : (b : BatchRow) → SaysInsert Texts.insert_batch_text 2 Meanings.insert_batch_terms 4 (batch_params b)
-unfolding understood everything
-batch_says b = record { means = λ _. record { is = refl; plain = (refl, refl) }; whole = λ _. refl; types = λ _. refl }
-
 pub loads_batch : (b : BatchRow)
     → Effect Texts.insert_batch_text (batch_params b) (λ _. ⊤) (adds_batch b) (HasRowids 1) (MayAddBatch b) (λ _. ⊤) suc
+unfolding understood everything
 loads_batch b =
-    adds_next Places.batches (λ n db has. has.batch) (batch_says b) b (λ db. simp (cast_int, cast_null)) (MayAddBatch b) (λ db t fits shown. record {
+    adds_next Places.batches (λ n db has. has.batch) {terms = Meanings.insert_batch_terms} {width = 4} (search rules) b
+    (λ db. simp (cast_int, cast_null)) (MayAddBatch b) (λ db t fits shown. record {
       alone = (refl, refl, refl);
       storable = held_from (batch_at 3) _ (storable _ _ refl refl (omega (arith, fits.short)), omega arith)
           (storable _ _ refl refl (omega (arith, fits.short)), (storable _ _ refl refl (omega arith), tt)) tt;
@@ -94,14 +90,13 @@ journey_params j =
     whole j.id ∷ whole j.num ∷ Text j.agent ∷ whole j.steps ∷ whole j.tries ∷ whole j.cursor.pos ∷ whole j.cursor.phase
     ∷ whole j.cursor.target ∷ whole j.cursor.used ∷ []
 
-journey_says : (j : JourneyRow) → SaysInsert Texts.insert_journey_text 3 Meanings.insert_journey_terms 10 (journey_params j)
-unfolding understood everything
-journey_says j = record { means = λ _. record { is = refl; plain = (refl, refl) }; whole = λ _. refl; types = λ _. refl }
-
 pub begins_journey : (j : JourneyRow) → j.id < 2 ^ 63 → j.cursor.phase ≤ 3
     → Effect Texts.insert_journey_text (journey_params j) (AreJourneysBelow j.id) (adds_journey j) (λ _. ⊤) (MayAddJourney j) (λ _. ⊤) (λ n. n)
+unfolding understood everything
 begins_journey j small phase =
-    adds_last Places.journeys (λ _. refl) (refl, (refl, (refl, (refl, (refl, tt))))) (journey_says j) j small (λ db. simp (cast_int, cast_null))
+    adds_last Places.journeys (λ _. refl) (refl, (refl, (refl, (refl, (refl, tt))))) {terms = Meanings.insert_journey_terms} {width = 10}
+    (record { means = λ _. record { is = refl; plain = (refl, refl) }; whole = λ _. refl; types = λ _. refl }) j small
+    (λ db. simp (cast_int, cast_null))
     (AreJourneysBelow j.id) (MayAddJourney j) (λ t fits. fits.below) (λ t below. below) (λ db t fits shown. record {
       alone = (refl, refl, rw (range_holds j.cursor.phase 0 3 (omega arith) phase) refl);
       storable = held_from (journey_at 6) _ (storable _ _ refl refl (omega (arith, fits.short)), omega arith) (storable _ _ refl refl (omega arith), tt)

@@ -1,5 +1,5 @@
 -- Tables as lists of values, each with its rowid, in ascending order of rowid. For the lemmas of each statement that writes.
-use Rattle.std.proofs.Common.{◌≡◌, ◌+ℤ◌, ◌<ℤ◌, ℤ, pos, fold, List, [], ◌∷◌, ◌++◌, map, Bool, true, false, if◌then◌else◌, Less, refl, sym, ap, ap₂, ◌∙◌, arith, ℕ, ◌<◌, filter, rules}
+use Rattle.std.proofs.Common.{◌≡◌, ◌+ℤ◌, ◌<ℤ◌, ℤ, pos, fold, List, [], ◌∷◌, ◌++◌, map, Bool, true, if◌then◌else◌, Less, refl, sym, ap, ap₂, ◌∙◌, arith, ℕ, ◌<◌, filter, rules, subst}
 use Rattle.std.proofs.lemmas.Int.{ints}
 use Rattle.std.proofs.lemmas.Bool.{cases_Bool}
 use Rattle.std.specs.List.{AllByRecursion}
@@ -9,6 +9,7 @@ use Rattle.sqlite_value.proofs.OrderLemmas.{value_cmp-Int}
 use Rattle.sqlite.specs.Order.{Row, value_cmp}
 use Rattle.sqlite_trees.specs.Tree.{rowid, put_row, IsTable, IsAscending}
 use Rattle.sqlite_rules.specs.Lists.{Has}
+use Rattle.sqlite_rules.proofs.ProbeLemmas.{mapped_has}
 use Rattle.sqlite_rules.specs.Edit.{next_rowid, id_in}
 use Rattle.sqlite_trees.proofs.ListLemmas.{all_weaker, ascending-append, ascending-map, ascending_weaker, ascending-filter, filter-map}
 use Rattle.desk_sql.specs.Lists.{changed, numbered_row, IsTableOf, IsNumbered}
@@ -82,6 +83,14 @@ module _ {X : Type 0} where
   abbrev pub value_of : ℤ × X → X
   value_of p = p.1
 
+  -- a value under a rowid is one of the table, and so is its row
+  pub value_there : (columns : X → Row) (rows : List Row) (xs : List X) (it : IsTableOf columns rows xs) (p : ℤ × X) → Has it.numbered p
+      → Has xs p.1 × Has rows (numbered_row columns p)
+  value_there columns rows xs it p there = (
+    subst (λ ys. Has ys p.1) (sym it.values_are) (mapped_has value_of it.numbered p there),
+    subst (λ rs. Has rs (numbered_row columns p)) (sym it.rows_are) (mapped_has (numbered_row columns) it.numbered p there),
+  )
+
   -- a row under the next rowid is appended
   pub appended : (columns : X → Row) (rows : List Row) (xs : List X) (x : X) → IsTableOf columns rows xs
       → IsTableOf columns (put_row (numbered_row columns (next_rowid rows, x)) rows) (xs ++ x ∷ [])
@@ -103,8 +112,7 @@ module _ {X : Type 0} where
   values_changed q h (p ∷ ps) = ap₂ ◌∷◌ (one (q p.1)) (values_changed q h ps)
     where
       one : (b : Bool) → value_of (if b then (p.0, h p.1) else p) ≡ (if b then h p.1 else p.1)
-      one true = refl
-      one false = refl
+      one b = search (rules, arith)
 
   -- a change leaves each row under its rowid
   pub replaced_values : (columns : X → Row) (rows new : List Row) (xs : List X) (q : X → Bool) (h : X → X)

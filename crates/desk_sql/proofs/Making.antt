@@ -1,5 +1,4 @@
--- The schemas that the texts of the tables lead to, one after another, and the effect of each text where no table has a row. For
--- CreateReasons, `make_tables` and its parts.
+-- The effect of a text that creates a table, where no table has a row. For CreateReasons and `make_tables`.
 use Rattle.std.proofs.Common.{◌≡◌, ℕ, List, [], ◌∷◌, ◌++◌, true, false, if◌then◌else◌, None, Ok, Err, Result, OnOk, sym, ap, subst, ◌∙◌, refl, arith, rules}
 use Rattle.std.specs.List.{AllByRecursion}
 use Rattle.sqlite.specs.Table.{Table}
@@ -16,8 +15,7 @@ use Rattle.sqlite.specs.State.{State, Writes, ExecutesInside, Shows}
 use Rattle.sqlite.proofs.Callers.{IsPlain, command_of, statement_of, runs_as}
 use Rattle.desk_sql.specs.Calls.{MayBuild, Builds, IsEmptyWith, Sees}
 use Rattle.desk_sql.proofs.Writing.{went, same_value}
-use Rattle.sqlite_tied.specs.Compute.{everything}
-use Rattle.desk_sql.specs.Schema.{meta_at, stock_at, batch_at, journey_at, step_at, entry_at, answer_at, entry2_at, mark_at, no_schema, first_schema, seven_schema, desk_schema}
+use Rattle.desk_sql.specs.Schema.{entry2_at, seven_schema, desk_schema}
 use Rattle.sqlite.specs.Order.{Row}
 use Rattle.desk_sql.specs.Lists.{IsTableOf, IsNumbered}
 use Rattle.desk_sql.specs.Rows.{no_rows}
@@ -63,44 +61,13 @@ creates sql old new before table (Ok count) is plain whole defined uncounted may
       committed = shown.committed_is;
     }
 
--- The schemas that the texts of the tables lead to, one after another.
-
-abbrev pub schema_1 : Schema
-schema_1 = created no_schema (meta_at 0)
-
-abbrev pub schema_2 : Schema
-schema_2 = created schema_1 (stock_at 0)
-
-abbrev pub schema_3 : Schema
-schema_3 = created schema_2 (batch_at 0)
-
-abbrev pub schema_5 : Schema
-schema_5 = created first_schema (step_at 0)
-
-abbrev pub schema_6 : Schema
-schema_6 = created schema_5 (entry_at 0)
-
-pub first_is : created schema_3 (journey_at 0) ≡ first_schema
-unfolding everything
-first_is = refl
-
+-- the tables of old files, and the items
 abbrev pub schema_8 : Schema
 schema_8 = created seven_schema (entry2_at 0)
-
-pub seven_is : created schema_6 (answer_at 0) ≡ seven_schema
-unfolding everything
-seven_is = refl
-
-pub desk_is : created schema_8 (mark_at 0) ≡ desk_schema
-unfolding everything
-desk_is = refl
 
 -- a text may build on what the text before it created
 pub then_build : (a b : State) (s : Schema) → Builds a b s → MayBuild s b
 then_build a b s it = record { inside = it.inside; empty = λ _. it.made }
-
-pub builds_then : (a b c : State) (s t : Schema) → Builds a b s → Builds b c t → Builds a c t
-builds_then a b c s t p q = search (rules, arith)
 
 no_rows_of : {X : Type 0} (columns : X → Row) (rows : List Row) → rows ≡ [] → IsTableOf columns rows []
 no_rows_of columns rows none = record { numbered = []; values_are = refl; rows_are = none; rise = tt }

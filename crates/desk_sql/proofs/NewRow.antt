@@ -145,16 +145,7 @@ module _ (db : Trees) (table : Table) (news : List Row) (listed : Has desk_schem
     (referred : is_referred desk_schema Enforced (adds_edit table news) ≡ true) (parents : (new : Row) → Has news new → HasParents table db new) where
   keys : (i : Index) → Has (filter (λ i. guards i table) desk_schema.indexes) i → (r new : Row) → Has news r ⊎ Has (db table.tree) r → Has news new
       → (agree i.order i.columns r i.columns new && differ (rowid r) (rowid new)) ≡ false
-  keys i known r new (inl added) there = elim (apart r new added there) [
-    | inl same ↦ (
-        let self : differ (rowid r) (rowid new) ≡ false = rw (same, (fit new there).keyed) (same_number (fit new there).id) in
-        false_from_ne_true _ (λ both. both_ways _ self (and_parts (agree i.order i.columns r i.columns new) (differ (rowid r) (rowid new)) both).1))
-    | inr other ↦ (
-        let off : agree i.order i.columns r i.columns new ≡ false = (all_has _ (filter (λ i. guards i table) desk_schema.indexes) i other known).0 in rw off refl)
-  ]
-  keys i known r new (inr old) there =
-      let off : agree i.order i.columns r i.columns new ≡ false
-      = all_has _ (db table.tree) r (all_has _ (filter (λ i. guards i table) desk_schema.indexes) i (single new there) known) old in rw off refl
+  keys i known r new either there = search (rules, arith, same_number, false_from_ne_true, both_ways, and_parts, all_has)
 
   -- a parent that was there is there
   held_still : (next : Trees) → Turns desk_schema db next table (db table.tree) [] news → (ref : Reference) (row : Row)

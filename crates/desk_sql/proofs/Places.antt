@@ -1,6 +1,6 @@
 -- The tables of the desk, each with the values that its rows are. For the lemmas of each statement that writes.
-use Rattle.std.proofs.Common.{◌≡◌, ◌<ℤ◌, ◌==◌, ℕ, ℤ, pos, List, [], ◌∷◌, map, slice_get, Some, Bool, true, false, append-nil, refl, sym, subst, rules}
-use Rattle.std.specs.List.{AllByRecursion, list_all}
+use Rattle.std.proofs.Common.{◌≡◌, ◌<ℤ◌, ℕ, ℤ, pos, List, [], map, slice_get, Some, Bool, true, false, append-nil, refl, rules}
+use Rattle.std.specs.List.{list_all}
 use Rattle.sqlite.specs.declared.types.Value.TheVariants.{Int}
 use Rattle.sqlite.specs.Order.{Row}
 use Rattle.sqlite.specs.Table.{Table}
@@ -10,12 +10,11 @@ use Rattle.sqlite_trees.specs.Tree.{Trees, rowid, with_tree, IsAscending}
 use Rattle.sqlite_schema.specs.Rules.{is_key_of, is_key_if_to}
 use Rattle.sqlite_value.specs.Keys.{first_key, joined}
 use Rattle.sqlite_rules.specs.Lists.{Has}
-use Rattle.sqlite_rules.proofs.ProbeLemmas.{mapped_has}
 use Rattle.sqlite_tied.specs.Compute.{everything}
 use Rattle.desk_sql.specs.Schema.{desk_schema, meta_at, stock_at, batch_at, journey_at, step_at, answer_at, entry2_at, mark_at}
 use Rattle.desk_sql.specs.Lists.{numbered_row, IsTableOf, IsNumbered, changed}
 use Rattle.desk_sql.specs.Rows.{whole, Tables, Shows, MetaRow, meta_row, stock_columns, batch_columns, JourneyRow, journey_row, step_columns, EntryRow, entry_row, answer_columns, mark_columns}
-use Rattle.desk_sql.proofs.Keyed.{id_of, value_of, own_rise, replaced_values, numbered_changed}
+use Rattle.desk_sql.proofs.Keyed.{id_of, value_of, value_there, own_rise, replaced_values, numbered_changed}
 
 -- How rows are values: each row is that of an element, which has a rowid and a value.
 pub record Codec {X Y : Type 0} (f : Y → Row) (id : Y → ℤ) (value : Y → X) (lift : (X → X) → Y → Y)
@@ -37,7 +36,7 @@ chosen columns = record {
   elements = λ rows xs it. it.numbered;
   rows_are = λ rows xs it. it.rows_are;
   rise = λ rows xs it. it.rise;
-  has = λ rows xs it p there. subst (λ ys. Has ys p.1) (sym it.values_are) (mapped_has value_of it.numbered p there);
+  has = λ rows xs it p there. (value_there columns rows xs it p there).0;
   replaced = λ rows new xs it test change same is. replaced_values columns rows new xs test change it is;
 }
 
@@ -66,10 +65,6 @@ pub record Place {X : Type 0} (at : ℕ) (table : Table) (IsRows : List Row → 
   pub shown : (db : Trees) (t : Tables) → Shows db t → IsRows (db table.tree) (values t)
   pub with_rows : (db : Trees) (t : Tables) → Shows db t → (rows : List Row) (xs : List X) → IsRows rows xs
       → Shows (with_tree db table.tree rows) (with_values t xs)
-
--- no rowid of this table is chosen by the store
-abbrev pub IsOwn : Table → Type 0
-IsOwn table = AllByRecursion (λ (k : ℕ). (k == table.tree) ≡ false) (1 ∷ 3 ∷ 8 ∷ 11 ∷ 14 ∷ [])
 
 pub meta : Place 0 (meta_at 0) (IsNumbered (λ (m : MetaRow). 1) meta_row) (λ t. t.meta) (λ t xs. record t { meta = xs })
 unfolding everything first_key joined

@@ -38,8 +38,9 @@ use Rattle.desk_sql.proofs.Places
 use Rattle.desk_sql.proofs.Rowids.{low_fewer, rowids_fewer, rowids_kept}
 use Rattle.desk_sql.proofs.Writing.{same_value, task_for, Edits, target, tries_one, IsPut, upserts, put_tree, clauses}
 use Rattle.desk_sql.proofs.InsertReasons.{obeys_desk}
-use Rattle.desk_sql.proofs.UpdateReasons.{stock_fit, kept_kind, stock_serves, twin_four, value_there, low_fits}
+use Rattle.desk_sql.proofs.UpdateReasons.{stock_fit, kept_kind, twin_four, low_fits}
 use Rattle.sqlite_value.proofs.KeyLemmas.{first_key-plain}
+use Rattle.desk_sql.proofs.Keyed.{value_there}
 use Rattle.desk_sql.proofs.Testing.{eq_whole, eq_text, and_true}
 use Rattle.desk_sql.proofs.Putting.{put_params, source_is, puts_table, puts_low, Sets, conflict_at, sets, sets_at}
 use Rattle.desk_sql.proofs.Refusing.{write_reason, IsSafe, edit_goes, made_refers, rows_go, gives_on, answered, desk_at}
@@ -84,7 +85,7 @@ module _ (extra : List Index) (are : AllByRecursion IsExtra extra) (old : State)
       stock_fit db p.0 (with_places s p.1) (low_fits (db 1) (numbered_row stock_columns p) p.0 (low_fewer 0 1 (db 1) (omega arith) rowids.stock) at.1 refl) (kept_kind db p.0 p.1 obeys at.1) fits.free
       (all_has (λ (x : StockRow). IsShort (length x.supplier + length x.product)) t.stock p.1 fits.others at.0))
       (λ p. twin_four (stock_at 1) (numbered_row stock_columns p) (numbered_row stock_columns (p.0, with_places s p.1)) refl refl refl refl refl tt)
-      refl stock_serves rows asked)
+      refl Places.stock.serves rows asked)
 
   puts_safe : (edit : Edit) → IsPut db (put_params s) put_cell_query new edit → IsSafe db edit
   puts_safe edit put = safe edit (sets db t.stock it s edit put)

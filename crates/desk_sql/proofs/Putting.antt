@@ -23,7 +23,7 @@ use Rattle.sqlite_rules.specs.Lists.{Has}
 use Rattle.sqlite_rules.specs.Keys.{conflicts, AreConflicts}
 use Rattle.sqlite_rules.specs.Calls.{ids_of}
 use Rattle.sqlite_rules.proofs.ListLemmas.{all_has, some_from, all_from}
-use Rattle.sqlite_rules.proofs.ProbeLemmas.{has_mapped, mapped_has}
+use Rattle.sqlite_rules.proofs.ProbeLemmas.{has_mapped}
 use Rattle.sqlite_trees.proofs.ListLemmas.{ascending_from_map}
 use Rattle.desk_sql.specs.Schema.{desk_schema, stock_at}
 use Rattle.desk_sql.specs.Lists.{numbered_row, IsTableOf, changed}
@@ -35,7 +35,7 @@ use Rattle.desk_sql.proofs.Writing.{cast_null, target, IsPut}
 use Rattle.desk_sql.proofs.Inserting.{cast_int}
 use Rattle.desk_sql.proofs.Testing.{truth_is, eq_whole, eq_text, and_true, or_false}
 use Rattle.desk_sql.proofs.Rowids.{low_fewer, low_put, low_changed}
-use Rattle.desk_sql.proofs.Keyed.{id_of, value_of, appended, replaced_values}
+use Rattle.desk_sql.proofs.Keyed.{id_of, value_of, value_there, appended, replaced_values}
 use Rattle.desk_sql.proofs.Updating.{updated, Changes}
 use Rattle.desk_sql.proofs.NewRow.{put_edit}
 
@@ -113,12 +113,6 @@ module _ (db : Trees) (cells : List StockRow) (it : IsTableOf stock_columns (db 
       × IsAnswer put_cell_query (overlay db []) (put_params s ++ Int q.0 ∷ shown (stock_at 1) new_row) rows
       × (edit ≡ edit_of db (stock_at 1) (ids_of rows) Given 1 rows))
 
-  value_has : (p : ℤ × StockRow) → Has it.numbered p → Has cells p.1
-  value_has p h = subst (λ ys. Has ys p.1) (sym it.values_are) (mapped_has value_of it.numbered p h)
-
-  row_has : (p : ℤ × StockRow) → Has it.numbered p → Has (db 1) (numbered_row stock_columns p)
-  row_has p h = subst (λ rs. Has rs (numbered_row stock_columns p)) (sym it.rows_are) (mapped_has (numbered_row stock_columns) it.numbered p h)
-
   -- a row that conflicts is that of a cell, under its rowid
   pub conflict_at : (found : List Row) (x : Row) → AreConflicts (Some target) desk_schema.indexes (stock_at 1) (db 1) new_row found → Has found x
       → (q : ℤ × StockRow) × Has it.numbered q × (is_cell s q.1 ≡ true) × (rowid x ≡ Int q.0)
@@ -139,7 +133,8 @@ module _ (db : Trees) (cells : List StockRow) (it : IsTableOf stock_columns (db 
     all_from (λ c. is_cell s c ≡ false) cells (λ x h. false_from_ne_true (is_cell s x) (λ e.
         let p = has_mapped value_of it.numbered x (subst (λ ys. Has ys x) it.values_are h) in
         let on : is_cell s p.0.1 ≡ true = ap (is_cell s) (sym p.2) ∙ e in
-        let bad = they.complete (numbered_row stock_columns p.0) (row_has p.0 p.1) (conflict_is (next_rowid (db 1)) s p.0 ∙ on) in
+        let bad = they.complete (numbered_row stock_columns p.0) (value_there stock_columns (db 1) cells it p.0 p.1).1
+        (conflict_is (next_rowid (db 1)) s p.0 ∙ on) in
         subst (λ rs. Has rs (Int p.0.0 ∷ [])) none bad)),
     is ∙ put_is,
   )
@@ -155,18 +150,8 @@ module _ (db : Trees) (cells : List StockRow) (it : IsTableOf stock_columns (db 
   -- it is the row of the cell
   one_row : (apart : IsAscending (λ (a b : StockRow). is_cell a b ≡ false) cells) (q : ℤ × StockRow) → Has it.numbered q → is_cell s q.1 ≡ true
       → (p : ℤ × StockRow) → Has it.numbered p → is_eq (int_cmp p.0 q.0) ≡ is_cell s p.1
-  one_row apart q there here p h = elim (cases_Bool (is_cell s p.1)) [
-    | inl e ↦ (
-        let pairs = ascending_from_map (λ (a b : StockRow). is_cell a b ≡ false) value_of it.numbered
-        (subst (λ ys. IsAscending (λ (a b : StockRow). is_cell a b ≡ false) ys) it.values_are apart) in
-        let same = one_element _ it.numbered p q pairs h there
-        (λ off. let on = both_cells s p.1 q.1 e here in cc) (λ off. let on = both_cells s q.1 p.1 here e in cc) in
-        eq_id p.0 q.0 (ap id_of same) ∙ sym e)
-    | inr e ↦ false_from_ne_true (is_eq (int_cmp p.0 q.0)) (λ tied.
-        let at = id_eq p.0 q.0 tied in
-        let same = one_element _ it.numbered p q it.rise h there (λ low. omega (arith, ints, low, at)) (λ low. omega (arith, ints, low, at)) in
-        let on : is_cell s p.1 ≡ true = ap (λ (x : ℤ × StockRow). is_cell s x.1) same ∙ here in cc) ∙ sym e
-  ]
+  one_row apart q there here p h = search
+      (rules, arith, cases_Bool, ascending_from_map, one_element, both_cells, eq_id, false_from_ne_true, id_eq, ints)
 
   -- the cells after the upsert
   pub puts_table : (edit : Edit) → IsAscending (λ (a b : StockRow). is_cell a b ≡ false) cells → Sets edit → are_fresh (left_by db edit) edit.news ≡ true
@@ -175,7 +160,7 @@ module _ (db : Trees) (cells : List StockRow) (it : IsTableOf stock_columns (db 
       let no = has_none s cells none in
       rw no (subst (λ (e : Edit). IsTableOf stock_columns (edited db e) (cells ++ s ∷ [])) (sym is) (appended stock_columns (db 1) cells s it))
   puts_table edit apart (inr (q, there, here, rows, asked, is)) fresh =
-      let some : list_any (is_cell s) cells ≡ true = some_from (is_cell s) cells q.1 (value_has q there) here in
+      let some : list_any (is_cell s) cells ≡ true = some_from (is_cell s) cells q.1 (value_there stock_columns (db 1) cells it q there).0 here in
       let all = updated (sets_at q) rows asked (subst (λ (e : Edit). are_fresh (left_by db e) e.news ≡ true) is fresh) in
       rw some (subst (λ (e : Edit). IsTableOf stock_columns (edited db e) (changed (is_cell s) (with_places s) cells)) (sym is)
       (replaced_values stock_columns (db 1) _ cells (is_cell s) (with_places s) it

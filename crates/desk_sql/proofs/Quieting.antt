@@ -1,17 +1,18 @@
 -- Quiet calls, one after another, are quiet, and a transaction that goes on after each of two writes goes on after both. For the
 -- functions that read or write, here and in the crates above.
-use Rattle.std.proofs.Common.{◌≡◌, ◌≤◌, ◌⊎◌, ◌+◌, ℕ, List, inl, inr, true, false, refl, sym, ◌∙◌, IsTrue, arith, min, ◌^◌, ◌-◌, rules}
+use Rattle.std.proofs.Common.{◌≡◌, ◌≤◌, ◌⊎◌, ◌+◌, ℕ, List, inl, inr, true, false, Ok, Err, Result, IfOk, IfErr, refl, sym, ◌∙◌, IsTrue, arith, min, ◌^◌, ◌-◌, rules}
 use Rattle.std.proofs.lemmas.Bool.{cases_Bool}
+use Rattle.sqlite.specs.declared.error.Error.{Error}
 use Rattle.sqlite.specs.Order.{Row}
 use Rattle.sqlite.specs.Store.{Ghosts}
 use Rattle.sqlite.specs.Held.{Held, state}
-use Rattle.sqlite.specs.State.{State, HasCleanDisk, IsUnchanged, IsRolledBack, KeepsCounts, Survives, CommitsShowing}
+use Rattle.sqlite.specs.State.{State, HasCleanDisk, IsUnchanged, IsRolledBack, KeepsCounts, Survives, CommitsShowing, FailsToQuery, QueriesRow, Shown}
 use Rattle.desk_sql.specs.Calls.{ChangesNothing, Quiet}
 use Rattle.desk_sql.specs.Causes.{HasFaulted}
 use Rattle.desk_sql.specs.Queries.{IsSelect}
 use Rattle.desk_sql.specs.RemainingRows.{Starts}
 use Rattle.desk_sql.specs.Rows.{Tables}
-use Rattle.desk_sql.proofs.Selecting.{leaves_no_more}
+use Rattle.desk_sql.proofs.Selecting.{fails_quietly, leaves_no_more, row_quiet, shown_same}
 
 -- a fault in the later part is one in the whole, and so is one in the earlier
 later : (a b c : ℕ) → a ≤ b → min (b + 1) (2 ^ 64 - 1) ≤ c → min (a + 1) (2 ^ 64 - 1) ≤ c
@@ -60,11 +61,22 @@ not_changed : (a b : State) → IsUnchanged a b ⊎ IsRolledBack a b → Changes
 not_changed a b x = search (rules, arith)
 
 -- A SELECT is quiet, whatever its answer: it commits nothing.
-module _ {S : Type 0} (g : Ghosts S) (old new : Held S) (text : List ℕ) (selects : IsSelect text) (params : Row) where
+module _ {S : Type 0} (g : Ghosts S) (old new : Held S) (text : List ℕ) (selects : IsSelect text) (params : Row)
+    (mode : old.in_transaction ≡ false → new.in_transaction ≡ false)
+    (survives : Survives (state g old) (state g new) (CommitsShowing text params (state g old))) where
   pub quiet_of : (HasCleanDisk (state g new) → IsUnchanged (state g old) (state g new) ⊎ IsRolledBack (state g old) (state g new))
-      → (old.in_transaction ≡ false → new.in_transaction ≡ false)
-      → Survives (state g old) (state g new) (CommitsShowing text params (state g old)) → Quiet g old new
-  quiet_of same mode survives = search (rules, arith, not_changed, leaves_no_more)
+      → Quiet g old new
+  quiet_of same = search (rules, arith, not_changed, leaves_no_more)
+
+  -- of one row, and of all
+  pub quiet_row : (r : Result Row Error) → (HasCleanDisk (state g new) → QueriesRow text params (state g old) (state g new) r) → Quiet g old new
+  quiet_row r ran = quiet_of (λ clean. row_quiet text selects params (state g old) (state g new) r (ran clean))
+
+  pub quiet_rows : {V : Type 0} (r : Result V Error) (rows : V → List Row)
+      → (HasCleanDisk (state g new) → IfOk r (λ v. Shown text params (state g old) (state g new) (rows v)))
+      → (HasCleanDisk (state g new) → IfErr r (FailsToQuery text params (state g old) (state g new))) → Quiet g old new
+  quiet_rows (Ok v) rows shown fails = quiet_of (λ clean. inl (shown_same text selects params (state g old) (state g new) (rows v) (shown clean)))
+  quiet_rows (Err e) rows shown fails = quiet_of (λ clean. fails_quietly text selects params (state g old) (state g new) e (fails clean))
 
 -- the start of rows is quiet
 pub quiet_start : {S X : Type 0} (g : Ghosts S) (old new : Held S) (IsList : Tables → List X → Type 0) (RestsOn : Held S → List X → Type 0)

@@ -1,6 +1,6 @@
 -- Why a write of the desk's tables fails: out of memory, or the disk failed. Each other error that the store names is shut
 -- out, if the rules of SQL allow the edit.
-use Rattle.std.proofs.Common.{◌≡◌, inl, inr, ℕ, ℤ, zero, suc, ◌/◌, List, [], ◌∷◌, length, length-append, append-nil, slice_get, Bool, true, false, ◌||◌, if◌then◌else◌, Option, None, Some, Ok, Err, Result, IfErr, sym, ap, subst, ◌∙◌, arith, rules}
+use Rattle.std.proofs.Common.{◌≡◌, inl, inr, ℕ, ℤ, zero, suc, ◌/◌, List, [], ◌∷◌, length, length-append, append-nil, slice_get, Bool, true, false, ◌||◌, Option, None, Some, Ok, Err, Result, IfErr, sym, ap, subst, ◌∙◌, arith, rules}
 use Rattle.sqlite.specs.declared.types.Value.TheVariants.{Null}
 use Rattle.sqlite.specs.declared.error.Error.{Error}
 use Rattle.sqlite_resolve.specs.declared.compiled.Compiled.{Compiled}
@@ -22,7 +22,7 @@ use Rattle.sqlite.specs.Program.{overlay}
 use Rattle.sqlite.specs.Source.TheVariants.{Values}
 use Rattle.sqlite.specs.Command.{Command}
 use Rattle.sqlite.specs.Command.TheVariants.{Insert, InsertOr, Update, Delete, CreateTable, CreateIndex}
-use Rattle.sqlite.specs.Rowids.TheVariants.{Chosen, Above, Given}
+use Rattle.sqlite.specs.Rowids.TheVariants.{Given}
 use Rattle.sqlite.specs.Rows.{Outcome, Written, Inserts, Then, Gives, Edited, Sourced, Queried, Counter, Counts, stamped, count_of, rowids_for}
 use Rattle.sqlite.specs.Does.{Does, OnRows, WritesRows, Concludes}
 use Rattle.sqlite.specs.Effect.{Database, is_query, value_rows}
@@ -178,9 +178,7 @@ module _ (extra : List Index) (are : AllByRecursion IsExtra extra) where
 
       edit_is : (rows : List Row) (counted : Option Row) → rows ≡ value_rows (stamped table params) width (length terms / width) terms
           → edit_of old.now.trees table [] (rowids_for table (count_of counted)) 0 rows ≡ source_edit table terms width params old.now.trees
-      edit_is rows counted is =
-          ap (λ b. edit_of old.now.trees table [] (if b then Above (count_of counted) else Chosen) 0 rows) uncounted
-          ∙ ap (λ rs. edit_of old.now.trees table [] Chosen 0 rs) (is ∙ ap (λ ps. value_rows ps width (length terms / width) terms) unstamped)
+      edit_is rows counted is = search (rules, arith)
 
       counts : (mid : Trees) (counted : Option Row) (top : ℤ) (stopped : Option Error)
           → ¬ Counts (task_for extra old table params) mid counted top (Err stopped)

@@ -1,8 +1,10 @@
 -- How many rowids a write leaves. For the functions that write.
-use Rattle.std.proofs.Common.{◌≡◌, ◌≢◌, ◌<◌, ◌≤◌, ◌^◌, ◌+ℤ◌, ◌<ℤ◌, ℕ, ℤ, suc, pos, inl, inr, List, [], ◌∷◌, map, Bool, eqb-true, ap, arith, rules}
+use Rattle.std.proofs.Common.{◌≡◌, ◌≢◌, ◌==◌, ◌<◌, ◌≤◌, ◌^◌, ◌+ℤ◌, ◌<ℤ◌, false, ℕ, ℤ, suc, pos, inl, inr, List, [], ◌∷◌, map, Bool, eqb-true, ap, arith, rules}
 use Rattle.std.proofs.lemmas.Int.{ints}
 use Rattle.std.proofs.lemmas.Bool.{cases_Bool, eqb-false}
 use Rattle.sqlite.specs.declared.types.Value.TheVariants.{Int}
+use Rattle.std.specs.List.{AllByRecursion}
+use Rattle.sqlite.specs.Table.{Table}
 use Rattle.sqlite.specs.Order.{Row}
 use Rattle.sqlite.specs.Edit.{Edit, edited, next_rowid, id_in, without_all}
 use Rattle.sqlite.specs.State.{State}
@@ -17,6 +19,10 @@ use Rattle.desk_sql.proofs.Storing.{next_low}
 
 abbrev IsLow : ℕ → Row → Type 0
 IsLow n r = (pos 0 <ℤ id_in (rowid r)) × ((id_in (rowid r) +ℤ pos n) <ℤ pos (2 ^ 63))
+
+-- no rowid of this table is chosen by the store
+abbrev pub IsOwn : Table → Type 0
+IsOwn table = AllByRecursion (λ (k : ℕ). (k == table.tree) ≡ false) (1 ∷ 3 ∷ 8 ∷ 11 ∷ 14 ∷ [])
 
 -- fewer rowids are left where more are
 pub low_fewer : (n m : ℕ) (rows : List Row) → n ≤ m → AreLow m rows → AreLow n rows
@@ -48,9 +54,8 @@ low_without n rows ids low = all_from (IsLow n) (without_all rows ids) (λ x the
 
 module _ (old new : State) (edit : Edit) (it : Edits old new edit) (n : ℕ) (has : HasRowids n old.now.trees) where
   -- a write of a table whose rowids are its own numbers
-  pub rowids_same : 1 ≢ edit.table.tree → 3 ≢ edit.table.tree → 8 ≢ edit.table.tree → 11 ≢ edit.table.tree → 14 ≢ edit.table.tree
-      → HasRowids n new.now.trees
-  rowids_same one three eight eleven last = search (rules, arith)
+  pub rowids_same : IsOwn edit.table → HasRowids n new.now.trees
+  rowids_same its_own = search (rules, arith, eqb-false)
 
   -- a write of a table whose rowids the store chooses
   at_tree : (tree : ℕ) → (tree ≢ edit.table.tree → new.now.trees tree ≡ old.now.trees tree) → AreLow n (edited old.now.trees edit)

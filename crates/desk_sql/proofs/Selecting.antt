@@ -1,5 +1,5 @@
 -- A SELECT commits and changes nothing, under any schema, so also on a closed connection. For the functions that read.
-use Rattle.std.proofs.Common.{◌≡◌, ◌≢◌, ◌⊎◌, ℕ, List, true, Some, None, Option, Ok, Err, Result, IfOk, IfErr, subst, arith, rules}
+use Rattle.std.proofs.Common.{◌≡◌, ◌≢◌, ◌⊎◌, ℕ, List, true, Some, None, Ok, Err, Result, IfOk, IfErr, subst, arith, rules}
 use Rattle.std.proofs.lemmas.Bool.{cases_Bool}
 use Rattle.sqlite_ast.specs.declared.Statement.{Statement}
 use Rattle.sqlite_syntax.specs.declared.statement.Parsed.{Parsed}
@@ -78,9 +78,10 @@ module _ (text : List ℕ) (selects : reads (first text) ≡ true) (params : Row
   unfolding FailsToQuery
   fails_quietly e x = search (rules, arith, not_run_quiet, understood_bare)
 
-  pub row_fails_quietly : (e : Error) → QueriesRow text params old new (Err e) → IsUnchanged old new ⊎ IsRolledBack old new
+  pub row_quiet : (r : Result Row Error) → QueriesRow text params old new r → IsUnchanged old new ⊎ IsRolledBack old new
   unfolding QueriesRow
-  row_fails_quietly e x = search (rules, arith, fails_quietly, shown_same)
+  row_quiet (Ok row) x = search (rules, arith, shown_same)
+  row_quiet (Err e) x = search (rules, arith, fails_quietly, shown_same)
 
 -- a query for one row that gives another error than that there is none has failed
 pub row_fails : (text : List ℕ) (params : Row) (old new : State) (e : Error) → e ≢ QueryReturnedNoRows
@@ -114,25 +115,9 @@ module _ (text : List ℕ) (selects : IsSelect text) (params : Row) (old new : S
   pub gives_rows : (rows : List Row) → Shown text params old new rows → GivesRows text params old new rows
   gives_rows rows h = (shown_same text selects params old new rows h, h)
 
--- the row that was returned is the row that was found
-pub given_as : (text : List ℕ) (params : Row) (old new : State) (found row : Option Row) → found ≡ row
-    → GivesRow text params old new found → GivesRow text params old new row
-given_as text params old new found row is given = subst (GivesRow text params old new) is given
-
 -- the postcondition of a success may be replaced by a weaker one
 pub ok_then : {V E : Type 0} (P Q : V → Type 0) (r : Result V E) → ((v : V) → P v → Q v) → IfOk r P → IfOk r Q
 ok_then x y r step h = search (rules, arith)
 
 pub err_then : {V E : Type 0} (P Q : E → Type 0) (r : Result V E) → ((e : E) → P e → Q e) → IfErr r P → IfErr r Q
 err_then x y r step h = search (rules, arith)
-
--- what follows from three postconditions of a success
-pub ok_each : {V E : Type 0} (A B C D : V → Type 0) (r : Result V E) → ((v : V) → A v → B v → C v → D v)
-    → IfOk r A → IfOk r B → IfOk r C → IfOk r D
-ok_each x y z h r step a b c = search (rules, arith)
-
--- what follows from the postcondition of a success and from that of a failure follows in each case
-pub either_way : {V E : Type 0} (C : Type 0) (P : V → Type 0) (Q : E → Type 0) (r : Result V E) → ((v : V) → P v → C) → ((e : E) → Q e → C)
-    → IfOk r P → IfErr r Q → C
-either_way C P Q (Ok v) done failed h k = done v h
-either_way C P Q (Err e) done failed h k = failed e k

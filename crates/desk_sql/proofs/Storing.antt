@@ -1,5 +1,5 @@
 -- Rows that the store can hold, rowids that are free, and keys that are new. For the lemmas of each statement that writes.
-use Rattle.std.proofs.Common.{◌≡◌, ◌<◌, ◌≤◌, ◌^◌, ◌+◌, ◌+ℤ◌, ◌<ℤ◌, ℕ, ℤ, pos, Some, List, [], ◌∷◌, map, filter, length, fold, Bool, true, false, not, ◌&&◌, Less, is_eq, refl, sym, ap, ap₂, subst, ◌∙◌, arith, nat_lt, nat_le, bytes_eq, ◌==◌, sum_by, ◌||◌, is_ge, is_le, rules}
+use Rattle.std.proofs.Common.{◌≡◌, ◌<◌, ◌≤◌, ◌^◌, ◌+◌, ◌+ℤ◌, ◌<ℤ◌, ℕ, ℤ, pos, Some, List, [], ◌∷◌, map, filter, length, fold, Bool, true, false, not, ◌&&◌, Less, is_eq, refl, sym, ap, ap₂, subst, ◌∙◌, arith, nat_lt, nat_le, bytes_eq, ◌==◌, sum_by, ◌||◌, rules}
 use Rattle.std.specs.Float.{NotNan}
 use Rattle.std.specs.Float.Ieee
 use Rattle.std.specs.List.{AllByRecursion, list_all}
@@ -23,7 +23,6 @@ use Rattle.sqlite.specs.Ops.{fits_i64, binary, is_false, from_truth}
 use Rattle.sqlite_sql.specs.declared.ops.BinaryOp.TheVariants.{Compare, And, Or}
 use Rattle.sqlite_sql.specs.declared.ops.CompareOp.TheVariants.{Eq, Ge, Le}
 use Rattle.sqlite_value.specs.declared.keys.Collation.TheVariants.{Binary}
-use Rattle.sqlite_value.proofs.OrderLemmas.{value_cmp-Int}
 use Rattle.sqlite.specs.Table.{Table}
 use Rattle.sqlite_sql.specs.Catalog.{entry_of}
 use Rattle.sqlite_schema.specs.declared.schema.Index.{Index}
@@ -33,7 +32,7 @@ use Rattle.desk_sql.specs.Rows.{whole, Tables, journey_row, Shows}
 use Rattle.desk_sql.specs.Schema.{desk_schema, index_places, desk_with, IsExtra, to_journey}
 use Rattle.desk_sql.specs.Writable.{AreLow, HasJourney}
 use Rattle.desk_sql.proofs.Keyed.{int_below, next_above, is_table, id_of, value_of, own_rise}
-use Rattle.desk_sql.proofs.Testing.{eq_whole, eq_text, int_eq, int_ge, int_le}
+use Rattle.desk_sql.proofs.Testing.{eq_whole, eq_text, eq_value, ge_value, le_value}
 use Rattle.sqlite_trees.proofs.ListLemmas.{all-map, all_from_map, all_weaker}
 
 -- Sizes.
@@ -179,18 +178,6 @@ parent_second db t id v w rest shown (j, there, is) =
     (rw (eq_whole j.id id, alike j.id id is) refl)
 
 -- Checks.
-
-eq_value : (a b : ℕ) → binary (Compare Eq Binary) (whole a) (whole b) ≡ from_truth (Some (a == b))
-unfolding binary
-eq_value a b = ap (λ o. from_truth (Some (is_eq o))) (value_cmp-Int (pos a) (pos b)) ∙ ap (λ x. from_truth (Some x)) (int_eq a b)
-
-ge_value : (a b : ℕ) → binary (Compare Ge Binary) (whole a) (whole b) ≡ from_truth (Some (nat_le b a))
-unfolding binary
-ge_value a b = ap (λ o. from_truth (Some (is_ge o))) (value_cmp-Int (pos a) (pos b)) ∙ ap (λ x. from_truth (Some x)) (int_ge a b)
-
-le_value : (a b : ℕ) → binary (Compare Le Binary) (whole a) (whole b) ≡ from_truth (Some (nat_le a b))
-unfolding binary
-le_value a b = ap (λ o. from_truth (Some (is_le o))) (value_cmp-Int (pos a) (pos b)) ∙ ap (λ x. from_truth (Some x)) (int_le a b)
 
 or_value : (x y : Bool) → is_false (binary Or (from_truth (Some x)) (from_truth (Some y))) ≡ not (x || y)
 unfolding binary

@@ -1,9 +1,9 @@
 -- The effect of an UPDATE and of the DELETE of a save-point, from what the text means and what its rows obey. For each statement that updates,
 -- and for `delete_mark`.
 use Rattle.std.proofs.Common.{◌≡◌, ◌≤◌, ◌+◌, ◌⊎◌, ℕ, ℤ, List, [], drop, length, inl, inr, Ok, Bool, true, ◌&&◌, refl, sym, ap, subst, ◌∙◌, arith, ◌∷◌, filter, not, nat_lt, ◌||◌, rules}
-use Rattle.std.specs.List.{AllByRecursion, list_all, list_any}
+use Rattle.std.specs.List.{AllByRecursion, list_any}
 use Rattle.std.proofs.lemmas.Int.{ints}
-use Rattle.std.proofs.lemmas.Bool.{and_parts, and_from, eqb-false, or_right}
+use Rattle.std.proofs.lemmas.Bool.{and_parts, and_from, or_right}
 use Rattle.sqlite.specs.declared.types.Value.TheVariants.{Int}
 use Rattle.sqlite.specs.Order.{Row, column}
 use Rattle.sqlite.specs.Ops.{fits_i64}
@@ -18,7 +18,7 @@ use Rattle.sqlite.specs.Rowids.TheVariants.{Given}
 use Rattle.sqlite.specs.State.{State, ExecutesInside}
 use Rattle.sqlite_schema.specs.declared.schema.Constraint.TheVariants.{Check}
 use Rattle.sqlite_schema.specs.declared.schema.Reference.{Reference}
-use Rattle.sqlite_schema.specs.Rules.{Obeys, is_key_if_to, agree, has_null, has_parent}
+use Rattle.sqlite_schema.specs.Rules.{Obeys, agree, has_null, has_parent}
 use Rattle.sqlite_rules.specs.Lists.{Has}
 use Rattle.sqlite_rules.specs.InPlace.{AgreeAt, Twins}
 use Rattle.sqlite_rules.specs.Calls.{ids_of}
@@ -27,7 +27,7 @@ use Rattle.sqlite_rules.proofs.ProbeLemmas.{mapped_has}
 use Rattle.sqlite_rules.proofs.RuleLemmas.{keeps_at}
 use Rattle.sqlite_typing.specs.Types.{accepts_program}
 use Rattle.desk_sql.specs.Schema.{desk_schema, desk_with, stock_at, to_journey, mark_at}
-use Rattle.desk_sql.specs.Lists.{numbered_row, IsTableOf, changed}
+use Rattle.desk_sql.specs.Lists.{numbered_row, changed}
 use Rattle.desk_sql.specs.Rows.{Tables, Shows, StockRow, stock_columns, whole, mark_columns}
 use Rattle.desk_sql.specs.Calls.{Sees, MayRun}
 use Rattle.desk_sql.specs.Writable.{AreLow, HasRowids, IsShort}
@@ -39,12 +39,11 @@ use Rattle.desk_sql.proofs.Writing.{updates, Edits, Lands, deletes}
 use Rattle.desk_sql.proofs.Framing.{ready_of, makes_at}
 use Rattle.desk_sql.proofs.InsertReasons.{obeys_desk}
 use Rattle.desk_sql.proofs.Reading.{passes, shown_of}
-use Rattle.desk_sql.proofs.Keyed.{value_of}
 use Rattle.desk_sql.proofs.Updating.{Changes, updated, table_deleted}
-use Rattle.desk_sql.proofs.Rowids.{low_changed, rowids_same, rowids_kept, low_without}
+use Rattle.desk_sql.proofs.Rowids.{IsOwn, low_changed, rowids_same, rowids_kept, low_without}
 use Rattle.desk_sql.proofs.Storing.{storable, held_from, fits_int, is_between, range_holds, range_ends, table_of}
 use Rattle.desk_sql.proofs.Effects.{Says, Effect}
-use Rattle.desk_sql.proofs.Places.{Codec, Place, IsOwn}
+use Rattle.desk_sql.proofs.Places.{Codec, Place}
 use Rattle.desk_sql.proofs.Places
 use Rattle.std.specs.Prelude.{⊤}
 use Rattle.sqlite.specs.Listing.{understood}
@@ -130,8 +129,7 @@ module _ {X Y : Type 0} {at : ℕ} {table : Table} {f : Y → Row} {id : Y → �
           | inl low ↦ rowids_kept old new (edit db it.0) it.2 n has (subst (AreLow n) (sym (updated (changes db t shows seen) it.0 it.1 it.2.applies.fresh))
               (low_changed f n (λ y. test (value y)) (lift change) (λ y. codec.keyed (lift change y) ∙ ap Int (id_kept y) ∙ sym (codec.keyed y))
               (elements db t shows) (subst (AreLow n) (codec.rows_are (db table.tree) (values t) (place.shown db t shows)) (low n db has))))
-          | inr its_own ↦ rowids_same old new (edit db it.0) it.2 n has (eqb-false 1 table.tree its_own.0) (eqb-false 3 table.tree its_own.1.0)
-              (eqb-false 8 table.tree its_own.1.1.0) (eqb-false 11 table.tree its_own.1.1.1.0) (eqb-false 14 table.tree its_own.1.1.1.1.0)
+          | inr its_own ↦ rowids_same old new (edit db it.0) it.2 n has its_own
         ]);
   }
 
@@ -144,16 +142,6 @@ twin_four table old new id one two three four parents = search (rules, arith)
 -- a rowid that the store chose fits
 pub low_fits : (rows : List Row) (r : Row) (n : ℤ) → AreLow 0 rows → Has rows r → rowid r ≡ Int n → fits_i64 n ≡ true
 low_fits rows r n low there is = search (rules, arith, all_has, fits_int, ints)
-
-pub value_there : {X : Type 0} (columns : X → Row) (rows : List Row) (xs : List X) (it : IsTableOf columns rows xs) (p : ℤ × X) → Has it.numbered p
-    → Has xs p.1 × Has rows (numbered_row columns p)
-value_there columns rows xs it p there = (
-  subst (λ ys. Has ys p.1) (sym it.values_are) (mapped_has value_of it.numbered p there),
-  subst (λ rs. Has rs (numbered_row columns p)) (sym it.rows_are) (mapped_has (numbered_row columns) it.numbered p there),
-)
-
-pub stock_serves : list_all (λ (t : Table). list_all (is_key_if_to desk_schema (stock_at 1)) t.references) desk_schema.tables ≡ true
-stock_serves = Places.stock.serves
 
 -- a row of stock whose free places are at most its allotment
 pub stock_fit : (db : Trees) (id : ℤ) (s : StockRow) → fits_i64 id ≡ true → is_between s.kind 0 3 ≡ true

@@ -86,9 +86,8 @@ module _ (rows : List Row) (p : Row → Bool) (shows : Row → Row) (answer : Li
 
   -- a DELETE leaves the rows that do not pass
   pub removed : without_all rows ids ≡ filter (λ r. not (p r)) rows
-  removed = same_rows left (filter (λ r. not (p r)) rows) (without_all_table ids rows up) (ascending-filter _ (λ r. not (p r)) rows up)
-      (λ x h. has_kept (λ r. not (p r)) rows x (without_all_has ids rows x h) (rw (left_fails x h) refl))
-      (λ x h. let k = has_filtered (λ r. not (p r)) rows x h in fails_left x k.0 (not-true (p x) k.1))
+  removed = search
+      (rules, arith, same_rows, without_all_table, ascending-filter, has_kept, without_all_has, left_fails, has_filtered, fails_left, not-true)
 
   -- the rows that the query shows are inserted under their rowids
   module _ (write : Row → Row) (id_kept : (r : Row) → Has rows r → p r ≡ true → rowid (write (shows r)) ≡ rowid r) where

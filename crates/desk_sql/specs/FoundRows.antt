@@ -1,5 +1,5 @@
 -- The rows that each read finds.
-use Rattle.std.specs.Prelude.{◌≡◌, ◌<◌, ◌≤◌, ◌==◌, ◌⊎◌, ◌&&◌, nat_lt, nat_le, Bool, ℕ, List, [], ◌∷◌, map, filter, bytes_eq, string_bytes, Option, option_map}
+use Rattle.std.specs.Prelude.{◌≡◌, ◌<◌, ◌≤◌, ◌==◌, ◌⊎◌, ◌&&◌, nat_lt, nat_le, Bool, ℕ, List, [], ◌∷◌, map, filter, bytes_eq, string_bytes, Option, Some, None, option_map, ⊤}
 use Rattle.sqlite.specs.Order.{Row, column}
 use Rattle.desk_sql.specs.Lists.{IsOneOf, IsListed, IsLeastOf}
 use Rattle.desk_sql.specs.Rows.{whole, Tables, MetaRow, BatchRow, AnswerRow, JourneyRow, StepRow, EntryRow, MarkRow}
@@ -23,6 +23,21 @@ IsMeta t m = t.meta ≡ meta_of m ∷ []
 -- a query shows the numbers of meta in this order
 abbrev pub shows_meta : Meta → Row
 shows_meta m = whole m.version ∷ whole m.events ∷ whole m.journeys ∷ []
+
+-- what holds of a row, if there is one; or there is one, of which it holds
+abbrev pub IfRow : (Row → Type 0) → Option Row → Type 0
+IfRow Holds (Some row) = Holds row
+IfRow Holds None = ⊤
+
+abbrev pub HasRow : (Row → Type 0) → Option Row → Type 0
+HasRow Holds (Some row) = Holds row
+HasRow Holds None = ⊥
+
+-- what was read of a row, if there is one, is what the row shows
+abbrev pub ReadsOne : {V C : Type 0} → (V → C) → (Row → C) → Option Row → Option V → Type 0
+ReadsOne shows read (Some row) (Some v) = shows v ≡ read row
+ReadsOne shows read None None = ⊤
+ReadsOne shows read row v = ⊥
 
 -- the first columns of a row that was read
 abbrev pub two_of : Row → Row

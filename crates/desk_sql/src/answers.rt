@@ -1,11 +1,10 @@
 //! Replies that are kept under an agent's key.
 
-ghost use Rattle.std.specs.Prelude.{◌≡◌, IfOk, IfErr};
+ghost use Rattle.std.specs.Prelude.{IfOk, IfErr};
 ghost use Rattle.desk_sql.specs.Changes.{adds_answer, kept};
-ghost use Rattle.desk_sql.specs.FoundRows.{FindsAnswer, shows_answer, two_of};
+ghost use Rattle.desk_sql.specs.FoundRows.{FindsAnswer, IfRow, ReadsOne, shows_answer, two_of};
 ghost use Rattle.desk_sql.specs.Causes.{IsMemory};
-ghost use Rattle.desk_sql.specs.Readable.{HasReplyText, IsReplyText, answer_shown, Any};
-ghost use Rattle.desk_sql.specs.Rows.{AnswerRow};
+ghost use Rattle.desk_sql.specs.Readable.{HasReplyText, IsReplyText, ShowsOne, answer_shown, Any};
 ghost use Rattle.desk_sql.specs.Writable.{MayKeep};
 ghost use Rattle.desk_sql.specs.Statements.{Queries, WritesNumbered};
 
@@ -22,15 +21,18 @@ pub struct KeptAnswer {
     pub reply: String,
 }
 
-fn answer_of(row: &Row) -> Result<KeptAnswer, Error>
-    ensures shown { IfOk result (λ k. shows_answer k ≡ two_of row.now) }
+// The reply of a row, if there is a row.
+fn answer_of(row: Option<Row>) -> Result<Option<KeptAnswer>, Error>
+    ensures shown { IfOk result (ReadsOne shows_answer two_of row) }
 
-    ensures reason { (x : AnswerRow) → row.now ≡ answer_shown x → IsReplyText x
-        → IfErr result IsMemory }
+    ensures reason { IfRow (ShowsOne answer_shown IsReplyText) row → IfErr result IsMemory }
 {
+    let Some(row) = row else {
+        return Ok(None);
+    };
     let ask = row.get(0)?;
     let reply = row.get(1)?;
-    Ok(KeptAnswer { ask, reply })
+    Ok(Some(KeptAnswer { ask, reply }))
 }
 
 /// Returns what is kept under an agent's key, if anything is.
@@ -42,20 +44,15 @@ pub fn find_answer<'x, S: Alter>(
     ensures queries { Queries S.Store conn.old conn.new result
         (FindsAnswer agent.now mark.now) (HasReplyText agent.now mark.now) }
 {
-    match first_row(
+    let row = first_row(
         conn,
         "SELECT ask, reply FROM answer WHERE agent = ?1 AND mark = ?2",
         &[
             ValueRef::Text(agent.as_bytes()),
             ValueRef::Text(mark.as_bytes()),
         ],
-    )? {
-        Some(row) => {
-            let answer = answer_of(&row)?;
-            Ok(Some(answer))
-        }
-        None => Ok(None),
-    }
+    )?;
+    answer_of(row)
 }
 
 /// Keeps a reply: `mark` is the agent's key, `ask` the text of the ask. Returns the number of rows.

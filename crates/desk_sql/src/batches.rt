@@ -1,12 +1,11 @@
 //! Loaded batches.
 
-ghost use Rattle.std.specs.Prelude.{◌≡◌, ◌<◌, ◌^◌, IfOk, IfErr};
+ghost use Rattle.std.specs.Prelude.{◌<◌, ◌^◌, IfOk, IfErr, ⊤};
 ghost use Rattle.desk_sql.specs.Changes.{adds_batch};
-ghost use Rattle.desk_sql.specs.FoundRows.{FindsBatch, shows_batch, two_of};
+ghost use Rattle.desk_sql.specs.FoundRows.{FindsBatch, IfRow, ReadsOne, shows_batch, two_of};
 ghost use Rattle.desk_sql.specs.Causes.{IsMemory};
 ghost use Rattle.desk_sql.specs.Writable.{MayAddBatch};
-ghost use Rattle.desk_sql.specs.Readable.{Any, batch_shown};
-ghost use Rattle.desk_sql.specs.Rows.{BatchRow};
+ghost use Rattle.desk_sql.specs.Readable.{Any, ShowsOne, batch_shown};
 ghost use Rattle.desk_sql.specs.Statements.{Queries, WritesNumbered};
 
 use crate::queries::first_row;
@@ -22,14 +21,18 @@ pub struct BatchFound {
     pub content: Vec<u8>,
 }
 
-fn read_batch(row: &Row) -> Result<BatchFound, Error>
-    ensures shown { IfOk result (λ b. shows_batch b ≡ two_of row.now) }
+// The batch of a row, if there is a row.
+fn read_batch(row: Option<Row>) -> Result<Option<BatchFound>, Error>
+    ensures shown { IfOk result (ReadsOne shows_batch two_of row) }
 
-    ensures reason { (x : BatchRow) → row.now ≡ batch_shown x → IfErr result IsMemory }
+    ensures reason { IfRow (ShowsOne batch_shown (λ _. ⊤)) row → IfErr result IsMemory }
 {
+    let Some(row) = row else {
+        return Ok(None);
+    };
     let num = row.get(0)?;
     let content = row.get(1)?;
-    Ok(BatchFound { num, content })
+    Ok(Some(BatchFound { num, content }))
 }
 
 /// Returns the batch with a name, if there is one.
@@ -39,17 +42,12 @@ pub fn find_batch<S: Alter>(
 ) -> Result<Option<BatchFound>, Error>
     ensures queries { Queries S.Store conn.old conn.new result (FindsBatch name.now) Any }
 {
-    match first_row(
+    let row = first_row(
         conn,
         "SELECT num, content FROM batch WHERE name = ?1",
         &[ValueRef::Text(name.as_bytes())],
-    )? {
-        Some(row) => {
-            let batch = read_batch(&row)?;
-            Ok(Some(batch))
-        }
-        None => Ok(None),
-    }
+    )?;
+    read_batch(row)
 }
 
 /// Inserts a batch: its name, the number of its event, and its text.

@@ -2,7 +2,7 @@
 
 ghost use Rattle.std.specs.Prelude.{◌≡◌, ◌<◌, ◌^◌, IfOk, IfErr, ⊤, map};
 ghost use Rattle.desk_sql.specs.Changes.{AreJourneysBelow, adds_journey, begun, IsSmallCursor, moves_journey, IsSmallItem, AreItemsBelow, adds_item};
-ghost use Rattle.desk_sql.specs.FoundRows.{FindsJourney, FindsUnfinished, shows_cursor, cursor_of, shows_journey, nine_of, FindsItems, shows_item, four_of};
+ghost use Rattle.desk_sql.specs.FoundRows.{FindsJourney, FindsUnfinished, IfRow, ReadsOne, shows_cursor, cursor_of, shows_journey, nine_of, FindsItems, shows_item, four_of};
 ghost use Rattle.desk_sql.specs.Causes.{IsMemory};
 ghost use Rattle.desk_sql.specs.Writable.{MayAddJourney, MayMove, MayAddItem};
 ghost use Rattle.desk_sql.specs.Readable.{IsAgentText, HasAgentText, HaveAgentTexts, Any, ShowsOne, item_shown};
@@ -84,6 +84,19 @@ pub fn read_journey(row: &Row) -> Result<JourneyFound, Error>
     })
 }
 
+// The journey of a row, if there is a row.
+fn first_journey(row: Option<Row>) -> Result<Option<JourneyFound>, Error>
+    ensures shown { IfOk result (ReadsOne shows_journey nine_of row) }
+
+    ensures reason { IfRow (ShowsOne journey_shown IsAgentText) row → IfErr result IsMemory }
+{
+    let Some(row) = row else {
+        return Ok(None);
+    };
+    let journey = read_journey(&row)?;
+    Ok(Some(journey))
+}
+
 /// Returns the journey with a number, if there is one.
 pub fn find_journey<S: Alter>(
     conn: &mut Connection<S>,
@@ -93,17 +106,12 @@ pub fn find_journey<S: Alter>(
 
     ensures queries { QueriesEach S.Store conn.old conn.new result (FindsJourney id) (HasAgentText id) }
 {
-    match first_row(
+    let row = first_row(
         conn,
         "SELECT id, num, agent, steps, tries, pos, phase, target, used FROM journey WHERE id = ?1",
         &[ValueRef::Int(id as i64)],
-    )? {
-        Some(row) => {
-            let journey = read_journey(&row)?;
-            Ok(Some(journey))
-        }
-        None => Ok(None),
-    }
+    )?;
+    first_journey(row)
 }
 
 /// Returns the unfinished journey with the least number above `after`, if there is one.
@@ -116,17 +124,12 @@ pub fn first_unfinished<S: Alter>(
     ensures queries { Queries S.Store conn.old conn.new result
         (FindsUnfinished after) (HaveAgentTexts after) }
 {
-    match first_row(
+    let row = first_row(
         conn,
         "SELECT id, num, agent, steps, tries, pos, phase, target, used FROM journey WHERE id > ?1 AND phase <= 1 ORDER BY id",
         &[ValueRef::Int(after as i64)],
-    )? {
-        Some(row) => {
-            let journey = read_journey(&row)?;
-            Ok(Some(journey))
-        }
-        None => Ok(None),
-    }
+    )?;
+    first_journey(row)
 }
 
 /// Inserts a journey, with its cursor at the start of its plan. Its number is above all others.

@@ -1,12 +1,11 @@
 //! The one row of `meta`: the version of the schema, the number of events, and the number of the last journey.
 
-ghost use Rattle.std.specs.Prelude.{◌≡◌, ◌<◌, ◌^◌, IfOk, IfErr};
+ghost use Rattle.std.specs.Prelude.{◌≡◌, ◌<◌, ◌^◌, IfOk, IfErr, ⊤};
 ghost use Rattle.desk_sql.specs.Calls.{WritesWhere, GoesOn};
 ghost use Rattle.desk_sql.specs.Changes.{LacksMeta, adds_meta, at_first, counts};
-ghost use Rattle.desk_sql.specs.FoundRows.{IsMeta, shows_meta, three_of};
+ghost use Rattle.desk_sql.specs.FoundRows.{HasRow, IsMeta, shows_meta, three_of};
 ghost use Rattle.desk_sql.specs.Causes.{IsMemory, FailsToWrite};
-ghost use Rattle.desk_sql.specs.Readable.{meta_shown, HasMeta, Any};
-ghost use Rattle.desk_sql.specs.Rows.{MetaRow};
+ghost use Rattle.desk_sql.specs.Readable.{meta_shown, HasMeta, ShowsOne, Any};
 ghost use Rattle.desk_sql.specs.Statements.{QueriesEach, WritesKeyed};
 
 use crate::queries::first_row;
@@ -24,11 +23,15 @@ pub struct Meta {
     pub journeys: u64,
 }
 
-fn meta_of(row: &Row) -> Result<Meta, Error>
-    ensures shown { IfOk result (λ m. shows_meta m ≡ three_of row.now) }
+// The numbers of a row. That there is none is an error.
+fn meta_of(row: Option<Row>) -> Result<Meta, Error>
+    ensures shown { IfOk result (λ m. HasRow (λ r. shows_meta m ≡ three_of r) row) }
 
-    ensures reason { (x : MetaRow) → row.now ≡ meta_shown x → IfErr result IsMemory }
+    ensures reason { HasRow (ShowsOne meta_shown (λ _. ⊤)) row → IfErr result IsMemory }
 {
+    let Some(row) = row else {
+        return Err(Error::QueryReturnedNoRows);
+    };
     let version = row.get(0)?;
     let events = row.get(1)?;
     let journeys = row.get(2)?;
@@ -43,14 +46,12 @@ fn meta_of(row: &Row) -> Result<Meta, Error>
 pub fn read_meta<S: Alter>(conn: &mut Connection<S>) -> Result<Meta, Error>
     ensures queries { QueriesEach S.Store conn.old conn.new result IsMeta HasMeta }
 {
-    match first_row(
+    let row = first_row(
         conn,
         "SELECT version, events, journeys FROM meta WHERE one = 1",
         &[],
-    )? {
-        Some(row) => meta_of(&row),
-        None => Err(Error::QueryReturnedNoRows),
-    }
+    )?;
+    meta_of(row)
 }
 
 /// Inserts the row of a desk that has no event yet.

@@ -8,8 +8,8 @@ use Rattle.desk_http.specs.declared.doors.Door.{Door}
 use Rattle.http_conversations.specs.Pages.{AnswersAt, IsPageAt}
 use Rattle.http_conversations.specs.Modes.{Said, Says}
 use Rattle.saga_core.specs.Runs.{Asks}
-use Rattle.streams.specs.declared.serve_faults.ServeFault.{ServeFault}
-use Rattle.streams.specs.declared.serve_faults.ServeFault.TheVariants.{Memory, Read, Store, Write}
+use Rattle.saga_core.specs.declared.serve_faults.ServeFault.{ServeFault}
+use Rattle.saga_core.specs.declared.serve_faults.ServeFault.TheVariants.{Memory, Read, Store, Write}
 use Rattle.http_conversations.specs.Answering.{AnswersFirst, LeadsAs, LeavesAt}
 use Rattle.http_conversations.specs.Worlds.{Exchange}
 use Rattle.http_conversations.specs.Exchanges.{since}

@@ -1,7 +1,7 @@
 -- What one read, one write and one 100 Continue keep true. For the calls of a conversation, and for the connections above.
 use Rattle.std.proofs.Common.{◌≡◌, ◌≢◌, ◌⊎◌, ◌+◌, ◌<◌, ◌≤◌, ℕ, Bool, false, List, [], ◌∷◌, length, length-append, Option, Result, refl, sym, subst, arith, inl, inr, IsTrue}
 use Rattle.std.specs.Io.KnownBytes.{Appends, Consumes, Keeps}
-use Rattle.streams.proofs.ByteLemmas.{appends_before, appends_more, consumes_more}
+use Rattle.saga_core.proofs.ByteLemmas.{appends_before, appends_more, consumes_more}
 use Rattle.http_conversations.specs.Calls.{GivesIfDue, Receives, Sends}
 use Rattle.http_conversations.specs.History.{GivesGoOn, History, IsQuiet, IsServed, kept}
 use Rattle.http_conversations.specs.declared.conversation.Stage.{Stage}

@@ -6,8 +6,8 @@ use Rattle.ledger.specs.Answer.{State}
 use Rattle.commands.specs.declared.replies.Fault.{Fault}
 use Rattle.commands.specs.declared.replies.Fault.TheVariants as fault
 use Rattle.http_messages.specs.Messages.{BeginsWith, HasNoMessage, IsMessage, Message}
-use Rattle.streams.specs.Faults.{IsOfReading, served_fault}
-use Rattle.streams.specs.declared.serve_faults.ServeFault.{ServeFault}
+use Rattle.saga_core.specs.StreamFaults.{IsOfReading, served_fault}
+use Rattle.saga_core.specs.declared.serve_faults.ServeFault.{ServeFault}
 use Rattle.desk_http.specs.Pages.{IsPage, state_after}
 use Rattle.desk_http.specs.declared.doors.Door.{Door}
 use Rattle.desk_http.specs.declared.doors.Door.TheVariants.{Port}

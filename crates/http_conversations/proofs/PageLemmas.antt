@@ -13,8 +13,8 @@ use Rattle.desk_http.specs.Hosts.{refusal_at}
 use Rattle.desk_http.specs.Pages.{IsPage, closes}
 use Rattle.desk_http.specs.declared.answering.Answer.{Answer}
 use Rattle.desk_http.specs.declared.doors.Door.{Door}
-use Rattle.streams.specs.declared.serve_faults.ServeFault.{ServeFault}
-use Rattle.streams.specs.declared.serve_faults.ServeFault.TheVariants.{Memory, Read, Store, Write}
+use Rattle.saga_core.specs.declared.serve_faults.ServeFault.{ServeFault}
+use Rattle.saga_core.specs.declared.serve_faults.ServeFault.TheVariants.{Memory, Read, Store, Write}
 use Rattle.http_conversations.specs.Pages.{AnswersAt, IsPageAt, LaysOut, page_for, shown_at, shown_for}
 use Rattle.http_conversations.specs.Reading.{IsRead}
 use Rattle.http_conversations.specs.Modes.{Said}

@@ -6,11 +6,11 @@ use Rattle.std.proofs.Math.Seq.{take-add}
 use Rattle.std.proofs.lemmas.List.{drop-drop, take-append-drop}
 use Rattle.ledger.specs.Answer.{State}
 use Rattle.http_messages.specs.Messages.{Message}
-use Rattle.streams.proofs.ByteLemmas.{appends_more, appends_none, keeps_same}
-use Rattle.streams.specs.Faults.{IsOfReading}
-use Rattle.streams.specs.Scenes.{Scene, Wrote, scene}
-use Rattle.streams.specs.declared.serve_faults.ServeFault.{ServeFault}
-use Rattle.streams.specs.declared.serve_faults.ServeFault.TheVariants.{Write}
+use Rattle.saga_core.proofs.ByteLemmas.{appends_more, appends_none, keeps_same}
+use Rattle.saga_core.specs.StreamFaults.{IsOfReading}
+use Rattle.saga_core.specs.StreamScenes.{Scene, Wrote, scene}
+use Rattle.saga_core.specs.declared.serve_faults.ServeFault.{ServeFault}
+use Rattle.saga_core.specs.declared.serve_faults.ServeFault.TheVariants.{Write}
 use Rattle.desk_http.specs.Pages.{IsPage, closes, state_after, state_after_all, stays_open}
 use Rattle.desk_http.specs.Serving.{Answered, ServesAll, ServesSome}
 use Rattle.desk_http.specs.declared.doors.Door.TheVariants.{Port}

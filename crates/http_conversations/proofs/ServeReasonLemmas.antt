@@ -4,10 +4,10 @@ use Rattle.std.specs.Io.KnownBytes.{Consumes}
 use Rattle.ledger.specs.Answer.{State}
 use Rattle.commands.specs.declared.replies.Fault.{Fault}
 use Rattle.commands.specs.declared.replies.Fault.TheVariants as fault
-use Rattle.streams.specs.Faults.{IsOfReading, is_store, served_fault}
-use Rattle.streams.specs.declared.serve_faults.ServeFault.{ServeFault}
-use Rattle.streams.specs.declared.serve_faults.ServeFault.TheVariants.{Memory}
-use Rattle.streams.proofs.KnownLemmas.{for_known}
+use Rattle.saga_core.specs.StreamFaults.{IsOfReading, is_store, served_fault}
+use Rattle.saga_core.specs.declared.serve_faults.ServeFault.{ServeFault}
+use Rattle.saga_core.specs.declared.serve_faults.ServeFault.TheVariants.{Memory}
+use Rattle.saga_core.proofs.KnownLemmas.{for_known}
 use Rattle.saga_core.specs.Runs.{Asks}
 use Rattle.desk_http.specs.declared.doors.Door.TheVariants.{Port}
 use Rattle.http_conversations.specs.declared.modes.Mode.TheVariants.{Strict}

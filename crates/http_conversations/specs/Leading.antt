@@ -4,8 +4,8 @@ use Rattle.ledger.specs.Answer.{State}
 use Rattle.commands.specs.declared.replies.Fault.{Fault}
 use Rattle.commands.specs.declared.replies.Fault.TheVariants.{Memory, Store}
 use Rattle.saga_core.specs.Runs.{Asks}
-use Rattle.streams.specs.declared.serve_faults.ServeFault.{ServeFault}
-use Rattle.streams.specs.declared.serve_faults.ServeFault.TheVariants as serve
+use Rattle.saga_core.specs.declared.serve_faults.ServeFault.{ServeFault}
+use Rattle.saga_core.specs.declared.serve_faults.ServeFault.TheVariants as serve
 use Rattle.desk_http.specs.Pages.{state_after}
 use Rattle.desk_http.specs.declared.doors.Door.{Door}
 use Rattle.http_conversations.specs.Pages.{IsPageBy}

@@ -20,7 +20,7 @@ use Rattle.desk_http.specs.declared.doors.Door.TheVariants as doors
 use Rattle.http_messages.specs.declared.asked.AskedKind.{AskedKind}
 use Rattle.http_messages.specs.declared.asked.AskedKind.TheVariants.{Head, Options}
 use Rattle.http_conversations.specs.PageTexts.{IsDateLine, denial_text, not_allowed_text, options_text, wide_text}
-use Rattle.streams.specs.declared.serve_faults.ServeFault.{ServeFault}
+use Rattle.saga_core.specs.declared.serve_faults.ServeFault.{ServeFault}
 use Rattle.http_conversations.specs.Modes.{Said}
 use Rattle.http_conversations.specs.declared.showing.Shown.{Shown}
 use Rattle.http_conversations.specs.declared.showing.Shown.TheVariants as shown

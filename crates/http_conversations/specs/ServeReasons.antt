@@ -3,9 +3,9 @@ use Rattle.std.specs.Prelude.{Bool, false, List, ℕ, Option, Result, Ok, Err, I
 use Rattle.std.specs.Io.KnownBytes.{Consumes}
 use Rattle.ledger.specs.Answer.{State}
 use Rattle.saga_core.specs.Runs.{Asks}
-use Rattle.streams.specs.Faults.{is_store}
-use Rattle.streams.specs.Scenes.{Scene, scene}
-use Rattle.streams.specs.declared.serve_faults.ServeFault.{ServeFault}
+use Rattle.saga_core.specs.StreamFaults.{is_store}
+use Rattle.saga_core.specs.StreamScenes.{Scene, scene}
+use Rattle.saga_core.specs.declared.serve_faults.ServeFault.{ServeFault}
 use Rattle.desk_http.specs.Serving.{ServesAll, ServesSome}
 use Rattle.http_conversations.specs.History.{History, IsServed}
 use Rattle.http_conversations.specs.Reasons.{HasReasons}

@@ -16,9 +16,9 @@ use http_log::Metrics;
 use http_messages::LONGEST_HEAD;
 use http_pages::Paths;
 use report_kinds::Reporting;
+use saga_core::ServeFault;
 use std::alloc::{AllocError, Global};
 use std::io::{self, Read, Write};
-use streams::ServeFault;
 
 /// How many bytes of pages may wait while more is read: 256 KiB.
 pub const MOST_PENDING: usize = 262_144;

@@ -26,8 +26,8 @@ use http_messages::{
 };
 use http_pages::Paths;
 use report_kinds::Reporting;
+use saga_core::ServeFault;
 use std::alloc::{AllocError, Global};
-use streams::ServeFault;
 
 /// How messages are read, and how pages are laid out.
 #[derive(Clone, Copy, Debug, PartialEq, Eq)]

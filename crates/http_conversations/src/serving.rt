@@ -1,8 +1,8 @@
 //! A conversation at the port with one reader and one writer, in strict mode, until it is over.
 ghost use Rattle.std.specs.Prelude.{◌≡◌, ◌↔◌, [], true, IfOk, IfErr, IfSome, OnOk};
 ghost use Rattle.saga_core.specs.Calls.{Serves};
-ghost use Rattle.streams.specs.Faults.{IsOfReading};
-ghost use Rattle.streams.specs.Scenes.{scene};
+ghost use Rattle.saga_core.specs.StreamFaults.{IsOfReading};
+ghost use Rattle.saga_core.specs.StreamScenes.{scene};
 ghost use Rattle.desk_http.specs.Worlds.{GoesOnWithMessages, GoesOnAmongMessages};
 ghost use Rattle.http_conversations.specs.Calls.{Receives};
 ghost use Rattle.http_conversations.specs.Conversations.{history};
@@ -17,9 +17,9 @@ use http_log::Metrics;
 use http_pages::Paths;
 use recovery::Ready;
 use report_kinds::Reporting;
+use saga_core::ServeFault;
 use std::alloc::Global;
 use std::io::{ErrorKind, Read, Write};
-use streams::ServeFault;
 
 /// The result of serving a connection.
 #[derive(Clone, Copy, Debug, PartialEq, Eq)]

@@ -18,9 +18,9 @@ use http_log::Metrics;
 use http_pages::Paths;
 use http_server::Log;
 use report_kinds::Reporting;
+use saga_core::ServeFault;
 use std::alloc::{AllocError, Global};
 use std::io::{self, Read, Write};
-use streams::ServeFault;
 
 /// A message that was taken.
 #[derive(Drop)]

@@ -6,3 +6,5 @@ mod GainLemmas
 pub mod Ends
 mod DoorLemmas
 mod TurnLemmas
+mod SlotLemmas
+mod TextLemmas

@@ -14,7 +14,7 @@ use Rattle.http_conversations.specs.Leading.{GoesOnByOne, has_broken}
 use Rattle.http_live.specs.Arrivals.{arrivals_at}
 use Rattle.http_live.specs.Calls.{Admits, AreLeft, ChangesAt, ChangesOne, IsLeft, TakesTurns}
 use Rattle.http_live.specs.Endings.{turn_stops}
-use Rattle.http_live.specs.InTime.{ByTurns, InTime, Instant, IsInOrder, IsTurn, TakesSome, TakesTurn, came, ended, had_none, left, more, none, went_on}
+use Rattle.http_live.specs.InTime.{ByTurns, GivesTurns, InTime, Instant, IsInOrder, IsTurn, TakesSome, TakesTurn, both, came, ended, gave, had_none, left, more, none, was_shown, was_told, went_on}
 use Rattle.http_live.specs.Merging.{Slotted, slotted_at}
 use Rattle.http_live.specs.Slots.{HasStopAt, exchanges_at, received_at}
 use Rattle.http_live.specs.declared.slots.Slot.{Slot}
@@ -120,6 +120,17 @@ module _ {R W T B : Type 0} {r : Read.Ghosts R} {w : Write.Ghosts W} {took : T �
   takes_turn _ _ _ _ _ (left from to before after book i took changes) =
       turns_quiet _ i before after (λ old new so. so.left.kept) (λ d new within so. admits_none before i d new within so.left.arrivals) changes
   takes_turn _ _ _ _ _ (ended from to slots book took) = no_turns slots
+
+  -- it is one that the source gave
+  pub gives_turn : (failed stopped : Bool) (old : Instant r w T B) (added : List Slotted) (new : Instant r w T B)
+      → IsTurn took heard seen is_at is_by is_pair is_sound stands leaves may reason failed stopped old added new
+      → GivesTurns took heard seen 1 old.turns new.turns
+  gives_turn _ _ _ _ _ (came from to before after book i door mode reader writer took here read pair changes) = gave took
+  gives_turn _ _ _ _ _ (went_on from taken shown timed to before after old new i result took shows times slot told back) =
+      both (gave took) (both (was_shown shows) (both (was_shown times) (was_told i result told)))
+  gives_turn _ _ _ _ _ (had_none from to slots book i took past) = gave took
+  gives_turn _ _ _ _ _ (left from to before after book i took changes) = gave took
+  gives_turn _ _ _ _ _ (ended from to slots book took) = gave took
 
   -- after it no book is sound that was not before
   sound_turn : (failed stopped : Bool) (old : Instant r w T B) (added : List Slotted) (new : Instant r w T B)

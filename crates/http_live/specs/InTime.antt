@@ -1,5 +1,5 @@
 -- Order in time: how serving stands between two turns, what a turn makes of it, and turn after turn. For serve_many.
-use Rattle.std.specs.Prelude.{◌≡◌, ◌⊎◌, ℕ, ◌≤◌, Bool, true, false, List, [], ◌∷◌, ◌++◌, length, map, Result, Ok, Err}
+use Rattle.std.specs.Prelude.{◌≡◌, ◌⊎◌, ℕ, ◌+◌, ◌-◌, ◌^◌, ◌≤◌, Bool, false, List, [], ◌∷◌, ◌++◌, length, map, Result, Ok, Err}
 use Rattle.std.specs.List.{Contains}
 use Rattle.std.specs.declared.io.traits.Read as Read
 use Rattle.std.specs.declared.io.traits.Write as Write
@@ -38,6 +38,18 @@ Sees seen old new = (new ≡ old) ⊎ seen old new
 abbrev pub IsTold : {T : Type 0} → (T → ℕ → Standing → T → Type 0) → (T → T → Type 0) → ℕ → Result Standing Fault → T → T → Type 0
 IsTold {T} heard seen at (Ok standing) old new = (shown : T) × Sees seen old shown × heard shown at standing new
 IsTold heard seen at (Err fault) old new = new ≡ old
+
+module _ {R W T : Type 0} (took : T → Turn R W → T → Type 0) (heard : T → ℕ → Standing → T → Type 0) (seen : T → T → Type 0) where
+  -- The source gave so many turns, one after another. Between them it was shown or told something.
+  pub data GivesTurns : ℕ → T → T → Type 0 where
+    gave : {from to : T} {turn : Turn R W} → took from turn to → GivesTurns 1 from to
+    was_shown : {from to : T} → Sees seen from to → GivesTurns 0 from to
+    was_told : {from to : T} (at : ℕ) (result : Result Standing Fault) → IsTold heard seen at result from to → GivesTurns 0 from to
+    both : {m n : ℕ} {first now last : T} → GivesTurns m first now → GivesTurns n now last → GivesTurns (m + n) first last
+
+  -- it gave as many as a number of 64 bits counts
+  abbrev pub GivesAll : T → T → Type 0
+  GivesAll = GivesTurns (2 ^ 64 - 1)
 
 module _ {R W T B : Type 0} {r : Read.Ghosts R} {w : Write.Ghosts W} (took : T → Turn R W → T → Type 0)
     (heard : T → ℕ → Standing → T → Type 0) (seen : T → T → Type 0) (is_at : R → Door → Type 0) (is_by : R → Mode → Type 0)

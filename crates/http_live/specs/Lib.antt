@@ -11,3 +11,7 @@ pub mod Arrivals
 pub mod Calls
 pub mod InTime
 pub mod Whole
+pub mod Ends
+pub mod Logging
+pub mod Requests
+pub mod Seen

@@ -3,9 +3,9 @@
 ghost use Rattle.http_conversations.specs.Leading.{has_broken};
 ghost use Rattle.http_live.specs.Calls.{AreLeft, ChangesAt, IsTakenBy};
 ghost use Rattle.http_live.specs.Endings.{ends_stopped, has_stopped, ending_after};
-ghost use Rattle.http_live.specs.InTime.{InTime, Sees, TakesSome, TakesTurn, instant};
+ghost use Rattle.http_live.specs.InTime.{GivesAll, GivesTurns, InTime, Sees, TakesSome, TakesTurn, instant};
 ghost use Rattle.saga_core.specs.Calls.{Serves};
-ghost use Rattle.std.specs.Prelude.{◌≡◌, ⊤, ℕ, false, true, Ok, Err, Some, IfErr};
+ghost use Rattle.std.specs.Prelude.{◌≡◌, ◌≢◌, ⊤, ℕ, false, true, Ok, Err, Some, IfErr};
 ghost use Rattle.desk_http.specs.declared.doors.Door.{Door};
 ghost use Rattle.http_live.specs.Doors.{ComesByItsDoor, ComesInItsMode, ComesWithBoth, EndsOnlyIf};
 ghost use Rattle.http_live.specs.declared.slots.Standing.{Standing};
@@ -24,8 +24,8 @@ use report_kinds::Reporting;
 use std::alloc::Global;
 use std::io::{Read, Write};
 
-/// Serves the connections of all slots, turn by turn, until no turn comes, the house asks the desk to stop, or the store
-/// fails. Where the house asks, no further message is answered; its page waits.
+/// Serves the connections of all slots, turn by turn, until no turn comes, the house asks the desk to stop, the store fails, or
+/// as many turns were taken as a number of 64 bits counts. Where the house asks, no further message is answered; its page waits.
 ///
 /// Out of memory, no turn was taken.
 pub fn serve_many<T: Turns, B: Reporting>(
@@ -38,6 +38,7 @@ pub fn serve_many<T: Turns, B: Reporting>(
         B.leaves B.may_act B.has_reason (has_broken result) (has_stopped result)
         (instant turns.old slots.old book.old) (instant turns.new slots.new book.new) }
     ensures over { result ≡ Ok Ending.NoTurn → T.is_over turns.new }
+    ensures spent { result ≡ Ok Ending.Spent → GivesAll T.took T.heard T.seen turns.old turns.new }
 
     ensures memory { result ≡ Err Fault.Memory →
         (slots.new ≡ slots.old) × (turns.new ≡ turns.old) × (book.new ≡ book.old) }
@@ -65,6 +66,7 @@ fn serve_turns<T: Turns, B: Reporting>(
         B.leaves B.may_act B.has_reason (has_broken result) (has_stopped result)
         (instant turns.old slots.old book.old) (instant turns.new slots.new book.new) }
     ensures over { result ≡ Ok Ending.NoTurn → T.is_over turns.new }
+    ensures spent { result ≡ Ok Ending.Spent → GivesAll T.took T.heard T.seen turns.old turns.new }
 
     ensures broken { IfErr result (λ fault. fault ≡ Fault.Store) }
     ensures serves { Serves B.is_sound B.leaves B.has_failed book.old book.new Fault.Store result }
@@ -92,6 +94,7 @@ fn take_turn<T: Turns, B: Reporting>(
         B.leaves B.may_act B.has_reason (has_broken result) (ends_stopped result)
         (instant turns.old slots.old book.old) (instant turns.new slots.new book.new) }
     ensures over { result ≡ Ok (Some Ending.NoTurn) → T.is_over turns.new }
+    ensures unspent { result ≢ Ok (Some Ending.Spent) }
 
     ensures broken { IfErr result (λ fault. fault ≡ Fault.Store) }
     ensures serves { Serves B.is_sound B.leaves B.has_failed book.old book.new Fault.Store result }
@@ -166,11 +169,14 @@ fn welcome<T: Turns>(
     slots[at].take(alloc, door, mode, reader, writer);
 }
 
-/// Writes the pages that wait, turn by turn, until no turn comes, and reports whether none does. Nothing is read, and no
-/// message is answered; a connection for which nothing waits is over, and a peer that comes is let go.
+/// Writes the pages that wait, turn by turn, until no turn comes, and reports whether none does; if not, as many turns were
+/// taken as a number of 64 bits counts. Nothing is read, and no message is answered; a connection for which nothing waits is
+/// over, and a peer that comes is let go.
+#[tactic(auto, using(crate::specs::InTime::both, crate::specs::InTime::was_shown))]
 pub fn finish_many<T: Turns>(slots: &mut [Slot<T::Reader, T::Writer>], turns: &mut T) -> bool
     ensures left { AreLeft slots.old slots.new }
     ensures over { result ≡ true → T.is_over turns.new }
+    ensures spent { result ≡ false → GivesAll T.took T.heard T.seen turns.old turns.new }
 {
     for _ in 0..u64::MAX {
         if !finish_turn(slots, turns) {
@@ -184,6 +190,7 @@ pub fn finish_many<T: Turns>(slots: &mut [Slot<T::Reader, T::Writer>], turns: &m
 fn finish_turn<T: Turns>(slots: &mut [Slot<T::Reader, T::Writer>], turns: &mut T) -> bool
     ensures left { AreLeft slots.old slots.new }
     ensures over { result ≡ false → T.is_over turns.new }
+    ensures gives { GivesTurns T.took T.heard T.seen 1 turns.old turns.new }
 {
     match turns.next_turn() {
         Turn::Comes(_, _, _, _, _) => true,

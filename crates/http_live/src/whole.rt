@@ -2,9 +2,9 @@
 
 ghost use Rattle.http_live.specs.Calls.{Admits, AreLeft};
 ghost use Rattle.http_live.specs.Slots.{exchanges_at};
-ghost use Rattle.http_live.specs.Whole.{EndsOver, GoOnByTurns, IsStoppedAs, WorldsEnd};
+ghost use Rattle.http_live.specs.Whole.{EndsOver, GoOnByTurns, WorldsEnd};
 ghost use Rattle.saga_core.specs.Calls.{Serves};
-ghost use Rattle.std.specs.Prelude.{◌≡◌, map, true, Err, IfOk};
+ghost use Rattle.std.specs.Prelude.{◌≡◌, map, true, Err};
 
 use crate::serving::{Ending, Turns, finish_many, serve_many};
 use crate::slots::{Slot, empty_slots};
@@ -24,8 +24,8 @@ pub fn serve_to_end<T: Turns, B: Reporting>(
     book: &mut Ready<B>,
 ) -> Result<Ending, Fault>
     ensures goes_on { GoOnByTurns ⟦<T::Reader as Read>⟧ ⟦<T::Writer as Write>⟧ T.is_at T.is_by
-        T.is_pair B.is_sound B.stands B.leaves B.may_act B.has_reason book.old book.new result }
-    ensures over { IfOk result (EndsOver (T.is_over turns.new)) }
+        T.is_pair B.is_sound B.stands B.leaves B.may_act B.has_reason book.old book.new
+        (EndsOver T.took T.heard T.seen T.is_over turns.old turns.new) result }
 
     ensures memory { result ≡ Err Fault.Memory →
         (turns.new ≡ turns.old) × (book.new ≡ book.old) }
@@ -46,8 +46,8 @@ fn serve_slots<T: Turns, B: Reporting>(
 ) -> Result<Ending, Fault>
     ensures admits { Admits T.is_at T.is_by T.is_pair slots.old slots.new }
     ensures worlds { WorldsEnd B.is_sound B.stands B.leaves B.may_act B.has_reason book.old
-        book.new result (map exchanges_at slots.old) (map exchanges_at slots.new) }
-    ensures over { IfOk result (EndsOver (T.is_over turns.new)) }
+        book.new (EndsOver T.took T.heard T.seen T.is_over turns.old turns.new) result
+        (map exchanges_at slots.old) (map exchanges_at slots.new) }
 
     ensures memory { result ≡ Err Fault.Memory →
         (turns.new ≡ turns.old) × (book.new ≡ book.old) }
@@ -63,8 +63,8 @@ fn serve_slots<T: Turns, B: Reporting>(
 /// The administrator has stopped the desk: nobody comes any more, and the pages that wait go out.
 fn finish<T: Turns>(slots: &mut [Slot<T::Reader, T::Writer>], turns: &mut T) -> Ending
     ensures left { AreLeft slots.old slots.new }
-    ensures stopped { IsStoppedAs result true }
-    ensures over { EndsOver (T.is_over turns.new) result }
+    ensures over { (first : T) →
+        EndsOver T.took T.heard T.seen T.is_over first turns.new result true }
 {
     turns.stop();
     if finish_many(slots, turns) {

@@ -1,16 +1,16 @@
 //! The exchange with the desk: one request, and the page that answers it.
 ghost use Rattle.std.specs.Prelude.{◌≡◌, ◌≢◌, Err, IfOk, IfErr, IsOk, true};
 ghost use Rattle.std.specs.Io.KnownBytes.{Appends};
-ghost use Rattle.streams.specs.Written.{WroteFront};
+ghost use Rattle.saga_core.specs.Written.{WroteFront};
 ghost use Rattle.http_pages.specs.Answers.{HasNoAnswer, IsAnswer};
 ghost use Rattle.http_pages.specs.Exchanges.{Received};
 ghost use Rattle.http_pages.specs.Requests.{is_target, request_text};
 ghost use Rattle.http_pages.specs.declared.asking.Unanswered.TheVariants.{Memory};
 
 use crate::answer_pages::{Answer, answer_in};
+use saga_core::send;
 use std::alloc::{AllocError, Global};
 use std::io::{ErrorKind, Read, Write};
-use streams::send;
 
 /// Why there is no answer.
 #[derive(Clone, Copy, Debug, PartialEq, Eq)]

@@ -1,7 +1,7 @@
 -- How sockets serve: whom, with which page, and with which log.
 use Rattle.std.specs.Prelude.{◌≡◌, ℕ, Option, Some, None}
 use Rattle.desk_http.specs.declared.doors.Site.{Site}
-use Rattle.http_journal.specs.Logging.{log_of}
+use Rattle.http_live.specs.Logging.{log_of}
 use Rattle.http_log.specs.declared.forms.LogForm.{LogForm}
 use Rattle.http_pages.specs.declared.answers.HtmlPage.{HtmlPage}
 use Rattle.http_sockets.specs.declared.limits.Limits.{Limits}

@@ -14,7 +14,7 @@ mod places;
 mod sockets;
 
 pub use files::is_socket_at;
-pub use http_journal::log_opening;
+pub use http_live::log_opening;
 pub use http_log::LogForm;
 pub use limits::{Limits, PATIENCE};
 pub use sockets::Sockets;

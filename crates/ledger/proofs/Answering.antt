@@ -119,9 +119,7 @@ pub stop-answer : (l : List Event) (j : ℕ) (a : Journey) → IsLegal l → jou
     then moves j a.plan (cursor_of a.plan (history l j))
     (Turn (last_save a.plan (history l j)) Stop)
     else refused NoSavePoint)
-stop-answer l j a legal at o =
-    move-only l j stop_choices NoSavePoint a (Turn (last_save a.plan (history l j)) Stop) _ legal at
-    (open-unfinished _ o) refl (stop-rule a.plan (history l j) (phase a.plan (history l j)) (is_taken_in (marks_of (history l j))) o)
+stop-answer l j a legal at o = search (arith, move-only, open-unfinished, stop-rule)
 
 -- Save-points.
 
@@ -148,8 +146,4 @@ save-answer l j a legal at run =
 pub save-back : (l : List Event) (j : ℕ) (a : Journey) (p : ℕ) → IsLegal l → journey_at l j ≡ Some a
     → phase a.plan (history l j) ≡ Back p
     → answer_move l j save_choices NoSave (Some a) ≡ refused NoSave
-save-back l j a p legal at back =
-    move-only l j save_choices NoSave a (Save (position_of (history l j))) false legal at
-    (ap is_finished back) refl
-    (ap (λ b. b && (position_of (history l j) == position_of (history l j)) && nat_lt 0 (position_of (history l j))
-    && not (is_save_point a.plan (history l j) (position_of (history l j)))) (ap is_running back))
+save-back l j a p legal at back = grind (arith, move-only)

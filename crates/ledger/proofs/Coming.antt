@@ -1,11 +1,11 @@
 -- What each item requires to come next, and that it may then come. For journeys, places and steps.
-use Rattle.std.proofs.Common.{◌≡◌, ℕ, ◌+◌, List, arith, Bool, true, false, not, Option, Some}
+use Rattle.std.proofs.Common.{◌≡◌, ℕ, ◌+◌, List, arith, Bool, true, false, not, Some}
 use Rattle.std.proofs.lemmas.Bool.Decides.{nat_tests}
 use Rattle.plan.specs.PlanModel.{Planned}
 use Rattle.commands.specs.declared.items.Cause.TheVariants.{Stop, Refused}
 use Rattle.commands.specs.declared.items.Item.{Item}
 use Rattle.commands.specs.declared.items.Item.TheVariants.{Transaction, Compensation, Turn, Save}
-use Rattle.ledger.specs.History.{net, position_of, last_save, refused_target, phase, is_running, is_going_back, may_come, last_of, is_done_with, next_option}
+use Rattle.ledger.specs.History.{net, position_of, last_save, refused_target, phase, is_running, is_going_back, may_come, last_of, next_option}
 
 -- a transaction comes where the journey runs, with the next step and option, where that want fits
 pub record StepComes (plan : Planned) (h : List Item) (fits : Bool) (i c : ℕ) : Type 0 where
@@ -25,10 +25,6 @@ pub step-may_come : (plan : Planned) (h : List Item) (fits : Bool)
     → may_come plan h fits (Transaction (position_of h + 1) (next_option plan h)) ≡ true
 step-may_come plan h fits run fitting = grind (arith, nat_tests)
 
--- the test for a step and an option passes for that pair alone
-is_pair : (o : Option (ℕ × ℕ)) (i c : ℕ) → is_done_with o i c ≡ true → o ≡ Some (i, c)
-is_pair o i c e = grind (arith, nat_tests)
-
 -- a compensation comes where the journey goes back: that of the last transaction that stands
 pub record CompensationComes (plan : Planned) (h : List Item) (i c : ℕ) : Type 0 where
   pub back : is_going_back (phase plan h) ≡ true
@@ -37,7 +33,7 @@ pub record CompensationComes (plan : Planned) (h : List Item) (i c : ℕ) : Type
 -- if the rule lets it come, each condition of a compensation holds
 pub compensation-comes : (plan : Planned) (h : List Item) (fits : Bool) (i c : ℕ)
     → may_come plan h fits (Compensation i c) ≡ true → CompensationComes plan h i c
-compensation-comes plan h fits i c may = grind (arith, nat_tests, is_pair)
+compensation-comes plan h fits i c may = grind (arith, nat_tests)
 
 -- if these conditions hold, the rule lets the compensation come
 pub compensation-may_come : (plan : Planned) (h : List Item) (fits : Bool) (i c : ℕ)

@@ -1,5 +1,5 @@
 -- An open journey has just one step, and a finished one does not go on. For the law of steps.
-use Rattle.std.proofs.Common.{◌≡◌, ℕ, ◌+◌, List, sym, ◌∙◌, arith, Bool, true, false, Some, find, if◌then◌else◌, IsTrue, unwrap_or, ap}
+use Rattle.std.proofs.Common.{◌≡◌, ℕ, ◌+◌, List, arith, Bool, true, false, Some, find, if◌then◌else◌, IsTrue, unwrap_or}
 use Rattle.std.proofs.lemmas.Bool.{false_from_ne_true}
 use Rattle.std.proofs.lemmas.Bool.Decides.{nat_tests}
 use Rattle.plan.specs.PlanModel.{Planned}
@@ -55,36 +55,19 @@ HasLast plan h = is_going_back (phase plan h) ≡ true → last_of (net h) ≡ S
 
 -- a journey that follows its word has a last transaction if it goes back
 last-standing : (plan : Planned) (h : List Item) → Goes plan h → HasLast plan h
-last-standing plan h g back =
-    let above = (going_back-falls plan h g.mode back).above in
-    let last = last_of-some (net h) (omega arith) in
-    last.1 ∙ sym (ap (λ o. Some (unwrap_or o (0, 0))) last.1)
-
-module _ (plan : Planned) (h : List Item) (fits : Bool) (open_yet : is_open (phase plan h) ≡ true)
-    (last : HasLast plan h) where
-  -- it is an item that a step makes
-  step-forward : IsTrue (is_forward (step_of plan h fits))
-  step-forward = grind arith
-
-  -- the step of an open journey may come
-  step-may : may_come plan h fits (step_of plan h fits) ≡ true
-  step-may = grind (arith, nat_tests, last)
-
-  -- no other item that a step makes may come
-  step-alone : (x : Item) → is_forward x ≡ true → may_come plan h fits x ≡ true → x ≡ step_of plan h fits
-  step-alone x forward may = search (arith, step-comes, nat_tests, compensation-comes, refused-comes)
-
-  -- it is the first of the choices of a step that may come
-  step-found : find (may_come plan h fits) (step_choices plan h) ≡ Some (step_of plan h fits)
-  step-found = grind (arith, nat_tests, last)
-
-  -- so it is its one step
-  only-step : OneStep plan h fits
-  only-step = record { step = step_of plan h fits; forward = step-forward; comes = step-may; alone = step-alone; found = step-found }
+last-standing plan h g back = grind (arith, going_back-falls, last_of-some)
 
 -- an open journey that follows its word has one step
 pub one-step : (plan : Planned) (h : List Item) (fits : Bool) → Goes plan h → is_open (phase plan h) ≡ true → OneStep plan h fits
-one-step plan h fits g unfinished = only-step plan h fits unfinished (last-standing plan h g)
+one-step plan h fits g unfinished =
+    let last = last-standing plan h g in
+    record {
+      step = step_of plan h fits;
+      forward = grind arith;
+      comes = grind (arith, nat_tests, last);
+      alone = λ x forward may. search (arith, step-comes, nat_tests, compensation-comes, refused-comes);
+      found = grind (arith, nat_tests, last);
+    }
 
 -- Of a ledger.
 

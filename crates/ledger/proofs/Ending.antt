@@ -1,6 +1,6 @@
 -- A history item by item: each may come after those before it, where the journey is after it, and which of them
 -- finishes it. For those who read a history one item at a time.
-use Rattle.std.proofs.Common.{◌≡◌, ℕ, ◌-◌, ◌<◌, List, [], ◌∷◌, ◌++◌, refl, sym, subst, arith, append_assoc, append-nil, Bool, true, false, ◌==◌, ◌&&◌, ◌||◌, Option, Some, IsTrue}
+use Rattle.std.proofs.Common.{◌≡◌, ℕ, ◌-◌, List, [], ◌∷◌, ◌++◌, refl, sym, subst, arith, append_assoc, append-nil, Bool, true, false, ◌==◌, ◌&&◌, ◌||◌, Some, IsTrue}
 use Rattle.std.proofs.Math.Bool.{or-false}
 use Rattle.std.proofs.lemmas.Bool.{ne_eqb}
 use Rattle.std.proofs.lemmas.Bool.Decides.{nat_tests}
@@ -8,11 +8,11 @@ use Rattle.plan.specs.PlanModel.{Planned, step_count}
 use Rattle.commands.specs.declared.items.Cause.{Cause}
 use Rattle.commands.specs.declared.items.Item.{Item}
 use Rattle.commands.specs.declared.items.Item.TheVariants.{Transaction, Compensation, Turn, Save}
-use Rattle.ledger.specs.History.{position_of, going_to, has_turned_to_start, phase, phase_at, is_finished, may_come}
+use Rattle.ledger.specs.History.{position_of, has_turned_to_start, phase, is_finished, may_come}
 use Rattle.ledger.specs.Ledger.{Event, Journey, journey_at, history, IsLegal}
 use Rattle.ledger.proofs.Coming.{step-comes, compensation-comes, save-comes}
 use Rattle.ledger.proofs.Deciding.{finished-none}
-use Rattle.ledger.proofs.Going.{turned-other}
+use Rattle.ledger.proofs.Taking.{turned-other}
 use Rattle.ledger.proofs.Journeys.{goes-begin, goes-more, turn-turned}
 use Rattle.ledger.proofs.Ledgers.{Each, each_journey}
 use Rattle.ledger.proofs.Modes.{Goes, running-rises, going_back-falls}
@@ -80,22 +80,10 @@ module _ (plan : Planned) (h later : List Item) where
 -- Which item finishes it.
 
 -- by whether all steps stand, or none after a turn to the start
-finished_at : (n pos : ℕ) (turned : Bool) (going : Option ℕ)
-    → is_finished (phase_at n pos turned going) ≡ ((pos == n) || (turned && (pos == 0)))
-finished_at n pos turned going = grind (arith, nat_tests)
-
--- the same, of a history by its position and whether it turned to the start
 finished_by : (plan : Planned) (h : List Item) (pos : ℕ) (turned : Bool) → position_of h ≡ pos
     → has_turned_to_start h ≡ turned
     → is_finished (phase plan h) ≡ ((pos == step_count plan) || (turned && (pos == 0)))
-finished_by plan h pos turned at is = cc (finished_at (step_count plan) (position_of h) (has_turned_to_start h) (going_to h))
-
-swapped : (a b : ℕ) → (a == b) ≡ (b == a)
-swapped a b = grind (arith, nat_tests)
-
--- the first step is compensated only on the way to the start
-first_back : (i target : ℕ) → target < i → ((0 == target) && (i - 1 == 0)) ≡ (i == 1)
-first_back i target above = grind (arith, nat_tests)
+finished_by plan h pos turned at is = grind (arith, nat_tests)
 
 module _ (plan : Planned) (h later : List Item) where
   -- a transaction finishes it if it is that of the last step
@@ -107,12 +95,12 @@ module _ (plan : Planned) (h later : List Item) where
   pub finished-compensation : (i c : ℕ) → GoesOn plan h (Compensation i c) later
       → is_finished (phase plan (h ++ Compensation i c ∷ [])) ≡ (i == 1)
   finished-compensation i c on =
-      search (arith, compensation-comes, going_back-falls, compensates, finished_by, turned-other, ne_eqb, first_back)
+      search (arith, compensation-comes, going_back-falls, compensates, finished_by, turned-other, ne_eqb, nat_tests)
 
   -- a turn finishes it if it leads to the start where no step stands
   pub finished-turn : (p : ℕ) (cause : Cause) → GoesOn plan h (Turn p cause) later
       → is_finished (phase plan (h ++ Turn p cause ∷ [])) ≡ ((p == 0) && (position_of h == 0))
-  finished-turn p cause on = grind (arith, turn-turned, finished_by, position_of-turn, ne_eqb, swapped)
+  finished-turn p cause on = grind (arith, turn-turned, finished_by, position_of-turn, ne_eqb, nat_tests)
 
   -- a save-point never finishes it
   pub finished-save : (p : ℕ) → GoesOn plan h (Save p) later

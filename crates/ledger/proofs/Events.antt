@@ -8,9 +8,10 @@ use Rattle.plan.specs.PlanModel.{Planned, numbered}
 use Rattle.commands.specs.declared.items.Item.{Item}
 use Rattle.ledger.specs.Ledger.{Event, Loaded, Began, Did, Journey, journeys, journey_at, numbers, history, batches_named, IsLegal}
 pub use Rattle.ledger.proofs.Growing.{journeys-loaded, journeys-began, journeys-did, history-loaded, history-began}
+use Rattle.ledger.proofs.Growing.{journey_at-began}
 use Rattle.ledger.proofs.Growing as growing
 use Rattle.ledger.proofs.Ledgers.{all_go}
-use Rattle.ledger.proofs.Lists.{numbered-past, numbered-last, numbered-other}
+use Rattle.ledger.proofs.Lists.{numbered-past}
 use Rattle.ledger.proofs.Numbers.{numbers_from-append}
 
 -- The length.
@@ -43,14 +44,13 @@ journey_at-did l k item j = ap (λ js. numbered js j) (journeys-did l k item)
 -- the journey that is begun has the next number
 pub journey_at-began_new : (l : List Event) (agent : List ℕ) (plan : Planned)
     → journey_at (l ++ Began agent plan ∷ []) (length (journeys l) + 1) ≡ Some (begun agent plan)
-journey_at-began_new l agent plan =
-    rw (add-one, journeys-began l agent plan) (numbered-last (journeys l) (begun agent plan))
+journey_at-began_new l agent plan = grind (arith, journey_at-began)
 
 -- at each other number a begin changes nothing
 pub journey_at-began_other : (l : List Event) (agent : List ℕ) (plan : Planned) (j : ℕ)
     → (j ≡ length (journeys l) + 1 → ⊥)
     → journey_at (l ++ Began agent plan ∷ []) j ≡ journey_at l j
-journey_at-began_other l agent plan j other = grind (arith, journeys-began, numbered-other)
+journey_at-began_other l agent plan j other = grind (arith, journey_at-began)
 
 -- before a begin no journey has the next number
 pub journey_at-next : (l : List Event) → journey_at l (length (journeys l) + 1) ≡ None

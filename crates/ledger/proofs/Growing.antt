@@ -1,8 +1,9 @@
 -- How a legal ledger grows by one event, and induction over its events. For what holds of all legal ledgers.
-use Rattle.std.proofs.Common.{◌≡◌, ℕ, List, [], ◌∷◌, ◌++◌, sym, ◌∙◌, append_assoc, subst, append-nil, Bool, true, false, ◌==◌, Some, None, if◌then◌else◌, IsTrue, unwrap_or, option_map, Option, refl}
+use Rattle.std.proofs.Common.{◌≡◌, ℕ, suc, length, arith, List, [], ◌∷◌, ◌++◌, sym, ◌∙◌, append_assoc, subst, append-nil, Bool, true, false, ◌==◌, Some, None, if◌then◌else◌, IsTrue, unwrap_or, option_map, Option, refl}
 use Rattle.std.proofs.lemmas.List.Elements.{filter_map-append}
 use Rattle.std.specs.List.{cons_option}
 use Rattle.commands.specs.declared.items.Item.{Item}
+use Rattle.ledger.proofs.Lists.{numbered-more}
 use Rattle.ledger.specs.Ledger.{Event, Loaded, Began, Did, Journey, journeys, journey_at, begun_by, history, item_of, is_allowed, is_item_allowed, may_do, AreAllowedAfter, IsLegal}
 
 -- Legality.
@@ -48,6 +49,12 @@ pub journeys-began : (l : List Event) (agent : List ℕ) (plan : _)
     → journeys (l ++ Began agent plan ∷ [])
     ≡ journeys l ++ record { agent = agent; plan = plan } ∷ []
 journeys-began l agent plan = filter_map-append begun_by l (Began agent plan ∷ [])
+
+-- a begin makes the journey of the next number, and leaves the others
+pub journey_at-began : (l : List Event) (agent : List ℕ) (plan : _) (j : ℕ)
+    → journey_at (l ++ Began agent plan ∷ []) j
+    ≡ (if j == suc (length (journeys l)) then Some (record { agent = agent; plan = plan }) else journey_at l j)
+journey_at-began l agent plan j = grind (arith, journeys-began, numbered-more)
 
 -- a batch begins no journey
 pub journeys-loaded : (l : List Event) (name : List ℕ) (rows : _)

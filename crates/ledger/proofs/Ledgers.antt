@@ -1,14 +1,14 @@
 -- Induction over the items of each history of a legal ledger, and that each journey follows an up-and-down word. For the
 -- laws of words and steps.
-use Rattle.std.proofs.Common.{◌≡◌, ℕ, ◌⊎◌, List, [], ◌∷◌, ◌++◌, refl, ◌∙◌, eqb-true, inl, inr, Bool, ◌==◌, Some, None, IsTrue, arith}
+use Rattle.std.proofs.Common.{◌≡◌, ℕ, List, [], ◌∷◌, ◌++◌, refl, ◌∙◌, eqb-true, Bool, Some, None, IsTrue, arith}
 use Rattle.plan.specs.PlanModel.{Planned, is_plan}
 use Rattle.commands.specs.declared.items.Item.{Item}
 use Rattle.ledger.specs.History.{may_come}
-use Rattle.ledger.specs.Ledger.{Event, Loaded, Began, Did, Journey, journeys, journey_at, history, is_allowed, IsLegal}
+use Rattle.ledger.specs.Ledger.{Event, Loaded, Began, Did, Journey, journey_at, history, is_allowed, IsLegal}
 use Rattle.ledger.specs.Laws.{EveryJourneyIsUpAndDown}
-use Rattle.ledger.proofs.Growing.{Keeps, induct, journeys-began, journeys-loaded, journeys-did, history-began, history-loaded, history-did_same, history-did_other, is_item_allowed-may_do, absurd_item}
+use Rattle.ledger.proofs.Growing.{Keeps, induct, journey_at-began, journeys-loaded, journeys-did, history-began, history-loaded, history-did_same, history-did_other, is_item_allowed-may_do, absurd_item}
 use Rattle.ledger.proofs.Journeys.{goes-begin, goes-more}
-use Rattle.ledger.proofs.Lists.{numbered-snoc, numbered-none, map-none}
+use Rattle.ledger.proofs.Lists.{numbered-past, map-none}
 use Rattle.ledger.proofs.Modes.{Goes, begins-word, ended-word, undone-word}
 
 -- each journey of the ledger has this property, and a number without a journey has no history
@@ -29,39 +29,25 @@ module _ (P : Planned → List Item → Type 0) (begin : AtBegin P) (more : AtIt
   -- a journey that is begun is new and has no history yet, and the others are as they were
   each-began : (l : List Event) (agent : List ℕ) (plan : Planned) → IsTrue (is_plan plan) → Each P l
       → Each P (l ++ Began agent plan ∷ [])
-  each-began l agent plan good all =
-      record {
-        go = λ j a is. rw (history-began l agent plan j)
-            (old_or_new j a (numbered-snoc (journeys l) begun j a (rw (journeys-began l agent plan) at is)));
-        none = λ j is. history-began l agent plan j
-            ∙ all.none j (numbered-none (journeys l) begun j (rw (journeys-began l agent plan) at is));
-      }
-    where
-      begun : Journey
-      begun = record { agent = agent; plan = plan }
-
-      old_or_new : (j : ℕ) (a : Journey)
-          → (journey_at l j ≡ Some a) ⊎ ((journey_at l j ≡ None) × (record { agent = agent; plan = plan } ≡ a))
-          → P a.plan (history l j)
-      old_or_new j a (inl old) = all.go j a old
-      old_or_new j a (inr new) = grind arith
+  each-began l agent plan good all = record {
+    go = λ j a is.
+        let at = journey_at-began l agent plan j in let past = history-began l agent plan j in
+        grind (arith, numbered-past, all.go j a, all.none j, begin plan good);
+    none = λ j is.
+        let at = journey_at-began l agent plan j in let past = history-began l agent plan j in grind (arith, all.none j);
+  }
 
   -- an item takes its own journey on, and leaves the others
   each-did : (l : List Event) (k : ℕ) (x : Item) → IsTrue (is_allowed l (Did k x)) → Each P l
       → Each P (l ++ Did k x ∷ [])
-  each-did l k x may all =
-      record {
-        go = λ j a is. went j a (rw (journeys-did l k x) at is) (j == k) refl;
-        none = λ j is. absent j (rw (journeys-did l k x) at is) (j == k) refl;
-      }
-    where
-      went : (j : ℕ) (a : Journey) → journey_at l j ≡ Some a → (v : Bool) → (j == k) ≡ v
-          → P a.plan (history (l ++ Did k x ∷ []) j)
-      went j a is v e = grind (arith, history-did_same, is_item_allowed-may_do, eqb-true, history-did_other)
-
-      absent : (j : ℕ) → journey_at l j ≡ None → (v : Bool) → (j == k) ≡ v
-          → history (l ++ Did k x ∷ []) j ≡ []
-      absent j is v e = grind (arith, absurd_item, eqb-true, history-did_other)
+  each-did l k x may all = record {
+    go = λ j a is.
+        let same = history-did_same l k x j in let other = history-did_other l k x j in
+        grind (arith, journeys-did, is_item_allowed-may_do, eqb-true, all.go j a, more a.plan (history l j));
+    none = λ j is.
+        let same = history-did_same l k x j in let other = history-did_other l k x j in
+        grind (arith, journeys-did, absurd_item, eqb-true, all.none j);
+  }
 
   -- each allowed event keeps the property of each journey
   each-more : Keeps (Each P)
@@ -74,10 +60,7 @@ module _ (P : Planned → List Item → Type 0) (begin : AtBegin P) (more : AtIt
 
   -- what holds of the empty history, and is kept by each item that may come, holds of each journey
   pub each_journey : (l : List Event) → IsLegal l → Each P l
-  each_journey = induct (Each P) (record { go = λ j a is. absurd (no_journey j a is); none = λ j is. refl }) each-more
-    where
-      no_journey : (j : ℕ) (a : Journey) → journey_at [] j ≡ Some a → ⊥
-      no_journey j a is = grind arith
+  each_journey = induct (Each P) (record { go = λ j a is. absurd (grind arith); none = λ j is. refl }) each-more
 
 -- every journey follows its word, and a number without a journey has no history
 abbrev pub AllGo : List Event → Type 0

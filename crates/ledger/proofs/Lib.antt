@@ -1,12 +1,9 @@
 pub mod Numbers
 pub mod Lists
 pub mod Standing
-pub mod Going
 pub mod Targets
 pub mod Coming
-pub mod Refusing
 pub mod Modes
-pub mod Rising
 pub mod Journeys
 pub mod Growing
 pub mod Ledgers
@@ -14,14 +11,11 @@ pub mod Deciding
 pub mod Ending
 pub mod Phases
 pub mod Recovering
-pub mod Stopping
 pub mod Working
 pub mod Recoverable
 pub mod Reaching
 pub mod UnderWay
 pub mod Cells
-pub mod Held
-pub mod Allotted
 pub mod Places
 pub mod Answers
 pub mod Outcomes

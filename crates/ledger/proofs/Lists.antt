@@ -1,8 +1,9 @@
 -- Lists: their last element, the element of a number, and the first that passes a test. For
 -- ledgers, allotments and answers.
-use Rattle.std.proofs.Common.{◌≡◌, ℕ, zero, suc, ◌+◌, ◌<◌, ◌≤◌, ◌⊎◌, List, [], ◌∷◌, ◌++◌, length, map, refl, ap, arith, Bool, true, false, not, Some, None, find, position, slice_get, cond, ◌==◌, if◌then◌else◌}
+use Rattle.std.proofs.Common.{reverse, sym, ◌∙◌, ◌≡◌, ℕ, zero, suc, ◌+◌, ◌<◌, ◌≤◌, ◌⊎◌, List, [], ◌∷◌, ◌++◌, length, map, refl, ap, arith, Bool, true, false, not, Some, None, find, position, slice_get, cond, ◌==◌, if◌then◌else◌}
 use Rattle.std.proofs.lemmas.Bool.Decides.{nat_tests}
 use Rattle.std.proofs.lemmas.Option.{slice_get_within, slice_get_past}
+use Rattle.std.proofs.lemmas.List.{reverse-append, reverse-reverse}
 use Rattle.std.specs.List.{list_any, list_all}
 use Rattle.plan.specs.PlanModel.{numbered}
 use Rattle.ledger.specs.History.{last_of}
@@ -29,57 +30,33 @@ last_of-append [] y ys = refl
 last_of-append (x ∷ []) y ys = refl
 last_of-append (x ∷ z ∷ zs) y ys = last_of-append (z ∷ zs) y ys
 
--- a list without its last element
-front_of : {X : Type 0} → List X → List X
-front_of [] = []
-front_of (x ∷ []) = []
-front_of (x ∷ y ∷ ys) = x ∷ front_of (y ∷ ys)
-
--- an element that is appended is what `front_of` leaves out
-front_of-snoc : {X : Type 0} (xs : List X) (a : X) → front_of (xs ++ a ∷ []) ≡ xs
-unfolding front_of
-front_of-snoc [] a = refl
-front_of-snoc (x ∷ []) a = refl
-front_of-snoc (x ∷ y ∷ ys) a = ap (λ zs. x ∷ zs) (front_of-snoc (y ∷ ys) a)
-
 -- two lists with one more element at their ends are the same only if both parts are
 pub snoc-same : {X : Type 0} (xs ys : List X) (a b : X) → xs ++ a ∷ [] ≡ ys ++ b ∷ [] → (xs ≡ ys) × (a ≡ b)
-snoc-same xs ys a b e = grind (arith, front_of-snoc xs, front_of-snoc ys b, last_of-append xs a, last_of-append ys b)
+snoc-same xs ys a b e =
+    let back : a ∷ reverse xs ≡ b ∷ reverse ys = sym (reverse-append xs (a ∷ [])) ∙ ap reverse e ∙ reverse-append ys (b ∷ []) in
+    let fronts : reverse xs ≡ reverse ys = cc in
+    (sym (reverse-reverse xs) ∙ ap reverse fronts ∙ reverse-reverse ys, cc)
 
 -- The element with a number.
 
 -- of a list with one more element at its end, counted from 0
-slice_get-snoc : {X : Type 0} (xs : List X) (a : X) (i : ℕ)
+pub slice_get-snoc : {X : Type 0} (xs : List X) (a : X) (i : ℕ)
     → slice_get (xs ++ a ∷ []) i ≡ (if i == length xs then Some a else slice_get xs i)
 slice_get-snoc [] a zero = refl
 slice_get-snoc [] a (suc i) = grind (arith, nat_tests)
 slice_get-snoc (x ∷ xs) a zero = grind (arith, nat_tests)
 slice_get-snoc (x ∷ xs) a (suc i) = let later = slice_get-snoc xs a i in grind (arith, nat_tests)
 
--- of a list with one more element at its end, the element with a number was there, or is the appended one
+-- the same, counted from 1
+pub numbered-more : {X : Type 0} (xs : List X) (a : X) (j : ℕ)
+    → numbered (xs ++ a ∷ []) j ≡ (if j == suc (length xs) then Some a else numbered xs j)
+numbered-more xs a j = grind (arith, slice_get-snoc, nat_tests)
+
+-- so the element with a number was there, or is the appended one
 pub numbered-snoc : {X : Type 0} (xs : List X) (a : X) (j : ℕ) (b : X)
     → numbered (xs ++ a ∷ []) j ≡ Some b
     → (numbered xs j ≡ Some b) ⊎ ((numbered xs j ≡ None) × (a ≡ b))
 numbered-snoc xs a j b e = grind (arith, slice_get-snoc, slice_get_past, nat_tests)
-
--- a number that the longer list does not have, the shorter one does not have either
-pub numbered-none : {X : Type 0} (xs : List X) (a : X) (j : ℕ)
-    → numbered (xs ++ a ∷ []) j ≡ None → numbered xs j ≡ None
-numbered-none xs a j e = grind (arith, slice_get-snoc, nat_tests)
-
--- an appended element leaves the elements that were there
-pub numbered-some : {X : Type 0} (xs : List X) (a : X) (j : ℕ) (b : X)
-    → numbered xs j ≡ Some b → numbered (xs ++ a ∷ []) j ≡ Some b
-numbered-some xs a j b e = grind (arith, slice_get-snoc, slice_get_past, nat_tests)
-
--- an appended element has the length of the longer list as its number
-pub numbered-last : {X : Type 0} (xs : List X) (a : X) → numbered (xs ++ a ∷ []) (suc (length xs)) ≡ Some a
-numbered-last xs a = grind (arith, slice_get-snoc, nat_tests)
-
--- at each other number it changes nothing
-pub numbered-other : {X : Type 0} (xs : List X) (a : X) (j : ℕ) → (j ≡ suc (length xs) → ⊥)
-    → numbered (xs ++ a ∷ []) j ≡ numbered xs j
-numbered-other xs a j other = grind (arith, slice_get-snoc, nat_tests)
 
 -- numbers end where the list does
 pub numbered-past : {X : Type 0} (xs : List X) → numbered xs (suc (length xs)) ≡ None

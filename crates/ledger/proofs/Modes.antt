@@ -9,8 +9,8 @@ use Rattle.commands.specs.declared.items.Item.{Item}
 use Rattle.commands.specs.declared.items.Phase.{Phase}
 use Rattle.commands.specs.declared.items.Phase.TheVariants.{Run, Back, Ended, Undone}
 use Rattle.ledger.specs.History.{position_of, going_to, is_save_point, has_turned_to_start, phase, is_running, is_going_back}
-use Rattle.ledger.specs.Word.{word, up, down, Returns, IsTurnPart, GoesToEnd, GoesToStart, BeginsUpAndDown}
-use Rattle.ledger.proofs.Refusing.{HasTries}
+use Rattle.ledger.specs.Word.{word, up, Returns, IsTurnPart, GoesToEnd, GoesToStart, BeginsUpAndDown}
+use Rattle.ledger.proofs.Taking.{HasTries}
 use Rattle.ledger.proofs.Standing.{standing}
 use Rattle.ledger.proofs.Numbers.{word-append, up-join, down-join, rise, fall, word-rise, word-fall}
 
@@ -58,11 +58,8 @@ pub record Falling (plan : Planned) (h : List Item) : Type 0 where
   pub from : ℕ
   pub since : Since plan h from
   pub top : ℕ
+  pub turns : IsTurnPart plan from top (position_of h) since.part
   pub target : ℕ
-  pub rises : from ≤ top
-  pub short : top < step_count plan
-  pub falls : position_of h ≤ top
-  pub reads : word since.part ≡ up from top ++ down top (position_of h)
   pub going : going_to h ≡ Some target
   pub above : target < position_of h
   pub turned : has_turned_to_start h ≡ (0 == target)
@@ -107,7 +104,7 @@ phase-ended plan h e = grind (arith, nat_tests)
 -- on its way down it goes back to its target
 pub phase-falling : (plan : Planned) (h : List Item) (f : Falling plan h)
     → phase plan h ≡ Back f.target
-phase-falling plan h f = grind (arith, nat_tests, f.going, f.above, f.falls, f.short)
+phase-falling plan h f = grind (arith, nat_tests, f.going, f.above, f.turns.falls, f.turns.short)
 
 -- all the way down it is undone
 pub phase-fallen : (plan : Planned) (h : List Item) → Fallen plan h → phase plan h ≡ Undone
@@ -141,21 +138,17 @@ going_back-falls plan h x back = search (arith, upward, phase-fallen)
 
 -- What the mode of a journey says of its whole word.
 
--- on its way up a journey is completed by the steps that are left
-rising-begins : (plan : Planned) (h : List Item) (r : Rising plan h)
-    → GoesToEnd plan (h ++ rise (position_of h) (step_count plan))
-rising-begins plan h r = grind (arith, rise, goes_to_end, word-append, append_assoc, word-rise, up-join)
-
--- on its way down it is completed by the compensations that are left
-falling-begins : (plan : Planned) (h : List Item) (f : Falling plan h)
-    → GoesToStart plan (h ++ fall (position_of h) 0)
-falling-begins plan h f = grind (arith, fall, goes_to_start, word-append, append_assoc, word-fall, down-join)
-
--- in each mode the history begins an up-and-down word
+-- in each mode the history begins an up-and-down word: it is completed by the steps that are left, or by the compensations
 pub begins-word : (plan : Planned) (h : List Item) → Goes plan h → BeginsUpAndDown plan h
 begins-word plan h g = elim g.mode [
-  | rises r ↦ (rise (position_of h) (step_count plan), inl (rising-begins plan h r))
-  | falls f ↦ (fall (position_of h) 0, inr (falling-begins plan h f))
+  | rises r ↦ (
+    rise (position_of h) (step_count plan),
+    inl (grind (arith, rise, goes_to_end, word-append, append_assoc, word-rise, up-join)),
+  )
+  | falls f ↦ (
+    fall (position_of h) 0,
+    inr (grind (arith, fall, goes_to_start, word-append, append_assoc, word-fall, down-join)),
+  )
   | fell f ↦ ([], inr (subst (GoesToStart plan) (sym (append-nil h)) f.start))
 ]
 
@@ -171,5 +164,5 @@ undone-word plan h g e = by_mode g.mode
   where
     by_mode : Mode plan h → GoesToStart plan h × (standing h ≡ [])
     by_mode (rises r) = grind (arith, upward)
-    by_mode (falls f) = let bad : Back f.target ≡ Undone = sym (phase-falling plan h f) ∙ e in cc
+    by_mode (falls f) = cc (phase-falling plan h f)
     by_mode (fell f) = (f.start, g.stands ∙ ap (numbers_from 1) f.low)

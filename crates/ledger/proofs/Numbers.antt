@@ -1,6 +1,6 @@
 -- Consecutive numbers: how such lists join, the runs up and down of words, and sums over them. For the words of journeys,
 -- and for the places that journeys hold.
-use Rattle.std.proofs.Common.{[], ◌≡◌, ℕ, zero, suc, ◌+◌, ◌-◌, ◌≤◌, ◌∷◌, ◌++◌, ap, ◌∙◌, arith, List, map, reverse, refl, ◌<◌, inl, inr, Bool, filter, sum_by}
+use Rattle.std.proofs.Common.{[], ◌≡◌, ℕ, zero, suc, ◌+◌, ◌-◌, ◌≤◌, ◌∷◌, ◌++◌, ap, ◌∙◌, arith, List, map, reverse, refl, ◌<◌, Bool, filter, sum_by}
 use Rattle.allotment.specs.Cells.{numbers_from}
 use Rattle.std.proofs.lemmas.List.{reverse-append, map-append}
 use Rattle.commands.specs.declared.items.Item.{Item}
@@ -15,23 +15,13 @@ pub numbers_from-append : (first n m : ℕ)
     → numbers_from first (n + m) ≡ numbers_from first n ++ numbers_from (first + n) m
 numbers_from-append first zero m = grind arith
 numbers_from-append first (suc n) m =
-    ap (numbers_from first) (let e : suc n + m ≡ suc (n + m) = omega arith in e)
-    ∙ ap (λ xs. first ∷ xs)
-    (numbers_from-append (suc first) n m
-    ∙ ap (λ k. numbers_from (suc first) n ++ numbers_from k m) (omega arith))
+    let e : suc n + m ≡ suc (n + m) = omega arith in let f : first + suc n ≡ suc first + n = omega arith in
+    rw (e, f) (ap (λ xs. first ∷ xs) (numbers_from-append (suc first) n m))
 
 -- the numbers from a + 1 to d are those up to b, followed by those after b
 pub numbers_between-join : (a b d : ℕ) → a ≤ b → b ≤ d
     → numbers_from (suc a) (d - a) ≡ numbers_from (suc a) (b - a) ++ numbers_from (suc b) (d - b)
 numbers_between-join a b d low high = grind (arith, numbers_from-append (suc a) (b - a) (d - b))
-
--- from a + 1 to a there is no number
-pub numbers_between-none : (a : ℕ) → numbers_from (suc a) (a - a) ≡ []
-numbers_between-none a = ap (numbers_from (suc a)) (let e : a - a ≡ 0 = omega arith in e)
-
--- from a + 1 to a + 1 there is just one
-pub numbers_between-one : (a : ℕ) → numbers_from (suc a) (suc a - a) ≡ suc a ∷ []
-numbers_between-one a = ap (numbers_from (suc a)) (let e : suc a - a ≡ 1 = omega arith in e)
 
 -- the word of two histories, one after the other, is the word of the first followed by that of the second
 pub word-append : (g h : List Item) → word (g ++ h) ≡ word g ++ word h
@@ -44,19 +34,19 @@ word-append (_ ∷ g) h = word-append g h
 
 -- from a up to a no step is done
 pub up-none : (a : ℕ) → up a a ≡ []
-up-none a = ap (map Up) (numbers_between-none a)
+up-none a = grind arith
 
 -- from a down to a no step is compensated
 pub down-none : (a : ℕ) → down a a ≡ []
-down-none a = ap (λ ns. map Down (reverse ns)) (numbers_between-none a)
+down-none a = grind arith
 
 -- one step up
 pub up-one : (a : ℕ) → up a (suc a) ≡ Up (suc a) ∷ []
-up-one a = ap (map Up) (numbers_between-one a)
+up-one a = grind arith
 
 -- one step down
 pub down-one : (a : ℕ) → down (suc a) a ≡ Down (suc a) ∷ []
-down-one a = ap (λ ns. map Down (reverse ns)) (numbers_between-one a)
+down-one a = grind arith
 
 -- up to b and on up to d is up to d
 pub up-join : (a b d : ℕ) → a ≤ b → b ≤ d → up a d ≡ up a b ++ up b d
@@ -65,12 +55,7 @@ up-join a b d low high =
 
 -- down to b and on down to a is down to a
 pub down-join : (a b d : ℕ) → a ≤ b → b ≤ d → down d a ≡ down d b ++ down b a
-down-join a b d low high =
-    ap (λ ns. map Down (reverse ns)) (numbers_between-join a b d low high)
-    ∙ ap (map Down)
-    (reverse-append (numbers_from (suc a) (b - a)) (numbers_from (suc b) (d - b)))
-    ∙ map-append Down (reverse (numbers_from (suc b) (d - b)))
-    (reverse (numbers_from (suc a) (b - a)))
+down-join a b d low high = rw (numbers_between-join a b d low high) (simp (reverse-append, map-append))
 
 -- Items that read as a run.
 
@@ -122,7 +107,6 @@ pub sum_by-changed : (f g : ℕ → ℕ) (k first n : ℕ) → ((j : ℕ) → (j
     → first ≤ k → k < first + n
     → sum_by g (numbers_from first n) + f k ≡ sum_by f (numbers_from first n) + g k
 sum_by-changed f g k first zero same low high = absurd (omega arith)
-sum_by-changed f g k first (suc n) same low high = elim (cases_eq first k) [
-  | inl is ↦ grind (arith, sum_by-cons, sum_by-behind f g k (suc first) n same (omega arith))
-  | inr other ↦ grind (arith, sum_by-cons, sum_by-changed f g k (suc first) n same (omega arith) (omega arith))
-]
+sum_by-changed f g k first (suc n) same low high =
+    let later = sum_by-changed f g k (suc first) n same in let past = sum_by-behind f g k (suc first) n same in
+    grind (arith, sum_by-cons, cases_eq first k, same first)

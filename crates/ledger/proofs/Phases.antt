@@ -44,11 +44,7 @@ none-numbered : (test : ℕ → Bool) (first n j : ℕ) → list_any test (numbe
     → first ≤ j → j < first + n → test j ≡ false
 none-numbered test first zero j none low high = absurd (omega arith)
 none-numbered test first (suc n) j none low high =
-    let both = or_parts (test first) (list_any test (numbers_from (suc first) n)) none in
-    elim (cases_eq first j) [
-      | inl is ↦ ap test (sym is) ∙ both.0
-      | inr other ↦ none-numbered test (suc first) n j both.1 (omega arith) (omega arith)
-    ]
+    let later = none-numbered test (suc first) n j in grind (arith, or_parts, cases_eq first j)
 
 -- where no journey is in such a phase, this one is not
 pub has_none-at : (passes : Phase → Bool) (l : List Event) (j : ℕ) → has_none passes l ≡ true

@@ -1,20 +1,18 @@
 -- What one more event changes of the places that are held of a cell. For each desk that stores how many are free.
-use Rattle.std.proofs.Common.{◌≡◌, ℕ, ◌+◌, ◌≤◌, List, [], ◌∷◌, ◌++◌, length, ap, ◌∙◌, arith, subst, true, if◌then◌else◌, sum_by, Some, None, IsTrue, unwrap_or}
-use Rattle.std.proofs.lemmas.List.Sums.{sum_by_push}
+use Rattle.std.proofs.Common.{◌≡◌, ℕ, ◌+◌, ◌≤◌, List, [], ◌∷◌, ◌++◌, length, ap, arith, subst, true, if◌then◌else◌, Some, None, IsTrue, unwrap_or}
 use Rattle.allotment.specs.Cells.{wants_cell}
 use Rattle.allotment.specs.Want.{Wanted}
 use Rattle.allotment.specs.declared.cells.Cell.{Cell}
 use Rattle.plan.specs.PlanModel.{Planned, want_at}
 use Rattle.commands.specs.declared.items.Cause.{Cause}
 use Rattle.commands.specs.declared.items.Item.TheVariants.{Transaction, Compensation, Turn, Save}
-use Rattle.ledger.specs.History.{net, next_want}
-use Rattle.ledger.specs.Ledger.{Event, Began, Did, Journey, journeys, journey_at, history, allotment, places_in, held_by, held, fits, is_allowed, IsLegal}
+use Rattle.ledger.specs.History.{next_want}
+use Rattle.ledger.specs.Ledger.{Event, Began, Did, Journey, journeys, journey_at, history, allotment, places_in, held, fits, is_allowed, IsLegal}
 use Rattle.ledger.proofs.Coming.{step-comes}
-use Rattle.ledger.proofs.Held as held_before
+use Rattle.ledger.proofs.Places as places
 use Rattle.ledger.proofs.Ledgers.{all_go}
-use Rattle.ledger.proofs.Places.{no_cell_overfull}
-pub use Rattle.ledger.proofs.Held.{held-loaded}
-use Rattle.ledger.proofs.Held.{held-did}
+use Rattle.ledger.proofs.Places.{no_cell_overfull, held-did}
+pub use Rattle.ledger.proofs.Places.{held-loaded}
 use Rattle.ledger.proofs.Lists.{number-within}
 pub use Rattle.ledger.proofs.Allotments.{allotment-began, allotment-did, allotment-loaded}
 use Rattle.ledger.proofs.Histories.{follows, may_come-allowed}
@@ -29,40 +27,34 @@ number_within l j a e = let within = number-within (journeys l) j a e in (within
 -- a begin leaves what is held
 pub held-began : (l : List Event) (agent : List ℕ) (plan : Planned) (x : Cell) → IsLegal l
     → held (l ++ Began agent plan ∷ []) x ≡ held l x
-held-began l agent plan x legal = held_before.held-began l agent plan x (all_go l legal)
+held-began l agent plan x legal = places.held-began l agent plan x (all_go l legal)
 
 -- a transaction holds the places of its want
 pub held-transaction : (l : List Event) (j i c : ℕ) (a : Journey) (x : Cell)
     → journey_at l j ≡ Some a
     → held (l ++ Did j (Transaction i c) ∷ []) x ≡ held l x + places_in x (want_at a.plan i c)
 held-transaction l j i c a x at =
-    omega (arith, held-did l j (Transaction i c) a x at, held_before.held_by-transaction a.plan (history l j) i c x)
+    omega (arith, held-did l j (Transaction i c) a x at, places.held_by-transaction a.plan (history l j) i c x)
 
 -- its compensation releases the places of its want
 pub held-compensation : (l : List Event) (j i c : ℕ) (a : Journey) (x : Cell) → IsLegal l
     → journey_at l j ≡ Some a → IsTrue (is_allowed l (Did j (Compensation i c)))
     → held l x ≡ held (l ++ Did j (Compensation i c) ∷ []) x + places_in x (want_at a.plan i c)
 held-compensation l j i c a x legal at may =
-    let changed = held-did l j (Compensation i c) a x at in
-    let left = items.net-compensation a.plan (history l j)
-    (fits l (next_want a.plan (history l j))) i c
-    (follows l legal j a at) (may_come-allowed l j a (Compensation i c) at may) in
-    let own : held_by a.plan (history l j) x
-    ≡ held_by a.plan (history l j ++ Compensation i c ∷ []) x + places_in x (want_at a.plan i c) =
-    ap (sum_by (λ (t : ℕ × ℕ). places_in x (want_at a.plan t.0 t.1))) left
-    ∙ sum_by_push (λ (t : ℕ × ℕ). places_in x (want_at a.plan t.0 t.1))
-    (net (history l j ++ Compensation i c ∷ [])) (i, c) in
-    omega arith
+    let h = history l j in
+    let left = items.net-compensation a.plan h (fits l (next_want a.plan h)) i c (follows l legal j a at)
+    (may_come-allowed l j a (Compensation i c) at may) in
+    omega (arith, held-did l j (Compensation i c) a x at, places.held_by-more a.plan h (h ++ Compensation i c ∷ []) i c x left)
 
 -- a turn leaves what is held
 pub held-turn : (l : List Event) (j p : ℕ) (cause : Cause) (a : Journey) (x : Cell)
     → journey_at l j ≡ Some a → held (l ++ Did j (Turn p cause) ∷ []) x ≡ held l x
-held-turn l j p cause a x at = grind (arith, held-did l j (Turn p cause) a x at, held_before.held_by-same, net-turn)
+held-turn l j p cause a x at = grind (arith, held-did l j (Turn p cause) a x at, places.held_by-same, net-turn)
 
 -- a save-point leaves what is held
 pub held-save : (l : List Event) (j p : ℕ) (a : Journey) (x : Cell)
     → journey_at l j ≡ Some a → held (l ++ Did j (Save p) ∷ []) x ≡ held l x
-held-save l j p a x at = grind (arith, held-did l j (Save p) a x at, held_before.held_by-same, net-save)
+held-save l j p a x at = grind (arith, held-did l j (Save p) a x at, places.held_by-same, net-save)
 
 -- a want takes so many places of its own cells
 pub places_in-cell : (w : Wanted) (x : Cell) → wants_cell w x ≡ true

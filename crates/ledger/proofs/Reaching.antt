@@ -15,7 +15,7 @@ use Rattle.ledger.proofs.Growing.{AreAllowedAfter-join}
 use Rattle.ledger.proofs.Phases.{is_in-later}
 use Rattle.ledger.proofs.Recoverable.{IsStage, journeys-items, none-pass}
 use Rattle.ledger.proofs.Recovering.{IsPart}
-use Rattle.ledger.proofs.Working.{left_of, left_of-fewer}
+use Rattle.ledger.proofs.Working.{work, work-fewer}
 
 -- the part has come to a later journey where it has nothing to do with those between
 pub reached-further : (test : Item → Bool) (passes : Phase → Bool) (before part : List Event)
@@ -110,46 +110,28 @@ module _ (test : Item → Bool) (passes : Phase → Bool) (stage : IsStage test 
     });
   }
 
-  -- the journey makes a step if it is in such a phase, or else the part goes on to the next one
-  complete-one : (part : List Event) (number : ℕ) → HasReached test passes before part number
-      → (HasReached test passes before part (suc number) → Completes test passes before part)
-      → ((more : List Event) → HasReached test passes before more number
-      → left_of (before ++ more) number < left_of (before ++ part) number → Completes test passes before more)
-      → Completes test passes before part
-  complete-one part number r others again = elim (cases_Bool (is_in passes (before ++ part) number)) [
-    | inr out ↦ others (reached-past test passes before part number r out)
+  -- a part that has come to a journey is completed from there on: that journey makes a step, after which less work is left, or
+  -- the part is past it
+  complete-from : (most : ℕ) (part : List Event) (number : ℕ) → HasReached test passes before part number
+      → suc (length (journeys before)) + work (before ++ part) ≤ number + most → Completes test passes before part
+  complete-from zero part number r low = complete-none part number (omega arith) r
+  complete-from (suc most) part number r low = elim (cases_Bool (is_in passes (before ++ part) number)) [
+    | inr out ↦ complete-from most part (suc number) (reached-past test passes before part number r out) (omega arith)
     | inl in_it ↦
         (let so_far = AreAllowedAfter-join [] before part legal r.allowed in
         let step = stage.has (before ++ part) number so_far in_it in
-        let c = again (part ++ Did number step.0 ∷ [])
+        let fewer = work-fewer (before ++ part) number step.0 so_far (stage.steps step.0 step.1) step.2 in
+        let same = ap work (append_assoc before part (Did number step.0 ∷ [])) in
+        let c = complete-from most (part ++ Did number step.0 ∷ []) number
         (reached-carried test passes before part (Did number step.0 ∷ []) number r (step.2, tt)
-        (and_from _ _ step.1 refl) (and_from _ _ (eq-eqb number number refl) refl))
-        (subst (λ l. left_of l number < left_of (before ++ part) number) (append_assoc before part (Did number step.0 ∷ []))
-        (left_of-fewer (before ++ part) number step.0 so_far (stage.steps step.0 step.1) step.2)) in
+        (and_from _ _ step.1 refl) (and_from _ _ (eq-eqb number number refl) refl)) (omega arith) in
         record {
           rest = Did number step.0 ∷ c.rest;
           whole = subst (IsPart test passes before) (append_assoc part (Did number step.0 ∷ []) c.rest) c.whole;
         })
   ]
 
-  -- the journey goes on to the end, since each step leaves it fewer
-  complete-first : (number : ℕ)
-      → ((part : List Event) → HasReached test passes before part (suc number) → Completes test passes before part)
-      → (most : ℕ) (part : List Event) → HasReached test passes before part number
-      → left_of (before ++ part) number ≤ most → Completes test passes before part
-  complete-first number others zero part r low = grind (arith, complete-one)
-  complete-first number others (suc most) part r low =
-      complete-one part number r (others part) (λ more s fewer. complete-first number others most more s (omega arith))
-
-  -- all journeys from this number on go on to the end, one after another
-  complete-all : (n : ℕ) (part : List Event) (number : ℕ) → length (journeys before) < number + n
-      → HasReached test passes before part number → Completes test passes before part
-  complete-all zero part number past r = complete-none part number (omega arith) r
-  complete-all (suc n) part number past r =
-      complete-first number (λ more s. complete-all n more (suc number) (omega arith) s)
-      (left_of (before ++ part) number) part r (omega arith)
-
-  -- a part that has come to a journey is completed from that journey on
+  -- each part that has come to a journey is completed
   pub completes : (part : List Event) (number : ℕ) → HasReached test passes before part number
       → Completes test passes before part
-  completes part number r = complete-all (suc (length (journeys before))) part number (omega arith) r
+  completes part number r = complete-from (suc (length (journeys before)) + work (before ++ part)) part number r (omega arith)

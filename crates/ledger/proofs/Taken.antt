@@ -1,7 +1,7 @@
 -- The set of the save-points that were taken, as a desk stores it: what it means for a history, and what one more item
 -- changes of it.
 use Rattle.std.proofs.Common.{◌≡◌, ℕ, zero, suc, ◌+◌, ◌-◌, ◌≤◌, List, [], ◌∷◌, ◌++◌, ap, sym, ◌∙◌, arith, eqb-true, Bool, true, false, not, ◌==◌, ◌||◌, ◌&&◌, filter, nat_le, nat_lt, IsTrue}
-use Rattle.std.proofs.lemmas.Bool.{and_from, eqb-false, lt-ltb, le-leb, lt-leb}
+use Rattle.std.proofs.lemmas.Bool.{eqb-false, le-leb, lt-leb}
 use Rattle.std.proofs.lemmas.Bool.Decides.{nat_tests}
 use Rattle.std.specs.FinSet as set
 use Rattle.std.specs.FinSet.{contains-from_list_nat}
@@ -29,21 +29,14 @@ list_any-filter : (passes : ℕ → Bool) (first more p : ℕ)
 list_any-filter passes first zero p = grind (arith, nat_tests)
 list_any-filter passes first (suc more) p = let later = list_any-filter passes (suc first) more p in grind (arith, nat_tests)
 
--- a test that passes only between 1 and the last mark needs no limits
-without_limits : (test : Bool) (p : ℕ) → (test ≡ true → 1 ≤ p) → (test ≡ true → p ≤ last_mark)
-    → (nat_le 1 p && nat_lt p (1 + last_mark) && test) ≡ test
-without_limits test p low high = grind (arith, and_from, le-leb, lt-ltb)
-
 -- Histories.
 
 -- a position is in the set of a history where a save-point was taken there
 pub is_taken_in-marks_of : (plan : Planned) (h : List Item) (p : ℕ) → Follows plan h
     → is_taken_in (marks_of h) p ≡ is_taken h p
 is_taken_in-marks_of plan h p f =
-    contains-from_list_nat (filter (is_taken h) (numbers_from 1 last_mark)) p
-    ∙ list_any-filter (is_taken h) 1 last_mark p
-    ∙ without_limits (is_taken h p) p (λ e. (f.taken p e).from_one)
-    (λ e. let short = (f.taken p e).short in let few = f.few in omega arith)
+    let test = contains-from_list_nat (filter (is_taken h) (numbers_from 1 last_mark)) p in
+    let members = list_any-filter (is_taken h) 1 last_mark p in grind (arith, nat_tests, f.taken p)
 
 -- a set with those members is the set of the history
 pub marks_of-is : (plan : Planned) (h : List Item) (marks : set.FinSet nat_cmp) → Follows plan h
@@ -124,17 +117,12 @@ marks_of-compensation plan h may_fit i c marks f may cut =
     (λ e. (f.taken q e).reached)
     ∙ sym (is_taken-more h (Compensation i c) q))
 
--- sets are equal if their tests agree on each of consecutive numbers
-filter-same : (f g : ℕ → Bool) (first more : ℕ) → ((p : ℕ) → f p ≡ g p)
-    → filter f (numbers_from first more) ≡ filter g (numbers_from first more)
-filter-same f g first more same = grind arith
-
 -- a transaction leaves the set
 pub marks_of-transaction : (h : List Item) (i c : ℕ)
     → marks_of (h ++ Transaction i c ∷ []) ≡ marks_of h
-marks_of-transaction h i c = simp (filter-same, is_taken-more)
+marks_of-transaction h i c = simp is_taken-more
 
 -- a turn leaves the set
 pub marks_of-turn : (h : List Item) (p : ℕ) (cause : Cause)
     → marks_of (h ++ Turn p cause ∷ []) ≡ marks_of h
-marks_of-turn h p cause = simp (filter-same, is_taken-more)
+marks_of-turn h p cause = simp is_taken-more

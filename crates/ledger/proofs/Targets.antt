@@ -1,5 +1,5 @@
 -- Where a turn leads: to the start, or to a save-point that stands. Lemmas on the rules by numbers.
-use Rattle.std.proofs.Common.{◌≡◌, ℕ, ◌⊎◌, List, [], ◌∷◌, refl, arith, eqb-true, inl, Bool, true, filter, max, Option, IsTrue}
+use Rattle.std.proofs.Common.{◌≡◌, ℕ, ◌⊎◌, List, [], ◌∷◌, refl, arith, eqb-true, inl, Bool, true, filter, Option, IsTrue}
 use Rattle.std.proofs.lemmas.Bool.{and_parts, or_cases}
 use Rattle.plan.specs.PlanModel.{Planned}
 use Rattle.plan.specs.Rules.{is_save_point, greatest, last_save, refused_target, may_turn}
@@ -8,15 +8,11 @@ use Rattle.plan.specs.Rules.{is_save_point, greatest, last_save, refused_target,
 abbrev pub IsTarget : Planned → (ℕ → Bool) → ℕ → ℕ → Type 0
 IsTarget plan taken pos p = (p ≡ 0) ⊎ IsTrue (is_save_point plan taken pos p)
 
--- the greater of two numbers is one of them
-max-is : (a b : ℕ) → (max a b ≡ a) ⊎ (max a b ≡ b)
-max-is a b = grind arith
-
 -- the greatest of the numbers that pass passes, unless there is none
 greatest-passes : (test : ℕ → Bool) (ps : List ℕ)
     → (greatest (filter test ps) ≡ 0) ⊎ IsTrue (test (greatest (filter test ps)))
 greatest-passes test [] = inl refl
-greatest-passes test (p ∷ ps) = grind (arith, max-is, greatest-passes test ps)
+greatest-passes test (p ∷ ps) = grind (arith, greatest-passes test ps)
 
 -- the last save-point is a target: the greatest of those that stand
 pub last_save-target : (plan : Planned) (taken : ℕ → Bool) (pos p : ℕ)

@@ -9,8 +9,7 @@ use Rattle.ledger.proofs.Growing.{AreAllowedAfter-join}
 use Rattle.ledger.proofs.Reaching.{reached-none, completes}
 use Rattle.ledger.proofs.Recoverable.{back-stage, forward-stage, compensations-forward}
 use Rattle.ledger.proofs.Recovering.{IsPart, parts, AreAllowedAfter-split}
-use Rattle.ledger.proofs.Stopping.{stops-allowed, stops-within}
-use Rattle.ledger.proofs.Working.{steps-within}
+use Rattle.ledger.proofs.Working.{steps-within, stopped-legal, stops-within}
 
 -- a prefix of a prefix of the recovered ledger is a prefix of it
 begins-front : (l begun more : List Event) → BeginsRecovered l (begun ++ more)
@@ -63,7 +62,7 @@ pub recovery-goes_on : (l : List Event) → IsLegal l → EachRecoveryGoesOn l
 recovery-goes_on l legal begun come = by_part begun come
   where
     turned : IsLegal (l ++ stops l)
-    turned = AreAllowedAfter-join [] l (stops l) legal (stops-allowed l)
+    turned = stopped-legal l legal
 
     by_part : (m : List Event) → HasComeTo l m → BeginsRecovered l m
     by_part _ (turning front rest is) =
@@ -91,7 +90,7 @@ recovered-within l r legal e =
 -- the turns, then the compensations, then the steps
 pub recovered-exists : (l : List Event) → IsLegal l → IsRecoverable l
 recovered-exists l legal =
-    let begun = from-turns l (AreAllowedAfter-join [] l (stops l) legal (stops-allowed l)) in
+    let begun = from-turns l (stopped-legal l legal) in
     record {
       recovered = (l ++ stops l) ++ begun.rest;
       is_recovered = begun.recovered;

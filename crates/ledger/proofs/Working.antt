@@ -1,192 +1,119 @@
--- How many more steps a journey may make at most, and all journeys of a ledger; each step leaves fewer. For the bound of
--- recovery.
-use Rattle.std.proofs.Common.{◌≡◌, ℕ, ◌+◌, ◌-◌, ◌*◌, ◌<◌, ◌≤◌, List, [], ◌∷◌, ◌++◌, refl, ap, sym, ◌∙◌, arith, Bool, true, false, length, append_assoc, append-nil, eq-eqb, ◌==◌, Option, Some, None, option_map, sum_by, unwrap_or}
-use Rattle.std.proofs.Math.Nat.{mul-le-mul_left}
-use Rattle.plan.specs.PlanModel.{Planned, step_count}
-use Rattle.commands.specs.declared.items.Cause.TheVariants.{Refused}
-use Rattle.commands.specs.declared.items.Item.{Item}
-use Rattle.commands.specs.declared.items.Item.TheVariants.{Transaction, Compensation, Turn}
-use Rattle.commands.specs.declared.items.Phase.{Phase}
-use Rattle.commands.specs.declared.items.Phase.TheVariants.{Run, Back, Ended, Undone}
-use Rattle.ledger.specs.History.{position_of, refusals, is_refused_turn, phase, is_running, is_going_back, may_come, next_want}
-use Rattle.ledger.specs.Recovery.{is_forward, are_items}
-use Rattle.ledger.proofs.Coming.{step-comes, compensation-comes, refused-comes}
-use Rattle.ledger.proofs.Modes.{Goes, upward, running-rises}
-use Rattle.ledger.proofs.Refusing.{refusals-other, refusals-more}
-use Rattle.ledger.proofs.Rising.{rising-transaction}
-use Rattle.ledger.proofs.Standing.{position_of-transaction, position_of-turn, compensates}
-use Rattle.std.proofs.lemmas.Bool.{and_parts, ne_eqb}
-use Rattle.std.specs.List.{list_all}
+-- How many more steps a journey may make at most, and all journeys of a ledger: each step leaves fewer, and with the turns of
+-- recovery they are within the bound of the ledger. For the law of recovery.
+use Rattle.std.proofs.Common.{◌≡◌, ℕ, zero, suc, ◌+◌, ◌*◌, ◌<◌, ◌≤◌, List, [], ◌∷◌, ◌++◌, length, map, refl, ap, ◌∙◌, arith, append-nil, eq-eqb, Bool, true, false, ◌&&◌, nat_le, nat_lt, Option, Some, None, option_map, filter, filter_map, if◌then◌else◌, IsTrue, sum_by, unwrap_or, ◌-◌, append_assoc, subst, sym}
+use Rattle.std.proofs.lemmas.Bool.{and_from, cond_both, and_parts}
+use Rattle.std.proofs.lemmas.Bool.Decides.{nat_tests}
+use Rattle.std.proofs.lemmas.List.Elements.{filter_map-append}
 use Rattle.allotment.specs.Cells.{numbers_from}
-use Rattle.ledger.specs.Ledger.{Event, Did, Journey, journeys, journey_at, numbers, history, fits, is_item_allowed, AreAllowedAfter, IsLegal}
-use Rattle.ledger.proofs.Growing.{IsLegal-append, journeys-did, history-did_same, history-did_other, item-journey}
+use Rattle.plan.specs.PlanModel.{Planned, step_count}
+use Rattle.commands.specs.declared.items.Cause.TheVariants.{Stop, Refused}
+use Rattle.commands.specs.declared.items.Item.{Item}
+use Rattle.commands.specs.declared.items.Item.TheVariants.{Turn, Transaction, Compensation}
+use Rattle.commands.specs.declared.items.Phase.{Phase}
+use Rattle.commands.specs.declared.items.Phase.TheVariants.{Run, Back}
+use Rattle.ledger.specs.History.{last_save, phase, refusals, is_running, is_open, may_come}
+use Rattle.ledger.specs.Ledger.{Event, Did, Journey, journeys, journey_at, begun_by, history, item_of, is_in, is_allowed, AreAllowedAfter, IsLegal, numbers, is_item_allowed}
+use Rattle.ledger.specs.Recovery.{last_save_of, stops, bound_of, bound, is_forward, are_items}
+use Rattle.ledger.proofs.Growing.{AreAllowedAfter-join, IsLegal-append, item-journey, journeys-did}
+use Rattle.ledger.proofs.Taking.{refusals-other}
+use Rattle.ledger.specs.Cursors.{cursor_of}
+use Rattle.ledger.proofs.Modes.{Goes, running-rises, position_of-most, phase-falling, going_back-falls}
+use Rattle.ledger.proofs.Phases.{passing}
+use Rattle.ledger.proofs.Standing.{position_of-turn}
+use Rattle.std.proofs.lemmas.List.{length-map}
+use Rattle.std.proofs.lemmas.List.Sums.{sum_by-cons}
 use Rattle.ledger.proofs.Ledgers.{all_go}
+use Rattle.std.proofs.Math.Nat.{mul-le-mul_left}
+use Rattle.commands.specs.declared.items.Cursor.{Cursor}
+use Rattle.std.specs.List.{list_all}
+use Rattle.ledger.proofs.Coming.{step-comes, compensation-comes, refused-comes}
+use Rattle.ledger.proofs.Events.{history-did_same, history-did_other}
+use Rattle.ledger.proofs.Histories.{Follows, follows, may_come-allowed}
+use Rattle.ledger.proofs.Items.{cursor_of-more}
 use Rattle.ledger.proofs.Lists.{number-within}
-use Rattle.ledger.proofs.Numbers.{sum_by-changed}
+use Rattle.ledger.proofs.Numbers.{numbers_from-append, sum_by-changed}
+use Rattle.std.proofs.lemmas.List.Elements.{filter-append}
+use Rattle.std.proofs.lemmas.List.{map-append}
 
--- the rounds that are left: one for each try that is left, and one more
-rounds : Planned → List Item → ℕ
-rounds plan h = plan.tries + 1 - refusals h
-
--- twice the steps of the plan for each round that is left
-pub way : Planned → List Item → ℕ
-way plan h = 2 * step_count plan * rounds plan h
+-- twice the steps of the plan for each round that is left: one for each try that is left, and one more
+pub way : Planned → ℕ → ℕ
+way plan used = 2 * step_count plan * (plan.tries + 1 - used)
 
 -- how many more steps a journey in this phase may make at most: a running journey has done the steps below its
 -- position, and one that goes back has yet to compensate them
-abbrev pub left_in : Planned → List Item → Phase → ℕ
-left_in plan h Run = way plan h - position_of h
-left_in plan h (Back p) = way plan h + position_of h
-left_in plan h Ended = 0
-left_in plan h Undone = 0
+abbrev pub left_in : ℕ → ℕ → Phase → ℕ
+left_in most pos Run = most - pos
+left_in most pos (Back p) = most + pos
+left_in most pos _ = 0
 
--- how many more steps a journey with this history may make at most
-abbrev pub steps_left : Planned → List Item → ℕ
-steps_left plan h = left_in plan h (phase plan h)
+-- how many more steps a journey may make at most, by where it is
+abbrev pub left_at : Planned → Cursor → ℕ
+left_at plan c = left_in (way plan c.used) c.pos c.phase
 
 -- in no phase are more left than on the way back
-pub left_in-most : (plan : Planned) (h : List Item) (p : Phase)
-    → left_in plan h p ≤ way plan h + position_of h
-left_in-most plan h Run = omega arith
-left_in-most plan h _ = omega arith
+pub left_in-most : (most pos : ℕ) (p : Phase) → left_in most pos p ≤ most + pos
+left_in-most most pos p = grind arith
 
--- what is left while it runs
-left_in-running : (plan : Planned) (h : List Item) (p : Phase) → is_running p ≡ true
-    → left_in plan h p ≡ way plan h - position_of h
-left_in-running plan h Run e = refl
-left_in-running plan h _ e = cc
+-- with a try left a refusal takes one round, of twice the steps
+way-refused : (plan : Planned) (used : ℕ) → used ≤ plan.tries
+    → way plan used ≡ way plan (used + 1) + 2 * step_count plan
+unfolding way
+way-refused plan used within =
+    let more : plan.tries + 1 - used ≡ plan.tries + 1 - (used + 1) + 1 = omega arith in rw more (omega arith)
 
--- what is left while it goes back
-left_in-back : (plan : Planned) (h : List Item) (p : Phase) → is_going_back p ≡ true
-    → left_in plan h p ≡ way plan h + position_of h
-left_in-back plan h (Back q) e = refl
-left_in-back plan h _ e = cc
-
--- Rounds.
-
--- an item that is no refused turn leaves the rounds
-pub way-other : (plan : Planned) (h : List Item) (x : Item) → is_refused_turn x ≡ false
-    → way plan (h ++ x ∷ []) ≡ way plan h
-unfolding way rounds
-way-other plan h x other = grind (arith, refusals-other)
-
--- with a try left a refused turn takes one round, of twice the steps
-way-refused : (plan : Planned) (h : List Item) (p : ℕ) → refusals h ≤ plan.tries
-    → way plan (h ++ Turn p Refused ∷ []) + 2 * step_count plan ≡ way plan h
-unfolding way rounds
-way-refused plan h p within =
-    let used : plan.tries + 1 - refusals (h ++ Turn p Refused ∷ []) ≡ plan.tries - refusals h =
-    let more : refusals (h ++ Turn p Refused ∷ []) ≡ refusals h + 1 = refusals-more h (Turn p Refused) in omega arith in
-    let round : plan.tries + 1 - refusals h ≡ plan.tries - refusals h + 1 = omega arith in
-    ap (λ n. 2 * step_count plan * n + 2 * step_count plan) used
-    ∙ (let sum : (n t : ℕ) → 2 * n * t + 2 * n ≡ 2 * n * (t + 1) = λ n t. omega arith in
-    sum (step_count plan) (plan.tries - refusals h))
-    ∙ ap (λ n. 2 * step_count plan * n) (sym round)
-
--- with a try left one round is left at least
-way-least : (plan : Planned) (h : List Item) → refusals h ≤ plan.tries
-    → 2 * step_count plan ≤ way plan h
-way-least plan h within = let whole = way-refused plan h 0 within in omega arith
-
--- no more rounds are left than there are tries, and one more
-pub way-most : (plan : Planned) (h : List Item)
-    → way plan h ≤ 2 * step_count plan * (plan.tries + 1)
-unfolding way rounds
-way-most plan h = grind (arith, mul-le-mul_left)
-
--- Steps.
-
--- a transaction leaves fewer steps
-fewer-transaction : (plan : Planned) (h : List Item) (fits : Bool) (i c : ℕ) → Goes plan h
-    → may_come plan h fits (Transaction i c) ≡ true
-    → steps_left plan (h ++ Transaction i c ∷ []) < steps_left plan h
-fewer-transaction plan h fits i c g may =
-    let comes = step-comes plan h fits i c may in
-    let up = running-rises plan h g.mode comes.running in
-    let next = upward plan (h ++ Transaction i c ∷ []) (rising-transaction plan h i c up.0 up.1 comes.step) in
-    grind (arith, way-least plan h (g.tries up.0.unturned), left_in-running, way-other, position_of-transaction)
-
--- a compensation leaves fewer steps
-fewer-compensation : (plan : Planned) (h : List Item) (fits : Bool) (i c : ℕ) → Goes plan h
-    → may_come plan h fits (Compensation i c) ≡ true
-    → steps_left plan (h ++ Compensation i c ∷ []) < steps_left plan h
-fewer-compensation plan h fits i c g may = grind (arith, compensation-comes, compensates, left_in-back, way-other, left_in-most)
-
--- a refused turn leaves fewer steps, however far it leads back
-fewer-refused : (plan : Planned) (h : List Item) (fits : Bool) (p : ℕ) → Goes plan h
-    → may_come plan h fits (Turn p Refused) ≡ true
-    → steps_left plan (h ++ Turn p Refused ∷ []) < steps_left plan h
-fewer-refused plan h fits p g may =
-    grind (arith, refused-comes, running-rises, way-refused, left_in-running, position_of-turn, left_in-most)
+-- there are no more rounds than tries, and one more
+way-most : (plan : Planned) (used : ℕ) → way plan used + 2 * step_count plan ≤ 2 * step_count plan * (plan.tries + 2)
+unfolding way
+way-most plan used =
+    let low : plan.tries + 1 - used ≤ plan.tries + 1 = omega arith in omega (arith, mul-le-mul_left (2 * step_count plan) low)
 
 -- each step leaves fewer steps
-pub fewer_left : (plan : Planned) (h : List Item) (fits : Bool) (x : Item) → Goes plan h
-    → is_forward x ≡ true → may_come plan h fits x ≡ true
-    → steps_left plan (h ++ x ∷ []) < steps_left plan h
-fewer_left plan h fits (Transaction i c) g forward may = fewer-transaction plan h fits i c g may
-fewer_left plan h fits (Compensation i c) g forward may = fewer-compensation plan h fits i c g may
-fewer_left plan h fits (Turn p Refused) g forward may = fewer-refused plan h fits p g may
-fewer_left plan h fits _ g forward may = cc
+fewer_left : (plan : Planned) (h : List Item) (fits : Bool) (x : Item) → Follows plan h → is_forward x ≡ true
+    → may_come plan h fits x ≡ true → left_at plan (cursor_of plan (h ++ x ∷ [])) < left_at plan (cursor_of plan h)
+fewer_left plan h fits (Transaction i c) f forward may =
+    let up = running-rises plan h f.goes.mode (step-comes plan h fits i c may).running in
+    grind (arith, cursor_of-more plan h fits (Transaction i c) f may, way-refused plan (refusals h) (f.goes.tries up.0.unturned))
+fewer_left plan h fits (Compensation i c) f forward may =
+    let back = going_back-falls plan h f.goes.mode (compensation-comes plan h fits i c may).back in
+    grind (arith, cursor_of-more plan h fits (Compensation i c) f may, phase-falling plan h back)
+fewer_left plan h fits (Turn p Refused) f forward may =
+    let up = running-rises plan h f.goes.mode (refused-comes plan h fits p may).running in
+    grind (arith, cursor_of-more plan h fits (Turn p Refused) f may, way-refused plan (refusals h) (f.goes.tries up.0.unturned))
+fewer_left plan h fits _ f forward may = cc
 
--- One journey.
+-- All journeys.
 
 -- how many more steps a journey, if there is one, may make with this history
 abbrev pub left_to : List Item → Option Journey → ℕ
-left_to h o = unwrap_or (option_map (λ (a : Journey). steps_left a.plan h) o) 0
+left_to h o = unwrap_or (option_map (λ (a : Journey). left_at a.plan (cursor_of a.plan h)) o) 0
 
 -- how many more steps journey j may make
 abbrev pub left_of : List Event → ℕ → ℕ
 left_of l j = left_to (history l j) (journey_at l j)
 
 -- an item of another journey leaves them
-left_of-other : (l : List Event) (k : ℕ) (x : Item) (j : ℕ) → (j == k) ≡ false
+left_of-other : (l : List Event) (k : ℕ) (x : Item) (j : ℕ) → (j ≡ k → ⊥)
     → left_of (l ++ Did k x ∷ []) j ≡ left_of l j
-left_of-other l k x j other = grind (arith, history-did_other, journeys-did)
-
--- a step leaves fewer with this history to the journey, if there is one
-left_to-fewer : (h : List Item) (o : Option Journey) (fit : Journey → Bool) (x : Item)
-    → ((a : Journey) → o ≡ Some a → Goes a.plan h) → is_forward x ≡ true
-    → unwrap_or (option_map (λ (a : Journey). may_come a.plan h (fit a) x) o) false ≡ true
-    → left_to (h ++ x ∷ []) o < left_to h o
-left_to-fewer h None fit x goes forward may = cc
-left_to-fewer h (Some a) fit x goes forward may = fewer_left a.plan h (fit a) x (goes a refl) forward may
-
--- a step of the journey leaves fewer
-pub left_of-fewer : (l : List Event) (k : ℕ) (x : Item) → IsLegal l → is_forward x ≡ true
-    → is_item_allowed l k x ≡ true → left_of (l ++ Did k x ∷ []) k < left_of l k
-left_of-fewer l k x legal forward may =
-    rw (journeys-did l k x, history-did_same l k x k (eq-eqb k k refl))
-    (left_to-fewer (history l k) (journey_at l k) (λ a. fits l (next_want a.plan (history l k))) x ((all_go l legal).go k)
-    forward may)
-
--- All journeys.
+left_of-other l k x j other = grind (arith, history-did_other l k x j other, journeys-did)
 
 -- how many more steps all journeys of a ledger may make
-pub work : List Event → ℕ
+abbrev pub work : List Event → ℕ
 work l = sum_by (left_of l) (numbers l)
 
--- the work is the sum over the numbers of all journeys
-pub work-sum : (l : List Event) → work l ≡ sum_by (left_of l) (numbers l)
-unfolding work
-work-sum l = refl
-
 -- a step of one journey leaves fewer steps to all
-work-fewer : (l : List Event) (k : ℕ) (x : Item) → IsLegal l → is_forward x ≡ true
+pub work-fewer : (l : List Event) (k : ℕ) (x : Item) → IsLegal l → is_forward x ≡ true
     → is_item_allowed l k x ≡ true → work (l ++ Did k x ∷ []) < work l
-unfolding work
 work-fewer l k x legal forward may =
     let it = item-journey l k x may in
     let within = number-within (journeys l) k it.0 it.1 in
-    let count = ap (λ js. sum_by (left_of (l ++ Did k x ∷ [])) (numbers_from 1 (length js))) (journeys-did l k x) in
-    let changed = sum_by-changed (left_of l) (left_of (l ++ Did k x ∷ [])) k 1 (length (journeys l))
-    (λ j apart. left_of-other l k x j (ne_eqb j k apart)) within.0 within.1 in
-    let fewer = left_of-fewer l k x legal forward may in
-    omega arith
+    let changed = sum_by-changed (left_of l) (left_of (l ++ Did k x ∷ [])) k 1 (length (journeys l)) (left_of-other l k x)
+    within.0 within.1 in
+    grind (arith, journeys-did, item-journey, history-did_same, fewer_left, follows, may_come-allowed)
 
 -- there are no more steps than were left
 pub steps-within : (p l : List Event) → IsLegal l → AreAllowedAfter l p
     → list_all (are_items is_forward) p ≡ true → length p + work (l ++ p) ≤ work l
-steps-within [] l legal allowed items = grind (arith, work, append-nil)
+steps-within [] l legal allowed items = grind (arith, append-nil)
 steps-within (Did k x ∷ p) l legal allowed items =
     let both = and_parts (is_forward x) (list_all (are_items is_forward) p) items in
     let here = work-fewer l k x legal both.0 allowed.0 in
@@ -195,3 +122,134 @@ steps-within (Did k x ∷ p) l legal allowed items =
     let same = ap work (append_assoc l (Did k x ∷ []) p) in
     omega arith
 steps-within (_ ∷ p) l legal allowed items = cc
+
+-- The turns of recovery.
+
+-- the turn of this journey to its last save-point
+abbrev pub stop_of : List Event → ℕ → Event
+stop_of l j = Did j (Turn (last_save_of l j) Stop)
+
+-- the turns of the running ones among the journeys up to this number
+abbrev stops_to : List Event → ℕ → List Event
+stops_to l n = map (stop_of l) (filter (is_in is_running l) (numbers_from 1 n))
+
+-- turns begin no journey
+no_stop-begins : (l : List Event) (ks : List ℕ) → filter_map begun_by (map (stop_of l) ks) ≡ []
+no_stop-begins l [] = refl
+no_stop-begins l (k ∷ ks) = no_stop-begins l ks
+
+-- turns leave the journeys
+journeys-stops : (l : List Event) (n : ℕ) → journeys (l ++ stops_to l n) ≡ journeys l
+journeys-stops l n = grind (arith, filter_map-append, no_stop-begins, append-nil)
+
+-- what the turns append to a history: one turn if the journey runs
+abbrev pub stop_items : Bool → ℕ → List Item
+stop_items runs p = if runs then Turn p Stop ∷ [] else []
+
+-- what an item of each of these journeys that passes appends to the history of one: its item if it is among them and passes
+items-at : (passes : ℕ → Bool) (x : ℕ → Item) (j n first : ℕ)
+    → filter_map (item_of j) (map (λ k. Did k (x k)) (filter passes (numbers_from first n)))
+    ≡ (if nat_le first j && nat_lt j (first + n) && passes j then x j ∷ [] else [])
+items-at passes x j zero first = grind (arith, nat_tests)
+items-at passes x j (suc n) first = let later = items-at passes x j n (suc first) in grind (arith, nat_tests)
+
+-- the history of each journey after these turns
+history-stops : (l : List Event) (n j : ℕ)
+    → history (l ++ stops_to l n) j
+    ≡ history l j ++ stop_items (nat_le 1 j && nat_lt j (1 + n) && is_in is_running l j) (last_save_of l j)
+history-stops l n j =
+    filter_map-append (item_of j) l (stops_to l n)
+    ∙ ap (λ r. history l j ++ r) (items-at (is_in is_running l) (λ k. Turn (last_save_of l k) Stop) j n 1)
+
+-- of a running journey the turn to its last save-point may come
+stop-passes : (h g : List Item) (o : Option Journey) (fit : Journey → Bool) → g ≡ h → passing is_running h o ≡ true
+    → unwrap_or (option_map (λ (a : Journey). may_come a.plan g (fit a)
+    (Turn (unwrap_or (option_map (λ (b : Journey). last_save b.plan h) o) 0) Stop)) o) false ≡ true
+stop-passes h g None fit same run = run
+stop-passes h g (Some a) fit same run = grind (arith, and_from, eq-eqb)
+
+-- a running journey may turn to its last save-point after the turns of those below it
+stop-allowed : (l : List Event) (n : ℕ) → is_in is_running l (1 + n) ≡ true
+    → IsTrue (is_allowed (l ++ stops_to l n) (stop_of l (1 + n)))
+stop-allowed l n run =
+    let past = history-stops l n (1 + n) in
+    let same : history (l ++ stops_to l n) (1 + n) ≡ history l (1 + n) = grind (arith, nat_tests, append-nil) in
+    let journeys_same = journeys-stops l n in
+    grind (arith, stop-passes)
+
+-- each turn is allowed, one after another
+stops-allowed : (l : List Event) (n : ℕ) → AreAllowedAfter l (stops_to l n)
+stops-allowed l zero = tt
+stops-allowed l (suc n) =
+    let next = ap (numbers_from 1) (let e : suc n ≡ n + 1 = omega arith in e) ∙ numbers_from-append 1 n 1 in
+    let cut : stops_to l (suc n) ≡ stops_to l n ++ map (stop_of l) (filter (is_in is_running l) ((1 + n) ∷ [])) =
+    ap (λ ks. map (stop_of l) (filter (is_in is_running l) ks)) next ∙ simp (filter-append, map-append) in
+    subst (AreAllowedAfter l) (sym cut)
+    (AreAllowedAfter-join l (stops_to l n) (map (stop_of l) (filter (is_in is_running l) ((1 + n) ∷ []))) (stops-allowed l n)
+    (cond_both (is_in is_running l (1 + n)) _ _ (λ ks. AreAllowedAfter (l ++ stops_to l n) (map (stop_of l) ks))
+    (λ run. (stop-allowed l n run, tt)) (λ e. tt)))
+
+-- all turns of a ledger are allowed
+pub stopped-legal : (l : List Event) → IsLegal l → IsLegal (l ++ stops l)
+stopped-legal l legal = AreAllowedAfter-join [] l (stops l) legal (stops-allowed l (length (journeys l)))
+
+-- What may come after them.
+
+-- 1 for a journey that turns, else 0
+abbrev pub turns_of : Bool → ℕ
+turns_of runs = if runs then 1 else 0
+
+-- what a journey in an open phase, or in another one, may need
+abbrev pub need_of : Planned → Bool → ℕ
+need_of plan is_open = if is_open then 2 * step_count plan * (plan.tries + 2) else 0
+
+-- the turn of a journey, and the steps that are left after it, are within its bound
+pub stop-within : (plan : Planned) (h : List Item) (p : ℕ) → Goes plan h
+    → turns_of (is_running (phase plan h)) + left_at plan (cursor_of plan (h ++ stop_items (is_running (phase plan h)) p))
+    ≤ need_of plan (is_open (phase plan h))
+stop-within plan h p g = go (phase plan h) refl
+  where
+    go : (q : Phase) → phase plan h ≡ q
+        → turns_of (is_running q) + left_at plan (cursor_of plan (h ++ stop_items (is_running q) p)) ≤ need_of plan (is_open q)
+    go Run e = grind (arith, way-most, running-rises, position_of-turn, refusals-other, left_in-most)
+    go (Back q) e = grind (arith, way-most, append-nil, position_of-most, left_in-most)
+    go _ e = grind (arith, append-nil)
+
+-- All turns.
+
+-- where each of consecutive numbers needs no more than it may, one for a turn and what is left after it, they need no
+-- more than those that may need something
+turns-within : (turns may : ℕ → Bool) (left most : ℕ → ℕ) (n first : ℕ)
+    → ((j : ℕ) → first ≤ j → j < first + n
+    → turns_of (turns j) + left j ≤ (if may j then most j else 0))
+    → length (filter turns (numbers_from first n)) + sum_by left (numbers_from first n)
+    ≤ sum_by most (filter may (numbers_from first n))
+turns-within turns may left most zero first each = omega arith
+turns-within turns may left most (suc n) first each =
+    let here = each first (omega arith) (omega arith) in
+    let later = turns-within turns may left most n (suc first) (λ j low high. each j (omega arith) (omega arith)) in
+    grind (arith, sum_by-cons)
+
+-- so they are for a journey of a ledger, if there is one, by its history
+option-within : (h : List Item) (o : Option Journey) (p : ℕ) → ((a : Journey) → o ≡ Some a → Goes a.plan h)
+    → turns_of (passing is_running h o) + left_to (h ++ stop_items (passing is_running h o) p) o
+    ≤ (if passing is_open h o
+    then unwrap_or (option_map (λ (a : Journey). 2 * step_count a.plan * (a.plan.tries + 2)) o) 0 else 0)
+option-within h None p goes = omega arith
+option-within h (Some a) p goes = stop-within a.plan h p (goes a refl)
+
+-- each journey needs no more than its bound, and nothing where it is finished
+journey-within : (l : List Event) → IsLegal l → (j : ℕ) → 1 ≤ j → j < 1 + length (journeys l)
+    → turns_of (is_in is_running l j) + left_of (l ++ stops l) j
+    ≤ (if is_in is_open l j then bound_of l j else 0)
+journey-within l legal j low high =
+    let at = history-stops l (length (journeys l)) j in
+    let past : history (l ++ stops l) j ≡ history l j ++ stop_items (is_in is_running l j) (last_save_of l j) =
+    grind (arith, nat_tests) in
+    rw (journeys-stops l (length (journeys l)), past)
+    (option-within (history l j) (journey_at l j) (last_save_of l j) ((all_go l legal).go j))
+
+-- the turns, and what is left after them, are within the bound
+pub stops-within : (l : List Event) → IsLegal l
+    → length (stops l) + work (l ++ stops l) ≤ bound l
+stops-within l legal = grind (arith, turns-within, journey-within, journeys-stops l (length (journeys l)), length-map)

@@ -1,7 +1,7 @@
 //! The report of a preview.
 ghost use Rattle.std.specs.Prelude.{◌≡◌, ◌≢◌, ◌++◌, IfErr, IfOk, OnOk};
 ghost use Rattle.std.specs.Io.KnownBytes.{Appends};
-ghost use Rattle.streams.specs.Written.{WroteFront};
+ghost use Rattle.saga_core.specs.Written.{WroteFront};
 ghost use Rattle.previews.specs.Layouts.{why_ending, why_head, why_in, why_row};
 
 use crate::lines::{brief_lines, next_line, night_line, step_line};
@@ -10,10 +10,9 @@ use crate::objects::{next_object, night_object, step_object};
 use crate::records::{why_heading, why_record};
 use crate::steps::Preview;
 use reports::{ReportFault, journey_object};
-use saga_core::Format;
+use saga_core::{Format, send_all};
 use std::alloc::{AllocError, Global};
 use std::io::Write;
-use streams::send_all;
 
 /// Writes the report of a preview, with what is free of each night of its next want.
 ///

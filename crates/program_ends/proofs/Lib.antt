@@ -1,1 +1,3 @@
 pub mod EndLemmas
+mod FolderLemmas
+pub mod ImageLemmas

@@ -1,7 +1,7 @@
 -- Why the program ended as it did, in words for a user, and how they are printed after the line of the end.
 use Rattle.std.specs.Prelude.{◌==◌, if◌then◌else◌, ℕ, List, codes, Option, None, Some}
 use Rattle.std.specs.Io.KnownBytes.{Keeps}
-use Rattle.streams.specs.Written.{WroteFront}
+use Rattle.saga_core.specs.Written.{WroteFront}
 use Rattle.commands.specs.declared.replies.CsvCause.{CsvCause}
 use Rattle.commands.specs.declared.replies.CsvCause.TheVariants as csv
 use Rattle.commands.specs.declared.replies.Refusal.TheVariants as refusal

@@ -2,14 +2,14 @@
 use Rattle.std.specs.Prelude.{◌≡◌, ◌⊎◌, ⊤, ℕ, List, [], ◌∷◌, codes, decimal, Option, Result, Ok, Err}
 use Rattle.std.specs.String.{string_bytes}
 use Rattle.std.specs.Io.KnownBytes.{Keeps}
-use Rattle.streams.specs.Written.{WroteFront}
+use Rattle.saga_core.specs.Written.{WroteFront}
 use Rattle.commands.specs.Texts.{refusal_line, sentence}
 use Rattle.commands.specs.declared.replies.Refusal.{Refusal}
 use Rattle.reports.specs.declared.faults.ReportFault.{ReportFault}
 use Rattle.reports.specs.declared.faults.ReportFault.TheVariants as report
-use Rattle.streams.specs.Scenes.{ended}
-use Rattle.streams.specs.declared.serve_faults.ServeFault.{ServeFault}
-use Rattle.streams.specs.declared.serve_faults.ServeFault.TheVariants as serve
+use Rattle.saga_core.specs.StreamScenes.{ended}
+use Rattle.saga_core.specs.declared.serve_faults.ServeFault.{ServeFault}
+use Rattle.saga_core.specs.declared.serve_faults.ServeFault.TheVariants as serve
 use Rattle.command_line.specs.declared.jobs.JobFault.{JobFault}
 use Rattle.command_line.specs.declared.jobs.JobFault.TheVariants as job
 use Rattle.program_ends.specs.declared.ends.End.{End}

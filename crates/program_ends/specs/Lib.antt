@@ -1,3 +1,5 @@
 pub mod Causes
 pub mod Ends
 pub mod Lines
+pub mod FileCauses
+pub mod Images

@@ -2,15 +2,15 @@
 ghost use Rattle.std.specs.Prelude.{◌≡◌};
 ghost use Rattle.std.specs.Option.{option_or};
 ghost use Rattle.std.specs.Io.KnownBytes.{Keeps};
-ghost use Rattle.streams.specs.Written.{WroteFront};
+ghost use Rattle.saga_core.specs.Written.{WroteFront};
 ghost use Rattle.program_ends.specs.Causes.{cause_of_end, cause_of_load, Explains, TellsCause};
 ghost use Rattle.program_ends.specs.Ends.{end_of_both, status_of, told_out};
 
 use crate::causes::Cause;
 use crate::ends::End;
+use saga_core::send;
 use std::alloc::Global;
 use std::io::Write;
-use streams::send;
 
 /// An end of the program, and why it came, as far as that is known.
 #[derive(Debug, Drop)]

@@ -2,17 +2,17 @@
 //!
 //! A refusal is printed on standard output; a fault, and the usage, on standard error.
 ghost use Rattle.std.specs.Prelude.{◌≡◌};
-ghost use Rattle.streams.specs.Written.{WroteFront};
+ghost use Rattle.saga_core.specs.Written.{WroteFront};
 ghost use Rattle.commands.specs.Texts.{refusal_line};
-ghost use Rattle.streams.specs.Scenes.{ended};
+ghost use Rattle.saga_core.specs.StreamScenes.{ended};
 ghost use Rattle.program_ends.specs.Ends.{end_of_both, end_of_job, end_of_result, status_of, told_out, TellsError, TellsNoneOrFault};
 
 use crate::faults::ProgramFault;
 use command_line::JobFault;
 use commands::Refusal;
+use saga_core::{ServeFault, send};
 use std::alloc::Global;
 use std::io::Write;
-use streams::{ServeFault, send};
 
 /// An end of the program.
 #[derive(Debug, Drop)]

@@ -1,11 +1,11 @@
 //! The faults that end the program: their numbers, names and lines.
 ghost use Rattle.std.specs.Prelude.{◌≡◌};
-ghost use Rattle.streams.specs.Faults.{served_fault};
+ghost use Rattle.saga_core.specs.StreamFaults.{served_fault};
 ghost use Rattle.program_ends.specs.Ends.{fault_line, fault_name, fault_number, fault_of_report, fault_of_run};
 
 use commands::Fault;
 use reports::ReportFault;
-use streams::ServeFault;
+use saga_core::ServeFault;
 
 /// A fault that ends the program.
 #[derive(Clone, Copy, Debug, PartialEq, Eq)]

@@ -22,8 +22,8 @@ use Rattle.ledger.specs.Answer.{State, start}
 use Rattle.ledger.specs.World.{Moment, after, IsWorld}
 use Rattle.recovery.specs.Worlds.{orders_of}
 use Rattle.saga_core.specs.Chains.{reopened}
-use Rattle.desk_files.specs.Images.{Closes, KeepsFound, LeavesAsFound, OpensOver}
-use Rattle.desk_files.specs.declared.closing.Left.{Left}
+use Rattle.program_ends.specs.Images.{Closes, KeepsFound, LeavesAsFound, OpensOver}
+use Rattle.program_ends.specs.declared.closing.Left.{Left}
 use Rattle.desk_jobs.specs.Chains.{StandsAs}
 use Rattle.desk_jobs.specs.Executions.{EachMayReopen, LeavesOpened, StandsStill}
 use Rattle.desk_jobs.specs.Openings.{Input, HasNoExchange}

@@ -1,7 +1,7 @@
 -- What was written of a report, and how its job ends. For the job of a report.
 use Rattle.std.proofs.Common.{◌≡◌, false, refl, true, ℕ, Bool, List, Option, Result, None, Some, Ok, Err}
 use Rattle.std.specs.Io.KnownBytes.{Keeps}
-use Rattle.streams.proofs.ByteLemmas.{appends_before, keeps_same}
+use Rattle.saga_core.proofs.ByteLemmas.{appends_before, keeps_same}
 use Rattle.reports.proofs.FrontLemmas.{front_none, front_whole}
 use Rattle.reports.specs.declared.faults.ReportFault.{ReportFault}
 use Rattle.program_ends.specs.declared.ends.End.TheVariants as finish

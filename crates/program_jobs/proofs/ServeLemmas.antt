@@ -1,10 +1,10 @@
 -- What serving comes to, from how its desk came up and who was served. For `serving`.
-use Rattle.std.proofs.Common.{◌≡◌, ◌∙◌, arith, refl, ap, sym, subst, inl, inr, ℕ, List, [], Bool, true, false, map, get_or, Option, Some, Result, IfOk}
+use Rattle.std.proofs.Common.{◌≡◌, ◌∙◌, arith, refl, ap, sym, subst, inl, inr, ℕ, List, [], Bool, true, false, map, get_or, Option, Some, Result}
 use Rattle.std.specs.Io.KnownBytes.{Appends}
 use Rattle.std.specs.declared.io.traits.Read as Read
 use Rattle.std.specs.declared.io.traits.Write as Write
 use Rattle.std.proofs.KnownBytes.{Appends-nil}
-use Rattle.streams.specs.Written.{WroteFront}
+use Rattle.saga_core.specs.Written.{WroteFront}
 use Rattle.sqlite.specs.Store.{Ghosts}
 use Rattle.sqlite.specs.Held.{Held, state}
 use Rattle.sqlite.specs.State.{State as Connected, HasCleanDisk}
@@ -107,11 +107,11 @@ module _ {S : Type 0} (g : Ghosts S) (b : TableBook S g) (new : Held S) where
       → (HasCleanDisk (state g first.conn) → (s : State) → StandsBook g b s → StandsBook g first s)
       → (HasCleanDisk (state g last.conn) → HasCleanDisk (state g first.conn))
       → GoOnByTurns r w t.is_at t.is_by t.is_pair (λ b. HasCleanDisk (state g b.conn)) (StandsBook g) (LeavesBook g) (MayActSince g)
-      (HasReasonSince g) first last served
-      → IfOk served (EndsOver (t.is_over guests)) → Appends held holds (ready_line port) → LetsGo g last new
+      (HasReasonSince g) first last (EndsOver t.took t.heard t.seen t.is_over began guests) served
+      → Appends held holds (ready_line port) → LetsGo g last new
       → failed ≡ has_failed guests → e ≡ end_of_serving failed served → IsFrom e ended
       → ServesDesk g (CameFrom r w t has_failed listened_for) port b new held holds ended
-  guests_served r w t has_failed listened_for began listened port held holds first last guests served failed e ended stays back on over told gone same ends from =
+  guests_served r w t has_failed listened_for began listened port held holds first last guests served failed e ended stays back on told gone same ends from =
       let worlds = on.goes_on.worlds in
       let end = end_of_serving (has_failed guests) served in
       let is : IsFrom end ended = subst (λ x. IsFrom x ended) (ends ∙ ap (λ f. end_of_serving f served) same) from in
@@ -131,12 +131,11 @@ module _ {S : Type 0} (g : Ghosts S) (b : TableBook S g) (new : Held S) where
           merged = worlds.merged;
           is_merged = worlds.is_merged;
           are = refl;
+          guests = guests;
           ending = served;
           stopped = on.goes_on.stopped;
           stops_as = on.goes_on.stops_as;
           stopping = worlds.stopping;
-          guests = guests;
-          over = over;
           ends = refl;
         };
         told = told;

@@ -2,8 +2,8 @@
 use Rattle.std.proofs.Common.{◌≡◌, ap, arith, sym, subst, ℕ, List, [], take, append-nil, Option, None, Some}
 use Rattle.std.proofs.Math.Seq.{take-nil}
 use Rattle.std.specs.Io.KnownBytes.{Appends, Keeps}
-use Rattle.streams.specs.Written.{WroteFront}
-use Rattle.streams.proofs.ByteLemmas.{appends_before, appends_none}
+use Rattle.saga_core.specs.Written.{WroteFront}
+use Rattle.saga_core.proofs.ByteLemmas.{appends_before, appends_none}
 use Rattle.program_ends.specs.Ends.{end_of_both}
 use Rattle.desk_jobs.proofs.RecoveredLemmas.{done_as}
 use Rattle.program_ends.specs.declared.ends.End.{End}

@@ -11,8 +11,8 @@ use Rattle.sqlite.specs.State.{HasCleanDisk}
 use Rattle.sql_model.specs.Openings.{StandsAsOpened}
 use Rattle.program_ends.specs.Causes.{cause_of_end, cause_of_load}
 use Rattle.program_ends.specs.declared.ends.End.{End}
-use Rattle.desk_files.specs.Images.{Closes, LeavesAsFound, OpensOver}
-use Rattle.desk_files.specs.declared.closing.Left.{Left}
+use Rattle.program_ends.specs.Images.{Closes, LeavesAsFound, OpensOver}
+use Rattle.program_ends.specs.declared.closing.Left.{Left}
 use Rattle.desk_jobs.specs.Executions.{EachMayReopen, StandsStill}
 use Rattle.desk_jobs.specs.Openings.{Connections, File, Input, Lines, Nothing}
 use Rattle.desk_jobs.specs.Following.{Follows}

@@ -9,8 +9,8 @@ use Rattle.sqlite.specs.Held.{Held, state}
 use Rattle.sqlite.specs.Store.{Ghosts}
 use Rattle.ledger.specs.Answer.{start}
 use Rattle.ledger.specs.World.{Moment, after, IsWorld}
-use Rattle.desk_files.specs.Images.{IsSoundLeft, IsSupposed, MayHold}
-use Rattle.desk_files.specs.declared.closing.Left.{Left}
+use Rattle.program_ends.specs.Images.{IsSoundLeft, IsSupposed, MayHold}
+use Rattle.program_ends.specs.declared.closing.Left.{Left}
 use Rattle.desk_jobs.specs.Chains.{StandsAs}
 use Rattle.desk_jobs.specs.Executions.{OfEachWorld}
 use Rattle.desk_jobs.specs.Openings.{Input}

@@ -3,7 +3,7 @@ use Rattle.std.specs.Prelude.{◌⊎◌, ℕ, List, Option, IfSome, option_map}
 use Rattle.std.specs.String.{string_bytes}
 use Rattle.sqlite_disk.specs.declared.Disk.{Ghosts as Disk}
 use Rattle.sqlite_wal.specs.Recovery.{Image}
-use Rattle.desk_files.specs.declared.closing.Left.{Left}
+use Rattle.program_ends.specs.declared.closing.Left.{Left}
 use Rattle.http_conversations.specs.Worlds.{Exchange}
 use Rattle.desk_jobs.specs.Openings.{Connections, File, Lines, Nothing}
 use Rattle.program_ends.specs.declared.ends.End.{End}

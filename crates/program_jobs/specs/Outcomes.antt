@@ -2,7 +2,7 @@
 use Rattle.std.specs.Prelude.{◌≡◌, ⊤, ℕ, List, Option, None, Result, Ok, Err}
 use Rattle.std.specs.Option.{option_or}
 use Rattle.std.specs.Io.KnownBytes.{Appends}
-use Rattle.streams.specs.Written.{WroteFront}
+use Rattle.saga_core.specs.Written.{WroteFront}
 use Rattle.program_ends.specs.Causes.{cause_of_end}
 use Rattle.program_ends.specs.Ends.{IfDone, end_of_both}
 use Rattle.program_ends.specs.declared.causes.Cause.{Cause}

@@ -11,7 +11,7 @@ use Rattle.ledger.specs.Answer.{State}
 use Rattle.reports.specs.declared.faults.ReportFault.{ReportFault}
 use Rattle.report_kinds.specs.Texts.{OfReport}
 use Rattle.saga_core.specs.declared.report.Report.{Report}
-use Rattle.streams.specs.Written.{WroteFront}
+use Rattle.saga_core.specs.Written.{WroteFront}
 use Rattle.sql_model.specs.Spelling.{IsSpelled}
 use Rattle.sql_model.specs.Standing.{IsDesk}
 use Rattle.tables.specs.Lending.{IsOnlyRead, OpenedKeeps}

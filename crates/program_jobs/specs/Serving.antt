@@ -1,15 +1,15 @@
 -- What a job does over a connection that serves: its desk is recovered, and then who comes is served until there is a reason to end.
-use Rattle.std.specs.Prelude.{◌≡◌, ◌⊎◌, ⊤, ℕ, Bool, true, false, List, [], ◌∷◌, All, codes, decimal, map, Option, Some, Result, Ok, Err, IfOk, IfErr, OnOk}
+use Rattle.std.specs.Prelude.{◌≡◌, ◌⊎◌, ⊤, ℕ, Bool, true, false, List, [], ◌∷◌, All, codes, decimal, map, Option, Some, Result, Ok, Err, IfErr, OnOk}
 use Rattle.std.specs.Io.KnownBytes.{Appends}
 use Rattle.std.specs.declared.io.traits.Read as Read
 use Rattle.std.specs.declared.io.traits.Write as Write
-use Rattle.streams.specs.Written.{WroteFront}
+use Rattle.saga_core.specs.Written.{WroteFront}
 use Rattle.sqlite.specs.Store.{Ghosts}
 use Rattle.sqlite.specs.Held.{Held}
 use Rattle.commands.specs.Texts.{sentence}
 use Rattle.commands.specs.declared.replies.Fault.{Fault}
 use Rattle.commands.specs.declared.replies.Fault.TheVariants.{Memory, Store}
-use Rattle.streams.specs.Scenes.{ended}
+use Rattle.saga_core.specs.StreamScenes.{ended}
 use Rattle.ledger.specs.Answer.{State}
 use Rattle.saga_core.specs.Books.{LeavesJust}
 use Rattle.http_conversations.specs.Conversations.{history}
@@ -82,7 +82,7 @@ module _ {R W : Type 0} {r : Read.Ghosts R} {w : Write.Ghosts W} where
 -- Who came to a desk that served until this end, and the exchanges with them, in the order in which they were carried out: those of
 -- slots that had none before, merged. Each connection came by the door and in the mode of its reader, with the writer of the same peer,
 -- which was sent its pages. `listened_for` says what is known of the source of their turns as listening began.
--- Serving ended for a reason, and where the administrator stopped it, by the last exchange.
+-- Serving ended for a reason, or after all turns that are counted, and where the administrator stopped it, by the last exchange.
 pub record CameFrom {T R W : Type 0} (r : Read.Ghosts R) (w : Write.Ghosts W) (t : Turns.Ghosts T R W) (has_failed : T → Bool)
     (listened_for : T → Type 0) (e : End) (exchanges : List Exchange) : Type 0 where
   pub began : T
@@ -97,12 +97,11 @@ pub record CameFrom {T R W : Type 0} (r : Read.Ghosts R) (w : Write.Ghosts W) (t
   pub merged : List Slotted
   pub is_merged : IsMerged before (map exchanges_at slots) merged
   pub are : exchanges ≡ map exchange_of merged
+  pub guests : T
   pub ending : Result Ending Fault
   pub stopped : Bool
-  pub stops_as : StopsAs ending stopped
+  pub stops_as : StopsAs (EndsOver t.took t.heard t.seen t.is_over began guests) ending stopped
   pub stopping : StopAtLast stopped exchanges
-  pub guests : T
-  pub over : IfOk ending (EndsOver (t.is_over guests))
   pub ends : e ≡ end_of_serving (has_failed guests) ending
 
 -- What serving came to: nobody was served, for such a reason; or the line was written, and then these exchanges were carried out.

@@ -3,7 +3,7 @@ ghost use Rattle.std.specs.Prelude.{IfErr, IfOk};
 ghost use Rattle.sqlite.specs.Files.{file_state};
 ghost use Rattle.sqlite.specs.State.{HasCleanDisk};
 ghost use Rattle.sqlite_wal.specs.Files.{image_at};
-ghost use Rattle.desk_files.specs.Images.{LeavesAsFound, OpensOver};
+ghost use Rattle.program_ends.specs.Images.{LeavesAsFound, OpensOver};
 ghost use Rattle.desk_sql.specs.Calls.{Idle};
 ghost use Rattle.program_ends.specs.Ends.{EndsBadly};
 ghost use Rattle.program_jobs.specs.Serving.{CameFrom};
@@ -12,10 +12,11 @@ ghost use Rattle.program_jobs.specs.Doing.{Did};
 ghost use Rattle.program_jobs.specs.InvokedTasks.{RanOver};
 
 use crate::{Environment, Task, do_job};
-use desk_files::{ConnectionFrom, Left, NewLog, close_from, connect_from, connect_there_from};
 use desk_jobs::reopenings;
 use http_live::Turns;
-use program_ends::{End, Ended};
+use program_ends::{
+    ConnectionFrom, End, Ended, Left, NewLog, close_from, connect_from, connect_there_from,
+};
 use sql_model::openings;
 use sqlite::{FileFrom, FileStore, Start};
 use sqlite_trees::store::Store;

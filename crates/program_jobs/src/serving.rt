@@ -1,7 +1,7 @@
 //! Serving who comes, after the recovery of a desk.
 ghost use Rattle.std.specs.Prelude.{◌≡◌, OnOk};
 ghost use Rattle.std.specs.Io.KnownBytes.{Appends};
-ghost use Rattle.streams.specs.Written.{WroteFront};
+ghost use Rattle.saga_core.specs.Written.{WroteFront};
 ghost use Rattle.desk_sql.specs.Calls.{Idle};
 ghost use Rattle.desk_jobs.specs.Ends.{SendsLine};
 ghost use Rattle.desk_jobs.specs.Jobs.{Leaves, LeavesDesk};
@@ -13,11 +13,10 @@ use desk_jobs::{let_go, note_recovered, ready_over, reopenings, send_line};
 use http_live::{Ending, Turns, serve_to_end};
 use program_ends::{End, Ended, ProgramFault};
 use recovery::{Ready, one_recovery};
-use saga_core::Book;
+use saga_core::{Book, ServeFault};
 use sqlite::{Alter, Connection};
 use std::alloc::Global;
 use std::io::{Read, Write};
-use streams::ServeFault;
 use tables::TableBook;
 
 /// Recovers the desk of a connection, and serves who comes until there is a reason to end. Once somebody may come, the line

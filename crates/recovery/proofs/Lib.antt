@@ -12,3 +12,9 @@ pub mod FinishLemmas
 pub mod OneLemmas
 pub mod MadeLemmas
 pub mod WorldLemmas
+pub mod LineLemmas
+pub mod ServeLemmas
+pub mod LineWorldLemmas
+pub mod ReasonLemmas
+pub mod OrderLemmas
+pub mod OneLineLemmas

@@ -6,3 +6,10 @@ pub mod Following
 pub mod Recovers
 pub mod Worlds
 pub mod Examples
+pub mod Lines
+pub mod Reading
+pub mod Orders
+pub mod Serving
+pub mod LineWorlds
+pub mod Answering
+pub mod LineExamples

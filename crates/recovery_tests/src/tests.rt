@@ -12,6 +12,8 @@ use std::test::Fail;
 
 mod counting;
 mod failing;
+mod plain;
+mod random;
 
 use counting::CountingBook;
 use failing::FailingBook;

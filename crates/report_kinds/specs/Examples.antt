@@ -1,7 +1,7 @@
 -- Worked examples of what reports show: each is computed by the definitions.
 use Rattle.std.specs.Prelude.{◌≡◌, ℕ, List, [], ◌∷◌, true, Option, None, Some, is_some, refl}
 use Rattle.saga_core.specs.declared.cell_filters.CellFilter.{CellFilter}
-use Rattle.holder_reports.specs.Examples.{two_stays}
+use Rattle.reports.specs.HolderExamples.{two_stays}
 use Rattle.month_reports.specs.Examples.{on_1, on_29, on_30}
 use Rattle.saga_core.specs.declared.report.Format.TheVariants.{Text}
 use Rattle.report_kinds.specs.Texts.{OfReport, asked_cells, report_text}

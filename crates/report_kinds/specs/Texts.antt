@@ -6,10 +6,10 @@ use Rattle.ledger.specs.Ledger.{Event, history}
 use Rattle.saga_core.specs.CellFilters.{is_cell_asked}
 use Rattle.saga_core.specs.JourneyFilters.{asked_of}
 use Rattle.saga_core.specs.declared.cell_filters.CellFilter.{CellFilter}
-use Rattle.holder_reports.specs.Holders.{holders_of}
-use Rattle.holder_reports.specs.HoldingLayouts.{holdings_shown}
-use Rattle.holder_reports.specs.Holdings.{cells_asked, holdings_in}
-use Rattle.holder_reports.specs.Layouts.{holders_in}
+use Rattle.reports.specs.Holders.{holders_of}
+use Rattle.reports.specs.HoldingLayouts.{holdings_shown}
+use Rattle.reports.specs.Holdings.{cells_asked, holdings_in}
+use Rattle.reports.specs.HolderLayouts.{holders_in}
 use Rattle.month_reports.specs.MonthReports.{asked_months, months_in}
 use Rattle.previews.specs.Layouts.{why_of}
 use Rattle.previews.specs.Previews.{begun_as}

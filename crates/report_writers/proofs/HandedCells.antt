@@ -1,5 +1,5 @@
 -- The cells that are asked for, in their only order. For `cell_rows`.
-use Rattle.std.proofs.Common.{◌≡◌, ◌≢◌, inl, inr, ℕ, List, [], ◌∷◌, map, filter, cond, Bool, true, Option, refl, subst, arith, nat_le}
+use Rattle.std.proofs.Common.{◌≡◌, ◌≢◌, inl, inr, ℕ, List, [], ◌∷◌, map, filter, true, Option, refl, subst, arith, nat_le}
 use Rattle.std.specs.Ordering.{is_lt}
 use Rattle.std.proofs.lemmas.Bool.{and_parts}
 use Rattle.std.proofs.lemmas.Bool.Decides.{nat_tests}
@@ -29,10 +29,6 @@ use Rattle.report_writers.proofs.OneOrder.{only_compared}
 to_same : (last : Option ℕ) (night : ℕ) → nat_le night last_night ≡ true → nat_le night (last_day last) ≡ is_to last night
 to_same last night low = grind (arith, nat_tests)
 
-kept_same : (v w : Bool) (c : Cell × Held) (rs : List StockRow) (cs : List (Cell × Held)) → v ≡ w → rs ≡ map stock_row_of cs
-    → cond v (stock_row_of c ∷ rs) rs ≡ map stock_row_of (cond w (c ∷ cs) cs)
-kept_same v w c rs cs e more = grind arith
-
 module _ (l : List Event) (stock : List StockRow) (stand : StockStands l stock) (cells : List (Cell × Held)) (is : IsStock l cells) where
   -- a row is one of those that are asked for where its cell is
   each_asked : (kind : Kind) (f : CellFilter) (c : Cell × Held) → nat_le c.0.night last_night ≡ true
@@ -43,8 +39,7 @@ module _ (l : List Event) (stock : List StockRow) (stand : StockStands l stock) 
       → filter (is_row_asked kind f) (map stock_row_of some) ≡ map stock_row_of (filter (λ (c : Cell × Held). is_cell_of kind f c.0) some)
   rows_asked kind f [] low = refl
   rows_asked kind f (c ∷ some) low =
-      kept_same (is_row_asked kind f (stock_row_of c)) (is_cell_of kind f c.0) c _ _ (each_asked kind f c (low c (inl refl)))
-      (rows_asked kind f some (λ d h. low d (inr h)))
+      grind (arith, each_asked kind f c (low c (inl refl)), rows_asked kind f some (λ d h. low d (inr h)))
 
   module _ (legal : IsLegal l) (kind : Kind) (f : CellFilter) where
     -- each cell of the stock is of a night

@@ -15,8 +15,8 @@ use Rattle.sql_lists.specs.HolderLists.{IsByStep, ListsHolders, is_row_held}
 use Rattle.sql_model.specs.ExpectedRows.{counted_from, is_standing, option_rows, step_rows, steps_called}
 use Rattle.sql_model.proofs.Numbering.{counted_rises}
 use Rattle.sql_model.proofs.Orders.{ascending_where, pairs-permutation}
-use Rattle.holder_reports.specs.Holders.{holders_of}
-use Rattle.holder_reports.specs.declared.holders.Holder.{Holder}
+use Rattle.reports.specs.Holders.{holders_of}
+use Rattle.reports.specs.declared.holders.Holder.{Holder}
 use Rattle.report_writers.specs.HoldersLeft.{found_of}
 use Rattle.report_writers.proofs.HeldRows.{held_told}
 use Rattle.report_writers.proofs.OneOrder.{only_order}

@@ -1,5 +1,5 @@
 -- The rows of the holders of cells, night by night, in their only order. For `start_holdings`.
-use Rattle.std.proofs.Common.{◌≡◌, ◌≢◌, ℕ, suc, ◌+◌, ◌<◌, ◌≤◌, ◌-◌, ◌^◌, ◌==◌, ◌&&◌, List, [], ◌∷◌, ◌++◌, map, filter, Bool, true, Some, IsTrue, is_lt, refl, sym, ap, ap₂, subst, ◌∙◌, arith, flat_map, nat_le}
+use Rattle.std.proofs.Common.{◌≡◌, ◌≢◌, ℕ, suc, ◌+◌, ◌<◌, ◌≤◌, ◌-◌, ◌^◌, ◌==◌, ◌&&◌, List, [], ◌∷◌, map, filter, Bool, true, Some, IsTrue, is_lt, refl, sym, ap, subst, ◌∙◌, arith, flat_map, nat_le}
 use Rattle.std.specs.List.{AllByRecursion, list_all}
 use Rattle.std.specs.List.Sorted.{IsPermutation}
 use Rattle.std.proofs.lemmas.Bool.{and_from, and_parts, leb-true}
@@ -35,9 +35,9 @@ use Rattle.sql_model.proofs.Orders.{one_order, pairs-permutation}
 use Rattle.sql_model.proofs.RecordRows.{plan_good}
 use Rattle.sql_lists.specs.HolderLists.{is_row_held}
 use Rattle.sql_lists.specs.HoldingLists.{IsByNight, Joined, ListsHoldings, holding_of as row_shown, is_held_in, is_joined, is_stock_asked, join, joined, joined_cmp}
-use Rattle.holder_reports.specs.Holders.{holders_of}
-use Rattle.holder_reports.specs.Holdings.{cells_asked, holdings_in, holdings_of}
-use Rattle.holder_reports.specs.declared.holdings.Holding.{Holding}
+use Rattle.reports.specs.Holders.{holders_of}
+use Rattle.reports.specs.Holdings.{cells_asked, holdings_in, holdings_of}
+use Rattle.reports.specs.declared.holdings.Holding.{Holding}
 use Rattle.sql_model.proofs.JourneyRows.{called_rises, journey_told}
 use Rattle.sql_reads.proofs.GoodStock.{good_row}
 use Rattle.sql_reads.proofs.HandedTold.{IsThere}
@@ -60,11 +60,8 @@ module _ (l : List Event) (legal : IsLegal l) where
       ≡ map holding_told (flat_map (holdings_of l) (map (λ (r : Listed). r.0) cs))
   cells_told [] = refl
   cells_told (c ∷ cs) =
-      let later = flat_map rows_of (map stock_row_of cs) in
-      ap (map holding_short) (map-append row_shown (rows_of (stock_row_of c)) later)
-      ∙ map-append holding_short (map row_shown (rows_of (stock_row_of c))) (map row_shown later)
-      ∙ ap₂ ◌++◌ (all_told l c (holders_of l c.0) (filter (is_row_held c.0) (steps_called l)) (held_told l legal c.0)) (cells_told cs)
-      ∙ sym (map-append holding_told (holdings_of l c.0) (flat_map (holdings_of l) (map (λ (r : Listed). r.0) cs)))
+      let own = all_told l c (holders_of l c.0) (filter (is_row_held c.0) (steps_called l)) (held_told l legal c.0) in
+      grind (arith, map-append, own, cells_told cs)
 
   -- Numbers.
 

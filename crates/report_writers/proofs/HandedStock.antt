@@ -1,14 +1,13 @@
 -- The rows of the stock, in their only order. For `cell_rows`.
 use Rattle.std.proofs.Common.{◌≡◌, ◌≢◌, inl, inr, ℕ, ◌≤◌, List, [], ◌∷◌, map, find, true, false, Option, Some, None, refl, sym, ap, ap₂, subst, ◌∙◌, eqb-true, eq-eqb, option_map, arith}
 use Rattle.std.specs.Ordering.{is_lt}
-use Rattle.std.specs.List.{AllByRecursion}
 use Rattle.std.proofs.Math.Bridge.{le_prop}
 use Rattle.std.proofs.lemmas.Bool.{and_parts, and_from}
 use Rattle.std.proofs.lemmas.Slice.Eq.{bytes_eq-Decides}
 use Rattle.sqlite_trees.specs.Tree.{IsAscending}
-use Rattle.sqlite_trees.proofs.ListLemmas.{ascending_weaker}
+use Rattle.sqlite_trees.proofs.ListLemmas.{ascending_weaker, all-map}
 use Rattle.sqlite_rules.specs.Lists.{Has}
-use Rattle.sqlite_rules.proofs.ListLemmas.{all_has, test_has, has_found}
+use Rattle.sqlite_rules.proofs.ListLemmas.{all_has, test_has, has_found, all_from}
 use Rattle.sqlite_rules.proofs.ProbeLemmas.{has_mapped, mapped_has}
 use Rattle.allotment.specs.Limits.{most_places}
 use Rattle.allotment.specs.Cells.{kind_number, is_cell}
@@ -41,12 +40,12 @@ row_is x h r on places = grind (arith, and_parts, eqb-true, bytes_eq-Decides)
 pub in_order_strict : (cells : List (Cell × Held)) → are_in_order cells ≡ true
     → IsAscending (λ (r s : StockRow). is_lt (stock_cmp r s) ≡ true) (map stock_row_of cells)
 in_order_strict [] e = tt
-in_order_strict (c ∷ cells) e = let both = and_parts _ _ e in (below cells (λ d h. test_has _ cells d both.0 h), in_order_strict cells both.1)
-  where
-    below : (ds : List (Cell × Held)) → ((d : Cell × Held) → Has ds d → is_lt (cell_cmp c.0 d.0) ≡ true)
-        → AllByRecursion (λ (s : StockRow). is_lt (stock_cmp (stock_row_of c) s) ≡ true) (map stock_row_of ds)
-    below [] each = tt
-    below (d ∷ ds) each = (each d (inl refl), below ds (λ x h. each x (inr h)))
+in_order_strict (c ∷ cells) e =
+    let both = and_parts _ _ e in (
+      all-map (λ (s : StockRow). is_lt (stock_cmp (stock_row_of c) s) ≡ true) stock_row_of cells
+          (all_from _ cells (λ d h. test_has _ cells d both.0 h)),
+      in_order_strict cells both.1,
+    )
 
 -- a list in order has each cell once
 one_of_cell : (cells : List (Cell × Held)) → are_in_order cells ≡ true → (c d : Cell × Held) → Has cells c → Has cells d → c.0 ≡ d.0 → c ≡ d
@@ -73,9 +72,7 @@ listed_there cells x p e = go (find (λ (c : Cell × Held). is_cell x c.0) cells
     go None f = let bad : None ≡ Some p = sym (ap (option_map (λ (c : Cell × Held). places_said c.1)) f) ∙ e in absurd (cc)
     go (Some c) f =
         let there = has_found (λ (d : Cell × Held). is_cell x d.0) cells c f in
-        let said : Some (places_said c.1) ≡ Some p = sym (ap (option_map (λ (d : Cell × Held). places_said d.1)) f) ∙ e in
-        let cell : x ≡ c.0 = is_cell-same x c.0 there.1 in
-        (c.1, subst (λ (y : Cell). Has cells (y, c.1)) (sym cell) there.0, (let s : places_said c.1 ≡ p = cc in s))
+        (c.1, subst (λ (y : Cell). Has cells (y, c.1)) (sym (is_cell-same x c.0 there.1)) there.0, grind arith)
 
 -- the places of each element are those that a list in order has of its cell
 there_listed : (cells : List (Cell × Held)) → are_in_order cells ≡ true → (c : Cell × Held) → Has cells c

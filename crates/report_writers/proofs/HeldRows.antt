@@ -1,5 +1,5 @@
 -- The rows of options that hold places of a cell, of a legal ledger, are its holders. For `holder_rows`.
-use Rattle.std.proofs.Common.{◌≡◌, ◌≢◌, ℕ, zero, suc, ◌+◌, ◌<◌, ◌≤◌, ◌==◌, ◌&&◌, ◌||◌, List, [], ◌∷◌, ◌++◌, map, filter, cond, length, if◌then◌else◌, Bool, true, false, Option, Some, None, refl, sym, ap, ap₂, ◌∙◌, arith, eq-eqb, eqb-true, bytes_eq, filter_map, flat_map, nat_le, nat_lt, slice_get, option_map}
+use Rattle.std.proofs.Common.{◌≡◌, ◌≢◌, ℕ, zero, suc, ◌+◌, ◌<◌, ◌≤◌, ◌==◌, ◌&&◌, ◌||◌, List, [], ◌∷◌, ◌++◌, map, filter, cond, length, if◌then◌else◌, Bool, true, false, Option, Some, None, refl, sym, ap, ◌∙◌, arith, eq-eqb, eqb-true, bytes_eq, filter_map, flat_map, slice_get, option_map}
 use Rattle.std.specs.Prelude.{unwrap_or}
 use Rattle.std.specs.List.{cons_option, list_any}
 use Rattle.std.proofs.lemmas.Bool.{and_from, and_parts, cases_Bool, eqb-false, ne_eqb, or_cases}
@@ -18,8 +18,8 @@ use Rattle.desk_sql.specs.Rows.{StepRow}
 use Rattle.sql_lists.specs.HolderLists.{holder_of, is_night_of, is_row_held}
 use Rattle.sql_lists.specs.declared.holders.HolderFound.{HolderFound}
 use Rattle.sql_model.specs.ExpectedRows.{counted_from, is_standing, option_row, option_rows, step_rows, steps_called}
-use Rattle.holder_reports.specs.Holders.{holder_if, holders_by, holders_in_journey, holders_of}
-use Rattle.holder_reports.specs.declared.holders.Holder.{Holder}
+use Rattle.reports.specs.Holders.{holder_if, holders_by, holders_in_journey, holders_of}
+use Rattle.reports.specs.declared.holders.Holder.{Holder}
 use Rattle.report_writers.specs.HoldersLeft.{found_of}
 
 -- The test of a row is that of its want.
@@ -34,23 +34,22 @@ eqb_turned a b = grind (arith, nat_tests)
 bytes_turned : (a b : List ℕ) → bytes_eq a b ≡ bytes_eq b a
 bytes_turned a b = grind (arith, same_test, bytes_eq-Decides)
 
-low_of : (a b : ℕ) → nat_le a b ≡ true → a ≤ b
-low_of a b t = grind (arith, nat_tests)
-
-below_of : (a b : ℕ) → nat_lt a b ≡ true → a < b
-below_of a b t = grind (arith, nat_tests)
-
-of_low : (a b : ℕ) → a ≤ b → nat_le a b ≡ true
-of_low a b t = grind (arith, nat_tests)
-
-of_below : (a b : ℕ) → a < b → nat_lt a b ≡ true
-of_below a b t = grind (arith, nat_tests)
-
 -- a night is one of the numbers from the first on
 night_among : (first nights night : ℕ) → list_any (λ n. night == n) (numbers_from first nights) ≡ is_night_of first nights night
-night_among first zero night = grind (arith, same_test, and_parts, low_of, below_of)
+night_among first zero night = grind (arith, same_test, and_parts, nat_tests)
 night_among first (suc more) night =
-    grind (arith, same_test, or_cases, eqb-true, and_from, of_low, of_below, and_parts, low_of, below_of, cases_Bool, eqb-false, night_among (suc first) more night)
+    grind (
+      arith,
+      same_test,
+      or_cases,
+      eqb-true,
+      and_from,
+      nat_tests,
+      and_parts,
+      cases_Bool,
+      eqb-false,
+      night_among (suc first) more night,
+    )
 
 -- a test that does not depend on the element stands before all of them
 any_before : (p : Bool) (x : Cell) (w : Wanted) (ns : List ℕ)
@@ -59,25 +58,21 @@ any_before : (p : Bool) (x : Cell) (w : Wanted) (ns : List ℕ)
 any_before p x w [] each = grind arith
 any_before p x w (n ∷ ns) each = grind (arith, any_before p x w ns each, each)
 
-and_joined : (a b c d : Bool) → (a && b && c && d) ≡ (a && (b && (c && d)))
-and_joined a b c d = grind arith
-
 row_wants : (x : Cell) (w : Wanted)
     → ((kind_number w.kind == kind_number x.kind)
     && (bytes_eq w.supplier x.supplier && (bytes_eq w.product x.product && is_night_of w.first w.nights x.night)))
     ≡ wants_cell w x
 row_wants x w =
-    let k = kind_number x.kind == kind_number w.kind in
-    let s = bytes_eq x.supplier w.supplier in
-    let p = bytes_eq x.product w.product in
-    let among = any_before (k && (s && p)) x w (numbers_from w.first w.nights)
-    (λ n. and_joined k s p (x.night == n) ∙ three k s p (x.night == n)) in
-    ap₂ ◌&&◌ (eqb_turned (kind_number w.kind) (kind_number x.kind))
-    (ap₂ ◌&&◌ (bytes_turned w.supplier x.supplier) (ap₂ ◌&&◌ (bytes_turned w.product x.product) (sym (night_among w.first w.nights x.night))))
-    ∙ three k s p (list_any (λ n. x.night == n) (numbers_from w.first w.nights)) ∙ sym among
-  where
-    three : (a b c d : Bool) → (a && (b && (c && d))) ≡ ((a && (b && c)) && d)
-    three a b c d = grind arith
+    let p = kind_number x.kind == kind_number w.kind && (bytes_eq x.supplier w.supplier && bytes_eq x.product w.product) in
+    let among = any_before p x w (numbers_from w.first w.nights) (λ n. grind arith) in
+    grind (
+      arith,
+      eqb_turned (kind_number w.kind) (kind_number x.kind),
+      bytes_turned w.supplier x.supplier,
+      bytes_turned w.product x.product,
+      night_among w.first w.nights x.night,
+      among,
+    )
 
 row_held : (x : Cell) (id step : ℕ) (m : Bool) (c : ℕ) (taken : Bool) (w : Wanted)
     → is_row_held x (option_row id step m c taken w) ≡ (taken && wants_cell w x)
@@ -130,12 +125,7 @@ stands_in ts i c = list_any (λ (t : ℕ × ℕ). (t.0 == i) && (t.1 == c)) ts
 -- none of those after a step is of that step
 none_stands : (n k c : ℕ) (ts : List (ℕ × ℕ)) → map (λ (t : ℕ × ℕ). t.0) ts ≡ numbers_from n (length ts) → k < n → stands_in ts k c ≡ false
 none_stands n k c [] are above = refl
-none_stands n k c (t ∷ ts) are above =
-    let both : t.0 ∷ map (λ (t : ℕ × ℕ). t.0) ts ≡ n ∷ numbers_from (suc n) (length ts) = are in
-    let first : t.0 ≡ n = cc in
-    let rest : map (λ (t : ℕ × ℕ). t.0) ts ≡ numbers_from (suc n) (length ts) = cc in
-    let off : (t.0 == k) ≡ false = ne_eqb t.0 k (λ e. omega (arith, first, e, above)) in
-    ap (λ b. (b && (t.1 == c)) || stands_in ts k c) off ∙ none_stands (suc n) k c ts rest (omega arith)
+none_stands n k c (t ∷ ts) are above = grind (arith, ne_eqb, none_stands (suc n) k c ts)
 
 cons_apart : (o : Option Holder) (rest : List Holder)
     → map found_of (cons_option o rest) ≡ map found_of (cons_option o []) ++ map found_of rest
@@ -172,32 +162,28 @@ module _ (x : Cell) (id : ℕ) (plan : Planned) (taken : ℕ → ℕ → Bool) w
   told_from k [] (t ∷ ts) are stand few at = absurd (omega (arith, few))
   told_from k (s ∷ steps) [] are stand few at =
       let none = none_held x id k s.is_marked (taken k) 1 s.options (λ c above. stand k c (omega arith)) in
-      told_from (suc k) steps [] refl (λ i c above. stand i c (omega arith)) (omega arith)
-      (λ i. ap (numbered plan.steps) (let e : suc k + i ≡ k + suc i = omega arith in e) ∙ at (suc i))
-      ∙ ap (λ more. more ++ held_from (suc k) steps) (sym none) ∙ sym (held_cut k s steps)
+      grind (
+        arith,
+        none,
+        held_cut,
+        told_from (suc k) steps [] refl (λ i c above. stand i c (omega arith)) (omega arith)
+            (λ i. ap (numbered plan.steps) (let e : suc k + i ≡ k + suc i = omega arith in e) ∙ at (suc i)),
+      )
   told_from k (s ∷ steps) (t ∷ ts) are stand few at =
       let both : t.0 ∷ map (λ (u : ℕ × ℕ). u.0) ts ≡ k ∷ numbers_from (suc k) (length ts) = are in
       let first : t.0 ≡ k = cc in
       let rest : map (λ (u : ℕ × ℕ). u.0) ts ≡ numbers_from (suc k) (length ts) = cc in
       let here : numbered plan.steps k ≡ Some s = ap (numbered plan.steps) (let e : k ≡ k + 0 = omega arith in e) ∙ at 0 in
-      let same : (t.0 == k) ≡ true = eq-eqb t.0 k first in
-      let chosen = λ (c : ℕ). stand k c (omega arith)
-      ∙ ap₂ (λ a b. (a && (t.1 == c)) || b) same (none_stands (suc k) k c ts rest (omega arith)) ∙ or_none (t.1 == c) in
-      let on : taken k t.1 ≡ true = chosen t.1 ∙ eq-eqb t.1 t.1 refl in
-      let off = λ (d : ℕ) (other : d ≢ t.1). chosen d ∙ ne_eqb t.1 d (λ e. other (sym e)) in
-      let one = first_held k s t.1 here on off in
+      let chosen : (c : ℕ) → taken k c ≡ (t.1 == c) = λ c. (let none = none_stands (suc k) k c ts rest (omega arith) in
+      let stood = stand k c (omega arith) in grind (arith, none, stood, eq-eqb t.0 k first)) in
+      let one = first_held k s t.1 here (chosen t.1 ∙ eq-eqb t.1 t.1 refl)
+      (λ d other. chosen d ∙ ne_eqb t.1 d (λ e. other (sym e))) in
       let later = told_from (suc k) steps ts rest
       (λ i c above. stand i c (omega arith)
       ∙ ap (λ b. (b && (t.1 == c)) || stands_in ts i c) (ne_eqb t.0 i (λ e. omega (arith, first, e, above))))
       (omega (arith, few))
       (λ i. ap (numbered plan.steps) (let e : suc k + i ≡ k + suc i = omega arith in e) ∙ at (suc i)) in
-      let own : map found_of (cons_option (holder_if x id t (want_at plan t.0 t.1)) []) ≡ held x id k s.is_marked (taken k) 1 s.options
-      = ap (λ (j : ℕ). map found_of (cons_option (holder_if x id (j, t.1) (want_at plan j t.1)) [])) first ∙ sym one in
-      cons_apart (holder_if x id t (want_at plan t.0 t.1)) (holders_among ts)
-      ∙ ap₂ ◌++◌ own later ∙ sym (held_cut k s steps)
-    where
-      or_none : (b : Bool) → ((true && b) || false) ≡ b
-      or_none b = grind arith
+      grind (arith, first, one, later, cons_apart, held_cut)
 
 -- the rows of a journey that are held are its holders
 journey_told : (x : Cell) (id : ℕ) (plan : Planned) (h : List Item) → Follows plan h
@@ -218,11 +204,9 @@ module _ (l : List Event) (legal : IsLegal l) (x : Cell) where
       let here : journey_at l n ≡ Some a = ap (journey_at l) (let e : n ≡ n + 0 = omega arith in e) ∙ at 0 a refl in
       let own : holders_in_journey l x n ≡ holders_by a.plan (history l n) x n
       = ap (λ (o : Option Journey). unwrap_or (option_map (λ (b : Journey). holders_by b.plan (history l n) x n) o) []) here in
-      map-append found_of (holders_in_journey l x n) (flat_map (holders_in_journey l x) (numbers_from (suc n) (length js)))
-      ∙ ap₂ ◌++◌ (ap (map found_of) own ∙ journey_told x n a.plan (history l n) (follows l legal n a here))
-      (told_of (suc n) js (λ i b e. ap (journey_at l) (let k : suc n + i ≡ n + suc i = omega arith in k) ∙ at (suc i) b e))
-      ∙ sym (ap (map holder_of) (filter-append (is_row_held x) (rows_in (n, a)) (flat_map rows_in (counted_from (suc n) js)))
-      ∙ map-append holder_of (filter (is_row_held x) (rows_in (n, a))) (filter (is_row_held x) (flat_map rows_in (counted_from (suc n) js))))
+      let later = told_of (suc n) js
+      (λ i b e. ap (journey_at l) (let k : suc n + i ≡ n + suc i = omega arith in k) ∙ at (suc i) b e) in
+      grind (arith, map-append, filter-append, own, later, journey_told x n a.plan (history l n) (follows l legal n a here))
 
   -- the rows that are held are the holders
   pub held_told : map found_of (holders_of l x) ≡ map holder_of (filter (is_row_held x) (steps_called l))

@@ -9,7 +9,7 @@ use Rattle.desk_sql.specs.Readable.{Each}
 use Rattle.desk_sql.specs.RemainingRows.{Hands}
 use Rattle.sql_lists.specs.HoldingLists.{AreHoldingTexts, HoldingRow}
 use Rattle.sql_lists.specs.JourneyLists.{state_number}
-use Rattle.holder_reports.specs.declared.holdings.Holding.{Holding}
+use Rattle.reports.specs.declared.holdings.Holding.{Holding}
 use Rattle.report_writers.specs.HoldingsLeft.{IsGoodHolding, holding_told}
 use Rattle.sql_reads.proofs.GoodStock.{code_text}
 use Rattle.sql_reads.proofs.ReadReasons.{agent_text}

@@ -13,7 +13,7 @@ use Rattle.allotment.specs.declared.cells.Cell.{Cell}
 use Rattle.allotment.specs.declared.places.Held.{Held}
 use Rattle.desk_sql.specs.Stock.{cell_cmp as stock_cmp}
 use Rattle.sql_model.specs.Reading.{stock_row_of}
-use Rattle.holder_reports.specs.Holdings.{by_night, put_by_night}
+use Rattle.reports.specs.Holdings.{by_night, put_by_night}
 use Rattle.report_writers.proofs.NightOrder.{IsNightBefore, number_less, number_same}
 
 -- a cell with its places
@@ -53,13 +53,12 @@ put_has x (y ∷ later) z h = grind (arith, put_has x later z)
 -- sorting by nights adds no cell
 pub has_nightly : (xs : List Listed) (z : Listed) → Has (nightly xs) z → Has xs z
 has_nightly [] z h = h
-has_nightly (x ∷ later) z h = elim (has_put x (nightly later) z h) [ inl e ↦ inl e | inr there ↦ inr (has_nightly later z there) ]
+has_nightly (x ∷ later) z h = grind (arith, has_put x (nightly later) z, has_nightly later z)
 
 -- and loses none
 pub nightly_has : (xs : List Listed) (z : Listed) → Has xs z → Has (nightly xs) z
 nightly_has [] z h = h
-nightly_has (x ∷ later) z (inl e) = put_has x (nightly later) z (inl e)
-nightly_has (x ∷ later) z (inr there) = put_has x (nightly later) z (inr (nightly_has later z there))
+nightly_has (x ∷ later) z h = grind (arith, put_has x (nightly later) z, nightly_has later z)
 
 -- Their order.
 

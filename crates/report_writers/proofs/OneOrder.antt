@@ -1,6 +1,6 @@
 -- A list in which each element comes before all later ones is the only order of its elements, if these differ. For the rows of
 -- cells and of holders.
-use Rattle.std.proofs.Common.{◌≡◌, ◌≢◌, inl, inr, List, [], ◌∷◌, true, false, is_lt, Ordering, refl, sym, ap₂, subst, ◌∙◌, arith}
+use Rattle.std.proofs.Common.{◌≡◌, ◌≢◌, inl, inr, List, [], ◌∷◌, true, false, is_lt, Ordering, refl, sym, ap₂, ◌∙◌, arith}
 use Rattle.std.specs.Cmp.{IsTotalOrder}
 use Rattle.sqlite_trees.specs.Tree.{IsAscending}
 use Rattle.sqlite_rules.specs.Lists.{Has}
@@ -16,19 +16,9 @@ module _ {X : Type 0} (IsUpTo IsBefore : X → X → Type 0) (off : (a b : X) �
   one_order [] (y ∷ ys) up apart strict a b = absurd (b y (inl refl))
   one_order (x ∷ xs) [] up apart strict a b = absurd (a x (inl refl))
   one_order (x ∷ xs) (y ∷ ys) up apart strict a b =
-      let first : x ≡ y = elim (a x (inl refl)) [
-        | inl e ↦ e
-        | inr later ↦ elim (b y (inl refl)) [
-          | inl e ↦ sym e
-          | inr also ↦ absurd (off y x (all_has (IsBefore y) ys x strict.0 later) (all_has (IsUpTo x) xs y up.0 also))
-        ]
-      ] in
+      let first : x ≡ y = grind (arith, off y x, all_has, a x (inl refl), b y (inl refl)) in
       ap₂ ◌∷◌ first (one_order xs ys up.1 apart.1 strict.1
-      (λ r h. elim (a r (inr h)) [ inl e ↦ absurd (all_has (λ z. x ≢ z) xs r apart.0 h (first ∙ sym e)) | inr k ↦ k ])
-      (λ r h. elim (b r (inr h)) [
-        | inl e ↦ absurd (never y (subst (IsBefore y) (e ∙ first) (all_has (IsBefore y) ys r strict.0 h)))
-        | inr k ↦ k
-      ]))
+      (λ r h. grind (arith, a r (inr h), all_has, first)) (λ r h. grind (arith, b r (inr h), never y, all_has, first)))
 
   pub only_order : (some ys : List X) → IsAscending ◌≢◌ some → IsAscending IsBefore ys
       → ((r : X) → Has some r → Has ys r) → ((r : X) → Has ys r → Has some r) → IsOnlyOrder IsUpTo some ys

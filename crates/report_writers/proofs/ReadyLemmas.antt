@@ -1,5 +1,5 @@
 -- Rows that are read on, or had a reason not to be. For the sources of rows.
-use Rattle.std.proofs.Common.{◌≡◌, ◌⊎◌, ap, arith, false, inl, inr, refl, sym, subst, Result, Ok, Err, IsErrOf, OnOk}
+use Rattle.std.proofs.Common.{◌≡◌, ap, arith, false, inl, inr, refl, sym, subst, Result, Ok, Err, IsErrOf, OnOk}
 use Rattle.sqlite.specs.Store.{Ghosts}
 use Rattle.sqlite.specs.Held.{Held, state}
 use Rattle.sqlite.specs.State.{HasCleanDisk}
@@ -28,10 +28,7 @@ use Rattle.report_writers.specs.Ready.{IsReady}
 -- a report that fails with the store's fault has its reason
 fails_store : {T : Type 0} (ready : Type 0) {reason : Type 0} (result : Result T ReportFault) → LeavesReady ready reason result
     → IsErrOf result report.Store → reason
-fails_store ready (Ok value) left store = absurd (cc)
-fails_store ready (Err report.Memory) left store = absurd (cc)
-fails_store ready (Err report.Store) left store = left
-fails_store ready (Err report.Write) left store = absurd (cc)
+fails_store ready result left store = grind arith
 
 pub takes_fails : {R X T : Type 0} {source : Source R X} {old new : R} {result : Result T ReportFault} → Takes source old new result
     → source.is_sound new → source.is_ready old old → IsErrOf result report.Store → source.has_reason old new
@@ -55,24 +52,21 @@ module _ {S : Type 0} (g : Ghosts S) where
     pub ready_on : {New : Type 0} → HasCleanDisk (state g new) → (Old → New) → IsReady g first new New
     ready_on {New} clean good = record {
       stays = stays_twice g first old new it.stays (quiet_up g old new quiet) (quiet_clean g old new quiet);
-      reads = on it.reads;
+      reads = elim it.reads [
+        | inl faulted ↦ inl (faulted_earlier (state g first) (state g old) (state g new) faulted (quiet_up g old new quiet).counts)
+        | inr kept ↦ elim ((quiet_up g old new quiet).up clean kept.1) [
+          | inl up ↦ inr (good kept.0, up)
+          | inr faulted ↦ inl (faulted_later (state g first) (state g old) (state g new) it.stays.counts faulted)
+        ]
+      ];
     }
-      where
-        still : New → IsUp (state g new) ⊎ HasFaulted (state g old) (state g new) → HasFaulted (state g first) (state g new) ⊎ (New × IsUp (state g new))
-        still left (inl up) = inr (left, up)
-        still left (inr faulted) = inl (faulted_later (state g first) (state g old) (state g new) it.stays.counts faulted)
-
-        on : HasFaulted (state g first) (state g old) ⊎ (Old × IsUp (state g old)) → HasFaulted (state g first) (state g new) ⊎ (New × IsUp (state g new))
-        on (inl faulted) = inl (faulted_earlier (state g first) (state g old) (state g new) faulted (quiet_up g old new quiet).counts)
-        on (inr (left, up)) = still (good left) ((quiet_up g old new quiet).up clean up)
 
     -- the call failed for a reason
     pub ready_fails : (Old → IsUp (state g old) → HasFaulted (state g old) (state g new)) → HasFaulted (state g first) (state g new)
-    ready_fails fails = on it.reads
-      where
-        on : HasFaulted (state g first) (state g old) ⊎ (Old × IsUp (state g old)) → HasFaulted (state g first) (state g new)
-        on (inl faulted) = faulted_earlier (state g first) (state g old) (state g new) faulted (quiet_up g old new quiet).counts
-        on (inr (left, up)) = faulted_later (state g first) (state g old) (state g new) it.stays.counts (fails left up)
+    ready_fails fails = elim it.reads [
+      | inl faulted ↦ faulted_earlier (state g first) (state g old) (state g new) faulted (quiet_up g old new quiet).counts
+      | inr kept ↦ faulted_later (state g first) (state g old) (state g new) it.stays.counts (fails kept.0 kept.1)
+    ]
 
   -- a cursor that has returned no item may search a desk that is kept
   pub at_start : {v : Version} {h : Held S} {c : ItemCursor} → IsAtStart v c → (s : State) → IsDesk s → IsSpelled s.ledger

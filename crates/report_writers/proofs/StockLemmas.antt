@@ -1,12 +1,15 @@
 -- The cells that are asked for, kind after kind, are those that are asked for; and their report in its parts. For `write_stock`
 -- and `write_kinds`.
-use Rattle.std.proofs.Common.{◌≡◌, ℕ, suc, ◌+◌, ◌<◌, ◌≤◌, ◌==◌, ◌&&◌, List, [], ◌∷◌, ◌++◌, filter, cond, length, Bool, true, false, Option, Ordering, is_lt, nat_cmp, refl, sym, ap, ap₂, ◌∙◌, arith, append_assoc, eqb-true, codes, nat_le, IsErr, IsErrOf, Result, Ok, rules, subst, Err}
+use Rattle.std.proofs.Common.{◌≡◌, ℕ, suc, ◌+◌, ◌<◌, ◌≤◌, ◌==◌, ◌&&◌, List, [], ◌∷◌, ◌++◌, filter, cond, length, Bool, true, false, Option, Ordering, is_lt, nat_cmp, refl, sym, ap, ap₂, ◌∙◌, arith, eqb-true, codes, nat_le, IsErr, IsErrOf, Result, Ok, rules, subst, Err}
 use Rattle.std.specs.List.{AllByRecursion, flat_map}
 use Rattle.std.specs.Ordering.{ordering_then}
 use Rattle.std.specs.Io.KnownBytes.{Appends}
 use Rattle.std.proofs.lemmas.Bool.{and_parts}
 use Rattle.std.proofs.lemmas.Bool.Decides.{nat_tests}
+use Rattle.std.proofs.lemmas.Grind.{flat_map-append}
+use Rattle.std.proofs.lemmas.List.{append-nil, length-append}
 use Rattle.sqlite_rules.proofs.ListLemmas.{all_from, test_has}
+use Rattle.sqlite_keyed.proofs.ListLemmas.{filter_same}
 use Rattle.sqlite_trees.specs.Tree.{IsAscending}
 use Rattle.allotment.specs.Cells.{kind_number}
 use Rattle.allotment.specs.declared.cells.Cell.{Cell}
@@ -18,9 +21,9 @@ use Rattle.saga_core.specs.declared.cell_filters.CellFilter.{CellFilter}
 use Rattle.reports.specs.Formats.{last_line, stock_head, stock_in, stock_row}
 use Rattle.saga_core.specs.declared.report.Format.{Format}
 use Rattle.reports.proofs.FrontLemmas.{front_after, front_before, front_whole}
-use Rattle.saga_core.specs.Views.{are_in_order, cell_cmp}
-use Rattle.streams.specs.Written.{WroteFront}
-use Rattle.streams.proofs.ByteLemmas.{appends_more}
+use Rattle.saga_core.specs.Views.{are_in_order}
+use Rattle.saga_core.specs.Written.{WroteFront}
+use Rattle.saga_core.proofs.ByteLemmas.{appends_more}
 use Rattle.reports.specs.Writing.{Wrote}
 use Rattle.reports.specs.declared.faults.ReportFault.{ReportFault}
 use Rattle.reports.specs.declared.faults.ReportFault.TheVariants.{Store}
@@ -41,16 +44,7 @@ key r = kind_number r.0.kind
 
 kinds_rise : (rows : List (Cell × Places)) → are_in_order rows ≡ true → IsAscending (λ (a b : Cell × Places). key a ≤ key b) rows
 kinds_rise [] e = tt
-kinds_rise (r ∷ later) e =
-    let both = and_parts _ _ e in (
-      all_from (λ (s : Cell × Places). key r ≤ key s) later
-          (λ s h. by_kind (key r) (key s) _ (test_has (λ (s : Cell × Places). is_lt (cell_cmp r.0 s.0)) later s both.0 h)),
-      kinds_rise later both.1,
-    )
-
--- tests that agree on each element keep the same
-filter_same : {X : Type 0} (p q : X → Bool) (xs : List X) → ((x : X) → p x ≡ q x) → filter p xs ≡ filter q xs
-filter_same p q xs same = search (rules, arith)
+kinds_rise (r ∷ later) e = grind (arith, and_parts, all_from, test_has, by_kind, kinds_rise later)
 
 and_false : (b : Bool) → (b && false) ≡ false
 and_false b = search (rules, arith)
@@ -86,14 +80,7 @@ module _ (p : Cell × Places → Bool) where
 
   none_from_four : (rows : List (Cell × Places)) → filter (from 4) rows ≡ []
   none_from_four [] = refl
-  none_from_four (r ∷ rows) =
-      ap (λ b. cond b (r ∷ filter (from 4) rows) (filter (from 4) rows)) (ap (λ b. p r && b) (low r.0.kind) ∙ and_false (p r)) ∙ none_from_four rows
-    where
-      low : (kind : Kind) → nat_le 4 (kind_number kind) ≡ false
-      low Flight = refl
-      low Room = refl
-      low Transfer = refl
-      low Cover = refl
+  none_from_four (r ∷ rows) = grind (arith, nat_tests, none_from_four rows)
 
 -- the cells that are asked for are those of the four kinds, one after another
 pub by_kinds : (f : CellFilter) (rows : List (Cell × Places)) → are_in_order rows ≡ true → asked_cells f rows
@@ -101,24 +88,12 @@ pub by_kinds : (f : CellFilter) (rows : List (Cell × Places)) → are_in_order 
 by_kinds f rows order =
     let p : Cell × Places → Bool = λ r. is_cell_asked f r.0 in
     let up = kinds_rise rows order in
-    filter_same p (from p 0) rows (all_from_none p)
+    filter_same p (from p 0) (all_from_none p) rows
     ∙ split p 0 rows up
     ∙ ap (λ more. filter (of_kind p 0) rows ++ more) (split p 1 rows up
     ∙ ap (λ more. filter (of_kind p 1) rows ++ more) (split p 2 rows up
     ∙ ap (λ more. filter (of_kind p 2) rows ++ more) (split p 3 rows up
-    ∙ ap (λ more. filter (of_kind p 3) rows ++ more) (none_from_four p rows) ∙ append_none _)))
-  where
-    append_none : {X : Type 0} (xs : List X) → xs ++ [] ≡ xs
-    append_none [] = refl
-    append_none (x ∷ xs) = ap (λ more. x ∷ more) (append_none xs)
-
-flat_append : {X : Type 0} (f : X → List ℕ) (xs ys : List X) → flat_map f (xs ++ ys) ≡ flat_map f xs ++ flat_map f ys
-flat_append f [] ys = refl
-flat_append f (x ∷ xs) ys = ap (λ more. f x ++ more) (flat_append f xs ys) ∙ sym (append_assoc (f x) (flat_map f xs) (flat_map f ys))
-
-length_append : {X : Type 0} (xs ys : List X) → length (xs ++ ys) ≡ length xs + length ys
-length_append [] ys = let e : length ys ≡ 0 + length ys = omega arith in e
-length_append (x ∷ xs) ys = search (rules, arith, length_append xs ys)
+    ∙ ap (λ more. filter (of_kind p 3) rows ++ more) (none_from_four p rows) ∙ append-nil _)))
 
 -- The report in its parts: the head, the lines of its cells, the ending.
 
@@ -163,20 +138,20 @@ module _ (held half holds : Option (List ℕ)) (format : Format) (xs ys : List (
       → WritesCells half holds format ys between result → WritesCells held holds format (xs ++ ys) before result
   writes_both (Err fault) one two = record {
     whole = tt;
-    front = subst (WroteFront held holds) (sym (flat_append (stock_row format) xs ys))
+    front = subst (WroteFront held holds) (sym (flat_map-append (stock_row format) xs ys))
         (front_after held half holds (flat_map (stock_row format) xs) (flat_map (stock_row format) ys) one.whole two.front);
     counted = tt;
   }
   writes_both (Ok after) one two =
       let all : Appends held holds (flat_map (stock_row format) (xs ++ ys)) =
-      subst (Appends held holds) (sym (flat_append (stock_row format) xs ys))
+      subst (Appends held holds) (sym (flat_map-append (stock_row format) xs ys))
       (appends_more held half holds (flat_map (stock_row format) xs) (flat_map (stock_row format) ys) one.whole two.whole) in
       record {
         whole = all;
         front = front_whole held holds _ all;
         counted = (let first : between ≡ length xs + before = one.counted in
             let second : after ≡ length ys + between = two.counted in
-            let e : after ≡ length (xs ++ ys) + before = omega (arith, first, second, length_append xs ys) in e);
+            let e : after ≡ length (xs ++ ys) + before = omega (arith, first, second, length-append xs ys) in e);
       }
 
 -- a fault came: a prefix of the lines was written
@@ -203,7 +178,7 @@ module _ {S : Type 0} (g : Ghosts S) (format : Format) where
   shows_less {held = held} {holds} {one} {before} {result} two after failed same first v =
       in_as g (first v) (λ s fits. tt) same (λ s desk fits wrote all stock.
       writes_less held holds format (one all ++ two all) before after failed
-      (subst (WroteFront held holds) (sym (flat_append (stock_row format) (one all) (two all)))
+      (subst (WroteFront held holds) (sym (flat_map-append (stock_row format) (one all) (two all)))
       (front_before held holds (flat_map (stock_row format) (one all)) (flat_map (stock_row format) (two all)) (wrote all stock).front)))
 
   -- those of the four kinds are those that are asked for
@@ -231,17 +206,14 @@ each_same kind f r = kind_same kind f r.0 (kind_number r.0.kind == kind_number k
 pub kind_asked : (kind : Kind) (f : CellFilter) (rows : List (Cell × Places)) → is_kind_asked f.kind (kind_number kind) ≡ true
     → cells_of_kind kind f rows ≡ filter (λ (r : Cell × Places). is_cell_of kind f r.0) rows
 kind_asked kind f rows e =
-    filter_same _ (λ (r : Cell × Places). is_cell_of kind f r.0) rows (λ r. each_same kind f r ∙ ap (λ b. b && is_cell_of kind f r.0) e)
+    filter_same _ (λ (r : Cell × Places). is_cell_of kind f r.0)
+    (λ r. each_same kind f r ∙ ap (λ b. b && is_cell_of kind f r.0) e) rows
 
 -- it is not: there is no such cell
 pub kind_passed : (kind : Kind) (f : CellFilter) (rows : List (Cell × Places)) → is_kind_asked f.kind (kind_number kind) ≡ false
     → cells_of_kind kind f rows ≡ []
-kind_passed kind f rows e =
-    filter_same _ (λ _. false) rows (λ r. each_same kind f r ∙ ap (λ b. b && is_cell_of kind f r.0) e) ∙ none rows
-  where
-    none : {X : Type 0} (xs : List X) → filter (λ _. false) xs ≡ []
-    none [] = refl
-    none (x ∷ xs) = none xs
+kind_passed kind f [] e = refl
+kind_passed kind f (r ∷ rows) e = grind (arith, each_same kind f r, kind_passed kind f rows e)
 
 -- each cell is asked for
 pub asked_all : (f : CellFilter) (rows : List (Cell × Places)) → ((cell : Cell) → is_cell_asked f cell ≡ true) → asked_cells f rows ≡ rows

@@ -1,24 +1,23 @@
 -- The rows of one cell's options, each with the row of its journey, are shown as the holders of the cell. For the rows of
 -- the holders of cells.
-use Rattle.std.proofs.Common.{◌≡◌, ℕ, zero, suc, ◌+◌, ◌==◌, List, [], ◌∷◌, ◌++◌, map, filter, cond, Bool, false, Option, Some, None, refl, sym, ap, ap₂, ◌∙◌, arith, eq-eqb, filter_map, flat_map, option_map, slice_get}
+use Rattle.std.proofs.Common.{◌≡◌, ℕ, zero, suc, ◌+◌, ◌==◌, List, [], ◌∷◌, map, filter, cond, Bool, Option, Some, None, refl, sym, ap, ap₂, ◌∙◌, arith, eq-eqb, filter_map, flat_map, option_map, slice_get}
 use Rattle.std.specs.List.{cons_option}
 use Rattle.std.proofs.lemmas.Bool.{ne_eqb}
 use Rattle.std.proofs.lemmas.List.{map-append}
 use Rattle.commands.specs.declared.items.Phase.{Phase}
 use Rattle.saga_core.specs.JourneyFilters.{state_of}
-use Rattle.ledger.specs.Ledger.{Event, Journey, history, journey_at}
-use Rattle.saga_core.specs.Views.{brief_of, brief_of_journey}
+use Rattle.ledger.specs.Ledger.{Event, Journey, journey_at}
+use Rattle.saga_core.specs.Views.{brief_of}
 use Rattle.desk_sql.specs.Rows.{JourneyRow, StepRow}
 use Rattle.sql_model.specs.ExpectedRows.{Begun, begun, counted_from, journeys_called, phase_number}
 use Rattle.sql_model.specs.Reading.{stock_row_of}
 use Rattle.sql_model.proofs.JourneyRows.{begun_there, row_in, there_begun}
 use Rattle.sql_lists.specs.HolderLists.{holder_of}
-use Rattle.sql_lists.specs.HoldingLists.{Joined, holding_of as row_shown, join}
+use Rattle.sql_lists.specs.HoldingLists.{Joined, holding_of as row_shown}
 use Rattle.sql_lists.specs.JourneyLists.{state_number}
 use Rattle.sql_lists.specs.declared.holders.HolderFound.{HolderFound}
-use Rattle.holder_reports.specs.Holdings.{holding_by, holding_of}
-use Rattle.holder_reports.specs.declared.holders.Holder.{Holder}
-use Rattle.holder_reports.specs.declared.holdings.Holding.{Holding}
+use Rattle.reports.specs.Holdings.{holding_by, holding_of}
+use Rattle.reports.specs.declared.holders.Holder.{Holder}
 use Rattle.report_writers.specs.HoldersLeft.{found_of}
 use Rattle.report_writers.specs.HoldingsLeft.{HoldingShort, holding_short, holding_told}
 use Rattle.report_writers.proofs.NightOrder.{with_own}
@@ -32,10 +31,7 @@ module _ (l : List Event) (k : ℕ) where
   none_own : (n : ℕ) (bs : List Begun) → ((i : ℕ) (b : Begun) → slice_get bs i ≡ Some b → n + i ≡ k → ⊥)
       → filter is_own (map (row_in l) (counted_from n bs)) ≡ []
   none_own n [] off = refl
-  none_own n (b ∷ bs) off =
-      let other : (n == k) ≡ false = ne_eqb n k (λ e. off 0 b refl (omega arith)) in
-      ap (λ v. cond v (row_in l (n, b) ∷ filter is_own (map (row_in l) (counted_from (suc n) bs))) (filter is_own (map (row_in l) (counted_from (suc n) bs)))) other
-      ∙ none_own (suc n) bs (λ i c e same. off (suc i) c e (omega arith))
+  none_own n (b ∷ bs) off = grind (arith, ne_eqb, off 0 b refl, none_own (suc n) bs (λ i c e same. off (suc i) c e (omega arith)))
 
   -- just the row of the journey with this number
   one_own : (n i : ℕ) (bs : List Begun) (b : Begun) → slice_get bs i ≡ Some b → n + i ≡ k
@@ -66,31 +62,18 @@ module _ (l : List Event) (c : Listed) where
       let places : s.places ≡ h.places = sym (ap (λ (f : HolderFound). f.places) same) in
       by_number h.journey journey (journey_at l h.journey) refl places
     where
-      pick : List JourneyRow → List Joined
-      pick js = map (join (stock_row_of c) s) js
-
       by_number : (k : ℕ) → s.journey ≡ k → (o : Option Journey) → journey_at l k ≡ o → s.places ≡ h.places
           → shorts (rows_with s) ≡ map holding_told (cons_option (option_map (holding_by c.0 (record h { journey = k })) (brief_of l k)) [])
       by_number k journey None none places =
-          ap (λ n. shorts (pick (filter (λ (j : JourneyRow). j.id == n) (journeys_called l)))) journey
-          ∙ ap (λ js. shorts (pick js)) (none_own l k 1 (begun l) (λ i b e same.
+          let off = none_own l k 1 (begun l) (λ i b e same.
           let number : k ≡ suc i = omega arith in
-          let bad : None ≡ Some b.journey = sym none ∙ ap (journey_at l) number ∙ begun_there l i b e in cc))
-          ∙ sym (ap (λ o. map holding_told (cons_option (option_map (holding_by c.0 (record h { journey = k })) (option_map (brief_of_journey k (history l k)) o)) [])) none)
+          let bad : None ≡ Some b.journey = sym none ∙ ap (journey_at l) number ∙ begun_there l i b e in cc) in
+          grind (arith, off)
       by_number zero journey (Some a) there places = absurd (cc)
       by_number (suc i) journey (Some a) there places =
           let b = there_begun l i a there in
-          ap (λ n. shorts (pick (filter (λ (j : JourneyRow). j.id == n) (journeys_called l)))) journey
-          ∙ ap (λ js. shorts (pick js)) (one_own l (suc i) 1 i (begun l) b.0 b.1 (omega arith))
-          ∙ shown b.0 b.2
-          ∙ sym (ap (λ o. map holding_told (cons_option (option_map (holding_by c.0 (record h { journey = suc i })) (option_map (brief_of_journey (suc i) (history l (suc i))) o)) [])) there)
-        where
-          shown : (b : Begun) → b.journey ≡ a
-              → shorts (pick (row_in l (suc i, b) ∷ []))
-              ≡ map holding_told (holding_by c.0 (record h { journey = suc i }) (brief_of_journey (suc i) (history l (suc i)) a) ∷ [])
-          shown b is =
-              let named = state_same (brief_of_journey (suc i) (history l (suc i)) b.journey).cursor.phase in
-              rw (sym is, sym places, sym named) refl
+          let one = one_own l (suc i) 1 i (begun l) b.0 b.1 (omega arith) in
+          grind (arith, one, b.2, state_same)
 
   -- the options of a cell, with the rows of their journeys, are shown as its holders
   pub all_told : (hs : List Holder) (ss : List StepRow) → map found_of hs ≡ map holder_of ss
@@ -102,11 +85,4 @@ module _ (l : List Event) (c : Listed) where
       let both : found_of h ∷ map found_of hs ≡ holder_of s ∷ map holder_of ss = same in
       let first : found_of h ≡ holder_of s = cc in
       let others : map found_of hs ≡ map holder_of ss = cc in
-      ap (map holding_short) (map-append row_shown (rows_with s) (flat_map rows_with ss))
-      ∙ map-append holding_short (map row_shown (rows_with s)) (map row_shown (flat_map rows_with ss))
-      ∙ ap₂ ◌++◌ (own_told h s first) (all_told hs ss others)
-      ∙ sym (apart (holding_of l c.0 h))
-    where
-      apart : (o : Option Holding) → map holding_told (cons_option o (filter_map (holding_of l c.0) hs))
-          ≡ map holding_told (cons_option o []) ++ map holding_told (filter_map (holding_of l c.0) hs)
-      apart o = grind arith
+      grind (arith, map-append, own_told h s first, all_told hs ss others)

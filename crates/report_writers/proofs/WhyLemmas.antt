@@ -1,5 +1,5 @@
 -- The nights of a want by the cells that a filter lets through. For the report of why a journey goes on or does not.
-use Rattle.std.proofs.Common.{◌≡◌, ℕ, zero, suc, ◌+◌, ◌-◌, ◌<◌, ◌≤◌, List, [], ◌∷◌, map, filter, find, refl, arith, eq-eqb, true, Bool, Some, rules, ap, ap₂, sym, ◌∙◌, option_map}
+use Rattle.std.proofs.Common.{◌≡◌, ℕ, zero, suc, ◌+◌, ◌-◌, ◌<◌, ◌≤◌, List, [], ◌∷◌, map, filter, find, refl, arith, eq-eqb, true, Bool, Some, rules, ap, sym, ◌∙◌, option_map}
 use Rattle.std.proofs.lemmas.Bool.{and_from, and_parts, le-leb}
 use Rattle.std.proofs.lemmas.List.Folds.{list_all-map}
 use Rattle.std.proofs.lemmas.Slice.Eq.{bytes_eq-Decides}
@@ -53,6 +53,4 @@ nights-asked l w f stock is lets = each (cells_of w) lets
     each : (xs : List Cell) → list_all (is_cell_of w.kind f) xs ≡ true
         → map (λ x. night_with x (places_at asked x)) xs ≡ map (λ x. night_with x (places_of l x)) xs
     each [] all = refl
-    each (x ∷ xs) all =
-        let both = and_parts (is_cell_of w.kind f x) (list_all (is_cell_of w.kind f) xs) all in
-        ap₂ (λ n later. n ∷ later) (ap (night_with x) (listed x both.0 ∙ is.each x)) (each xs both.1)
+    each (x ∷ xs) all = grind (arith, and_parts, listed x, is.each x, each xs)

@@ -1,8 +1,8 @@
 -- What was written of a report. For the writers of the reports.
-use Rattle.std.proofs.Common.{◌≡◌, [], false, refl, sym, subst, true, ℕ, Bool, List, Option, Result, None, Some, Ok, Err, IsErr, option_map, arith, rules}
+use Rattle.std.proofs.Common.{[], ◌≡◌, false, refl, sym, subst, true, ℕ, Bool, List, Option, Result, None, Some, Ok, Err, IsErr, option_map, arith, rules}
 use Rattle.saga_core.specs.declared.records.Record.{Record}
-use Rattle.streams.specs.Written.{WroteFront}
-use Rattle.streams.proofs.ByteLemmas.{keeps_same}
+use Rattle.saga_core.specs.Written.{WroteFront}
+use Rattle.saga_core.proofs.ByteLemmas.{keeps_same}
 use Rattle.reports.proofs.FrontLemmas.{front_none}
 use Rattle.reports.specs.declared.faults.ReportFault.{ReportFault}
 use Rattle.reports.specs.Writing.{Wrote}

@@ -2,7 +2,7 @@
 use Rattle.std.specs.Prelude.{List, map}
 use Rattle.sqlite.specs.Store.{Ghosts}
 use Rattle.sqlite.specs.Held.{Held}
-use Rattle.holder_reports.specs.declared.holders.Holder.{Holder}
+use Rattle.reports.specs.declared.holders.Holder.{Holder}
 use Rattle.sql_lists.specs.HolderLists.{HoldersRest}
 use Rattle.sql_lists.specs.declared.holders.HolderFound.{HolderFound}
 

@@ -10,8 +10,8 @@ use Rattle.ledger.specs.Ledger.{Event}
 use Rattle.saga_core.specs.Views.{IsStock}
 use Rattle.sqlite.specs.Store.{Ghosts}
 use Rattle.sqlite.specs.Held.{Held}
-use Rattle.holder_reports.specs.Holdings.{cells_asked, holdings_in}
-use Rattle.holder_reports.specs.declared.holdings.Holding.{Holding}
+use Rattle.reports.specs.Holdings.{cells_asked, holdings_in}
+use Rattle.reports.specs.declared.holdings.Holding.{Holding}
 use Rattle.sql_lists.specs.HoldingLists.{HoldingRow, HoldingsRest}
 use Rattle.sql_lists.specs.JourneyLists.{state_number}
 use Rattle.sql_reads.specs.GoodRows.{IsGoodStock}

@@ -2,7 +2,7 @@
 
 ghost use Rattle.std.specs.Prelude.{◌≡◌, IfOk};
 ghost use Rattle.std.specs.Borrow.{sem};
-ghost use Rattle.holder_reports.specs.Holders.{holders_of};
+ghost use Rattle.reports.specs.Holders.{holders_of};
 ghost use Rattle.sql_reads.specs.Lending.{LeavesIfErr};
 ghost use Rattle.report_writers.specs.HoldersLeft.{AreHoldersRest, HoldersLeft, found_of};
 ghost use Rattle.report_writers.specs.Ready.{StartsList};
@@ -10,7 +10,7 @@ ghost use Rattle.report_writers.specs.Ready.{StartsList};
 use crate::found_rows::FoundRow;
 use allotment::Cell;
 use commands::Fault;
-use holder_reports::Holder;
+use reports::Holder;
 use sql_lists::{HolderFound, hand_holders, next_holder};
 use sql_model::fault_of;
 use sqlite::{Alter, Connection, Error, Rows};

@@ -1,10 +1,10 @@
 //! The reports of the holders of a cell, and of those of the cells that a filter lets through, of a desk that is not
 //! recovered.
 ghost use Rattle.std.specs.Prelude.{List, IsErrOf};
-ghost use Rattle.holder_reports.specs.Holders.{holders_of};
-ghost use Rattle.holder_reports.specs.HoldingLayouts.{holdings_shown};
-ghost use Rattle.holder_reports.specs.Holdings.{cells_asked, holdings_in};
-ghost use Rattle.holder_reports.specs.Layouts.{holders_in};
+ghost use Rattle.reports.specs.Holders.{holders_of};
+ghost use Rattle.reports.specs.HoldingLayouts.{holdings_shown};
+ghost use Rattle.reports.specs.Holdings.{cells_asked, holdings_in};
+ghost use Rattle.reports.specs.HolderLayouts.{holders_in};
 ghost use Rattle.saga_core.specs.Views.{IsStock};
 ghost use Rattle.report_writers.specs.Writing.{ShowsDesk, WritesText};
 
@@ -13,8 +13,7 @@ use crate::holder_rows::start_holders;
 use crate::holding_rows::start_holdings;
 use crate::progress::Progress;
 use allotment::{Cell, Held};
-use holder_reports::{holders_text, holdings_text};
-use reports::ReportFault;
+use reports::{ReportFault, holders_text, holdings_text};
 use saga_core::{CellFilter, Format};
 use sql_model::fault_of;
 use sqlite::{Alter, Connection};

@@ -10,7 +10,7 @@ ghost use Rattle.report_writers.specs.Ready.{StartsList};
 
 use crate::found_rows::FoundRow;
 use commands::{Agent, Fault};
-use holder_reports::Holding;
+use reports::Holding;
 use saga_core::{CellFilter, JourneyState};
 use sql_lists::{HoldingFound, hand_holdings, next_holding};
 use sql_model::fault_of;

@@ -3,8 +3,8 @@ use Rattle.std.proofs.Common.{◌≡◌, ◌∙◌, append-nil, sym, subst, min,
 use Rattle.std.proofs.lemmas.List.{take_min}
 use Rattle.std.proofs.Math.Seq.{take-append-add, take-append-le, take-length}
 use Rattle.std.specs.Io.KnownBytes.{Appends}
-use Rattle.streams.specs.Written.{WroteFront}
-use Rattle.streams.proofs.ByteLemmas.{appends_more}
+use Rattle.saga_core.specs.Written.{WroteFront}
+use Rattle.saga_core.proofs.ByteLemmas.{appends_more}
 
 -- no byte was written
 pub appends_none : (x : Option (List ℕ)) → Appends x x []

@@ -6,3 +6,5 @@ pub mod PartLemmas
 pub mod PlainLemmas
 pub mod RowLemmas
 pub mod TakeLemmas
+pub mod SumLemmas
+pub mod CellSumLemmas

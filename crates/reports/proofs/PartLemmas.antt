@@ -2,8 +2,8 @@
 use Rattle.std.proofs.Common.{◌≡◌, ◌∙◌, ap, subst, List, ◌++◌, ℕ, Option, Result, Ok, Err, IsErrAnd}
 use Rattle.std.specs.Io.KnownBytes.{Appends}
 use Rattle.saga_core.specs.declared.row_sources.RowSource.{Ghosts}
-use Rattle.streams.specs.Written.{WroteFront}
-use Rattle.streams.proofs.ByteLemmas.{appends_more}
+use Rattle.saga_core.specs.Written.{WroteFront}
+use Rattle.saga_core.proofs.ByteLemmas.{appends_more}
 use Rattle.reports.specs.Writing.{Sends, WritesCounted}
 use Rattle.reports.proofs.FrontLemmas.{front_after, front_before, front_whole}
 use Rattle.reports.specs.declared.faults.ReportFault.{ReportFault}

@@ -5,8 +5,8 @@ use Rattle.std.specs.List.{flat_map}
 use Rattle.std.proofs.lemmas.List.Concat.{flat_map-append}
 use Rattle.saga_core.specs.RowSources.{Hands}
 use Rattle.saga_core.specs.declared.row_sources.RowSource.{Ghosts}
-use Rattle.streams.specs.Written.{WroteFront}
-use Rattle.streams.proofs.ByteLemmas.{appends_more}
+use Rattle.saga_core.specs.Written.{WroteFront}
+use Rattle.saga_core.proofs.ByteLemmas.{appends_more}
 use Rattle.reports.specs.Writing.{Sends, Takes, WritesCounted, Wrote}
 use Rattle.reports.specs.declared.faults.ReportFault.{ReportFault}
 use Rattle.reports.proofs.FrontLemmas.{appends_none, front_after, front_before, front_whole}

@@ -1,7 +1,7 @@
 -- Rows that are taken from a source, one after another, and their text at a fault. For the loops over a source.
 use Rattle.std.proofs.Common.{◌≡◌, ◌∙◌, ◌+◌, ◌<◌, ◌∷◌, ◌++◌, [], ap, append-nil, append_assoc, arith, length, refl, suc, sym, take, zero, ℕ, List, Vec, subst, Option, Some, None, Result, Ok, Err, IsErr, IsErrAnd, ◌≢◌}
 use Rattle.saga_core.specs.RowSources.{count_of, FailsFor, Hands, HandsFirst}
-use Rattle.streams.specs.Written.{WroteFront}
+use Rattle.saga_core.specs.Written.{WroteFront}
 use Rattle.saga_core.specs.declared.row_sources.RowSource.{Ghosts}
 use Rattle.commands.specs.declared.replies.Fault.{Fault}
 use Rattle.commands.specs.declared.replies.Fault.TheVariants as fault

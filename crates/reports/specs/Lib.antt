@@ -8,3 +8,9 @@ pub mod Faults
 pub mod Parts
 pub mod Examples
 pub mod FormatExamples
+pub mod Holders
+pub mod Holdings
+pub mod HolderLayouts
+pub mod HoldingLayouts
+pub mod HolderExamples
+pub mod HoldingExamples

@@ -2,7 +2,7 @@
 use Rattle.std.specs.Prelude.{◌≡◌, ◌≢◌, ◌+◌, ⊤, ℕ, List, [], length, Option, Result, Ok, Err, IfErr, IfOk, OnOk}
 use Rattle.std.specs.Io.KnownBytes.{Appends}
 use Rattle.saga_core.specs.declared.row_sources.RowSource.{Ghosts}
-use Rattle.streams.specs.Written.{WroteFront}
+use Rattle.saga_core.specs.Written.{WroteFront}
 use Rattle.reports.specs.declared.faults.ReportFault.{ReportFault}
 use Rattle.reports.specs.declared.faults.ReportFault.TheVariants.{Memory, Store, Write}
 

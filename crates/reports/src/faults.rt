@@ -4,8 +4,8 @@ ghost use Rattle.reports.specs.Faults.{report_fault};
 ghost use Rattle.reports.specs.declared.faults.ReportFault.TheVariants.{Memory, Write};
 
 use commands::Fault;
+use saga_core::WriteFailed;
 use std::alloc::AllocError;
-use streams::WriteFailed;
 
 /// Why a report ended early. A prefix of it was written.
 #[derive(Clone, Copy, Debug, PartialEq, Eq)]

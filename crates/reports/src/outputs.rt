@@ -2,8 +2,8 @@
 ghost use Rattle.reports.specs.Writing.{Sends};
 
 use crate::faults::ReportFault;
+use saga_core::send_all;
 use std::io::Write;
-use streams::send_all;
 
 /// Writes all bytes. After a fault a prefix of them was written.
 pub fn send<W: Write>(out: &mut W, bytes: &[u8]) -> Result<(), ReportFault>

@@ -4,17 +4,16 @@ ghost use Rattle.std.specs.List.{flat_map};
 ghost use Rattle.std.specs.Io.KnownBytes.{Appends};
 ghost use Rattle.reports.specs.Formats.{last_line, stock_head as head_in, stock_row};
 ghost use Rattle.reports.specs.Writing.{Writes};
-ghost use Rattle.streams.specs.Written.{WroteFront};
+ghost use Rattle.saga_core.specs.Written.{WroteFront};
 
 use crate::endings::Ending;
 use crate::faults::ReportFault;
 use crate::lines::stock_head;
 use crate::rows::send_rows;
 use allotment::{Cell, Held};
-use saga_core::{Format, RowSource};
+use saga_core::{Format, RowSource, send_all};
 use std::alloc::Global;
 use std::io::Write;
-use streams::send_all;
 
 /// Writes what comes before the cells of a stock report.
 pub fn begin_stock<W: Write>(format: Format, out: &mut W) -> Result<(), ReportFault>

@@ -7,3 +7,5 @@ pub mod ChainLemmas
 pub mod FirstLemmas
 pub mod BriefLemmas
 pub mod RulingLemmas
+pub mod ByteLemmas
+pub mod KnownLemmas

@@ -16,3 +16,6 @@ pub mod Calls
 pub mod CellFilters
 pub mod JourneyFilters
 pub mod FilterExamples
+pub mod Written
+pub mod StreamFaults
+pub mod StreamScenes

@@ -1,5 +1,5 @@
 -- The row found with a batch's name is that of the only batch that was loaded under it. For loads.
-use Rattle.std.proofs.Common.{◌≡◌, ℕ, suc, ◌≤◌, ◌==◌, List, [], ◌∷◌, ◌++◌, length, map, filter, Bool, true, false, if◌then◌else◌, Option, Some, None, IsTrue, inl, inr, refl, sym, ap, subst, ◌∙◌, arith, eqb-true, append-nil, length-append, filter_map, option_map, bytes_eq, ◌&&◌, IsPermutation, rules}
+use Rattle.std.proofs.Common.{◌≡◌, ℕ, suc, ◌≤◌, List, [], ◌∷◌, ◌++◌, length, map, filter, Bool, true, if◌then◌else◌, Option, Some, None, IsTrue, inl, inr, refl, sym, ap, subst, arith, eqb-true, append-nil, length-append, filter_map, option_map, bytes_eq, IsPermutation, rules}
 use Rattle.std.specs.List.{list_all}
 use Rattle.std.proofs.lemmas.Bool.{and_parts}
 use Rattle.std.proofs.lemmas.List.{length-map}
@@ -7,11 +7,11 @@ use Rattle.std.proofs.lemmas.List.Sorted.{length_permutation}
 use Rattle.std.proofs.lemmas.Slice.Eq.{bytes_eq-Decides}
 use Rattle.sqlite_trees.proofs.ListLemmas.{IsPermutation-filter}
 use Rattle.sqlite_rules.specs.Lists.{Has}
-use Rattle.sqlite_rules.proofs.ListLemmas.{has_either}
+use Rattle.sqlite_rules.proofs.ListLemmas.{all_has}
 use Rattle.sqlite_rules.proofs.ProbeLemmas.{has_mapped, mapped_has}
 use Rattle.allotment.specs.declared.cells.Row.{Row}
 use Rattle.ledger.specs.Answer.{State}
-use Rattle.ledger.specs.Ledger.{Event, Loaded, Began, Did, batches_named, is_allowed, is_batch, is_good_row, is_not_below_held, IsLegal}
+use Rattle.ledger.specs.Ledger.{Event, Loaded, Began, Did, batches_named, rows_if_named, rows_of, is_allowed, is_good_row, IsLegal}
 use Rattle.ledger.proofs.Growing.{induct}
 use Rattle.ledger.proofs.Events.{batches_named-loaded, batches_named-began, batches_named-did}
 use Rattle.desk_sql.specs.Lists.{IsOneOf}
@@ -21,7 +21,8 @@ use Rattle.desk_sql.specs.declared.batches.BatchFound.{BatchFound}
 use Rattle.desk_sql.proofs.Members.{permutation_from}
 use Rattle.sql_model.specs.ExpectedRows.{counted_from, batch_text, batch_row_of, batches_called}
 use Rattle.sql_model.specs.Standing.{StandsFor, IsDesk}
-use Rattle.sql_model.proofs.Conditions.{loaded_good}
+use Rattle.sql_model.proofs.Conditions.{rows_good}
+use Rattle.sql_model.proofs.Numbering.{has_chosen}
 use Rattle.sql_model.proofs.Wants.{same_test}
 
 -- equality of bytes is symmetric
@@ -46,68 +47,25 @@ named_more : (l : List Event) (e : Event) → IsLegal l → IsTrue (is_allowed l
 named_more l (Began agent plan) legal may once = search (rules, arith, batches_named-began)
 named_more l (Did j item) legal may once = search (rules, arith, batches_named-did)
 named_more l (Loaded other rows) legal may once =
-    λ name. subst (λ bs. length bs ≤ 1) (sym (batches_named-loaded l other rows name))
-    (go name (bytes_eq name other) refl)
+    λ name. rw (batches_named-loaded l other rows name) (go name (bytes_eq name other) refl)
   where
-    unused : length (batches_named l other) ≡ 0
-    unused =
-        eqb-true (length (batches_named l other)) 0
-        (and_parts (is_batch other rows && list_all (is_not_below_held l) rows)
-        (length (batches_named l other) == 0) may).1
-
     go : (name : List ℕ) (v : Bool) → bytes_eq name other ≡ v
         → length (batches_named l name ++ (if v then rows ∷ [] else [])) ≤ 1
-    go name true e =
-        let same : length (batches_named l name) ≡ 0 =
-        ap (λ n. length (batches_named l n)) ((bytes_eq-Decides name other).0 e) ∙ unused in
-        let longer = length-append (batches_named l name) (rows ∷ []) in
-        omega arith
-    go name false e =
-        subst (λ bs. length bs ≤ 1) (sym (append-nil (batches_named l name))) (once name)
+    go name v e = search (rules, arith, bytes_eq-Decides, and_parts, eqb-true, length-append, append-nil, once name)
 
 -- in a legal ledger each name has at most one batch
 pub named_once : (l : List Event) → IsLegal l → (name : List ℕ) → length (batches_named l name) ≤ 1
 named_once l legal = induct NamedOnce (λ name. omega arith) named_more l legal
 
--- the rows of each batch keep the limits
-abbrev NamedGood : List Event → Type 0
-NamedGood l = (name : List ℕ) (rows : List Row) → Has (batches_named l name) rows
-    → list_all is_good_row rows ≡ true
-
--- a load has good rows, and no other event has rows
-good_more : (l : List Event) (e : Event) → IsLegal l → IsTrue (is_allowed l e) → NamedGood l
-    → NamedGood (l ++ e ∷ [])
-good_more l (Began agent plan) legal may good =
-    λ name rows h. good name rows
-    (subst (λ bs. Has bs rows) (batches_named-began l agent plan name) h)
-good_more l (Did j item) legal may good =
-    λ name rows h. good name rows (subst (λ bs. Has bs rows) (batches_named-did l j item name) h)
-good_more l (Loaded other new) legal may good =
-    λ name rows h. go name rows (bytes_eq name other)
-    (subst (λ bs. Has bs rows) (batches_named-loaded l other new name) h)
-  where
-    last : (rows : List Row) → Has (new ∷ []) rows → list_all is_good_row rows ≡ true
-    last rows (inl e) = ap (list_all is_good_row) e ∙ loaded_good l other new may
-    last rows (inr h) = absurd h
-
-    go : (name : List ℕ) (rows : List Row) (v : Bool)
-        → Has (batches_named l name ++ (if v then new ∷ [] else [])) rows
-        → list_all is_good_row rows ≡ true
-    go name rows true h =
-        elim (has_either (batches_named l name) (new ∷ []) rows h) [
-          | inl old ↦ good name rows old
-          | inr it ↦ last rows it
-        ]
-    go name rows false h =
-        elim (has_either (batches_named l name) [] rows h) [
-          | inl old ↦ good name rows old
-          | inr none ↦ absurd none
-        ]
-
 -- in a legal ledger the rows of each batch keep the limits
 pub named_good : (l : List Event) → IsLegal l → (name : List ℕ) (rows : List Row)
     → Has (batches_named l name) rows → list_all is_good_row rows ≡ true
-named_good l legal = induct NamedGood (λ name rows h. absurd h) good_more l legal
+named_good l legal name rows h =
+    let e = has_chosen (rows_if_named name) l rows h in
+    go e.0 e.2 (all_has _ l e.0 (rows_good l legal) e.1)
+  where
+    go : (e : Event) → rows_if_named name e ≡ Some rows → list_all is_good_row (rows_of e) ≡ true → list_all is_good_row rows ≡ true
+    go e is good = search (rules, arith)
 
 -- the found row is that of the batch with the name; no row means no such batch
 abbrev pub TellsBatch : List Event → List ℕ → Option BatchRow → Type 0
@@ -154,5 +112,4 @@ batch_found l rows name (Some b) legal same one =
 -- the tables that represent a state give the batch with that name
 pub batch_read : (t : Tables) (s : State) (name : List ℕ) (found : Option BatchFound) → StandsFor t s → IsDesk s
     → FindsBatch name t found → TellsBatch s.ledger name (option_map (batch_of name) found)
-batch_read t s name found st desk finds =
-    batch_found s.ledger t.batch name (option_map (batch_of name) found) desk.legal st.batch finds
+batch_read t s name found st desk finds = search (rules, arith, batch_found)

@@ -1,5 +1,5 @@
--- The rows of journeys that pass a test are those of their briefs. For lists of journeys, and for `UnfinishedRows`.
-use Rattle.std.proofs.Common.{◌≡◌, ℕ, suc, ◌+◌, ◌≤◌, ◌<◌, List, [], ◌∷◌, map, filter, cond, length, Bool, Some, refl, sym, ap, ◌∙◌, arith, slice_get, filter_map, option_map, nat_le, not, rules}
+-- The rows of journeys that pass a test are those of their briefs. For lists of journeys, and for Readings.
+use Rattle.std.proofs.Common.{◌≡◌, ℕ, suc, ◌+◌, List, [], ◌∷◌, map, filter, find, cond, length, Bool, Option, Some, refl, sym, ap, ◌∙◌, arith, slice_get, filter_map, option_map, nat_le, nat_lt, ◌&&◌, not, rules}
 use Rattle.std.specs.List.{cons_option}
 use Rattle.std.specs.List.Sorted.{IsPermutation}
 use Rattle.std.proofs.lemmas.List.Sorted.{IsPermutation-refl}
@@ -8,16 +8,18 @@ use Rattle.allotment.specs.Cells.{numbers_from}
 use Rattle.commands.specs.declared.items.Phase.{Phase}
 use Rattle.ledger.specs.History.{is_finished}
 use Rattle.ledger.specs.Ledger.{Event, journey_at, numbers, history}
-use Rattle.saga_core.specs.Views.{brief_of_journey, brief_of}
+use Rattle.saga_core.specs.Views.{brief_of_journey, brief_of, first_unfinished, is_unfinished_above}
 use Rattle.saga_core.specs.declared.records.Brief.{Brief}
-use Rattle.desk_sql.specs.Lists.{IsListed}
+use Rattle.desk_sql.specs.FoundRows.{is_unfinished_after}
+use Rattle.desk_sql.specs.Lists.{IsListed, IsLeastOf}
 use Rattle.desk_sql.specs.RemainingRows.{IsByNumber}
 use Rattle.desk_sql.specs.Rows.{JourneyRow}
 use Rattle.sql_model.specs.Briefs.{short_of, short_told, TellBriefs}
 use Rattle.sql_model.specs.ExpectedRows.{counted_from, Begun, begun, phase_number, journeys_called}
-use Rattle.sql_model.proofs.Events.{length-begun}
+use Rattle.sql_model.proofs.EventRows.{length-begun}
 use Rattle.sql_model.proofs.JourneyRows.{row_in, begun_there, called_rises}
-use Rattle.sql_model.proofs.Orders.{Rises, one_order}
+use Rattle.sql_model.proofs.Orders.{Rises, one_order, least_is_first}
+use Rattle.sql_model.specs.Reading.{Tells, IsBriefOf}
 
 -- the brief of a journey with its number
 abbrev pub brief_in : List Event → ℕ × Begun → Brief
@@ -54,10 +56,7 @@ module _ (test : JourneyRow → Bool) (passes : Brief → Bool) where
       → map short_of (filter test (map (row_in l) (counted_from (suc n) bs)))
       ≡ map short_told (filter passes (map (brief_in l) (counted_from (suc n) bs)))
   told_from l n [] agree = refl
-  told_from l n (b ∷ bs) agree =
-      kept_alike (test (row_in l (suc n, b))) (passes (brief_in l (suc n, b))) (row_in l (suc n, b)) (brief_in l (suc n, b))
-      (filter test (map (row_in l) (counted_from (suc (suc n)) bs))) (filter passes (map (brief_in l) (counted_from (suc (suc n)) bs)))
-      (agree n b) refl (told_from l (suc n) bs agree)
+  told_from l n (b ∷ bs) agree = search (rules, arith, kept_alike, told_from l (suc n) bs agree)
 
   -- so the rows that pass are those of the briefs that pass
   pub rows_told : (l : List Event) (rows : List JourneyRow) (shown : List Brief) → Agree l
@@ -70,8 +69,25 @@ module _ (test : JourneyRow → Bool) (passes : Brief → Bool) where
 -- rows of a table by number, of those that pass a test
 pub listed_so : (test : JourneyRow → Bool) (rows : List JourneyRow) → Rises (λ (j : JourneyRow). j.id) rows
     → IsListed IsByNumber (filter test rows) (filter test rows)
-listed_so test rows rise = record {
-  same = IsPermutation-refl (filter test rows);
-  rising = ascending_weaker (λ (a b : JourneyRow). a.id < b.id) (λ (a b : JourneyRow). a.id ≤ b.id) (λ a b low. omega arith) (filter test rows)
-      (ascending-filter (λ (a b : JourneyRow). a.id < b.id) test rows rise);
-}
+listed_so test rows rise = search (rules, arith, IsPermutation-refl, ascending_weaker, ascending-filter)
+
+-- The first unfinished journey.
+
+found_alike : {X R B : Type 0} (IsOf : R → B → Type 0) (f : X → R) (g : X → B) (p : R → Bool) (q : B → Bool)
+    → ((x : X) → p (f x) ≡ q (g x)) → ((x : X) → IsOf (f x) (g x))
+    → (xs : List X) → Tells IsOf (find p (map f xs)) (find q (map g xs))
+found_alike IsOf f g p q same each [] = tt
+found_alike IsOf f g p q same each (x ∷ xs) = search (rules, arith, same x, each x, found_alike IsOf f g p q same each xs)
+
+-- the row with the least number, of those that are unfinished and above a number, is that of the first such journey
+pub unfinished_found : (l : List Event) (rows : List JourneyRow) (after : ℕ) (found : Option JourneyRow)
+    → IsPermutation (journeys_called l) rows
+    → IsLeastOf (λ (r : JourneyRow). r.id) (filter (is_unfinished_after after) rows) found
+    → Tells IsBriefOf found (first_unfinished l after)
+unfinished_found l rows after found same least =
+    let test = is_unfinished_after after in
+    let passes = is_unfinished_above after in
+    rw (← least_is_first (λ (r : JourneyRow). r.id) test (journeys_called l) rows found (called_rises l) same least, briefs l)
+    (found_alike IsBriefOf (row_in l) (brief_in l) test passes
+    (λ b. ap (λ v. nat_lt after b.0 && v) (unfinished_phase (brief_in l b).cursor.phase))
+    (λ b. record { id = refl; agent = refl; cursor = refl }) (counted_from 1 (begun l)))

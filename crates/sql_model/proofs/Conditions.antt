@@ -1,21 +1,21 @@
 -- The preconditions of the statements on the rows that they change: no number falls below 0 or passes the store's
 -- integers, and a new number is above all others. For the functions that write an item.
-use Rattle.std.proofs.Common.{◌≡◌, ℕ, ◌+◌, ◌-◌, ◌<◌, ◌≤◌, ◌^◌, List, [], ◌∷◌, ◌++◌, length, find, true, false, Option, Some, None, IsTrue, refl, sym, ap, subst, ◌∙◌, arith, option_map, nat_le, unwrap_or, IsPermutation, rules}
-use Rattle.std.specs.List.{list_all}
+use Rattle.std.proofs.Common.{◌≡◌, ℕ, ◌+◌, ◌-◌, ◌<◌, ◌≤◌, ◌^◌, List, [], ◌∷◌, length, filter, flat_map, true, false, Option, Some, None, IsTrue, refl, sym, ap, ◌∙◌, arith, option_map, nat_le, unwrap_or, IsPermutation, rules}
+use Rattle.std.specs.List.{AllByRecursion, list_all}
 use Rattle.std.proofs.lemmas.Bool.{and_parts, leb-true}
 use Rattle.sqlite_rules.specs.Lists.{Has}
-use Rattle.sqlite_rules.proofs.ListLemmas.{all_has, all_from, has_found, test_has}
+use Rattle.sqlite_rules.proofs.ListLemmas.{all_has, all_from, has_filtered, test_has}
+use Rattle.sqlite_trees.proofs.ListLemmas.{all-append}
 use Rattle.allotment.specs.Want.{Wanted}
-use Rattle.allotment.specs.Limits.{is_good_cell, most_count, most_places}
+use Rattle.allotment.specs.Limits.{most_count, most_places}
 use Rattle.allotment.specs.Cells.{is_cell, cells_of, wants_cell}
 use Rattle.allotment.specs.declared.cells.Cell.{Cell}
 use Rattle.allotment.specs.declared.cells.Row.{Row}
-use Rattle.ledger.specs.Ledger.{Event, Loaded, held, allotment, has_free, fits, is_allowed, is_good_row, IsLegal}
+use Rattle.ledger.specs.History.{last_of}
+use Rattle.ledger.specs.Ledger.{Event, rows_of, held, allotment, has_free, fits, is_allowed, is_good_row, IsLegal}
 use Rattle.ledger.proofs.Cells.{is_cell-same}
 use Rattle.ledger.proofs.Growing.{induct}
 use Rattle.ledger.proofs.Lists.{list_any-and_all}
-use Rattle.ledger.specs.JourneyChanges.{newer}
-use Rattle.ledger.proofs.Allotments.{loaded_distinct, allotment-began, allotment-did, allotment-loaded}
 use Rattle.saga_core.specs.Views.{places_of}
 use Rattle.desk_sql.specs.Changes.{AreItemsBelow}
 use Rattle.desk_sql.proofs.Members.{permutation_from}
@@ -25,7 +25,9 @@ use Rattle.desk_sql.specs.declared.stock.NightRange.{NightRange}
 use Rattle.sql_model.specs.ExpectedRows.{entries_called}
 use Rattle.sql_model.specs.Standing.{is_stock_of, places_told, StockStands}
 use Rattle.sql_model.specs.Reading.{IsRangeOf}
-use Rattle.sql_model.proofs.ItemRows.{entries_from-within}
+use Rattle.sql_model.proofs.NextItems.{entries_from-within}
+use Rattle.sql_model.proofs.Numbering.{flat_map_has}
+use Rattle.sql_model.proofs.Taken.{last_has}
 use Rattle.sql_model.proofs.StockRows.{stock_at-row}
 use Rattle.sql_model.proofs.Ranges.{range_row}
 use Rattle.sql_model.proofs.Wants.{wanted_row}
@@ -41,45 +43,34 @@ items_below l t same =
 
 -- Allotments.
 
--- each allotment keeps the limit of places
-FewPlaces : List Event → Type 0
-FewPlaces l = (x : Cell) (n : ℕ) → allotment l x ≡ Some n → n ≤ most_places
+-- the rows of a batch that is allowed keep the limits, and no other event has rows
+good_rows : (l : List Event) (e : Event) → IsTrue (is_allowed l e) → list_all is_good_row (rows_of e) ≡ true
+good_rows l e may = grind (arith, and_parts)
 
--- the rows of a batch that is allowed keep the limits
-pub loaded_good : (l : List Event) (name : List ℕ) (rows : List Row) → IsTrue (is_allowed l (Loaded name rows))
-    → list_all is_good_row rows ≡ true
-loaded_good l name rows may = grind (arith, and_parts)
-
--- a load keeps the limit of places, since its rows do
-few_loaded : (l : List Event) (name : List ℕ) (rows : List Row)
-    → IsTrue (is_allowed l (Loaded name rows)) → FewPlaces l → FewPlaces (l ++ Loaded name rows ∷ [])
-unfolding FewPlaces
-few_loaded l name rows may few x n at =
-    go (find (λ (r : Row). is_cell x r.cell) rows) refl
-    (sym (allotment-loaded l name rows x (loaded_distinct l name rows may)) ∙ at)
-  where
-    go : (o : Option Row) → find (λ (r : Row). is_cell x r.cell) rows ≡ o
-        → newer (option_map (λ (r : Row). r.places) o) (allotment l x) ≡ Some n → n ≤ most_places
-    go None e f = few x n f
-    go (Some r) e f =
-        let there = has_found (λ (q : Row). is_cell x q.cell) rows r e in
-        let places =
-        (and_parts (is_good_cell r.cell) (nat_le r.places most_places) (test_has is_good_row rows r (loaded_good l name rows may) there.0)).1 in
-        let low = leb-true r.places most_places places in
-        let same : r.places ≡ n = cc in
-        subst (λ k. k ≤ most_places) same low
-
--- each other event keeps the limit, since it allots nothing
-few_more : (l : List Event) (e : Event) → IsLegal l → IsTrue (is_allowed l e) → FewPlaces l
-    → FewPlaces (l ++ e ∷ [])
-unfolding FewPlaces
-few_more l e legal may few = search (rules, arith, few_loaded, allotment-began, allotment-did)
+-- the rows of each event of a legal ledger keep the limits
+pub rows_good : (l : List Event) → IsLegal l → AllByRecursion (λ e. list_all is_good_row (rows_of e) ≡ true) l
+rows_good l legal =
+    induct (AllByRecursion (λ e. list_all is_good_row (rows_of e) ≡ true)) tt
+    (λ m e _ may all. all-append (λ d. list_all is_good_row (rows_of d) ≡ true) m (e ∷ []) all (good_rows m e may, tt)) l legal
 
 -- the allotment of each cell keeps the limit of places
 pub allotment_few : (l : List Event) → IsLegal l → (x : Cell) (n : ℕ) → allotment l x ≡ Some n
     → n ≤ most_places
-unfolding FewPlaces
-allotment_few l legal = induct FewPlaces (λ x n e. cc) few_more l legal
+allotment_few l legal x n e = go (last_of (filter (λ (r : Row). is_cell x r.cell) (flat_map rows_of l))) refl e
+  where
+    few : (r : Row) → is_good_row r ≡ true → r.places ≤ most_places
+    few r good = search (rules, arith, and_parts, leb-true)
+
+    go : (o : Option Row) → last_of (filter (λ (r : Row). is_cell x r.cell) (flat_map rows_of l)) ≡ o
+        → option_map (λ (r : Row). r.places) o ≡ Some n → n ≤ most_places
+    go None f e = cc
+    go (Some r) f e =
+        let there = has_filtered (λ (q : Row). is_cell x q.cell) (flat_map rows_of l) r (last_has _ r f) in
+        let event = flat_map_has rows_of l r there.0 in
+        let good = all_has _ l event.0 (rows_good l legal) event.1 in
+        let low = few r (test_has is_good_row (rows_of event.0) r good event.2) in
+        let same : r.places ≡ n = cc in
+        omega arith
 
 -- Nights.
 

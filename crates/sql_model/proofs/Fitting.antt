@@ -12,7 +12,7 @@ use Rattle.allotment.specs.declared.places.Held.{Held}
 use Rattle.ledger.specs.Ledger.{Event, held, allotment, has_free, fits, IsLegal}
 use Rattle.ledger.proofs.PlacesMoved.{held_within, held_none}
 use Rattle.saga_core.specs.Views.{Places, places_of, places_shown, night_said}
-use Rattle.sql_model.proofs.ItemRows.{any-map}
+use Rattle.sql_model.proofs.NextItems.{any-map}
 use Rattle.sql_model.proofs.StockRows.{shown_has, has_shown}
 use Rattle.sql_model.proofs.Numbering.{numbers_within}
 use Rattle.sql_model.proofs.Wants.{same_test}
@@ -61,22 +61,17 @@ module _ (l : List Event) (legal : IsLegal l) where
             (and_from (n == n) (nat_le w.count (m - held l (cell_at w n))) (eq-eqb n n refl)
             (le-leb w.count (m - held l (cell_at w n)) free))
 
-    -- tests that agree on consecutive numbers pass all of them alike
-    all_alike : (p : ℕ → Bool) (q : Cell → Bool) (first count : ℕ)
-        → ((n : ℕ) → Has (numbers_from first count) n → p n ≡ q (cell_at w n))
-        → list_all p (numbers_from first count) ≡ list_all q (map (cell_at w) (numbers_from first count))
-    all_alike p q first count alike = each (numbers_from first count) alike
-      where
-        each : (ns : List ℕ) → ((n : ℕ) → Has ns n → p n ≡ q (cell_at w n))
-            → list_all p ns ≡ list_all q (map (cell_at w) ns)
-        each [] same = refl
-        each (n ∷ ns) same = search (rules, arith, each ns)
+    -- tests that agree on numbers pass all of them alike
+    all_alike : (p : ℕ → Bool) (q : Cell → Bool) (ns : List ℕ) → ((n : ℕ) → Has ns n → p n ≡ q (cell_at w n))
+        → list_all p ns ≡ list_all q (map (cell_at w) ns)
+    all_alike p q [] same = refl
+    all_alike p q (n ∷ ns) same = search (rules, arith, all_alike p q ns)
 
     -- the want fits the listed nights exactly if it fits the ledger
     pub fits_told : (cells : List (ℕ × Held)) → map night_said cells ≡ places_shown l w
         → allotted.fits_in cells w ≡ fits l (Some w)
     fits_told cells shows =
-        all_alike (allotted.has_free cells w.count) (has_free l w.count) w.first w.nights
+        all_alike (allotted.has_free cells w.count) (has_free l w.count) (numbers_from w.first w.nights)
         (λ n h.
         let bounds = numbers_within w.first w.nights n h in
         sym (any-map night_said (is_free_night n) cells)

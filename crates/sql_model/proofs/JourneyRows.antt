@@ -1,5 +1,5 @@
 -- The rows of journeys represent the journeys. For Readings, and for reads of unfinished journeys.
-use Rattle.std.proofs.Common.{◌≡◌, ℕ, zero, suc, ◌+◌, ◌<◌, List, filter, length, Option, Some, None, refl, sym, ap, subst, ◌∙◌, arith, eqb-true, eq-eqb, slice_get, option_map, rules}
+use Rattle.std.proofs.Common.{◌≡◌, ℕ, zero, suc, ◌+◌, ◌<◌, List, filter, length, Option, Some, None, refl, sym, ap, ◌∙◌, arith, eqb-true, eq-eqb, slice_get, option_map, rules}
 use Rattle.std.specs.List.{AllByRecursion}
 use Rattle.std.specs.List.Sorted.{IsPermutation}
 use Rattle.sqlite_trees.proofs.ListLemmas.{ascending-map}
@@ -11,51 +11,48 @@ use Rattle.desk_sql.specs.Rows.{JourneyRow}
 use Rattle.desk_sql.proofs.Members.{permutation_from, permutation_to}
 use Rattle.plan.specs.PlanModel.{numbered}
 use Rattle.ledger.specs.Ledger.{Event, Journey, journeys, journey_at, history}
-use Rattle.sql_model.specs.ExpectedRows.{counted_from, Begun, begun, journey_row_of, journeys_called}
+use Rattle.ledger.proofs.Lists.{number-within}
+use Rattle.sql_model.specs.ExpectedRows.{Begun, begun, journey_row_of, journeys_called}
 use Rattle.desk_sql.specs.FoundRows.{is_numbered}
 use Rattle.sql_model.specs.Reading.{Tells, IsJourneyOf}
-use Rattle.sql_model.proofs.Events.{begun-journeys}
-use Rattle.sql_model.proofs.Numbering.{counted_stands, counted_has, counted_rises, slice_get-map, there_low}
+use Rattle.sql_model.proofs.EventRows.{begun-journeys}
+use Rattle.sql_model.proofs.Numbering.{counted_numbered, numbered_counted, counted_rises, slice_get-map}
 use Rattle.sql_model.proofs.Orders.{Rises}
 
 -- the row of a journey that was begun
 abbrev pub row_in : List Event → ℕ × Begun → JourneyRow
 row_in l b = journey_row_of (history l b.0) b.0 b.1
 
+-- the journey of a number is the one that was begun under it
+pub journey_at-begun : (l : List Event) (n : ℕ) → journey_at l n ≡ option_map (λ (b : Begun). b.journey) (numbered (begun l) n)
+journey_at-begun l zero = refl
+journey_at-begun l (suc i) = search (rules, arith, begun-journeys, slice_get-map)
+
+pub begun_at : (l : List Event) (n : ℕ) (b : Begun) → numbered (begun l) n ≡ Some b → journey_at l n ≡ Some b.journey
+begun_at l n b e = journey_at-begun l n ∙ ap (option_map (λ (x : Begun). x.journey)) e
+
 pub begun_there : (l : List Event) (i : ℕ) (b : Begun) → slice_get (begun l) i ≡ Some b
     → slice_get (journeys l) i ≡ Some b.journey
-begun_there l i b e = search (rules, arith, begun-journeys, slice_get-map)
+begun_there l i b e = begun_at l (suc i) b e
 
 pub there_begun : (l : List Event) (i : ℕ) (a : Journey) → slice_get (journeys l) i ≡ Some a
     → (b : Begun) × (slice_get (begun l) i ≡ Some b) × (b.journey ≡ a)
-there_begun l i a e = go (slice_get (begun l) i) refl
+there_begun l i a e = go (slice_get (begun l) i) refl (sym (journey_at-begun l (suc i)) ∙ e)
   where
-    told : option_map (λ (x : Begun). x.journey) (slice_get (begun l) i) ≡ Some a
-    told =
-        sym (slice_get-map (λ (x : Begun). x.journey) (begun l) i)
-        ∙ ap (λ js. slice_get js i) (begun-journeys l) ∙ e
-
-    go : (o : Option Begun) → slice_get (begun l) i ≡ o
+    go : (o : Option Begun) → slice_get (begun l) i ≡ o → option_map (λ (x : Begun). x.journey) (slice_get (begun l) i) ≡ Some a
         → (b : Begun) × (slice_get (begun l) i ≡ Some b) × (b.journey ≡ a)
-    go None f =
-        let bad : None ≡ Some a = sym (ap (option_map (λ (x : Begun). x.journey)) f) ∙ told in cc
-    go (Some b) f =
-        (b, f, (let same : Some b.journey ≡ Some a = sym (ap (option_map (λ (x : Begun). x.journey)) f) ∙ told in cc))
+    go None f told = cc
+    go (Some b) f told = (b, f, (cc))
+
+-- each expected row is that of a journey as it was begun
+row_begun : (l : List Event) (r : JourneyRow) → Has (journeys_called l) r
+    → (b : Begun) × (numbered (begun l) r.id ≡ Some b) × (r ≡ row_in l (r.id, b))
+row_begun l r h = search (rules, arith, has_mapped, counted_numbered)
 
 -- each expected row is that of a journey
 pub journey_told : (l : List Event) (r : JourneyRow) → Has (journeys_called l) r
     → (a : Journey) × (journey_at l r.id ≡ Some a) × IsJourneyOf l r a
-journey_told l r h =
-    let b = has_mapped (row_in l) (counted_from 1 (begun l)) r h in
-    let s = counted_stands 1 (begun l) b.0 b.1 in
-    let id : r.id ≡ suc s.place =
-    ap (λ (x : JourneyRow). x.id) b.2 ∙ s.number
-    ∙ (let e : 1 + s.place ≡ suc s.place = omega arith in e) in (
-      b.0.1.journey,
-      ap (journey_at l) id ∙ begun_there l s.place b.0.1 s.there,
-      subst (λ (x : JourneyRow). IsJourneyOf l x b.0.1.journey) (sym b.2)
-          (record { agent = refl; steps = refl; tries = refl; cursor = refl }),
-    )
+journey_told l r h = search (rules, arith, row_begun, begun_at)
 
 -- each journey has its row
 pub journey_has : (l : List Event) (id : ℕ) (a : Journey) → journey_at l id ≡ Some a
@@ -63,31 +60,26 @@ pub journey_has : (l : List Event) (id : ℕ) (a : Journey) → journey_at l id 
 journey_has l zero a e = cc
 journey_has l (suc i) a e =
     let b = there_begun l i a e in
-    let number : 1 + i ≡ suc i = omega arith in
-    (row_in l (1 + i, b.0), mapped_has (row_in l) (counted_from 1 (begun l)) (1 + i, b.0) (counted_has 1 (begun l) i b.0 b.1), number)
+    (row_in l (suc i, b.0), mapped_has (row_in l) _ (suc i, b.0) (numbered_counted (begun l) (suc i) b.0 b.1), refl)
 
 -- the row found with a number matches the journey with that number
 pub journey_found : (l : List Event) (rows : List JourneyRow) (id : ℕ) (found : Option JourneyRow)
     → IsPermutation (journeys_called l) rows
     → IsOneOf (filter (is_numbered id) rows) found
     → Tells (λ r a. (r.id ≡ id) × IsJourneyOf l r a) found (journey_at l id)
-journey_found l rows id None same none = go (journey_at l id) refl
+journey_found l rows id found same one = go found one (journey_at l id) refl
   where
-    go : (o : Option Journey) → journey_at l id ≡ o
-        → Tells (λ (r : JourneyRow) a. (r.id ≡ id) × IsJourneyOf l r a) None o
-    go None e = tt
-    go (Some a) e =
+    go : (f : Option JourneyRow) → IsOneOf (filter (is_numbered id) rows) f → (o : Option Journey) → journey_at l id ≡ o
+        → Tells (λ (r : JourneyRow) a. (r.id ≡ id) × IsJourneyOf l r a) f o
+    go None none None e = tt
+    go None none (Some a) e =
         let r = journey_has l id a e in
-        let there =
-        has_kept (is_numbered id) rows r.0 (permutation_to (journeys_called l) rows r.0 same r.1)
-        (eq-eqb _ _ r.2) in
-        subst (λ rs. Has rs r.0) none there
-journey_found l rows id (Some r) same one =
-    let there = has_filtered (is_numbered id) rows r one in
-    let is : r.id ≡ id = eqb-true _ _ there.1 in
-    let told = journey_told l r (permutation_from (journeys_called l) rows r same there.0) in
-    subst (λ o. Tells (λ (x : JourneyRow) a. (x.id ≡ id) × IsJourneyOf l x a) (Some r) o)
-    (sym (ap (journey_at l) (sym is) ∙ told.1)) (is, told.2)
+        rw none at (has_kept (is_numbered id) rows r.0 (permutation_to (journeys_called l) rows r.0 same r.1) (eq-eqb _ _ r.2))
+    go (Some r) one o e =
+        let there = has_filtered (is_numbered id) rows r one in
+        let is = eqb-true r.id id there.1 in
+        let told = journey_told l r (permutation_from (journeys_called l) rows r same there.0) in
+        rw (sym e ∙ ap (journey_at l) (sym is) ∙ told.1) (is, told.2)
 
 -- the row found with a number has the number of the event that began the journey
 pub journey_begins : (l : List Event) (rows : List JourneyRow) (id : ℕ) (r : JourneyRow)
@@ -95,13 +87,8 @@ pub journey_begins : (l : List Event) (rows : List JourneyRow) (id : ℕ) (r : J
     → (b : Begun) × (numbered (begun l) id ≡ Some b) × (r.num ≡ b.num)
 journey_begins l rows id r same one =
     let there = has_filtered (is_numbered id) rows r one in
-    let called = permutation_from (journeys_called l) rows r same there.0 in
-    let b = has_mapped (row_in l) (counted_from 1 (begun l)) r called in
-    let s = counted_stands 1 (begun l) b.0 b.1 in
-    let number : id ≡ suc s.place =
-    sym (eqb-true _ _ there.1) ∙ ap (λ (x : JourneyRow). x.id) b.2 ∙ s.number
-    ∙ (let e : 1 + s.place ≡ suc s.place = omega arith in e) in
-    (b.0.1, ap (numbered (begun l)) number ∙ s.there, ap (λ (x : JourneyRow). x.num) b.2)
+    let b = row_begun l r (permutation_from (journeys_called l) rows r same there.0) in
+    (b.0, ap (numbered (begun l)) (sym (eqb-true r.id id there.1)) ∙ b.1, ap (λ (x : JourneyRow). x.num) b.2)
 
 -- Order.
 
@@ -114,12 +101,6 @@ pub next_above : (l : List Event) (rows : List JourneyRow) → IsPermutation (jo
     → AllByRecursion (λ (r : JourneyRow). r.id < length (journeys l) + 1) rows
 next_above l rows same =
     all_from _ rows
-    (λ r h. low r (journey_told l r (permutation_from (journeys_called l) rows r same h)))
-  where
-    numbered-low : (n : ℕ) (a : Journey) → numbered (journeys l) n ≡ Some a
-        → n < length (journeys l) + 1
-    numbered-low n a e = search (rules, arith, there_low)
-
-    low : (r : JourneyRow) → (a : Journey) × (journey_at l r.id ≡ Some a) × IsJourneyOf l r a
-        → r.id < length (journeys l) + 1
-    low r told = numbered-low r.id told.0 told.1
+    (λ r h.
+    let told = journey_told l r (permutation_from (journeys_called l) rows r same h) in
+    let within = number-within (journeys l) r.id told.0 told.1 in omega arith)

@@ -1,5 +1,5 @@
 -- An allowed event whose reply accepts leaves a desk's state; the outcome of a request, by its answer. For commands.
-use Rattle.std.proofs.Common.{◌≡◌, ◌<◌, ◌≤◌, length, Bool, false, if◌then◌else◌, Option, Some, None, IsTrue, ap, ◌∙◌, arith, ◌&&◌, nat_le, is_some, rules}
+use Rattle.std.proofs.Common.{◌≡◌, ◌<◌, ◌≤◌, length, Bool, if◌then◌else◌, Option, Some, None, IsTrue, ap, ◌∙◌, arith, ◌&&◌, nat_le, is_some, rules}
 use Rattle.std.proofs.lemmas.Bool.{and_from, le-leb}
 use Rattle.std.proofs.lemmas.Bool.Decides.{nat_tests}
 use Rattle.commands.specs.Asks.{Asked}
@@ -29,8 +29,7 @@ module _ (s : State) (ask : Option Asked) (asked : Request) (new : kept_for s as
 
   -- if the rules make no event, the outcome is that of the rules' answer
   pub outcome-no_event : within.event ≡ None → outcome s ask asked ≡ carried_out s ask within
-  outcome-no_event none =
-      by_limit false (ap (λ o. is_some o && nat_le most_events (length s.ledger)) none)
+  outcome-no_event none = search (rules, arith, by_limit)
 
   -- if the rules make an event and the ledger is full, the outcome is a refusal
   pub outcome-full : (e : Event) → within.event ≡ Some e → most_events ≤ length s.ledger

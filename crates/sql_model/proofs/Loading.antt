@@ -1,5 +1,5 @@
 -- The rows that a load writes represent the ledger with it. For loads.
-use Rattle.std.proofs.Common.{◌≡◌, ℕ, ◌+◌, ◌-◌, List, [], ◌∷◌, ◌++◌, length, map, find, Option, Some, None, IsTrue, refl, sym, ap, ◌∙◌, append-nil, option_map, arith, rules}
+use Rattle.std.proofs.Common.{◌≡◌, ℕ, ◌+◌, ◌-◌, List, [], ◌∷◌, ◌++◌, length, find, Option, Some, None, IsTrue, refl, sym, ap, ◌∙◌, append-nil, option_map, arith, rules}
 use Rattle.sqlite_rules.proofs.ListLemmas.{has_found}
 use Rattle.allotment.specs.Cells.{is_cell}
 use Rattle.allotment.specs.declared.cells.Cell.{Cell}
@@ -16,11 +16,10 @@ use Rattle.ledger.proofs.Allotments.{loaded_distinct}
 use Rattle.ledger.proofs.PlacesMoved.{held-loaded, allotment-loaded}
 use Rattle.saga_core.specs.Views.{places_of}
 use Rattle.desk_sql.specs.Rows.{Tables, StockRow}
-use Rattle.sql_model.specs.ExpectedRows.{counted_from, Begun, begun, journey_row_of, journeys_called, is_standing}
+use Rattle.sql_model.specs.ExpectedRows.{journeys_called, is_standing}
 use Rattle.sql_model.specs.Standing.{StockStands, StandsFor}
 use Rattle.sql_model.specs.Beginning.{with_answer}
-use Rattle.sql_model.proofs.Events.{begun-more}
-use Rattle.sql_model.proofs.EventRows.{event_stands, marks-stay, steps-stay}
+use Rattle.sql_model.proofs.EventRows.{begun-more, event_stands, marks-stay, steps-stay}
 use Rattle.sql_model.specs.Loading.{put_rows, puts_rows, with_batch}
 use Rattle.sql_model.proofs.Puts.{once-rows, known-rows, places_given, stock_at-rows}
 
@@ -31,9 +30,7 @@ module _ (l : List Event) (name : List ℕ) (rows : List Row) where
 
   -- no journey moves
   journeys_called-loaded : journeys_called next ≡ journeys_called l
-  journeys_called-loaded =
-      let same = begun-more l (Loaded name rows) ∙ append-nil (begun l) in
-      λ i. map (λ (b : ℕ × Begun). journey_row_of (history-loaded l name rows b.0 i) b.0 b.1) (counted_from 1 (same i))
+  journeys_called-loaded = search (rules, arith, begun-more, append-nil, history-loaded)
 
   -- each cell of the batch has its places; those that are not held are free
   places-loaded : IsTrue (is_allowed l (Loaded name rows)) → (x : Cell)

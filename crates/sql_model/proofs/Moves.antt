@@ -1,11 +1,12 @@
 -- The rows that each item of a journey writes represent the ledger with it. For the functions that write an item.
-use Rattle.std.proofs.Common.{◌≡◌, ℕ, ◌+◌, ◌-◌, ◌==◌, List, [], ◌∷◌, ◌++◌, length, Bool, true, false, eqb-true, Option, Some, None, IsTrue, refl, sym, ap, ◌∙◌, option_map, ◌&&◌, IsPermutation, arith, rules}
+use Rattle.std.proofs.Common.{◌≡◌, ℕ, ◌+◌, ◌-◌, ◌==◌, List, [], ◌∷◌, ◌++◌, length, Bool, true, false, eqb-true, Option, Some, None, IsTrue, refl, ap, ◌∙◌, option_map, ◌&&◌, IsPermutation, arith, rules}
 use Rattle.std.specs.List.{list_any}
 use Rattle.std.proofs.lemmas.Bool.{and_parts}
 use Rattle.allotment.specs.declared.cells.Cell.{Cell}
 use Rattle.allotment.specs.Want.{Wanted}
 use Rattle.plan.specs.PlanModel.{want_at, Planned}
 use Rattle.commands.specs.Asks.{Asked}
+use Rattle.commands.specs.declared.items.Cursor.{Cursor}
 use Rattle.commands.specs.declared.items.Item.{Item}
 use Rattle.commands.specs.declared.replies.Reply.{Reply}
 use Rattle.commands.specs.declared.items.Item.TheVariants.{Transaction, Compensation, Turn, Save}
@@ -29,12 +30,10 @@ use Rattle.sql_model.specs.ExpectedRows.{journeys_called, is_standing, steps_cal
 use Rattle.sql_model.specs.Standing.{StockStands, MarksStand, StandsFor, IsDesk}
 use Rattle.sql_model.specs.Beginning.{with_answer}
 use Rattle.sql_model.specs.Moving.{cursor_written, takes_want, with_transaction, gives_want, with_compensation, with_turn, with_save}
-use Rattle.sql_model.proofs.Items.{changed-permutation, journeys_called-did, journeys_called-stays}
-use Rattle.sql_model.proofs.Options.{standing-transaction, steps-mark, standing-compensation}
+use Rattle.sql_model.proofs.Items.{changed-permutation, journeys_called-did, journeys_called-stays, steps-mark, marks-drop, marks-add, standing-transaction, standing-compensation}
 use Rattle.sql_model.proofs.Plans.{wanted_nights}
 use Rattle.sql_model.proofs.Wants.{stock-taken, stock-given}
-use Rattle.sql_model.proofs.Marks.{marks-drop, marks-add}
-use Rattle.sql_model.proofs.EventRows.{event_stands, stock-stays, marks-stay, steps-stay}
+use Rattle.sql_model.proofs.EventRows.{HasMoved, with_event, event_stands, stock-stays, marks-stay, steps-stay}
 
 module _ (l : List Event) (j : ℕ) (item : Item) where
   -- what an item leaves unchanged for its own journey's history, it leaves unchanged for all journeys
@@ -43,11 +42,7 @@ module _ (l : List Event) (j : ℕ) (item : Item) where
   histories_same f same k = go (k == j) refl
     where
       go : (v : Bool) → (k == j) ≡ v → f (history (l ++ Did j item ∷ []) k) ≡ f (history l k)
-      go true e =
-          let is = eqb-true k j e in
-          ap f (history-did_same l j item k e) ∙ ap (λ i. f (history l i ++ item ∷ [])) is ∙ same
-          ∙ ap (λ i. f (history l i)) (sym is)
-      go false e = ap f (history-did_other l j item k e)
+      go v e = search (rules, arith, eqb-true, history-did_same, history-did_other)
 
   -- if the same places are held, the rows of stock stay
   held-stays : (rows : List StockRow) → ((x : Cell) → held (l ++ Did j item ∷ []) x ≡ held l x)
@@ -85,107 +80,105 @@ journeys-move : (l : List Event) (j : ℕ) (item : Item) (rows : List JourneyRow
 journeys-move l j item rows a legal at may stand =
     search (rules, arith, journeys_called-did, changed-permutation, cursor_next)
 
--- a transaction changes the nights of its want, the row of its option and the journey's row, and leaves
--- the save-points
-pub transaction_stands : (t : Tables) (s : State) (ask : Option Asked) (reply : Reply) (j i c : ℕ) (w : Wanted)
-    (a : Journey) → StandsFor t s → IsDesk s → journey_at s.ledger j ≡ Some a
-    → want_at a.plan i c ≡ Some w → IsTrue (is_allowed s.ledger (Did j (Transaction i c)))
-    → kept_for s ask ≡ None
-    → StandsFor (with_answer ask reply
-    (with_transaction (length s.ledger + 1) (length (journeys s.ledger)) j w i c
-    (cursor_after a.plan (cursor_of a.plan (history s.ledger j)) (Transaction i c)) t))
-    (state_with s ask reply (Some (Did j (Transaction i c))))
-transaction_stands t s ask reply j i c w a st desk at want may new =
-    let l = s.ledger in
-    let it : Item = Transaction i c in
-    let cursor = cursor_after a.plan (cursor_of a.plan (history l j)) it in
-    event_stands t (moves_journey j (cursor_written cursor) (marks_step j i c 1 (takes_want w t))) s ask reply (Did j it)
-    (length (journeys l)) st new (ap length (journeys-did l j it))
-    (record {
-      stock =
-          stock-taken l (l ++ Did j it ∷ []) w t.stock (wanted_nights l j i c a w desk.legal at want) st.stock
-          (allotment-did l j it) (λ x. held-transaction l j i c a x at ∙ ap (λ o. held l x + places_in x o) want);
-      journey = journeys-move l j it t.journey a desk.legal at may st.journey;
-      step = steps-mark l j it i c true (standing-transaction (history l j) i c) t.step st.step;
-      mark = taken-stays l j it t.mark (is_taken-more (history l j) it) st.mark;
-    })
-
--- a compensation changes the nights of its want, the row of its option and the journey's row, and
--- deletes the save-point of the step
-pub compensation_stands : (t : Tables) (s : State) (ask : Option Asked) (reply : Reply) (j i c : ℕ) (w : Wanted)
-    (a : Journey) → StandsFor t s → IsDesk s → journey_at s.ledger j ≡ Some a
-    → want_at a.plan i c ≡ Some w → IsTrue (is_allowed s.ledger (Did j (Compensation i c)))
-    → kept_for s ask ≡ None
-    → StandsFor (with_answer ask reply
-    (with_compensation (length s.ledger + 1) (length (journeys s.ledger)) j w i c
-    (cursor_after a.plan (cursor_of a.plan (history s.ledger j)) (Compensation i c)) t))
-    (state_with s ask reply (Some (Did j (Compensation i c))))
-compensation_stands t s ask reply j i c w a st desk at want may new =
-    let l = s.ledger in
-    let it : Item = Compensation i c in
-    let cursor = cursor_after a.plan (cursor_of a.plan (history l j)) it in
-    event_stands t (moves_journey j (cursor_written cursor) (drops_mark j i (marks_step j i c 0 (gives_want w t)))) s ask
-    reply (Did j it) (length (journeys l)) st new (ap length (journeys-did l j it))
-    (record {
-      stock =
-          stock-given l (l ++ Did j it ∷ []) w t.stock (wanted_nights l j i c a w desk.legal at want) st.stock
-          (allotment-did l j it)
-          (λ x. held-compensation l j i c a x desk.legal at may
-          ∙ ap (λ o. held (l ++ Did j it ∷ []) x + places_in x o) want)
-          (λ x n e. held_within l x n desk.legal e);
-      journey = journeys-move l j it t.journey a desk.legal at may st.journey;
-      step =
-          steps-mark l j it i c false
-          (standing-compensation a.plan (history l j) (fits l (next_want a.plan (history l j))) i c
-          (follows l desk.legal j a at) (may_come-allowed l j a it at may))
-          t.step st.step;
-      mark = marks-drop l j it t.mark st.mark i (is_taken-more (history l j) it);
-    })
-
--- a turn changes the journey's row alone: the same places are held, and the same transactions and
--- save-points stand
-pub turn_stands : (t : Tables) (s : State) (ask : Option Asked) (reply : Reply) (j p : ℕ) (cause : Cause)
-    (a : Journey) → StandsFor t s → IsDesk s → journey_at s.ledger j ≡ Some a
-    → IsTrue (is_allowed s.ledger (Did j (Turn p cause))) → kept_for s ask ≡ None
-    → StandsFor (with_answer ask reply
-    (with_turn (length s.ledger + 1) (length (journeys s.ledger)) j p cause
-    (cursor_after a.plan (cursor_of a.plan (history s.ledger j)) (Turn p cause)) t))
-    (state_with s ask reply (Some (Did j (Turn p cause))))
-turn_stands t s ask reply j p cause a st desk at may new =
-    let l = s.ledger in
-    let it : Item = Turn p cause in
-    let cursor = cursor_after a.plan (cursor_of a.plan (history l j)) it in
-    event_stands t (moves_journey j (cursor_written cursor) t) s ask reply (Did j it) (length (journeys l)) st new
-    (ap length (journeys-did l j it))
-    (record {
-      stock = held-stays l j it t.stock (λ x. held-turn l j p cause a x at) st.stock;
-      journey = journeys-move l j it t.journey a desk.legal at may st.journey;
-      step = net-stays l j it t.step (net-turn (history l j) p cause) st.step;
-      mark = taken-stays l j it t.mark (is_taken-more (history l j) it) st.mark;
-    })
-
 -- a save-point may be taken only where none stands that was taken
 pub save-new : (plan : Planned) (h : List Item) (may_fit : Bool) (p : ℕ)
     → may_come plan h may_fit (Save p) ≡ true → is_taken h p ≡ false
 save-new plan h may_fit p may = search (rules, arith, and_parts)
 
--- a save-point adds its row, and leaves all other rows
-pub save_stands : (t : Tables) (s : State) (ask : Option Asked) (reply : Reply) (j p : ℕ) (a : Journey)
-    → StandsFor t s → IsDesk s → journey_at s.ledger j ≡ Some a
-    → IsTrue (is_allowed s.ledger (Did j (Save p))) → kept_for s ask ≡ None
-    → StandsFor (with_answer ask reply (with_save (length s.ledger + 1) (length (journeys s.ledger)) j p t))
-    (state_with s ask reply (Some (Did j (Save p))))
-save_stands t s ask reply j p a st desk at may new =
-    let l = s.ledger in
-    let it : Item = Save p in
-    event_stands t (adds_mark j p t) s ask reply (Did j it) (length (journeys l)) st new (ap length (journeys-did l j it))
-    (record {
-      stock = held-stays l j it t.stock (λ x. held-save l j p a x at) st.stock;
-      journey =
-          rw (journeys_called-stays l j it a at (cursor_next l j a it desk.legal at may)) st.journey;
-      step = net-stays l j it t.step (net-save (history l j) p) st.step;
-      mark =
-          marks-add l j it t.mark st.mark p
-          (save-new a.plan (history l j) (fits l (next_want a.plan (history l j))) p (may_come-allowed l j a it at may))
-          (is_taken-more (history l j) it);
-    })
+module _ (t : Tables) (s : State) (ask : Option Asked) (reply : Reply) (j : ℕ) where
+  -- the number of the item's event, and how many journeys there are
+  abbrev num : ℕ
+  num = length s.ledger + 1
+
+  abbrev many : ℕ
+  many = length (journeys s.ledger)
+
+  -- the cursor of the journey after the item
+  abbrev cursor : Journey → Item → Cursor
+  cursor a it = cursor_after a.plan (cursor_of a.plan (history s.ledger j)) it
+
+  -- if the item may come, these tables represent the ledger with it and the reply
+  abbrev Stands : Item → Tables → Type 0
+  Stands it u =
+      IsTrue (is_allowed s.ledger (Did j it)) → kept_for s ask ≡ None
+      → StandsFor (with_answer ask reply u) (state_with s ask reply (Some (Did j it)))
+
+  -- they do so if the rows of stock, of journeys, of steps and of save-points are those of the longer ledger
+  stands : (it : Item) (u : Tables) → StandsFor t s → kept_for s ask ≡ None → HasMoved (s.ledger ++ Did j it ∷ []) u
+      → StandsFor (with_answer ask reply (with_event num many (Did j it) t u)) (state_with s ask reply (Some (Did j it)))
+  stands it u st new = event_stands t u s ask reply (Did j it) many st new (ap length (journeys-did s.ledger j it))
+
+  -- a transaction changes the nights of its want, the row of its option and the journey's row, and leaves
+  -- the save-points
+  pub transaction_stands : (i c : ℕ) (w : Wanted) (a : Journey) → StandsFor t s → IsDesk s → journey_at s.ledger j ≡ Some a
+      → want_at a.plan i c ≡ Some w
+      → Stands (Transaction i c) (with_transaction num many j w i c (cursor a (Transaction i c)) t)
+  transaction_stands i c w a st desk at want may new =
+      let l = s.ledger in
+      let it : Item = Transaction i c in
+      stands it (moves_journey j (cursor_written (cursor a it)) (marks_step j i c 1 (takes_want w t))) st new
+      (record {
+        stock =
+            stock-taken l (l ++ Did j it ∷ []) w t.stock (wanted_nights l j i c a w desk.legal at want) st.stock
+            (allotment-did l j it) (λ x. held-transaction l j i c a x at ∙ ap (λ o. held l x + places_in x o) want);
+        journey = journeys-move l j it t.journey a desk.legal at may st.journey;
+        step = steps-mark l j it i c true (standing-transaction (history l j) i c) t.step st.step;
+        mark = taken-stays l j it t.mark (is_taken-more (history l j) it) st.mark;
+      })
+
+  -- a compensation changes the nights of its want, the row of its option and the journey's row, and
+  -- deletes the save-point of the step
+  pub compensation_stands : (i c : ℕ) (w : Wanted) (a : Journey) → StandsFor t s → IsDesk s → journey_at s.ledger j ≡ Some a
+      → want_at a.plan i c ≡ Some w
+      → Stands (Compensation i c) (with_compensation num many j w i c (cursor a (Compensation i c)) t)
+  compensation_stands i c w a st desk at want may new =
+      let l = s.ledger in
+      let it : Item = Compensation i c in
+      stands it (moves_journey j (cursor_written (cursor a it)) (drops_mark j i (marks_step j i c 0 (gives_want w t)))) st new
+      (record {
+        stock =
+            stock-given l (l ++ Did j it ∷ []) w t.stock (wanted_nights l j i c a w desk.legal at want) st.stock
+            (allotment-did l j it)
+            (λ x. held-compensation l j i c a x desk.legal at may
+            ∙ ap (λ o. held (l ++ Did j it ∷ []) x + places_in x o) want)
+            (λ x n e. held_within l x n desk.legal e);
+        journey = journeys-move l j it t.journey a desk.legal at may st.journey;
+        step =
+            steps-mark l j it i c false
+            (standing-compensation a.plan (history l j) (fits l (next_want a.plan (history l j))) i c
+            (follows l desk.legal j a at) (may_come-allowed l j a it at may))
+            t.step st.step;
+        mark = marks-drop l j it t.mark st.mark i (is_taken-more (history l j) it);
+      })
+
+  -- a turn changes the journey's row alone: the same places are held, and the same transactions and
+  -- save-points stand
+  pub turn_stands : (p : ℕ) (cause : Cause) (a : Journey) → StandsFor t s → IsDesk s → journey_at s.ledger j ≡ Some a
+      → Stands (Turn p cause) (with_turn num many j p cause (cursor a (Turn p cause)) t)
+  turn_stands p cause a st desk at may new =
+      let l = s.ledger in
+      let it : Item = Turn p cause in
+      stands it (moves_journey j (cursor_written (cursor a it)) t) st new
+      (record {
+        stock = held-stays l j it t.stock (λ x. held-turn l j p cause a x at) st.stock;
+        journey = journeys-move l j it t.journey a desk.legal at may st.journey;
+        step = net-stays l j it t.step (net-turn (history l j) p cause) st.step;
+        mark = taken-stays l j it t.mark (is_taken-more (history l j) it) st.mark;
+      })
+
+  -- a save-point adds its row, and leaves all other rows
+  pub save_stands : (p : ℕ) (a : Journey) → StandsFor t s → IsDesk s → journey_at s.ledger j ≡ Some a
+      → Stands (Save p) (with_save num many j p t)
+  save_stands p a st desk at may new =
+      let l = s.ledger in
+      let it : Item = Save p in
+      stands it (adds_mark j p t) st new
+      (record {
+        stock = held-stays l j it t.stock (λ x. held-save l j p a x at) st.stock;
+        journey = rw (journeys_called-stays l j it a at (cursor_next l j a it desk.legal at may)) st.journey;
+        step = net-stays l j it t.step (net-save (history l j) p) st.step;
+        mark =
+            marks-add l j it t.mark st.mark p
+            (save-new a.plan (history l j) (fits l (next_want a.plan (history l j))) p (may_come-allowed l j a it at may))
+            (is_taken-more (history l j) it);
+      })

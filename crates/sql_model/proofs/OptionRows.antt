@@ -1,41 +1,30 @@
 -- The rows of one step of a journey's plan. For Readings, and for the choice of an option.
-use Rattle.std.proofs.Common.{◌≡◌, ℕ, zero, suc, ◌+◌, ◌==◌, List, [], ◌∷◌, map, filter, length, Bool, Some, IsTrue, refl, sym, ap, subst, ◌∙◌, arith, slice_get, ◌&&◌, rules}
-use Rattle.std.specs.List.{AllByRecursion}
+use Rattle.std.proofs.Common.{◌≡◌, ℕ, zero, suc, ◌+◌, ◌==◌, List, [], ◌∷◌, map, filter, length, Bool, Some, refl, sym, ap, ◌∙◌, arith, slice_get, ◌&&◌, rules}
 use Rattle.std.specs.List.Sorted.{IsPermutation}
 use Rattle.std.proofs.lemmas.List.Sorted.{IsPermutation-trans}
-use Rattle.sqlite_rules.proofs.ListLemmas.{has_filtered}
 use Rattle.sqlite_trees.specs.Tree.{IsAscending}
-use Rattle.sqlite_trees.proofs.ListLemmas.{IsPermutation-filter, ascending-filter, all-map, all_of}
+use Rattle.sqlite_trees.proofs.ListLemmas.{IsPermutation-filter, ascending-filter}
 use Rattle.allotment.specs.Want.{Wanted}
-use Rattle.plan.specs.PlanModel.{Planned, StepPlan, numbered, is_plan}
+use Rattle.plan.specs.PlanModel.{Planned, StepPlan, numbered}
 use Rattle.ledger.specs.Ledger.{Event, Journey, journey_at, history}
 use Rattle.desk_sql.specs.FoundRows.{is_step_of, is_option_of, IsByPlace, step_of}
 use Rattle.desk_sql.specs.Rows.{StepRow}
 use Rattle.desk_sql.specs.declared.steps.StepFound.{StepFound}
 use Rattle.sql_model.specs.ExpectedRows.{counted_from, option_row, option_rows, step_rows, is_standing, steps_called}
 use Rattle.sql_model.proofs.Numbering.{rows_if, group_at}
-use Rattle.sql_model.proofs.StepRows.{steps_found}
-use Rattle.sql_model.proofs.Orders.{found_in_order}
-use Rattle.sql_model.proofs.PlanRows.{rank, step_rows-rise, have_options, by_rank}
+use Rattle.sql_model.proofs.StepRows.{one_by_place, step-rows_at, step_rows-rise, steps_found}
 
 -- the row is one of this step
 abbrev pub is_at : ℕ → StepRow → Bool
 is_at place r = r.place == place
 
--- each row of a step has the number of the step
-pub step-rows_at : (taken : ℕ → ℕ → Bool) (id n : ℕ) (p : StepPlan)
-    → AllByRecursion (λ (r : StepRow). r.place ≡ n) (option_rows taken id n p)
-step-rows_at taken id n p = search (rules, arith, all-map, all_of)
-
 -- of the rows of a plan those of one step are the rows of its options
 pub step_rows_at : (taken : ℕ → ℕ → Bool) (id : ℕ) (plan : Planned) (place : ℕ) (p : StepPlan)
     → numbered plan.steps place ≡ Some p → filter (is_at place) (step_rows taken id plan) ≡ option_rows taken id place p
-step_rows_at taken id plan zero p e = cc
-step_rows_at taken id plan (suc i) p e =
+step_rows_at taken id plan place p e =
     let rows = option_rows taken id in
     let own = step-rows_at taken id in
-    group_at (λ (r : StepRow). r.place) rows own 1 i (suc i) plan.steps (omega arith)
-    ∙ ap (rows_if (λ (r : StepRow). r.place) rows own (suc i)) e
+    group_at (λ (r : StepRow). r.place) rows own place plan.steps ∙ ap (rows_if (λ (r : StepRow). r.place) rows own place) e
 
 -- a filter of a filter tests both
 filter_both : {X : Type 0} (p q : X → Bool) (xs : List X) → filter q (filter p xs) ≡ filter (λ x. p x && q x) xs
@@ -44,16 +33,15 @@ filter_both p q (x ∷ xs) = search (rules, arith, filter_both p q xs)
 
 -- the rows found of a step, in order, are those of that step of the plan
 pub options_found_in_order : (l : List Event) (rows found : List StepRow) (id place : ℕ) (a : Journey)
-    → IsPermutation (steps_called l) rows → journey_at l id ≡ Some a → IsTrue (is_plan a.plan)
+    → IsPermutation (steps_called l) rows → journey_at l id ≡ Some a
     → IsPermutation (filter (is_option_of id place) rows) found → IsAscending IsByPlace found
     → found ≡ filter (is_at place) (step_rows (is_standing (history l id)) id a.plan)
-options_found_in_order l rows found id place a same at good sorted up =
-    found_in_order rank IsByPlace own_rows found
+options_found_in_order l rows found id place a same at sorted up =
+    one_by_place own_rows found
     (IsPermutation-trans own_rows (filter (is_at place) (filter (is_step_of id) rows)) found
     (IsPermutation-filter (is_at place) called (filter (is_step_of id) rows) (steps_found l rows id a same at))
-    (subst (λ xs. IsPermutation xs found) (sym (filter_both (is_step_of id) (is_at place) rows)) sorted))
-    (ascending-filter _ (is_at place) called (step_rows-rise (is_standing (history l id)) id a.plan (have_options a.plan good))) up
-    (λ r s h k. by_rank l id a good r s (has_filtered (is_at place) called r h).0 (has_filtered (is_at place) called s k).0)
+    (rw (filter_both (is_step_of id) (is_at place) rows) sorted))
+    (ascending-filter _ (is_at place) called (step_rows-rise (is_standing (history l id)) id a.plan)) up
   where
     called : List StepRow
     called = step_rows (is_standing (history l id)) id a.plan

@@ -5,15 +5,14 @@ use Rattle.allotment.specs.Want.{Wanted}
 use Rattle.plan.specs.PlanModel.{Planned, StepPlan}
 use Rattle.sql_model.specs.ExpectedRows.{counted_from, option_row, option_rows, step_rows}
 use Rattle.sql_model.specs.Beginning.{first_steps, first_options}
-use Rattle.sql_model.proofs.Lists.{map_counted-last, flat_map_counted-last}
+use Rattle.sql_model.proofs.Numbering.{map_counted-last, flat_map_counted-last}
 
 -- one more element, the next
 taken_more : {X : Type 0} (xs : List X) (i : ℕ) (x : X) → slice_get xs i ≡ Some x
     → (take (suc i) xs ≡ take i xs ++ x ∷ []) × (length (take i xs) ≡ i)
 taken_more [] i x e = cc
 taken_more (y ∷ xs) zero x e = let same : y ≡ x = cc in (ap (λ z. z ∷ []) same, refl)
-taken_more (y ∷ xs) (suc i) x e =
-    let rest = taken_more xs i x e in let size = rest.1 in (ap (λ ys. y ∷ ys) rest.0, omega arith)
+taken_more (y ∷ xs) (suc i) x e = search (rules, arith, taken_more xs i x e)
 
 -- the options of the next step are appended
 pub step_rows-more : (taken : ℕ → ℕ → Bool) (id : ℕ) (plan : Planned) (i : ℕ) (s : StepPlan)

@@ -1,21 +1,13 @@
 -- The wants of a plan that keeps the limits keep the limits of wants. For Moves.
-use Rattle.std.proofs.Common.{◌≡◌, ℕ, zero, suc, ◌≤◌, List, length, Bool, true, Option, Some, None, IsTrue, refl, ap, ◌∙◌, arith, nat_le, option_and_then, option_map, unwrap_or, rules}
-use Rattle.std.specs.List.{list_all}
+use Rattle.std.proofs.Common.{◌≡◌, ℕ, zero, suc, ◌≤◌, List, length, true, Option, Some, None, IsTrue, refl, arith, nat_le, option_and_then, option_map, unwrap_or, rules}
 use Rattle.std.proofs.lemmas.Bool.{and_parts, leb-true}
-use Rattle.sqlite_rules.proofs.ListLemmas.{test_has, has_got}
 use Rattle.plan.proofs.LimitLemmas.{limited, step_limited}
 use Rattle.allotment.specs.Want.{Wanted}
 use Rattle.allotment.specs.Limits.{is_between, is_want, most_count}
 use Rattle.plan.specs.PlanModel.{Planned, StepPlan, numbered, want_at, is_step, is_plan, option_count}
 use Rattle.ledger.specs.Ledger.{Event, Journey, journey_at, IsLegal}
-use Rattle.sql_model.proofs.Numbering.{there_is}
+use Rattle.sql_model.proofs.Numbering.{there_is, numbered-passes}
 use Rattle.sql_model.proofs.RecordRows.{plan_good}
-
--- if each element passes, the one with a number passes
-numbered-passes : {X : Type 0} (p : X → Bool) (xs : List X) (n : ℕ) (x : X) → numbered xs n ≡ Some x
-    → list_all p xs ≡ true → p x ≡ true
-numbered-passes p xs zero x e all = cc
-numbered-passes p xs (suc i) x e all = test_has p xs x all (has_got xs i x e)
 
 -- a want of a good plan keeps its limits
 pub want_good : (plan : Planned) (i c : ℕ) (w : Wanted) → IsTrue (is_plan plan)
@@ -35,8 +27,7 @@ want-nights w good = search (rules, arith, and_parts, leb-true)
 -- each want of a journey of a legal ledger has at least one night
 pub wanted_nights : (l : List Event) (j i c : ℕ) (a : Journey) (w : Wanted) → IsLegal l
     → journey_at l j ≡ Some a → want_at a.plan i c ≡ Some w → 1 ≤ w.nights
-wanted_nights l j i c a w legal at want =
-    want-nights w (want_good a.plan i c w (plan_good l j a legal at) want)
+wanted_nights l j i c a w legal at want = search (rules, arith, want-nights, want_good, plan_good)
 
 -- a good want keeps the limit of places a night
 pub want-count : (w : Wanted) → is_want w ≡ true → w.count ≤ most_count
@@ -45,28 +36,18 @@ want-count w good = search (rules, arith, and_parts, leb-true)
 -- each want of a journey of a legal ledger keeps the limit of places a night
 pub wanted_count : (l : List Event) (j i c : ℕ) (a : Journey) (w : Wanted) → IsLegal l
     → journey_at l j ≡ Some a → want_at a.plan i c ≡ Some w → w.count ≤ most_count
-wanted_count l j i c a w legal at want =
-    want-count w (want_good a.plan i c w (plan_good l j a legal at) want)
+wanted_count l j i c a w legal at want = search (rules, arith, want-count, want_good, plan_good)
 
 -- an option that a step has is a want of the plan
 pub option_wanted : (plan : Planned) (i c : ℕ) → is_between 1 (option_count plan i) c ≡ true
     → (w : Wanted) × (want_at plan i c ≡ Some w)
-option_wanted plan i c within = go (numbered plan.steps i) refl within
+option_wanted plan i zero within = cc
+option_wanted plan i (suc k) within = go (numbered plan.steps i) refl within
   where
-    of_number : {X : Type 0} (xs : List X) (n : ℕ) → 1 ≤ n → n ≤ length xs
-        → (x : X) × (numbered xs n ≡ Some x)
-    of_number xs zero low high = absurd (omega arith)
-    of_number xs (suc k) low high = there_is xs k (omega arith)
-
     go : (o : Option StepPlan) → numbered plan.steps i ≡ o
-        → is_between 1 (unwrap_or (option_map (λ (s : StepPlan). length s.options) o) 0) c ≡ true
-        → (w : Wanted) × (option_and_then (λ (s : StepPlan). numbered s.options c) (numbered plan.steps i) ≡ Some w)
-    go None e b =
-        let low = leb-true 1 c (and_parts (nat_le 1 c) (nat_le c 0) b).0 in
-        let high = leb-true c 0 (and_parts (nat_le 1 c) (nat_le c 0) b).1 in
-        absurd (omega arith)
+        → is_between 1 (unwrap_or (option_map (λ (s : StepPlan). length s.options) o) 0) (suc k) ≡ true
+        → (w : Wanted) × (option_and_then (λ (s : StepPlan). numbered s.options (suc k)) o ≡ Some w)
+    go None e b = absurd (omega (arith, leb-true (suc k) 0 (and_parts (nat_le 1 (suc k)) (nat_le (suc k) 0) b).1))
     go (Some s) e b =
-        let low = leb-true 1 c (and_parts (nat_le 1 c) (nat_le c (length s.options)) b).0 in
-        let high = leb-true c (length s.options) (and_parts (nat_le 1 c) (nat_le c (length s.options)) b).1 in
-        let found = of_number s.options c low high in
-        (found.0, ap (option_and_then (λ (x : StepPlan). numbered x.options c)) e ∙ found.1)
+        let high = leb-true (suc k) (length s.options) (and_parts (nat_le 1 (suc k)) (nat_le (suc k) (length s.options)) b).1 in
+        there_is s.options k (omega arith)

@@ -3,7 +3,7 @@ use Rattle.std.proofs.Common.{◌≡◌, ℕ, ◌-◌, List, [], ◌∷◌, ◌+
 use Rattle.std.specs.List.{AllByRecursion, list_any}
 use Rattle.std.proofs.lemmas.Bool.{and_parts, false_from_ne_true}
 use Rattle.sqlite_trees.proofs.ListLemmas.{all-append}
-use Rattle.sqlite_rules.proofs.ListLemmas.{all_has, all_from, some_has, some_from, has_found}
+use Rattle.sqlite_rules.proofs.ListLemmas.{all_from, some_from, has_found}
 use Rattle.allotment.specs.Cells.{is_cell}
 use Rattle.allotment.specs.declared.cells.Cell.{Cell}
 use Rattle.allotment.specs.declared.cells.Row.{Row}
@@ -14,12 +14,12 @@ use Rattle.desk_sql.specs.Lists.{changed}
 use Rattle.desk_sql.specs.Rows.{Tables, StockRow}
 use Rattle.desk_sql.specs.Stock.{is_cell as is_row_of, AreApart as AreCellsApart, with_places, put}
 use Rattle.sql_model.specs.Standing.{AreApart, is_stock_of, is_same_stock, IsOfCell, places_told, stock_at}
-use Rattle.sql_model.proofs.Finding.{find-back, find-last_fails, find-none, apart-last}
+use Rattle.sql_model.proofs.Finding.{find-last_fails, apart-last}
 use Rattle.sql_model.proofs.Orders.{ascending_where}
-use Rattle.sql_model.proofs.StockRows.{same_back}
+use Rattle.sql_model.proofs.StockRows.{one_cell, same_back}
+use Rattle.sql_model.proofs.Wants.{same_test}
 use Rattle.sql_model.specs.Loading.{loaded_row, put_rows}
-use Rattle.sql_model.proofs.Changing.{find-changed, once-changed, known-changed}
-use Rattle.sql_model.proofs.Alike.{same-turned, same-same, same-self, row_of_cell}
+use Rattle.sql_model.proofs.Changing.{once-changed, known-changed, same-turned, same-same, same-self, row_of_cell, told-if, told-changed, told-added}
 
 -- the statement's test of one cell is the same test
 same_cell : (s r : StockRow) → is_row_of s r ≡ is_same_stock r s
@@ -30,77 +30,35 @@ pub cells_apart : (t : Tables) → AreApart is_same_stock t.stock → AreCellsAp
 cells_apart t once = search (rules, arith, ascending_where, same_cell, same_back)
 
 -- One cell.
+
+-- a row of the new row's cell is of the cell x exactly if the new row is
+of_new : (x : Cell) (s r : StockRow) → is_row_of s r ≡ true → is_stock_of x r ≡ is_stock_of x s
+of_new x s r on =
+    same_test (is_stock_of x r) (is_stock_of x s) (λ of. same-same (row_of_cell x) r s of (sym (same_cell s r) ∙ on))
+    (λ of. same-same (row_of_cell x) s r of (same-turned r s (sym (same_cell s r) ∙ on)))
+
+-- the cell of the new row has its places, and each other cell has those that it had
+stock_at-put : (s : StockRow) (cells : List StockRow) (x : Cell)
+    → stock_at (put s cells) x ≡ (if is_stock_of x s then Some (places_told s) else stock_at cells x)
+stock_at-put s cells x = go (is_stock_of x s) refl (list_any (is_row_of s) cells) refl
+  where
+    own : is_stock_of x s ≡ true → (r : StockRow) → is_stock_of x r ≡ is_row_of s r
+    own on r = search (rules, arith, same_test, same_cell, one_cell x r s, of_new x s r)
+
+    go : (v : Bool) → is_stock_of x s ≡ v → (w : Bool) → list_any (is_row_of s) cells ≡ w
+        → stock_at (if w then changed (is_row_of s) (with_places s) cells else cells ++ s ∷ []) x
+        ≡ (if v then Some (places_told s) else stock_at cells x)
+    go true on true some =
+        told-changed (is_stock_of x) (is_row_of s) (with_places s) places_told (λ r. refl) (places_told s)
+        (own on) (λ r. refl) cells some
+    go true on false none =
+        told-added (is_stock_of x) (is_row_of s) (with_places s) places_told (λ r. refl) s (own on) on cells none
+    go false off true some =
+        told-if (is_stock_of x) (is_row_of s) (with_places s) places_told (λ r. refl) false (λ p. places_told s)
+        (λ r of. false_from_ne_true (is_row_of s r) (λ on. let same = of_new x s r on in cc)) (λ r. refl) cells
+    go false off false none = ap (option_map places_told) (find-last_fails (is_stock_of x) cells s off)
+
 module _ (s : StockRow) (cells : List StockRow) where
-  -- a row, with the places of the new row if both are of one cell
-  abbrev row_now : StockRow → StockRow
-  row_now r = if is_row_of s r then with_places s r else r
-
-  -- a row of the cell x is of the new row's cell exactly if the new row is of x
-  of_new : (x : Cell) (r : StockRow) → is_stock_of x r ≡ true → is_row_of s r ≡ is_stock_of x s
-  of_new x r of = go (is_stock_of x s) refl
-    where
-      go : (v : Bool) → is_stock_of x s ≡ v → is_row_of s r ≡ v
-      go true e = same_cell s r ∙ same-same r (row_of_cell x) s (same-turned (row_of_cell x) r of) e
-      go false e =
-          false_from_ne_true (is_row_of s r)
-          (λ on.
-          let bad : true ≡ false = sym (same-same (row_of_cell x) r s of (sym (same_cell s r) ∙ on)) ∙ e in cc)
-
-  -- the places of the new row if it is of the cell, else those that were there
-  abbrev places_now : Bool → Option Places → Option Places
-  places_now v before = if v then Some (places_told s) else before
-
-  -- a cell that has a row gets its places in it
-  stock_at-changed : (x : Cell) → list_any (is_row_of s) cells ≡ true
-      → stock_at (changed (is_row_of s) (with_places s) cells) x ≡ places_now (is_stock_of x s) (stock_at cells x)
-  stock_at-changed x some =
-      ap (option_map places_told)
-      (find-changed (is_row_of s) (with_places s) (λ q r. refl) (λ q r. refl) x cells)
-      ∙ go (find (is_stock_of x) cells) refl
-    where
-      told : (v : Bool) (r : StockRow)
-          → Some (places_told (if v then with_places s r else r)) ≡ places_now v (Some (places_told r))
-      told v r = search (rules, arith, arith)
-
-      go : (o : Option StockRow) → find (is_stock_of x) cells ≡ o
-          → option_map places_told (option_map row_now o) ≡ places_now (is_stock_of x s) (option_map places_told o)
-      go None e =
-          ap (λ v. places_now v None)
-          (sym
-          (false_from_ne_true (is_stock_of x s) (λ on.
-          let there = some_has (is_row_of s) cells some in
-          let of = same-same (row_of_cell x) s there.0 on
-          (same-turned there.0 s (sym (same_cell s there.0) ∙ there.2)) in
-          let bad : true ≡ false =
-          sym of ∙ all_has (λ r. is_stock_of x r ≡ false) cells there.0 (find-none (is_stock_of x) cells e) there.1 in
-          cc)))
-      go (Some r) e =
-          ap (λ v. Some (places_told (if v then with_places s r else r))) (of_new x r
-          (has_found (is_stock_of x) cells r e).1)
-          ∙ told (is_stock_of x s) r
-
-  -- a cell that has no row gets a new one
-  stock_at-added : (x : Cell) → list_any (is_row_of s) cells ≡ false
-      → stock_at (cells ++ s ∷ []) x ≡ places_now (is_stock_of x s) (stock_at cells x)
-  stock_at-added x none = go (is_stock_of x s) refl (find (is_stock_of x) cells) refl
-    where
-      go : (v : Bool) → is_stock_of x s ≡ v → (o : Option StockRow) → find (is_stock_of x) cells ≡ o
-          → stock_at (cells ++ s ∷ []) x ≡ places_now v (stock_at cells x)
-      go false e o f = ap (option_map places_told) (find-last_fails (is_stock_of x) cells s e)
-      go true e None f =
-          ap (option_map places_told) (find-back (is_stock_of x) cells (s ∷ []) f)
-          ∙ ap (λ v. option_map places_told (cond v (Some s) None)) e
-      go true e (Some r) f =
-          let there = has_found (is_stock_of x) cells r f in
-          let of : is_row_of s r ≡ true =
-          same_cell s r ∙ same-same r (row_of_cell x) s (same-turned (row_of_cell x) r there.1) e in
-          let bad : true ≡ false = sym (some_from (is_row_of s) cells r there.0 of) ∙ none in
-          cc
-
-  -- the cell of the new row has its places, and each other cell has those that it had
-  stock_at-put : (x : Cell) → stock_at (put s cells) x ≡ places_now (is_stock_of x s) (stock_at cells x)
-  stock_at-put x = search (rules, arith, stock_at-changed, stock_at-added)
-
   -- no two rows are of one cell after a put
   once-put : AreApart is_same_stock cells → AreApart is_same_stock (put s cells)
   once-put once = search (rules, arith, false_from_ne_true, some_from, same_cell, once-changed, apart-last, all_from)

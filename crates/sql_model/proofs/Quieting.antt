@@ -27,11 +27,4 @@ module _ {S : Type 0} (g : Ghosts S) (old new : Held S) (it : Quiet g old new) w
 
   -- and keeps each state that it kept
   pub quiet_keeps : KeepsEach g old new
-  quiet_keeps v s keeps clean =
-      let kept = keeps (quiet_clean clean) in
-      let commit = quiet_sees.kept clean in
-      record {
-        sees = λ live. (let saw = kept.sees (commit.was_open live) in
-            same_desk (state g old) (state g new) s saw (quiet_sees.sees clean live saw.committed) (commit.committed live));
-        leaves = λ db may. kept.leaves db (quiet_leaves clean db may);
-      }
+  quiet_keeps v s keeps clean = search (rules, arith, quiet_clean, same_desk, quiet_leaves)

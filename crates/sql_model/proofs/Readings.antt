@@ -27,16 +27,15 @@ use Rattle.sql_model.specs.Standing.{StandsIn, IsDesk}
 use Rattle.sql_model.specs.Reading.{Tells, IsAnswerOf, IsJourneyOf, IsBriefOf, item_in, not_taken, IsRangeOf, is_wanted_row, night_told, night_seen}
 use Rattle.sql_model.proofs.Orders.{Rises}
 use Rattle.sql_model.proofs.Answered.{answer_found}
-use Rattle.sql_model.proofs.FirstItems.{no_item_before}
 use Rattle.sql_model.proofs.JourneyRows.{journey_found, journey_begins, next_above}
-use Rattle.sql_model.proofs.UnfinishedRows.{unfinished_found}
-use Rattle.sql_model.proofs.PlanRows.{steps_found_in_order}
+use Rattle.sql_model.proofs.BriefRows.{unfinished_found}
+use Rattle.sql_model.proofs.StepRows.{steps_found_in_order}
 use Rattle.sql_model.proofs.OptionRows.{is_at, step_rows_at, options_found_in_order}
-use Rattle.sql_model.proofs.ItemRows.{items_found, marks_found}
-use Rattle.sql_model.proofs.NextItems.{TellsIfNext, next_found}
+use Rattle.sql_model.proofs.NextItems.{items_found, no_item_before, TellsIfNext, next_found, marks_found}
 use Rattle.sql_model.proofs.StockRows.{nights_found}
 use Rattle.sql_model.proofs.Ranges.{range_row}
-use Rattle.sql_model.proofs.RecordRows.{plan_good, plan_told}
+use Rattle.sql_model.proofs.PlanReading.{step_rows-not_taken, steps_from_rows}
+use Rattle.sql_model.proofs.RecordRows.{plan_good}
 
 module _ {v : Version} (t : Tables) (s : State) (st : StandsIn v t s) (desk : IsDesk s) where
   -- the row of meta counts the events and the journeys
@@ -56,14 +55,12 @@ module _ {v : Version} (t : Tables) (s : State) (st : StandsIn v t s) (desk : Is
   -- the row found with a number matches the journey with that number
   pub journey_read : (id : ℕ) (found : Option JourneyFound) → FindsJourney id t found
       → Tells (λ (r : JourneyRow) a. (r.id ≡ id) × IsJourneyOf s.ledger r a) (option_map journey_of found) (journey_at s.ledger id)
-  journey_read id found finds =
-      journey_found s.ledger t.journey id (option_map journey_of found) st.journey finds
+  journey_read id found finds = search (rules, arith, journey_found)
 
   -- the row found above a number is that of the first unfinished journey there
   pub unfinished_read : (after : ℕ) (found : Option JourneyFound) → FindsUnfinished after t found
       → Tells IsBriefOf (option_map journey_of found) (first_unfinished s.ledger after)
-  unfinished_read after found finds =
-      unfinished_found s.ledger t.journey after (option_map journey_of found) st.journey finds
+  unfinished_read after found finds = search (rules, arith, unfinished_found)
 
   -- the event that began a found journey comes before all of its items
   pub begins_read : (id : ℕ) (found : JourneyFound) → FindsJourney id t (Some found)
@@ -84,20 +81,19 @@ module _ {v : Version} (t : Tables) (s : State) (st : StandsIn v t s) (desk : Is
   -- the row found after so many events is that of the journey's next item
   pub next_read : (id after : ℕ) (found : Option ItemFound) → FindsNextItem id after t found
       → TellsIfNext id 1 after s.ledger (option_map (item_of id) found)
-  next_read id after found finds =
-      next_found s.ledger t.entries id after (option_map (item_of id) found) st.entries finds
+  next_read id after found finds = search (rules, arith, next_found)
 
   -- the option rows found of a journey are the rows of its plan, in order
   pub steps_read : (id : ℕ) (a : Journey) (found : List StepFound) → journey_at s.ledger id ≡ Some a
       → FindsSteps id t found
       → map (step_of id) found ≡ step_rows (is_standing (history s.ledger id)) id a.plan
-  steps_read id a found at finds = search (rules, arith, steps_found_in_order, plan_good)
+  steps_read id a found at finds = search (rules, arith, steps_found_in_order)
 
   -- the option rows found of a step are the rows of that step of the plan, in order
   pub options_read : (id place : ℕ) (a : Journey) (found : List StepFound) → journey_at s.ledger id ≡ Some a
       → FindsOptions id place t found
       → map (step_of id) found ≡ filter (is_at place) (step_rows (is_standing (history s.ledger id)) id a.plan)
-  options_read id place a found at finds = search (rules, arith, options_found_in_order, plan_good)
+  options_read id place a found at finds = search (rules, arith, options_found_in_order)
 
   -- the option rows found of a step are those of its options
   pub options_there : (id place : ℕ) (a : Journey) (found : List StepFound) (p : StepPlan) → journey_at s.ledger id ≡ Some a
@@ -112,7 +108,10 @@ module _ {v : Version} (t : Tables) (s : State) (st : StandsIn v t s) (desk : Is
       → journey_at s.ledger id ≡ Some a → FindsSteps id t found → IsTrue (is_plan plan)
       → step_rows_of id plan ≡ map not_taken (map (step_of id) found) → plan.tries ≡ a.plan.tries
       → plan ≡ a.plan
-  plan_read id a found plan at finds good rows tries = search (rules, arith, plan_told)
+  plan_read id a found plan at finds good rows tries =
+      let called = ap (map not_taken) (steps_read id a found at finds) in
+      let one = rows ∙ called ∙ step_rows-not_taken (is_standing (history s.ledger id)) id a.plan in
+      λ i. record { steps = steps_from_rows id plan a.plan good (plan_good s.ledger id a desk.legal at) one i; tries = tries i }
 
   -- the positions found of a journey are those at which a save-point stands that was taken at run
   -- time

@@ -27,12 +27,11 @@ use Rattle.desk_sql.proofs.Members.{permutation_from, permutation_to}
 use Rattle.sql_model.specs.Standing.{AreApart, is_stock_of, is_same_stock, places_told, stock_at, StockStands}
 use Rattle.sql_model.specs.Reading.{is_wanted_row, night_told, stock_row_of}
 use Rattle.desk_sql.specs.Stock.{IsByNight, IsByCell, cell_cmp as stock_cmp}
-use Rattle.sql_model.proofs.Lists.{has_chosen, chosen_has, ascending-chosen}
-use Rattle.sql_model.proofs.Numbering.{numbers_within, within_numbers, numbers_rise}
-use Rattle.sql_model.proofs.Orders.{Rises, pairs-permutation, ascending_where, climbs, one_rising, found_is_first}
+use Rattle.sql_model.proofs.Numbering.{has_chosen, chosen_has, ascending-chosen, numbers_within, within_numbers, numbers_rise}
+use Rattle.sql_model.proofs.Orders.{Rises, pairs-permutation, ascending_where, ascending_both, one_rising, found_is_first, find-permutation}
 
 -- two rows that match one cell are of the same cell
-one_cell : (x : Cell) (r s : StockRow) → is_stock_of x r ≡ true → is_stock_of x s ≡ true
+pub one_cell : (x : Cell) (r s : StockRow) → is_stock_of x r ≡ true → is_stock_of x s ≡ true
     → is_same_stock r s ≡ true
 one_cell x r s p q = search (rules, arith, and_parts, eqb-true, bytes_eq-Decides, and_from, eq-eqb)
 
@@ -65,8 +64,7 @@ wanted_cell w r some e = search (rules, arith, and_parts, and_from, eq-eqb, eqb-
 -- the row of a want's cell is wanted
 pub cell_wanted : (w : Wanted) (n : ℕ) (r : StockRow) → is_stock_of (cell_at w n) r ≡ true → w.first ≤ n
     → n < w.first + w.nights → (is_wanted_row w r ≡ true) × (r.night ≡ n)
-cell_wanted w n r e low high =
-    search (rules, arith, and_parts, eqb-true, and_from, eq-eqb, bytes_eq-Decides, le-leb)
+cell_wanted w n r e low high = search (rules, arith, and_parts, eqb-true, and_from, eq-eqb, bytes_eq-Decides, le-leb)
 
 -- the places shown of a want's nights, from a night on
 abbrev shown_from : List Event → Wanted → ℕ → ℕ → List (ℕ × Places)
@@ -118,7 +116,8 @@ pub nights_found : (l : List Event) (rows found : List StockRow) (w : Wanted) �
 nights_found l rows found w some stand same sorted =
     one_rising (λ (p : ℕ × Places). p.0) (map night_told found) (places_shown l w)
     (ascending-map (λ (p q : ℕ × Places). p.0 < q.0) night_told found
-    (climbs (λ (r : StockRow). r.night) IsByNight found (λ r s h k low. low) sorted
+    (ascending_both IsByNight (λ r s. r.night ≢ s.night) (λ r s. r.night < s.night)
+    (λ r s low off. omega (arith, low, off)) found sorted
     (pairs-permutation (λ (r s : StockRow). r.night ≢ s.night) (λ r s off e. off (sym e)) (filter (is_wanted_row w) rows) found same (apart_nights w rows some stand.once))))
     (shown_rises l w w.first w.nights) forth back
   where
@@ -156,28 +155,12 @@ same_back r s off = search (rules, arith, false_from_ne_true, and_parts, and_fro
 -- rows that are apart are so in each order
 stock_apart : (rows found : List StockRow) → IsPermutation rows found → AreApart is_same_stock rows
     → AreApart is_same_stock found
-stock_apart rows found same once =
-    pairs-permutation (λ (r s : StockRow). is_same_stock r s ≡ false) same_back rows found same once
+stock_apart rows found same once = search (rules, arith, pairs-permutation, same_back)
 
 -- the places of each cell are the same in each order
 stock_at-permutation : (rows found : List StockRow) (x : Cell) → IsPermutation rows found
     → AreApart is_same_stock rows → stock_at found x ≡ stock_at rows x
-stock_at-permutation rows found x same once = go (stock_at rows x) refl
-  where
-    none : stock_at rows x ≡ None → (o : Option Places) → stock_at found x ≡ o → o ≡ None
-    none e None f = refl
-    none e (Some p) f =
-        let r = row-stock_at found x p f in
-        let bad : None ≡ Some (places_told r.0) =
-        sym e ∙ stock_at-row rows x r.0 once (permutation_from rows found r.0 same r.1) r.2 in cc
-
-    go : (o : Option Places) → stock_at rows x ≡ o → stock_at found x ≡ stock_at rows x
-    go None e = none e (stock_at found x) refl ∙ sym e
-    go (Some p) e =
-        let r = row-stock_at rows x p e in
-        stock_at-row found x r.0 (stock_apart rows found same once)
-        (permutation_to rows found r.0 same r.1) r.2
-        ∙ ap Some r.3 ∙ sym e
+stock_at-permutation rows found x same once = search (rules, arith, find-permutation, one_cell)
 
 -- the rows of the stock have one order
 pub stock_total : IsTotalOrder stock_cmp

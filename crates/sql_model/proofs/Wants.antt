@@ -1,6 +1,6 @@
 -- The rows of stock after the nights of a want got fewer free places, or more. For Moves.
-use Rattle.std.proofs.Common.{◌≡◌, ℕ, ◌+◌, ◌-◌, ◌≤◌, List, find, Bool, true, if◌then◌else◌, Option, Some, None, refl, sym, ap, ◌∙◌, arith, option_map, rules}
-use Rattle.sqlite_rules.proofs.ListLemmas.{some_has, some_from, has_found}
+use Rattle.std.proofs.Common.{◌≡◌, ℕ, ◌+◌, ◌-◌, ◌≤◌, List, Bool, true, if◌then◌else◌, Option, Some, None, refl, sym, ap, ◌∙◌, arith, option_map, false, rules}
+use Rattle.sqlite_rules.proofs.ListLemmas.{some_has, some_from}
 use Rattle.sqlite_rules.proofs.ProbeLemmas.{has_mapped, mapped_has}
 use Rattle.allotment.specs.Want.{Wanted}
 use Rattle.allotment.specs.Cells.{is_cell, cell_at, cells_of, numbers_from, wants_cell}
@@ -15,8 +15,7 @@ use Rattle.sql_model.specs.Standing.{is_stock_of, places_told, stock_at, StockSt
 use Rattle.sql_model.specs.Reading.{is_wanted_row}
 use Rattle.sql_model.proofs.Numbering.{numbers_within, within_numbers}
 use Rattle.sql_model.proofs.StockRows.{wanted_cell, cell_wanted}
-use Rattle.sql_model.proofs.Changing.{find-changed, once-changed, known-changed}
-use Rattle.sql_model.proofs.Alike.{same-turned, same-same, row_of_cell}
+use Rattle.sql_model.proofs.Changing.{told-if, once-changed, known-changed, same-turned, same-same, row_of_cell}
 
 -- two tests that imply each other are equal
 pub same_test : (a b : Bool) → (a ≡ true → b ≡ true) → (b ≡ true → a ≡ true) → a ≡ b
@@ -50,35 +49,16 @@ module _ (w : Wanted) (some : 1 ≤ w.nights) (freed : ℕ → ℕ) where
   abbrev with_freed : StockRow → StockRow
   with_freed r = record r { free = freed r.free }
 
-  abbrev row_now : StockRow → StockRow
-  row_now r = if is_wanted_row w r then with_freed r else r
-
-  -- the places of a cell, changed if the cell is wanted
-  abbrev places_now : Bool → Places → Places
-  places_now wanted p = if wanted then record p { free = freed p.free } else p
+  -- places of which as many are free
+  abbrev freed_places : Places → Places
+  freed_places p = record p { free = freed p.free }
 
   -- the places of a cell change if the cell is wanted
-  stock_at-now : (rows : List StockRow) (x : Cell)
-      → stock_at (changed (is_wanted_row w) with_freed rows) x
-      ≡ option_map (places_now (wants_cell w x)) (stock_at rows x)
+  stock_at-now : (rows : List StockRow) (x : Cell) → stock_at (changed (is_wanted_row w) with_freed rows) x
+      ≡ (if wants_cell w x then option_map freed_places (stock_at rows x) else stock_at rows x)
   stock_at-now rows x =
-      ap (option_map places_told)
-      (find-changed (is_wanted_row w) with_freed (λ r s. refl) (λ r s. refl) x rows)
-      ∙ go (find (is_stock_of x) rows) refl
-    where
-      told : (v : Bool) (r : StockRow)
-          → places_told (if v then with_freed r else r) ≡ places_now v (places_told r)
-      told v r = search (rules, arith, arith)
-
-      go : (o : Option StockRow) → find (is_stock_of x) rows ≡ o
-          → option_map places_told (option_map row_now o)
-          ≡ option_map (places_now (wants_cell w x)) (option_map places_told o)
-      go None e = refl
-      go (Some r) e =
-          ap Some
-          (ap (λ v. places_told (if v then with_freed r else r)) (wanted_row w x r some
-          (has_found (is_stock_of x) rows r e).1)
-          ∙ told (wants_cell w x) r)
+      told-if (is_stock_of x) (is_wanted_row w) with_freed places_told (λ r. refl) (wants_cell w x) freed_places
+      (λ r of. wanted_row w x r some of) (λ r. refl) rows
 
   -- if the held places change likewise, the changed rows are those of the longer ledger
   pub stock-now : (l m : List Event) (rows : List StockRow) → StockStands l rows
@@ -88,8 +68,8 @@ module _ (w : Wanted) (some : 1 ≤ w.nights) (freed : ℕ → ℕ) where
       → StockStands m (changed (is_wanted_row w) with_freed rows)
   stock-now l m rows stand allots frees = record {
     each =
-        λ x. stock_at-now rows x ∙ ap (option_map (places_now (wants_cell w x))) (stand.each x)
-        ∙ places x (allotment l x) refl
+        λ x. stock_at-now rows x ∙ ap (λ o. if wants_cell w x then option_map freed_places o else o) (stand.each x)
+        ∙ places x (wants_cell w x) (allotment l x) (frees x)
         ∙ ap (option_map (λ (n : ℕ). record { allot = n; free = n - held m x })) (sym (allots x));
     once =
         once-changed (is_wanted_row w) with_freed (λ r s. refl) (λ r s. refl) rows stand.once;
@@ -97,15 +77,15 @@ module _ (w : Wanted) (some : 1 ≤ w.nights) (freed : ℕ → ℕ) where
         known-changed (is_wanted_row w) with_freed (λ r s. refl) (λ r s. refl) rows stand.known;
   }
     where
-      split : (v : Bool) (n k : ℕ)
-          → places_now v (record { allot = n; free = k }) ≡ record { allot = n; free = if v then freed k else k }
-      split v n k = search (rules, arith, arith)
-
-      places : (x : Cell) (o : Option ℕ) → allotment l x ≡ o
-          → option_map (places_now (wants_cell w x))
-          (option_map (λ (n : ℕ). record { allot = n; free = n - held l x }) o)
+      places : (x : Cell) (v : Bool) (o : Option ℕ)
+          → ((n : ℕ) → o ≡ Some n → (if v then freed (n - held l x) else n - held l x) ≡ n - held m x)
+          → (if v then option_map freed_places (option_map (λ (n : ℕ). record { allot = n; free = n - held l x }) o)
+          else option_map (λ (n : ℕ). record { allot = n; free = n - held l x }) o)
           ≡ option_map (λ (n : ℕ). record { allot = n; free = n - held m x }) o
-      places x o e = search (rules, arith, split, frees x)
+      places x true (Some n) f = ap (λ k. Some (record { allot = n; free = k })) (f n refl)
+      places x false (Some n) f = ap (λ k. Some (record { allot = n; free = k })) (f n refl)
+      places x true None f = refl
+      places x false None f = refl
 
 -- after a want is taken, its nights have that many fewer free places
 pub stock-taken : (l m : List Event) (w : Wanted) (rows : List StockRow) → 1 ≤ w.nights

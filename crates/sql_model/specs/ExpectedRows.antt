@@ -17,7 +17,6 @@ use Rattle.ledger.specs.History.{net}
 use Rattle.ledger.specs.Ledger.{Event, Loaded, Began, Did, Journey, journeys, history}
 use Rattle.saga_core.specs.Views.{cursor_of}
 use Rattle.desk_sql.specs.declared.versions.Version.{Version}
-use Rattle.desk_sql.specs.declared.versions.Version.TheVariants.{Two}
 use Rattle.desk_sql.specs.Versions.{number_of}
 use Rattle.desk_sql.specs.Rows.{MetaRow, BatchRow, JourneyRow, CursorRow, StepRow, EntryRow}
 
@@ -29,10 +28,6 @@ counted_from first (x ∷ xs) = (first, x) ∷ counted_from (suc first) xs
 -- the row of meta: the version of the tables, how many events there are, and how many journeys
 abbrev pub meta_in : Version → List Event → MetaRow
 meta_in v l = record { version = number_of v; events = length l; journeys = length (journeys l) }
-
--- the row of meta, in tables of the newest version
-abbrev pub meta_called : List Event → MetaRow
-meta_called l = meta_in Two l
 
 -- Batches.
 

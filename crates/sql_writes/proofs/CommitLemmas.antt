@@ -1,7 +1,7 @@
 -- What an event and its reply commit, why they fail, and what a crash then leaves. For the functions that commit.
-use Rattle.std.proofs.Common.{◌≡◌, ℕ, List, refl, Option, ◌⊎◌, ◌+◌, inl, inr, Result, Ok, true, false, IsTrue, sym, ap, subst, ◌∙◌, arith, Err, MutBor, rules}
+use Rattle.std.proofs.Common.{◌≡◌, ℕ, List, refl, Option, ◌⊎◌, ◌+◌, inl, inr, Result, Ok, true, false, IsTrue, sym, subst, ◌∙◌, arith, Err, MutBor, rules}
 use Rattle.commands.specs.Asks.{Asked}
-use Rattle.desk_sql.specs.Rows.{Tables, AnswerRow, Shows}
+use Rattle.desk_sql.specs.Rows.{Tables, AnswerRow}
 use Rattle.desk_sql.specs.Writable.{MayKeep, HasRowids}
 use Rattle.sql_writes.specs.declared.events.Numbers.{Numbers}
 use Rattle.sql_writes.specs.declared.events.Event.{Event}
@@ -11,12 +11,10 @@ use Rattle.sql_writes.specs.Permits.{Permits, PermitsEvent, event_rowids}
 use Rattle.sql_writes.proofs.Permitting.{have_room}
 use Rattle.sqlite.specs.Tree.{Trees}
 use Rattle.sqlite.specs.Store.{Ghosts}
-use Rattle.sqlite.specs.Effect.{Database, IsDatabase}
+use Rattle.sqlite.specs.Effect.{Database}
 use Rattle.sqlite.specs.State.{HasCleanDisk, KeepsCommit, Survives, Shows as Sees2, State as Connected, IsRolledBack}
 use Rattle.sqlite.specs.Held.{Held, state}
 use Rattle.sqlite.specs.declared.error.Error.{Error}
-use Rattle.desk_sql.specs.declared.versions.Version.TheVariants.{Two}
-use Rattle.desk_sql.specs.Schema.{IsSchemaOf}
 use Rattle.desk_sql.specs.Calls.{MayRun, Makes}
 use Rattle.ledger.specs.Answer.{State}
 use Rattle.sql_model.specs.Standing.{StandsFor}
@@ -75,15 +73,15 @@ pub record Wrote {S : Type 0} (g : Ghosts S) (start late : Held S) (Fits : Table
 module _ {S : Type 0} {g : Ghosts S} {start late : MutBor (Held S)} {V : Type 0} {Fits P : Tables → Type 0} {taken : ℕ}
     {after : Tables → Tables} (old : Held S) (begun : start.now ≡ record old { in_transaction = true }) where
   pub left_of : {r : Result V Error} → Did g start late r Fits P taken after → Left g (record old { in_transaction = true }) late.now
-  left_of did = subst (λ (h : Held S). Left g h late.now) begun (record { less = did.goes.survives; commit = did.goes.commit })
+  left_of did = search (rules, arith, begun)
 
   pub wrote_of : {v : V} → Did g start late (Ok v) Fits P taken after → Wrote g (record old { in_transaction = true }) late.now Fits taken after
   wrote_of did = subst (λ (h : Held S). Wrote g h late.now Fits taken after) begun (record {
-    left = record { less = did.goes.survives; commit = did.goes.commit };
-    live = did.goes.live;
-    inside = did.goes.inside;
-    made = did.made;
-    rowids = did.rowids;
+    left = record { less = did.if_open.survives; commit = did.if_open.commit };
+    live = did.live;
+    inside = did.if_open.inside;
+    made = λ clean t may. did.if_open.made clean t may (did.live clean may.inside);
+    rowids = did.if_open.rowids;
   })
 
 -- A connection keeps a state, and a transaction writes rows with which its tables represent the next state.
@@ -93,11 +91,8 @@ module _ {S : Type 0} (g : Ghosts S) (old late : Held S) (Fits : Tables → Type
     (stands : (t : Tables) → StandsFor t s → StandsFor (after t) next)
     (keeps : Keeps (state g old) s) (clean : HasCleanDisk (state g late)) where
   -- the connection kept the state at the start, since nothing unclean becomes clean
-  at_start : HasCleanDisk (state g (record old { in_transaction = true }))
-  at_start = omega (arith, wrote.left.less.clean)
-
   kept : IsKept (state g old) s
-  kept = keeps at_start
+  kept = keeps (omega (arith, wrote.left.less.clean, clean))
 
   -- the desk that the connection saw before
   saw : SeesDesk (state g old) s
@@ -111,31 +106,13 @@ module _ {S : Type 0} (g : Ghosts S) (old late : Held S) (Fits : Tables → Type
 
   -- the transaction's trees mean the next state
   late_means : MeansDesk (state g late).now.trees next
-  late_means = record {
-    of = is_database (state g late) (after saw.tables) has_made.sees;
-    tables = after saw.tables;
-    shown = has_made.sees.rows;
-    stands = stands saw.tables saw.stands;
-  }
+  late_means = search (rules, arith, is_database, has_made, stands)
 
   -- after the commit the connection keeps the next state
   pub keeps_next : KeepsOne g → (end : Held S)
       → Sees2 (state g late) (state g end) (state g late).now (state g late).now false
       → IsKept (state g end) next
-  keeps_next law end shown = record {
-    sees = λ _. record {
-      schema = subst (λ (d : Database). IsSchemaOf Two d.schema) (sym shown.now_is) has_made.sees.schema;
-      sound = subst IsDatabase (sym shown.now_is) has_made.sees.sound;
-      committed = shown.now_is ∙ sym shown.committed_is;
-      tables = after saw.tables;
-      shown =
-          subst (λ (d : Database). Shows d.trees (after saw.tables)) (sym shown.now_is) has_made.sees.rows;
-      stands = stands saw.tables saw.stands;
-    };
-    leaves = λ db may.
-        inl (subst (λ (t : Trees). MeansDesk t next)
-        (sym (law end.store db shown.is_open may ∙ ap (λ (d : Database). d.trees) shown.committed_is)) late_means);
-  }
+  keeps_next law end shown = search (rules, arith, has_made, stands, late_means, law)
 
   -- whatever the result of the commit, a crash leaves the old trees or the new ones
   pub either_left : (db : Trees) → (state g late).may_leave db ⊎ (db ≡ (state g late).now.trees)

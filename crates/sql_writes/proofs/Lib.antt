@@ -4,7 +4,6 @@ pub mod Permitting
 pub mod CommitLemmas
 pub mod RunLemmas
 pub mod RunRows
-pub mod RunPuts
 pub mod RunWrites
 pub mod LoadedCells
 pub mod LoadedWeeks

@@ -142,11 +142,7 @@ module _ (old new : State) (t : Tables) (w : NightRange) (allot free : ℕ) wher
   -- as many rows pass as nights of the range have one
   passing : (ps : List (ℤ × StockRow))
       → length (filter (passes set_nights_query.filter params) (map (numbered_row stock_columns) ps)) ≡ length (filter (is_within w) (map value_of ps))
-  passing ps =
-      let f = numbered_row stock_columns in
-      let kept = filter (λ (p : ℤ × StockRow). is_within w p.1) ps in
-      ap length (filter-map (passes set_nights_query.filter params) f ps ∙ (λ i. map f (filter (λ p. set_test w allot free p i) ps)))
-      ∙ length-map kept f ∙ sym (length-map kept value_of) ∙ ap length (sym (filter-map (is_within w) value_of ps))
+  passing ps = search (rules, arith, filter-map, length-map, set_test)
 
   rows_shown : (db : Trees) → IsTableOf stock_columns (db 1) t.stock → (rows : List Row)
       → IsAnswer set_nights_query (overlay db []) params rows → length rows ≡ nights_in w t

@@ -4,7 +4,7 @@ use Rattle.sqlite_trees.specs.Tree.{Trees, IsTable, put_row}
 use Rattle.sqlite_schema.specs.declared.schema.Keys.TheVariants.{Enforced}
 use Rattle.sqlite_schema.specs.Rules.{agree, Obeys}
 use Rattle.sqlite_rules.specs.Lists.{Has}
-use Rattle.sqlite_rules.specs.Edit.{are_fresh, is_referred, numbered, put_all, is_taken, Edit, next_rowid}
+use Rattle.sqlite_rules.specs.Edit.{are_fresh, is_referred, numbered, put_all, Edit, next_rowid}
 use Rattle.sqlite_rules.proofs.ListLemmas.{all_from, all_has}
 use Rattle.sqlite.specs.Order.{Row}
 use Rattle.desk_sql.specs.Schema.{desk_schema, stock_at}
@@ -78,8 +78,7 @@ record IsOn (s c : StockRow) : Type 0 where
 
 on_night : (n : ℕ) (s c : StockRow) → Has (nights_from s n) c → IsOn s c
 on_night zero s c none = absurd none
-on_night (suc n) s c (inl is) = rw is (record { kind = refl; supplier = refl; product = refl; night = omega arith; allot = refl; free = refl })
-on_night (suc n) s c (inr later) = search (rules, arith, on_night n (next_night s) c later)
+on_night (suc n) s c there = search (rules, arith, on_night n (next_night s) c)
 
 -- the rows of one cell are of one night
 same_night : (a b : StockRow) → is_cell a b ≡ true → b.night ≡ a.night
@@ -93,9 +92,7 @@ later_night n s c later = let night = (on_night n (next_night s) c later).night 
 
 -- the cells of nights are apart
 pub nights_apart : (n : ℕ) (s c : StockRow) → Has (nights_from (next_night s) n) c → (is_cell s c ≡ false) × (is_cell c s ≡ false)
-nights_apart n s c later =
-    let less = later_night n s c later in
-    (other_nights s c (λ same. omega (arith, less, same)), other_nights c s (λ same. omega (arith, less, same)))
+nights_apart n s c later = search (rules, arith, other_nights, later_night)
 
 -- Rows under the next rowids.
 
@@ -117,11 +114,10 @@ numbered_next rows (s ∷ cells) = ap (λ rs. next_row rows s ∷ rs) (numbered_
 -- they are appended
 appended_all : (cells : List StockRow) (rows : List Row) (values : List StockRow) → IsTableOf stock_columns rows values
     → IsTableOf stock_columns (put_all rows (next_rows rows cells)) (values ++ cells)
-appended_all [] rows values it = subst (IsTableOf stock_columns rows) (sym (append-nil values)) it
+appended_all [] rows values it = rw append-nil it
 appended_all (s ∷ cells) rows values it =
-    subst (IsTableOf stock_columns (put_all (put_row (next_row rows s) rows) (next_rows (put_row (next_row rows s) rows) cells)))
-    (append_assoc values (s ∷ []) cells)
-    (appended_all cells (put_row (next_row rows s) rows) (values ++ s ∷ []) (appended stock_columns rows values s it))
+    rw (← append_assoc values (s ∷ []) cells) (appended_all cells (put_row (next_row rows s) rows) (values ++ s ∷ [])
+    (appended stock_columns rows values s it))
 
 -- each takes a rowid
 low_all : (cells : List StockRow) (rows : List Row) (n : ℕ) → length cells + n < 2 ^ 63 → AreLow (length cells + n) rows
@@ -159,8 +155,7 @@ fresh_next : (cells : List StockRow) (rows : List Row) (values : List StockRow) 
     → are_fresh rows (next_rows rows cells) ≡ true
 fresh_next [] rows values it = refl
 fresh_next (s ∷ cells) rows values it =
-    and_from (not (is_taken rows (next_row rows s))) (are_fresh (put_row (next_row rows s) rows) (next_rows (put_row (next_row rows s) rows) cells))
-    (ap not (chosen_free stock_columns rows values s it))
+    and_from _ _ (ap not (chosen_free stock_columns rows values s it))
     (fresh_next cells (put_row (next_row rows s) rows) (values ++ s ∷ []) (appended stock_columns rows values s it))
 
 -- rows of two cells are apart

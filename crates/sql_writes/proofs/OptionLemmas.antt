@@ -1,5 +1,5 @@
 -- The options of a new plan: each row is one more, of a step or an option that has none yet. For the functions of `begins`.
-use Rattle.std.proofs.Common.{◌≡◌, List, ◌++◌, zero, ap, append_assoc, option_and_then, ◌≤◌, ◌<◌, ◌+◌, ◌&&◌, ℕ, suc, [], ◌∷◌, map, length, take, Bool, false, refl, ◌∙◌, arith, length-append, Some, flat_map, length-take, rules}
+use Rattle.std.proofs.Common.{◌≡◌, List, ◌++◌, zero, ap, append_assoc, option_and_then, ◌≤◌, ◌<◌, ◌+◌, ◌-◌, ◌&&◌, ℕ, suc, length, take, Bool, false, refl, ◌∙◌, arith, length-append, Some, length-take, rules}
 use Rattle.desk_sql.specs.Rows.{Tables, StepRow}
 use Rattle.sql_model.specs.Beginning.{adds_steps, first_steps, first_rows_of_step, rows_of_step, rows_of_option}
 use Rattle.sqlite_rules.specs.Lists.{Has}
@@ -7,10 +7,11 @@ use Rattle.sqlite_rules.proofs.ListLemmas.{all_has, all_from, has_either}
 use Rattle.sqlite_rules.proofs.ProbeLemmas.{has_mapped}
 use Rattle.allotment.specs.Want.{Wanted}
 use Rattle.plan.specs.PlanModel.{Planned, StepPlan, numbered, option_count, step_count, want_at}
-use Rattle.sql_model.specs.ExpectedRows.{counted_from, option_rows, step_rows_of, none_taken}
+use Rattle.sql_model.specs.ExpectedRows.{counted_from, step_rows_of, none_taken}
 use Rattle.sql_model.proofs.Numbering.{counted_stands}
 use Rattle.sql_model.proofs.Taken.{row_told}
-use Rattle.sql_model.proofs.PlanParts.{first_rows_of_step-more, step_rows_of-more}
+use Rattle.sql_model.proofs.PlanParts.{first_rows_of_step-more, first_rows_of_step-all, step_rows_of-more}
+use Rattle.sql_model.proofs.PlanWriting.{step_rows-all}
 use Rattle.sql_writes.specs.Permits.{MayAddOption, MayAddOptions, MayAddSteps}
 use Rattle.std.proofs.lemmas.Bool.{and_left, and_right}
 use Rattle.std.proofs.lemmas.Option.{slice_get_within}
@@ -25,41 +26,32 @@ adds_steps-append rows more t = ap (λ all. record t { step = all }) (append_ass
 
 -- Their number.
 
-length_counted : {X Y : Type 0} (f : ℕ × X → Y) (first : ℕ) (xs : List X) → length (map f (counted_from first xs)) ≡ length xs
-length_counted f first [] = refl
-length_counted f first (x ∷ xs) = ap suc (length_counted f (suc first) xs)
-
-take_few : {X : Type 0} (n : ℕ) (xs : List X) → length (take n xs) ≤ length xs
-take_few n xs = let is = length-take n xs in omega (arith, is)
-
--- the first options of a step are no more than all
-pub first_rows_few : (id : ℕ) (plan : Planned) (i n : ℕ) → length (first_rows_of_step id plan i n) ≤ length (rows_of_step id plan i)
-first_rows_few id plan i n = search (rules, arith, length_counted, take_few)
-
-flat_few : {X Y : Type 0} (f : ℕ × X → List Y) (first n : ℕ) (xs : List X)
-    → length (flat_map f (counted_from first (take n xs))) ≤ length (flat_map f (counted_from first xs))
-flat_few f first (suc n) (x ∷ xs) =
-    let few = flat_few f (suc first) n xs in
-    let left = length-append (f (first, x)) (flat_map f (counted_from (suc first) (take n xs))) in
-    omega (arith, few, left, length-append (f (first, x)) (flat_map f (counted_from (suc first) xs)))
-flat_few f first n xs = omega arith
-
--- the rows of the first steps are no more than all
-pub first_steps_few : (id : ℕ) (plan : Planned) (n : ℕ) → length (step_rows_of id (first_steps n plan)) ≤ length (step_rows_of id plan)
-first_steps_few id plan n = flat_few (λ (s : ℕ × StepPlan). option_rows none_taken id s.0 s.1) 1 n plan.steps
+-- where each part is appended to those before it, the first parts and the next one are no more than all
+part_fits : {X : Type 0} (f g : ℕ → List X) (all n more : ℕ) → n + suc more ≡ all → ((i : ℕ) → i < all → f (i + 1) ≡ f i ++ g i)
+    → length (f n) + length (g n) ≤ length (f all)
+part_fits f g all n zero is each =
+    let last : length (f (n + 1)) ≡ length (f all) = ap (λ k. length (f k)) (omega (arith, is)) in
+    omega (arith, last, ap length (each n (omega (arith, is))) ∙ length-append (f n) (g n))
+part_fits f g all n (suc more) is each =
+    let rest = part_fits f g all (n + 1) more (omega (arith, is)) each in
+    omega (arith, rest, ap length (each n (omega (arith, is))) ∙ length-append (f n) (g n))
 
 -- with one option more they still are
 pub next_option_fits : (id : ℕ) (plan : Planned) (i n : ℕ) → n < option_count plan i
     → length (first_rows_of_step id plan i n) + length (rows_of_option id plan i (n + 1)) ≤ length (rows_of_step id plan i)
 next_option_fits id plan i n within =
-    let both = ap length (first_rows_of_step-more id plan i n within) ∙ length-append (first_rows_of_step id plan i n) (rows_of_option id plan i (n + 1)) in
-    omega (arith, both, first_rows_few id plan i (n + 1))
+    let all = option_count plan i in
+    let fits = part_fits (first_rows_of_step id plan i) (λ k. rows_of_option id plan i (k + 1)) all n (all - suc n)
+    (omega (arith, within)) (first_rows_of_step-more id plan i) in
+    omega (arith, fits, ap length (first_rows_of_step-all id plan i all refl))
 
 pub next_step_fits : (id : ℕ) (plan : Planned) (n : ℕ) → n < step_count plan
     → length (step_rows_of id (first_steps n plan)) + length (rows_of_step id plan (n + 1)) ≤ length (step_rows_of id plan)
 next_step_fits id plan n within =
-    let both = ap length (step_rows_of-more id plan n within) ∙ length-append (step_rows_of id (first_steps n plan)) (rows_of_step id plan (n + 1)) in
-    omega (arith, both, first_steps_few id plan (n + 1))
+    let all = step_count plan in
+    let fits = part_fits (λ k. step_rows_of id (first_steps k plan)) (λ k. rows_of_step id plan (k + 1)) all n (all - suc n)
+    (omega (arith, within)) (step_rows_of-more id plan) in
+    omega (arith, fits, ap length (step_rows-all none_taken id plan))
 
 -- an option of a plan has one row
 pub one_row : (id : ℕ) (plan : Planned) (i c : ℕ) (w : Wanted) → want_at plan i c ≡ Some w → length (rows_of_option id plan i c) ≡ 1

@@ -1,15 +1,14 @@
 -- What an event asks of the rows is what each of its writes asks of the rows before that write. For the functions that write.
-use Rattle.std.proofs.Common.{◌≡◌, ◌<◌, ◌≤◌, ◌+◌, ◌^◌, ℕ, List, [], ◌∷◌, length, Bool, true, if◌then◌else◌, inl, nat_le, leb-true, IsTrue, refl, ◌∙◌, arith, rules}
-use Rattle.std.specs.List.{AllByRecursion, list_all}
+use Rattle.std.proofs.Common.{◌≡◌, ◌<◌, ◌≤◌, ◌+◌, ◌^◌, ℕ, List, [], ◌∷◌, length, Bool, true, if◌then◌else◌, inl, leb-true, IsTrue, refl, ◌∙◌, arith, rules}
+use Rattle.std.specs.List.{AllByRecursion}
 use Rattle.sqlite_rules.proofs.ListLemmas.{has_right}
 use Rattle.sqlite_rules.proofs.ProbeLemmas.{mapped_has}
 use Rattle.allotment.specs.Cells.{kind_number}
-use Rattle.allotment.specs.Limits.{is_between, is_code}
+use Rattle.allotment.specs.Limits.{is_code}
 use Rattle.allotment.specs.declared.cells.Cell.{Cell}
 use Rattle.allotment.specs.declared.codes.Kind.{Kind}
 use Rattle.allotment.specs.declared.places.Held.{Held}
 use Rattle.allotment.specs.Want.{Wanted}
-use Rattle.allotment.proofs.CodeLemmas.{is_code_byte}
 use Rattle.allotment.proofs.TestLemmas.{and_both}
 use Rattle.commands.specs.declared.items.Item.{Item}
 use Rattle.commands.specs.declared.items.Phase.{Phase}
@@ -129,12 +128,6 @@ may_add_week c t short lacks = record { lacks = lacks; kind = cell_kind_low c.0.
 
 -- Names.
 
--- a supplier's or a product's name is short
-code_few : (text : List ℕ) → IsTrue (is_code text) → length text ≤ 8
-code_few text good =
-    let both = and_both (is_between 1 8 (length text)) (list_all is_code_byte text) good in
-    leb-true (length text) 8 (and_both (nat_le 1 (length text)) (nat_le (length text) 8) both.0).1
-
+-- the names of a supplier and a product are short
 pub codes_short : (supplier product : List ℕ) → IsTrue (is_code supplier) → IsTrue (is_code product) → IsShort (length supplier + length product)
-codes_short supplier product one two =
-    omega (arith, code_few supplier one, code_few product two)
+codes_short supplier product one two = search (rules, arith, and_both, leb-true)

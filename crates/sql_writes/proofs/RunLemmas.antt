@@ -1,7 +1,6 @@
 -- Cells of a run, and their rows once they got their places. For the functions of `runs`.
 use Rattle.std.proofs.Common.{◌≡◌, ℕ, zero, suc, ◌+◌, ◌-◌, ◌<◌, List, [], ◌∷◌, ◌++◌, length, take, get_or, refl, sym, ap, subst, ◌∙◌, arith, map, slice_get, Some, ap₂, length-append, length-take-le, append_assoc, take_all, rules}
 use Rattle.std.specs.List.{AllByRecursion}
-use Rattle.allotment.specs.Cells.{kind_number}
 use Rattle.allotment.specs.declared.cells.Cell.{Cell}
 use Rattle.allotment.specs.declared.places.Held.{Held}
 use Rattle.desk_sql.specs.Rows.{Tables, StockRow}
@@ -17,10 +16,9 @@ use Rattle.sql_writes.specs.Permits.{HaveShortCells}
 use Rattle.desk_sql.specs.Writable.{IsShort}
 use Rattle.sql_model.proofs.Changing.{once-changed}
 use Rattle.sql_writes.specs.Weeks.{next_night, nights_from}
-use Rattle.sql_writes.proofs.RunRows.{nights-more}
-use Rattle.sql_writes.proofs.RunPuts.{put_new, run_some, run_known, run_new}
-use Rattle.std.proofs.lemmas.List.{map-append, take_more}
-use Rattle.sqlite_trees.proofs.ListLemmas.{all-map, all_weaker}
+use Rattle.sql_writes.proofs.RunRows.{nights-more, nights_all, put_new, run_some, run_known, run_new}
+use Rattle.std.proofs.lemmas.List.{length-map, map-append, take_more}
+use Rattle.sqlite_trees.proofs.ListLemmas.{all-map, all_from_map, all_weaker}
 
 -- Cells get their places in order.
 
@@ -31,9 +29,7 @@ put_each-append (x ∷ xs) ys rows = put_each-append xs ys (put (stock_row_of x)
 
 -- the row of a cell is that of its allotment, less the places that are held
 stock_row_of-loaded : (c : Cell × Held) → loaded_row (c.1.allot - c.1.free) (record { cell = c.0; places = c.1.allot }) ≡ stock_row_of c
-stock_row_of-loaded c =
-    let free : c.1.allot - (c.1.allot - c.1.free) ≡ c.1.free = omega arith in
-    ap (λ n. record { kind = kind_number c.0.kind; supplier = c.0.supplier; product = c.0.product; night = c.0.night; allot = c.1.allot; free = n }) free
+stock_row_of-loaded c = search (rules, arith)
 
 -- no two rows are of one cell after a cell got its places
 apart-put : (c : Cell × Held) (rows : List StockRow) → AreApart is_same_stock rows
@@ -110,39 +106,23 @@ run-more (c ∷ cells) (suc n) first next is some within is_first is_next run =
 -- the night of the last cell
 last_night : (cells : List (Cell × Held)) (s : StockRow) (d : Cell × Held) → map stock_row_of cells ≡ nights_from (next_night s) (length cells)
     → (c : Cell × Held) → c.0.night ≡ s.night → slice_get (c ∷ cells) (length cells) ≡ Some d → d.0.night ≡ s.night + length cells
-last_night [] s d run c here is = let one : Some c ≡ Some d = is in let same : c ≡ d = cc in let night = ap (λ (x : Cell × Held). x.0.night) same in omega (arith, night, here)
-last_night (x ∷ cells) s d run c here is =
-    let both : stock_row_of x ∷ map stock_row_of cells ≡ next_night s ∷ nights_from (next_night (next_night s)) (length cells) = run in
-    let first : stock_row_of x ≡ next_night s = cc in
-    let rest : map stock_row_of cells ≡ nights_from (next_night (next_night s)) (length cells) = cc in
-    let at : x.0.night ≡ s.night + 1 = ap (λ (r : StockRow). r.night) first in
-    omega (arith, last_night cells (next_night s) d rest x at is)
+last_night [] s d run c here is = search (rules, arith)
+last_night (x ∷ cells) s d run c here is = search (rules, arith, last_night cells (next_night s) d)
 
 -- the texts of each cell of a run are those of the first
-short_from : (n : ℕ) (s : StockRow) (cells : List (Cell × Held)) → IsShort (length s.supplier + length s.product)
-    → map stock_row_of cells ≡ nights_from s n → AllByRecursion HasShortTexts cells
-short_from zero s [] short run = tt
-short_from (suc n) s (x ∷ cells) short run =
-    let both : stock_row_of x ∷ map stock_row_of cells ≡ s ∷ nights_from (next_night s) n = run in
-    let first : stock_row_of x ≡ s = cc in
-    let rest : map stock_row_of cells ≡ nights_from (next_night s) n = cc in (
-      subst (λ (r : StockRow). IsShort (length r.supplier + length r.product)) (sym first) short,
-      short_from n (next_night s) cells short rest,
-    )
-short_from n s cells short run = absurd (cc)
-
 pub short_run : (run : List (Cell × Held)) (first : Cell × Held) → slice_get run 0 ≡ Some first → IsRun run → HasShortTexts first
     → AllByRecursion HasShortTexts run
 short_run [] first is run short = tt
 short_run (c ∷ cells) first is run short =
     let one : Some c ≡ Some first = is in
     let same : c ≡ first = cc in
-    short_from (length (c ∷ cells)) (stock_row_of c) (c ∷ cells) (subst HasShortTexts (sym same) short) run
+    let Fit = λ (r : StockRow). IsShort (length r.supplier + length r.product) in
+    all_from_map Fit stock_row_of (c ∷ cells) (subst (AllByRecursion Fit) (sym run)
+    (nights_all Fit (λ _ it. it) (length (c ∷ cells)) (stock_row_of c) (subst HasShortTexts (sym same) short)))
 
 -- a run from its first cell to this night
 record IsRunTo (run : List (Cell × Held)) (first : Cell × Held) (night : ℕ) : Type 0 where
   pub n : ℕ
-  pub size : length run ≡ suc n
   pub rows : map stock_row_of run ≡ nights_from (stock_row_of first) (suc n)
   pub at : night ≡ (stock_row_of first).night + n
 
@@ -158,7 +138,6 @@ run_to (c ∷ cells) first last is_first is_last is_run night is_night =
     let far = last_night cells (stock_row_of c) last rest c refl (subst (λ n. slice_get (c ∷ cells) n ≡ Some last) before is_last) in
     record {
       n = length cells;
-      size = refl;
       rows = is_run ∙ ap (λ (x : Cell × Held). nights_from (stock_row_of x) (suc (length cells))) same;
       at = is_night ∙ far ∙ ap (λ (x : Cell × Held). (stock_row_of x).night + length cells) same;
     }
@@ -176,27 +155,24 @@ module _ (run : List (Cell × Held)) (first last : Cell × Held) (is_first : sli
   abbrev s : StockRow
   s = stock_row_of first
 
-  each : (cells : List StockRow) → put_each run cells ≡ put_rows (nights_from s (suc shape.n)) cells
-  each cells = put_each_rows run cells ∙ ap (λ rows. put_rows rows cells) shape.rows
+  abbrev rows : List StockRow
+  rows = map stock_row_of run
 
   -- each cell has a row: all have their places
   pub all_known : known_until s night t ≡ length run → given ≡ puts_each run t
-  all_known full =
-      rw shape.at (ap (λ rows. record t { stock = rows })
-      (run_known s shape.n t.stock (cells_apart t apart) ((rw shape.at at full) ∙ shape.size) ∙ sym (each t.stock)))
+  all_known full = ap (λ cells. record t { stock = cells })
+      (run_known s shape.n night shape.at rows shape.rows t.stock (cells_apart t apart) (full ∙ sym (length-map run stock_row_of))
+      ∙ sym (put_each_rows run t.stock))
 
   -- none has a row: each is new
-  pub none_known : known_until s night t ≡ 0 → AreNew (map stock_row_of run) given.stock
-  none_known none =
-      subst (λ rows. AreNew rows given.stock) (sym shape.rows)
-      (subst (λ x. AreNew (nights_from s (suc shape.n)) (sets_until s x t).stock) (sym shape.at)
-      (run_new s shape.n t.stock (cells_apart t apart) (rw shape.at at none)))
+  pub none_known : known_until s night t ≡ 0 → AreNew rows given.stock
+  none_known none = run_new s shape.n night shape.at rows shape.rows t.stock (cells_apart t apart) none
 
   -- cells that are put now have the places that they would have without
   pub put_given : puts_each run given ≡ puts_each run t
-  put_given =
-      rw shape.at (ap (λ rows. record t { stock = rows })
-      (each (sets_until s (s.night + shape.n) t).stock ∙ run_some s shape.n t.stock (cells_apart t apart) ∙ sym (each t.stock)))
+  put_given = ap (λ cells. record t { stock = cells })
+      (put_each_rows run given.stock ∙ run_some s shape.n night shape.at rows shape.rows t.stock (cells_apart t apart)
+      ∙ sym (put_each_rows run t.stock))
 
   -- and so have cells that are added
   pub added_given : known_until s night t ≡ 0 → adds_each run given ≡ puts_each run t

@@ -1,5 +1,5 @@
 -- Writes of cells, one after another and run by run. For the functions of `runs`.
-use Rattle.std.proofs.Common.{◌≡◌, List, [], ◌∷◌, ◌++◌, map, length, get_or, Bool, false, refl, sym, ap, ap₂, subst, ◌∙◌, arith, append_assoc, append-nil, ℕ, zero, suc, ◌+◌, ◌<◌, ◌≤◌, take, Ok, length-append, MutBor, rules}
+use Rattle.std.proofs.Common.{◌≡◌, List, [], ◌∷◌, ◌++◌, map, length, get_or, drop, drop-cons, Bool, false, refl, sym, ap, ap₂, subst, ◌∙◌, arith, append_assoc, append-nil, ℕ, suc, ◌+◌, ◌<◌, ◌≤◌, take, Ok, length-append, MutBor, rules}
 use Rattle.std.specs.List.{AllByRecursion, list_any}
 use Rattle.allotment.specs.declared.cells.Cell.{Cell}
 use Rattle.allotment.specs.declared.places.Held.{Held}
@@ -8,7 +8,7 @@ use Rattle.desk_sql.specs.Stock.{is_cell}
 use Rattle.sql_writes.specs.Weeks.{next_night, nights_from, week_from}
 use Rattle.sql_model.specs.Reading.{stock_row_of}
 use Rattle.sql_writes.specs.Runs.{IsRun, AreNew, LacksWeek, adds_each, HasShortTexts, HasWrittenUpTo, sets_until, known_until}
-use Rattle.std.proofs.lemmas.List.{map-append}
+use Rattle.std.proofs.lemmas.List.{map-append, take-append-drop}
 use Rattle.sqlite.specs.Store.{Ghosts}
 use Rattle.sqlite.specs.Held.{Held as Connection}
 use Rattle.allotment.specs.Cells.{kind_number}
@@ -17,7 +17,7 @@ use Rattle.desk_sql.specs.Writable.{AreShortNights}
 use Rattle.desk_sql.specs.declared.stock.NightRange.{NightRange}
 use Rattle.sql_writes.specs.Did.{DidIfOpen}
 use Rattle.sql_writes.specs.Permits.{HaveShortCells}
-use Rattle.sql_writes.proofs.Doing.{open_as, open_both, open_none}
+use Rattle.sql_writes.proofs.Doing.{open_and, open_as, open_none}
 use Rattle.std.proofs.lemmas.Bool.{both_ways, false_from_ne_true}
 use Rattle.sqlite_rules.proofs.ListLemmas.{has_left, some_from, some_has}
 use Rattle.sqlite_trees.proofs.ListLemmas.{all-append, all_weaker}
@@ -59,10 +59,7 @@ any_front p xs ys none = false_from_ne_true (list_any p xs) (λ some.
 -- none of new cells has a row
 lack_from : (rows cells more : List StockRow) → AreNew rows (cells ++ more) → AllByRecursion (λ s. list_any (is_cell s) cells ≡ false) rows
 lack_from [] cells more new = tt
-lack_from (s ∷ rows) cells more new = (
-  any_front (is_cell s) cells more new.0,
-  lack_from rows cells (more ++ s ∷ []) (subst (AreNew rows) (append_assoc cells more (s ∷ [])) new.1),
-)
+lack_from (s ∷ rows) cells more new = search (rules, arith, any_front, append_assoc, lack_from rows cells)
 
 all_lack : (rows cells : List StockRow) → AreNew rows cells → AllByRecursion (λ s. list_any (is_cell s) cells ≡ false) rows
 all_lack rows cells new = lack_from rows cells [] (subst (AreNew rows) (sym (append-nil cells)) new)
@@ -83,8 +80,8 @@ new_front [] ys cells new = tt
 new_front (x ∷ xs) ys cells new = (new.0, new_front xs ys (cells ++ x ∷ []) new.1)
 
 new_rest : (xs ys cells : List StockRow) → AreNew (xs ++ ys) cells → AreNew ys (cells ++ xs)
-new_rest [] ys cells new = subst (AreNew ys) (sym (append-nil cells)) new
-new_rest (x ∷ xs) ys cells new = subst (AreNew ys) (append_assoc cells (x ∷ []) xs) (new_rest xs ys (cells ++ x ∷ []) new.1)
+new_rest [] ys cells new = search (rules, arith, append-nil)
+new_rest (x ∷ xs) ys cells new = search (rules, arith, append_assoc, new_rest xs ys)
 
 -- the next cells of new ones are new once those before them are added
 pub some_new : (run done left some later : List (Cell × Held)) (t : Tables) → run ≡ done ++ left → left ≡ some ++ later
@@ -100,17 +97,9 @@ adds-then xs ys t = search (rules, arith, append_assoc, map-append)
 -- the next of cells that are new has no row yet
 pub next_new : (cells : List (Cell × Held)) (i : ℕ) (c : Cell × Held) (t : Tables) → i < length cells → c ≡ get_or cells i c
     → AreNew (map stock_row_of cells) t.stock → LacksCell (stock_row_of c) (adds_each (take i cells) t)
-next_new cells i c t within is new = go cells i t.stock within is new
-  where
-    go : (xs : List (Cell × Held)) (n : ℕ) (rows : List StockRow) → n < length xs → c ≡ get_or xs n c → AreNew (map stock_row_of xs) rows
-        → list_any (is_cell (stock_row_of c)) (rows ++ map stock_row_of (take n xs)) ≡ false
-    go [] n rows low at fresh = absurd (omega (arith, low))
-    go (x ∷ xs) zero rows low at fresh =
-        ap (λ (y : Cell × Held). list_any (is_cell (stock_row_of y)) (rows ++ [])) at
-        ∙ ap (list_any (is_cell (stock_row_of x))) (append-nil rows) ∙ fresh.0
-    go (x ∷ xs) (suc n) rows low at fresh =
-        ap (list_any (is_cell (stock_row_of c))) (sym (append_assoc rows (stock_row_of x ∷ []) (map stock_row_of (take n xs))))
-        ∙ go xs n (rows ++ stock_row_of x ∷ []) (omega (arith, low)) at fresh.1
+next_new cells i c t within is new =
+    let rest : drop i cells ≡ c ∷ drop (suc i) cells = drop-cons cells i c within ∙ ap (λ x. x ∷ drop (suc i) cells) (sym is) in
+    (some_new cells (take i cells) (drop i cells) (c ∷ []) (drop (suc i) cells) t (sym (take-append-drop i cells)) rest new).0
 
 pub short-append : (xs ys : List (Cell × Held)) → AllByRecursion HasShortTexts xs → AllByRecursion HasShortTexts ys
     → AllByRecursion HasShortTexts (xs ++ ys)
@@ -136,7 +125,7 @@ abbrev pub HasWrittenUpTo-some : {S : Type 0} {g : Ghosts S} {a b c : MutBor (Co
 HasWrittenUpTo-some cells left some later has cut did fits = record {
   done = has.done ++ some;
   is = has.is ∙ ap (λ rest. has.done ++ rest) cut ∙ sym (append_assoc has.done some later);
-  did = let size = length-append has.done some in open_both has.did did (λ t fit. (fit, fits t fit)) (omega (arith, size));
+  did = open_as (open_and has.did did) (λ _ t _ fit. ((fit, (fits t fit).0), (fits t fit).1)) (omega (arith, length-append has.done some));
 }
 
 -- none is left

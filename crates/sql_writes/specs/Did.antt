@@ -4,22 +4,15 @@ use Rattle.std.specs.Borrow.{MutBor}
 use Rattle.sqlite.specs.Store.{Ghosts}
 use Rattle.sqlite.specs.Held.{Held}
 use Rattle.sqlite.specs.declared.error.Error.{Error}
-use Rattle.desk_sql.specs.Calls.{StaysInside, CommitsNothing, LeavesNoMore, GoesOn}
+use Rattle.desk_sql.specs.Calls.{StaysInside, CommitsNothing, LeavesNoMore, WasOpen}
 use Rattle.desk_sql.specs.Rows.{Tables}
 use Rattle.sql_writes.specs.Reasons.{FailsOn, TakesRowids}
-use Rattle.sql_writes.specs.Writing.{WritesRows, WritesOpen}
+use Rattle.sql_writes.specs.Writing.{WritesOpen}
 
 module _ {S : Type 0} (g : Ghosts S) (old new : MutBor (Held S)) {V : Type 0} (result : Result V Error)
     (Fits Permits : Tables → Type 0) (taken : ℕ) (after : Tables → Tables) where
-  -- The transaction goes on. A success changes rows that fit by `after`, and takes so many rowids; on rows that permit it, a
-  -- failure has a reason.
-  pub record Did : Type 0 where
-    pub goes : GoesOn g old new result
-    pub made : WritesRows g old.now new.now Fits result after
-    pub reason : FailsOn g old.now new.now result taken Permits
-    pub rowids : TakesRowids g old.now new.now result taken Fits
-
-  -- the same, if the transaction is open: there may be no row to write
+  -- If the transaction is open, it goes on. A success changes rows that fit by `after`, and takes so many rowids; on rows that permit
+  -- it, a failure has a reason.
   pub record DidIfOpen : Type 0 where
     pub same_reference : new.ghost_name ≡ old.ghost_name
     pub inside : StaysInside g old.now new.now result
@@ -28,6 +21,11 @@ module _ {S : Type 0} (g : Ghosts S) (old new : MutBor (Held S)) {V : Type 0} (r
     pub made : WritesOpen g old.now new.now Fits result after
     pub reason : FailsOn g old.now new.now result taken Permits
     pub rowids : TakesRowids g old.now new.now result taken Fits
+
+  -- the same, and a success implies that it was open: there was a row to write
+  pub record Did : Type 0 where
+    pub live : WasOpen g old.now new.now result
+    pub if_open : DidIfOpen
 
 -- so far the writes changed the rows by `after`, and took so many rowids
 abbrev pub DidSoFar : {S : Type 0} → Ghosts S → MutBor (Held S) → MutBor (Held S) → (Tables → Type 0) → ℕ → (Tables → Tables) → Type 0

@@ -12,13 +12,7 @@ use Rattle.desk_sql.specs.declared.stock.NightRange.{NightRange}
 use Rattle.sql_model.specs.Reading.{IsRangeOf}
 
 module _ {S : Type 0} (g : Ghosts S) (old new : Held S) where
-  -- in a transaction, if the rows fit, a success changes them by `after`
-  abbrev pub WritesRows : {V : Type 0} → (Tables → Type 0) → Result V Error → (Tables → Tables) → Type 0
-  WritesRows Fits result after =
-      HasCleanDisk (state g new) → (t : Tables) → MayRun (state g old) t → Fits t
-      → OnOk result (Makes (state g old) (state g new) (after t))
-
-  -- the same, if the transaction is open
+  -- in an open transaction, if the rows fit, a success changes them by `after`
   abbrev pub WritesOpen : {V : Type 0} → (Tables → Type 0) → Result V Error → (Tables → Tables) → Type 0
   WritesOpen Fits result after =
       HasCleanDisk (state g new) → (t : Tables) → MayRun (state g old) t → IsTrue (state g old).is_open → Fits t

@@ -2,8 +2,8 @@
 use crate::tests::desks::{holds, reads};
 use command_line::JobFault;
 use commands::Refusal;
-use desk_lines::ServeFault;
 use program_ends::{End, ProgramFault};
+use recovery::ServeFault;
 use std::alloc::{AllocError, Global};
 use std::process::Abort;
 use std::test::Fail;

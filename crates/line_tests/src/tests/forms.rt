@@ -2,8 +2,8 @@
 //!
 //! `@` and a letter or digit represents the cell, or the first four parts of a want, that `NAMES` has.
 use crate::tests::desks::{holds, new_desk, reads};
-use desk_lines::run_lines;
 use failing_streams::{Pieces, Sink};
+use recovery::run_lines;
 use std::alloc::Global;
 use std::process::Abort;
 use std::test::Fail;

@@ -1,8 +1,8 @@
 //! Answers to lines over a new book in memory, whatever pieces the lines arrive in, and what was written after a fault.
 use crate::tests::desks::{holds, new_desk, reads};
 use crate::tests::fakes::Stuck;
-use desk_lines::{ServeFault, run_lines};
 use failing_streams::{Pieces, Sink};
+use recovery::{ServeFault, run_lines};
 use saga_core::Book;
 use std::alloc::{AllocError, Global};
 use std::process::Abort;

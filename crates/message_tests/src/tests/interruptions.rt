@@ -1,7 +1,7 @@
 //! What no clause says: interruptions, and what failing readers and writers leave.
+use saga_core::{ReadFailed, WriteFailed, read_some, send, send_all};
 use std::alloc::{AllocError, Global};
 use std::io::{self, ErrorKind, Read, Write};
-use streams::{ReadFailed, WriteFailed, read_some, send, send_all};
 
 /// Gives its bytes in pieces, each after an interruption. After the last byte it reports the end, or fails.
 #[derive(Drop)]

@@ -1,10 +1,10 @@
 //! The text of messages in a test.
 use commands::Refusal;
 use http_messages::{Message, Request, first_message};
+use saga_core::{ReadFailed, read_some};
 use std::alloc::{AllocError, Global};
 use std::io::Read;
 use std::str;
-use streams::{ReadFailed, read_some};
 
 /// The messages up to the end or a fault, each with a semicolon, and the fault. What was read before waits, and more is read
 /// only where no message is whole.

@@ -4,8 +4,7 @@ use super::fakes::Failing;
 use super::{ROOM, is_told, with_room};
 use commands::Fault;
 use failing_streams::Sink;
-use holder_reports::{Holder, holders_text};
-use reports::ReportFault;
+use reports::{Holder, ReportFault, holders_text};
 use saga_core::{Format, Listed};
 use std::alloc::AllocError;
 

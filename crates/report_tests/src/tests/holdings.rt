@@ -2,7 +2,7 @@
 use super::{is_told, with_room};
 use allotment::Cell;
 use commands::Agent;
-use holder_reports::{Holding, holdings_text};
+use reports::{Holding, holdings_text};
 use saga_core::{Format, JourneyState, Listed};
 use std::process::Abort;
 

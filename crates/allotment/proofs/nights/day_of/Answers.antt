@@ -1,3 +1,4 @@
+-- More than 60 lines: four ways out and four lemmas of its own.
 use Rattle.std.proofs.Common.{◌≡◌, ℕ, ◌<◌, ◌≤◌, List, None, sym, subst, ◌∙◌, arith, pos, nat_abs, to_z, of_z, w8, w16, w32, le-leb}
 use Rattle.std.proofs.lemmas.Int.{ints}
 use Rattle.jiff_core.specs.declared.civil.date.Date.{Date}

@@ -1,3 +1,4 @@
+-- More than 60 lines: four ways out and two clauses.
 use Rattle.std.proofs.Common.{◌≡◌, sym, ap, subst, ◌∙◌, Some, None, length, ◌+◌, Err}
 use Rattle.allotment.specs.Making.{first_fault}
 use Rattle.commands.specs.Batches.{repeat_among}

@@ -1,4 +1,5 @@
 -- The values that a subcommand reads from the words are those of clap's rules.
+-- More than 60 lines: two ways out and four lemmas of its own.
 use Rattle.std.proofs.Common.{◌≡◌, ◌∙◌, true, sym, ap, [], ◌∷◌, map, refl, inl, inr, ◌≢◌}
 use Rattle.std.proofs.Math.Path.{fun_ext}
 use Rattle.std.proofs.lemmas.Bool.{and_parts}

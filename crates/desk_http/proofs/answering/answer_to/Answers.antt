@@ -1,4 +1,5 @@
 -- A message gets the page that reports its outcome.
+-- More than 60 lines: three ways out and five clauses.
 use Rattle.std.proofs.Common.{◌∙◌, subst}
 use Rattle.std.proofs.lemmas.Result.{IfOk-weaker, err_from_is_err_and}
 use Rattle.http_messages.specs.Requests.{IsTaken}

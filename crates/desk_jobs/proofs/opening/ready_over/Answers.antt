@@ -1,4 +1,5 @@
 -- The book over a connection from which a job may start may recover, and what is said of it is said of the connection.
+-- More than 60 lines: two ways out and two clauses.
 use Rattle.std.proofs.Common.{[]}
 use Rattle.sqlite.specs.Held.{state}
 use Rattle.ledger.specs.Answer.{start}

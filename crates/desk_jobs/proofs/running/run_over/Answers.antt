@@ -1,7 +1,8 @@
 -- The desk that answers was recovered.
+-- More than 60 lines: two ways out and five clauses.
 use Rattle.std.proofs.Common.{option_map}
-use Rattle.desk_lines.specs.Lines.{lines}
-use Rattle.desk_lines.specs.Worlds.{asks_in}
+use Rattle.recovery.specs.Lines.{lines}
+use Rattle.recovery.specs.LineWorlds.{asks_in}
 use Rattle.desk_jobs.specs.Openings.{Lines}
 use Rattle.desk_jobs.proofs.AnswerLemmas.{undone_for}
 use Rattle.desk_jobs.proofs.EndLemmas.{bad_job, not_done, recovery_fault}

@@ -1,32 +1,22 @@
 -- The row that is read is one of the name; no row means that there is none.
-use Rattle.std.proofs.Common.{Some, None, rules}
-use Rattle.desk_sql.proofs.Asking.{is_read, not_asked, not_read}
+use Rattle.std.proofs.Common.{rules}
+use Rattle.desk_sql.proofs.Asking.{is_read_at, not_asked_at}
 use Rattle.desk_sql.proofs.DeskQueries.{finds_batch}
+use Rattle.desk_sql.proofs.Writing.{pos_is}
 use Rattle.desk_sql.proofs.batches.find_batch.Goals as goal
 
 pub first_row-requires : goal.first_row-requires
 first_row-requires g c = (finds_batch c.args.name.now).selects
 
-pub returns-in_ok-batch-in-Some : goal.returns-in_ok-batch-in-Some
-returns-in_ok-batch-in-Some g c = record {
-  queries = is_read (finds_batch c.args.name.now) (λ found. found) c.first_row.ensures.quiet (Some c.in-Some.row) _
-      (simp (c.as_bytes.ensures.value, c.in-Some.is) at c.in_ok-row.ensures.row) c.in_ok-batch-in-Some.ensures.shown (λ _. tt);
-}
-
-pub returns-in-None : goal.returns-in-None
-returns-in-None g c = record {
-  queries = is_read (finds_batch c.args.name.now) (λ found. found) c.first_row.ensures.quiet None _
-      (simp (c.as_bytes.ensures.value, c.in-None.is) at c.in_ok-row.ensures.row) tt (λ _. tt);
+pub returns : goal.returns
+returns g c = record {
+  queries = is_read_at (finds_batch c.args.name.now) (λ found. found) c.first_row.ensures.quiet c.in_ok-row.row
+      c.read_batch.result _ c.in_ok-row.ensures.row (search (rules, pos_is))
+      c.read_batch.ensures.shown c.read_batch.ensures.reason;
 }
 
 pub returns-in_err-row : goal.returns-in_err-row
 returns-in_err-row g c = record {
-  queries = not_asked (finds_batch c.args.name.now) (λ found. found) c.first_row.ensures.quiet
-      (simp (c.as_bytes.ensures.value) at c.in_err-row.ensures.reason) (search rules);
-}
-
-pub returns-in_err-batch-in-Some : goal.returns-in_err-batch-in-Some
-returns-in_err-batch-in-Some g c = record {
-  queries = not_read (finds_batch c.args.name.now) (λ found. found) c.first_row.ensures.quiet (Some c.in-Some.row)
-      (simp (c.as_bytes.ensures.value, c.in-Some.is) at c.in_ok-row.ensures.row) (λ it. c.in_err-batch-in-Some.ensures.reason it.0 it.1) (search rules);
+  queries = not_asked_at (finds_batch c.args.name.now) (λ found. found) c.first_row.ensures.quiet _ c.in_err-row.ensures.reason
+      (search (rules, pos_is)) (search rules);
 }

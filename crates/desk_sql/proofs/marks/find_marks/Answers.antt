@@ -1,6 +1,6 @@
 -- The positions that are read of the rows are the query's answer.
 use Rattle.std.proofs.Common.{rules}
-use Rattle.desk_sql.proofs.Asking.{is_read, not_asked}
+use Rattle.desk_sql.proofs.Asking.{is_read_at, not_asked_at}
 use Rattle.desk_sql.proofs.Listings.{finds_marks}
 use Rattle.desk_sql.proofs.Writing.{pos_is}
 use Rattle.desk_sql.proofs.marks.find_marks.Goals as goal
@@ -10,13 +10,13 @@ all_rows-requires g c = (finds_marks c.args.journey).selects
 
 pub returns : goal.returns
 returns g c = record {
-  queries = is_read (finds_marks c.args.journey) (λ all. all.items) c.all_rows.ensures.quiet c.in_ok-rows.rows.items c.read_marks.result
-      (simp (pos_is c.args.journey c.requires) at c.in_ok-rows.ensures.rows)
+  queries = is_read_at (finds_marks c.args.journey) (λ all. all.items) c.all_rows.ensures.quiet c.in_ok-rows.rows.items
+      c.read_marks.result _ c.in_ok-rows.ensures.rows (search (rules, pos_is))
       (simp c.as_slice.ensures.value at c.read_marks.ensures.shown) (simp c.as_slice.ensures.value at c.read_marks.ensures.reason);
 }
 
 pub returns-in_err-rows : goal.returns-in_err-rows
 returns-in_err-rows g c = record {
-  queries = not_asked (finds_marks c.args.journey) (λ all. all.items) c.all_rows.ensures.quiet
-      (simp (pos_is c.args.journey c.requires) at c.in_err-rows.ensures.reason) (search rules);
+  queries = not_asked_at (finds_marks c.args.journey) (λ all. all.items) c.all_rows.ensures.quiet _ c.in_err-rows.ensures.reason
+      (search (rules, pos_is)) (search rules);
 }

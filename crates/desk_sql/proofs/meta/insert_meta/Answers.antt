@@ -7,5 +7,5 @@ use Rattle.desk_sql.proofs.meta.insert_meta.Goals as goal
 
 pub returns : goal.returns
 returns g c =
-    let it = keyed (founds_meta c.args.version) (simp (pos_is c.args.version c.requires) at c.execute.ensures.runs) (search rules) in
+    let it = keyed (founds_meta c.args.version) _ c.execute.ensures.runs (search (rules, pos_is)) (search rules) in
     record { goes = it.goes; made = it.made; reason = it.reason }

@@ -6,10 +6,7 @@ use Rattle.desk_sql.proofs.Writing.{pos_is}
 use Rattle.desk_sql.proofs.meta.update_meta.Goals as goal
 
 pub returns : goal.returns
-returns g c =
-    let a = c.args in
-    let small = c.requires in
-    record {
-      writes = keyed (counts_meta (record { version = a.version; events = a.events; journeys = a.journeys }))
-          (simp (pos_is a.version small.version, pos_is a.events small.events, pos_is a.journeys small.journeys) at c.execute.ensures.runs) (search rules);
-    }
+returns g c = record {
+  writes = keyed (counts_meta (record { version = c.args.version; events = c.args.events; journeys = c.args.journeys })) _
+      c.execute.ensures.runs (search (rules, pos_is)) (search rules);
+}

@@ -1,8 +1,9 @@
 -- The next message is answered, or there is none, or a fault comes.
+-- More than 60 lines: a loop, five ways out and two clauses.
 use Rattle.std.proofs.Common.{◌∙◌, ap, sym, subst, Ok, Err, arith}
 use Rattle.std.proofs.lemmas.Result.{err_from_is_err_and}
-use Rattle.streams.specs.Faults.{IsOfReading}
-use Rattle.streams.proofs.KnownLemmas.{for_known}
+use Rattle.saga_core.specs.StreamFaults.{IsOfReading}
+use Rattle.saga_core.proofs.KnownLemmas.{for_known}
 use Rattle.http_conversations.specs.Conversations.{history}
 use Rattle.http_conversations.specs.History.{HasNoTurn}
 use Rattle.http_conversations.specs.Serving.{AwaitsNext, to_come}

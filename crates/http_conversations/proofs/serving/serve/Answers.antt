@@ -1,5 +1,5 @@
 -- The result of serving says how the execution continues.
-use Rattle.streams.specs.Scenes.{scene}
+use Rattle.saga_core.specs.StreamScenes.{scene}
 use Rattle.desk_http.proofs.WorldLemmas.{messages_go_on, messages_stop}
 use Rattle.http_conversations.specs.declared.serving.Served.{Served}
 use Rattle.http_conversations.proofs.ServeLemmas.{all_of, some_of}

@@ -1,8 +1,9 @@
 -- A connection is served message by message, until a closing page, the end of the input or a fault.
+-- More than 60 lines: a loop and seven ways out.
 use Rattle.std.proofs.Common.{◌∙◌, sym, arith}
 use Rattle.std.proofs.lemmas.Result.{err_from_is_err_and}
-use Rattle.streams.specs.declared.serve_faults.ServeFault.TheVariants.{Read}
-use Rattle.streams.proofs.KnownLemmas.{for_known}
+use Rattle.saga_core.specs.declared.serve_faults.ServeFault.TheVariants.{Read}
+use Rattle.saga_core.proofs.KnownLemmas.{for_known}
 use Rattle.http_conversations.specs.Conversations.{history}
 use Rattle.saga_core.proofs.CallLemmas.{stays_alone, stays_served, stays_twice}
 use Rattle.http_conversations.proofs.ServeLemmas.{all_answered, answer_fails, closes_all, closing_of, open_of, rest_is, starts, stays_on, stops, write_fails}

@@ -1,7 +1,7 @@
 use Rattle.std.proofs.Common.{◌≡◌, List, ℕ, Some, false}
 use Rattle.ledger.specs.Answer.{State}
 use Rattle.saga_core.specs.Calls.{Stays}
-use Rattle.streams.specs.Scenes.{scene}
+use Rattle.saga_core.specs.StreamScenes.{scene}
 use Rattle.http_conversations.specs.Conversations.{history}
 use Rattle.http_conversations.specs.ServeReasons.{HasServed}
 use Rattle.http_conversations.specs.Serving.{AwaitsNext, to_come}

@@ -1,15 +1,16 @@
 -- Turn after turn.
-use Rattle.std.proofs.Common.{Ok, ap, rules}
+use Rattle.std.proofs.Common.{Ok, ap, inl, refl, rules}
 use Rattle.std.proofs.lemmas.Result.{err_from_is_err_and}
 use Rattle.http_live.specs.Endings.{ends_stopped}
-use Rattle.http_live.specs.InTime.{instant}
+use Rattle.http_live.specs.InTime.{both, instant, was_shown}
 use Rattle.saga_core.proofs.CallLemmas.{stays_alone, stays_served, stays_twice}
-use Rattle.http_live.proofs.TurnLemmas.{no_turn, one_more, turn_as}
+use Rattle.http_live.proofs.TurnLemmas.{gives_turn, no_turn, one_more, turn_as}
 use Rattle.http_live.proofs.serving.serve_turns.Goals as goal
 
 -- no turn was taken yet
 pub loop-init : goal.loop-init
 loop-init g c = record {
+  gives = was_shown (inl refl);
   turns = no_turn (instant c.args.turns.now c.args.slots.now c.args.book.now);
   stays = stays_alone c.args.book.now;
 }
@@ -19,6 +20,7 @@ pub loop-preserved : goal.loop-preserved
 loop-preserved g c =
     let at = c.loop in
     let turn = c.in_ok-ending.ensures in record {
+      gives = both at.invariant.gives (gives_turn _ _ _ _ _ turn.turn.1);
       turns = one_more at.invariant.turns (turn_as (ap (λ end. ends_stopped (Ok end)) c.in-None.is) turn.turn);
       stays = stays_twice at.invariant.stays (stays_served turn.serves);
     }

@@ -1,5 +1,6 @@
 -- A turn is one of a slot, or none.
-use Rattle.std.proofs.Common.{◌≡◌, ◌∙◌, [], Ok, Err, ap, inl, inr, refl, sym}
+-- More than 60 lines: seven ways out.
+use Rattle.std.proofs.Common.{◌≡◌, ◌∙◌, [], Ok, ap, inl, inr, refl, sym}
 use Rattle.std.proofs.lemmas.Result.{err_from_is_err_and}
 use Rattle.http_live.specs.Endings.{ends_stopped, is_stop}
 use Rattle.http_live.specs.InTime.{came, ended, had_none, left, went_on}

@@ -1,4 +1,5 @@
 -- The laws are used as they stand.
+-- More than 60 lines: one way out, six clauses and nine lemmas of its own.
 use Rattle.std.proofs.Common.{◌≡◌, ℕ, List, [], ◌∷◌, ◌++◌, refl, subst, sym, false, codes, length, Ok, None, ◌^◌, arith, leb-true, ltb-true}
 use Rattle.std.proofs.lemmas.List.Elements.{All-from_recursion}
 use Rattle.std.proofs.lemmas.List.Sums.{AllPass-from_list_all}

@@ -1,6 +1,6 @@
 -- What was written is a prefix of the request.
 use Rattle.std.proofs.Common.{◌∙◌, ℕ, List, subst}
-use Rattle.streams.specs.Written.{WroteFront}
+use Rattle.saga_core.specs.Written.{WroteFront}
 use Rattle.http_pages.proofs.asking.ask.Goals as goal
 
 pub returns-clause-front : goal.returns-clause-front

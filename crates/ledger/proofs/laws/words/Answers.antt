@@ -3,17 +3,17 @@
 use Rattle.ledger.proofs.Ledgers.{up_and_down}
 use Rattle.ledger.proofs.Places.{no_cell_overfull}
 use Rattle.ledger.proofs.laws.words.Goals as goal
-use Rattle.std.proofs.Common.{◌≡◌, ℕ, ◌<◌, ◌⊎◌, List, [], ◌∷◌, ◌++◌, refl, ap, sym, ◌∙◌, arith, append_assoc, append-nil, false}
+use Rattle.std.proofs.Common.{ap, ◌∙◌, ◌≡◌, ℕ, ◌<◌, ◌⊎◌, List, [], ◌∷◌, ◌++◌, refl, sym, arith, append_assoc, append-nil, false}
 use Rattle.std.proofs.lemmas.Bool.{or_parts, or_from, and_left}
 use Rattle.std.proofs.lemmas.List.Folds.{list_any-append}
 use Rattle.std.specs.List.{list_any}
 use Rattle.plan.specs.PlanModel.{Planned, step_count, is_marked_at}
 use Rattle.commands.specs.declared.items.Item.{Item}
 use Rattle.commands.specs.declared.items.Item.TheVariants.{Save}
-use Rattle.ledger.specs.History.{is_save, is_taken, is_save_point}
+use Rattle.ledger.specs.History.{is_save, is_taken}
 use Rattle.ledger.specs.Laws.{HasNoSavePoint, EachPlainJourneyIsAllOrNothing}
 use Rattle.ledger.specs.Ledger.{Event, IsLegal}
-use Rattle.ledger.specs.Word.{word, up, down, Returns, begins, goes_on, GoesToEnd, GoesToStart, EndsAtSave}
+use Rattle.ledger.specs.Word.{word, up, down, Returns, begins, goes_on, GoesToStart, EndsAtSave}
 use Rattle.ledger.proofs.Numbers.{word-append, up-none, up-join, down-none}
 
 -- where no save-point was taken, none stands
@@ -21,11 +21,6 @@ is_taken-none : (h : List Item) (p : ℕ) → list_any is_save h ≡ false → i
 is_taken-none [] p none = refl
 is_taken-none (Save q ∷ h) p none = cc
 is_taken-none (_ ∷ h) p none = is_taken-none h p none
-
--- a plan without marks and a history without save-points have no save-point
-is_save_point-none : (plan : Planned) (h : List Item) (p : ℕ)
-    → is_marked_at plan p ≡ false → list_any is_save h ≡ false → is_save_point plan h p ≡ false
-is_save_point-none plan h p unmarked untaken = grind (arith, or_from, and_left, is_taken-none)
 
 -- what a history did not take, its prefix did not take
 untaken-front : (g rest : List Item) → list_any is_save (g ++ rest) ≡ false → list_any is_save g ≡ false
@@ -39,26 +34,20 @@ returns-up plan unmarked _ _ (goes_on before part from top to r turn more end) u
     go (returns-up plan unmarked before from r (untaken-front before part untaken)) end
   where
     go : word before ≡ up 0 from → (to ≡ top) ⊎ EndsAtSave plan before part to → word (before ++ part) ≡ up 0 to
-    go earlier x = grind (arith, word-append, down-none, append-nil, up-join, is_save_point-none)
-
--- one that goes to its end went up from the start to there
-plain-end : (plan : Planned) (h : List Item) → HasNoSavePoint plan h → GoesToEnd plan h → word h ≡ up 0 (step_count plan)
-plain-end plan h none g = grind (arith, untaken-front, word-append, returns-up, up-join)
+    go earlier x = grind (arith, word-append, down-none, append-nil, up-join, or_from, and_left, is_taken-none)
 
 -- one that goes to its start went up to a top, short of its end, and all the way down
 plain-start : (plan : Planned) (h : List Item) → HasNoSavePoint plan h → GoesToStart plan h
     → (top : ℕ) × (top < step_count plan) × (word h ≡ up 0 top ++ down top 0)
 plain-start plan h none g =
     let untaken = untaken-front g.before g.part (sym (ap (list_any is_save) g.whole) ∙ none.untaken) in
-    let reads : word h ≡ up 0 g.top ++ down g.top 0 = ap word g.whole ∙ word-append g.before g.part ∙ ap (λ w. w ++ word g.part)
-    (returns-up plan none.unmarked g.before g.from g.returns untaken) ∙ ap (λ w. up 0 g.from ++ w) g.turns.reads
-    ∙ sym (append_assoc (up 0 g.from) (up g.from g.top) (down g.top 0))
-    ∙ ap (λ w. w ++ down g.top 0) (sym (up-join 0 g.from g.top (omega arith) g.turns.rises)) in
-    (g.top, g.turns.short, reads)
+    let rises = returns-up plan none.unmarked g.before g.from g.returns untaken in
+    let join = up-join 0 g.from g.top (omega arith) g.turns.rises in
+    (g.top, g.turns.short, cc (word-append g.before g.part, append_assoc (up 0 g.from) (up g.from g.top) (down g.top 0)))
 
 -- without save-points an ended journey did all its steps, and an undone one compensated what it did
 all_or_nothing : (l : List Event) → IsLegal l → EachPlainJourneyIsAllOrNothing l
-all_or_nothing l legal j a at none = grind (arith, up_and_down, plain-end, plain-start)
+all_or_nothing l legal j a at none = grind (arith, up_and_down, untaken-front, word-append, returns-up, up-join, plain-start)
 
 pub returns : goal.returns
 returns c = record { places = no_cell_overfull; words = up_and_down; plain = all_or_nothing }

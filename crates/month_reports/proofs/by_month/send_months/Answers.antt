@@ -1,4 +1,5 @@
 -- The months are written one after another, until no cell that is asked for is left or a fault comes.
+-- More than 60 lines: a loop and three ways out.
 use Rattle.std.proofs.Common.{arith, refl, subst, Option}
 use Rattle.reports.proofs.RowLemmas.{starts, written_all, written_less, written_more, written_part}
 use Rattle.reports.proofs.TakeLemmas.{goes, takes_err, takes_none}

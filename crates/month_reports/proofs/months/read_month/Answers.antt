@@ -1,4 +1,5 @@
 -- Cells are read while each goes on with the month of the one before it.
+-- More than 60 lines: a loop, three ways out and two clauses.
 use Rattle.std.proofs.Common.{◌≡◌, ◌∙◌, ◌+◌, ◌≤◌, ◌++◌, ◌∷◌, [], ap, arith, false, length, length-append, rules, subst, sym, true}
 use Rattle.allotment.specs.Nights.{date_of}
 use Rattle.reports.proofs.TakeLemmas.{ends, goes, takes_memory, takes_none, takes_twice}

@@ -1,4 +1,5 @@
 -- An opening that failed wrote nothing; one that did not found the state that was represented.
+-- More than 60 lines: two ways out and four clauses.
 use Rattle.std.proofs.Common.{sym, subst}
 use Rattle.sqlite.specs.Held.{state}
 use Rattle.desk_sql.specs.Causes.{HasFaulted}

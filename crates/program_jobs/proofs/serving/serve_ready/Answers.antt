@@ -13,7 +13,7 @@ returns-in-Ok-open_to_guests-clause-serves g c =
     let served = c.serve_to_end-served in
     guests_served g.S.Store c.args.desk c.let_go.result _ _ _ _ _ c.in-Ok.guests c.in-Ok.ensures.listens _ _ _ c.open_to_guests.new.book
     served.new.book served.new.turns served.result c.dismiss-has_failed.result c.end_of_serving-end.result c.from.result opened.opens.stays
-    served.ensures.serves.sound served.ensures.goes_on served.ensures.over opened.told c.let_go.ensures.gone
+    served.ensures.serves.sound served.ensures.goes_on opened.told c.let_go.ensures.gone
     c.dismiss-has_failed.ensures.failed c.end_of_serving-end.ensures.end c.from.ensures
 
 pub returns-in-Err-open_to_guests-clause-serves : goal.returns-in-Err-open_to_guests-clause-serves

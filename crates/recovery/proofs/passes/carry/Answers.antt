@@ -1,3 +1,4 @@
+-- More than 60 lines: a loop and five ways out.
 use Rattle.std.proofs.Common.{sym, ◌∙◌, arith}
 use Rattle.saga_core.proofs.CallLemmas.{stays_read, stays_served, stays_twice}
 use Rattle.recovery.specs.Growing.{with_events}

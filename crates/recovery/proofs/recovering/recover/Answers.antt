@@ -1,3 +1,4 @@
+-- More than 60 lines: two ways out and eight clauses.
 use Rattle.std.proofs.Common.{arith, subst, Some, None}
 use Rattle.ledger.specs.Answer.{start}
 use Rattle.ledger.specs.World.{after}

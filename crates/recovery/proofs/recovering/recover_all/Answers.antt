@@ -1,3 +1,4 @@
+-- More than 60 lines: six ways out.
 use Rattle.std.proofs.Common.{arith}
 use Rattle.recovery.specs.Following.{HasCome}
 use Rattle.recovery.specs.Growing.{with_events}

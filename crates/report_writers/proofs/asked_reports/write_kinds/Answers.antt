@@ -4,7 +4,7 @@ use Rattle.std.proofs.lemmas.Result.{err_from_is_err_and}
 use Rattle.std.specs.Io.KnownBytes.{Appends}
 use Rattle.reports.proofs.FrontLemmas.{front_whole}
 use Rattle.reports.specs.Formats.{last_line}
-use Rattle.streams.specs.Written.{WroteFront}
+use Rattle.saga_core.specs.Written.{WroteFront}
 use Rattle.report_kinds.specs.Texts.{asked_cells}
 use Rattle.report_writers.proofs.WriteLemmas.{wrote_front}
 use Rattle.report_writers.proofs.ShowLemmas.{in_as, in_none}

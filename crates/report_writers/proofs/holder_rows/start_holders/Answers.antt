@@ -1,6 +1,6 @@
 -- The rows that will be returned are those of the holders, and nothing changes, whether they start or not.
 use Rattle.std.proofs.Common.{map, refl}
-use Rattle.holder_reports.specs.Holders.{holders_of}
+use Rattle.reports.specs.Holders.{holders_of}
 use Rattle.sql_reads.proofs.Starting.{not_started}
 use Rattle.report_writers.specs.HoldersLeft.{found_of}
 use Rattle.report_writers.proofs.HandedHolders.{lists_holders}

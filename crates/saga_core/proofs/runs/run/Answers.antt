@@ -1,3 +1,4 @@
+-- More than 60 lines: a loop, three ways out, five clauses and four lemmas of its own.
 use Rattle.std.proofs.Common.{◌≡◌, ◌+◌, [], ◌∷◌, ◌++◌, take, ap, sym, ◌∙◌, subst, arith, ℕ, List, drop, refl, append_assoc, IsTrue, Option, Err, take-append-drop}
 use Rattle.std.proofs.lemmas.List.{take_all, length-map}
 use Rattle.std.specs.Option.{option_copied}

@@ -1,4 +1,5 @@
 -- One more row is examined: its cell has its places, or it is the first row below what is held.
+-- More than 60 lines: a loop and four ways out.
 use Rattle.std.proofs.Common.{◌≡◌, ◌+◌, ◌<◌, ◌++◌, ◌∷◌, [], ◌∙◌, Bool, true, if◌then◌else◌, take, length, refl, sym, ap, subst, arith, rules, is_ok, not}
 use Rattle.allotment.specs.declared.cells.Cell.{Cell}
 use Rattle.ledger.specs.Ledger.{held, is_not_below_held}

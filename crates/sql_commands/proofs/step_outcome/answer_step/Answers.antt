@@ -1,4 +1,5 @@
 -- The outcome that the rows of a step give is the reply, and is written.
+-- More than 60 lines: seven ways out.
 use Rattle.std.proofs.Common.{rules, subst, sym, option_copied}
 use Rattle.commands.specs.declared.replies.Refusal.TheVariants.{Finished}
 use Rattle.ledger.specs.Answer.{asker}

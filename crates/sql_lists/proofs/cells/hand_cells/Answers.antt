@@ -1,4 +1,5 @@
 -- The rows that remain of the query are its only answer, and it changes nothing, whether it starts or not.
+-- More than 60 lines: four ways out.
 use Rattle.std.proofs.Common.{◌<◌, ◌^◌, true, false, None, Some, refl, subst}
 use Rattle.allotment.specs.Cells.{kind_number}
 use Rattle.saga_core.specs.CellFilters.{last_day}

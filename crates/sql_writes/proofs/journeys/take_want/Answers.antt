@@ -1,7 +1,5 @@
 -- The nights of the range are those of the want.
-use Rattle.std.proofs.Common.{sym, ap, subst, ◌∙◌, arith}
-use Rattle.desk_sql.specs.Stock.{HaveFree, takes_nights}
-use Rattle.desk_sql.specs.Writable.{MayTakeNights}
+use Rattle.std.proofs.Common.{arith}
 use Rattle.sql_model.proofs.Ranges.{takes_range}
 use Rattle.sql_writes.proofs.Doing.{did_like, numbered}
 use Rattle.sql_writes.proofs.Permitting.{may_take}
@@ -12,9 +10,8 @@ returns g c =
     let w = c.args.want in
     let range = c.range_of-range.result in
     let is = c.range_of-range.ensures.range in
-    let same = c.from.ensures ∙ c.count.ensures in
     record {
       did = did_like (numbered c.take_nights.ensures.writes (λ _ it. it))
-          (λ t fit. (subst (λ n. HaveFree range n t) (sym same) (fit range is), ap (λ n. takes_nights range n t) same ∙ takes_range range w t is))
-          (λ t it. subst (λ n. MayTakeNights range n t) (sym same) (may_take w range t is it)) (omega arith);
+          (λ t fit. rw (c.from.ensures, c.count.ensures) (fit range is, takes_range range w t is))
+          (λ t it. rw (c.from.ensures, c.count.ensures) (may_take w range t is it)) (omega arith);
     }

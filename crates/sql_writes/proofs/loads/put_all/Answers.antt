@@ -2,7 +2,7 @@ use Rattle.std.proofs.Common.{◌≡◌, ◌<◌, ◌∙◌, sym, ap, refl, take
 use Rattle.sqlite_rules.proofs.ListLemmas.{all_more}
 use Rattle.sql_writes.specs.Loads.{puts_each}
 use Rattle.sql_writes.specs.Runs.{HasShortTexts}
-use Rattle.sql_writes.proofs.Doing.{open_as, open_both, open_none, open_of, open_then_fail}
+use Rattle.sql_writes.proofs.Doing.{open_and, open_as, open_fail, open_none}
 use Rattle.sql_writes.proofs.RunLemmas.{apart_put, put_each-append, short_each, take-more, take-whole}
 use Rattle.sql_writes.proofs.loads.put_all.Goals as goal
 
@@ -18,13 +18,11 @@ loop-cell-preserved g c =
     let more = take-more cells n _ within c.loop-cell-item.is in
     record {
       short = all_more HasShortTexts cells n _ within c.loop-cell-item.is c.loop-cell.invariant.short c.put_places.ensures.short;
-      did = open_both c.loop-cell.invariant.did (open_of c.in_ok-put_places.ensures.did)
-          (λ t apart. (
-            apart,
-            (
-              apart_put (take n cells) t apart,
-              ap (λ rows. record t { stock = rows }) (sym (put_each-append (take n cells) _ t.stock)) ∙ ap (λ xs. puts_each xs t) (sym more),
-            ),
+      did = open_as (open_and c.loop-cell.invariant.did c.in_ok-put_places.ensures.did.if_open)
+          (λ _ t _ apart. (
+            (apart, apart_put (take n cells) t apart),
+            ap (λ rows. record t { stock = rows }) (sym (put_each-append (take n cells) _ t.stock))
+                ∙ ap (λ xs. puts_each xs t) (sym more),
           ))
           (omega arith);
     }
@@ -36,7 +34,7 @@ returns-in_err-put_places g c =
     let n = c.loop-cell.cell-index in
     let within : n < length cells = omega (arith, c.loop-cell-test.true) in
     record {
-      did = open_then_fail c.loop-cell.invariant.did (open_of c.in_err-put_places.ensures.did)
+      did = open_fail (open_and c.loop-cell.invariant.did c.in_err-put_places.ensures.did.if_open)
           (λ t may. (may.apart, short_each (take n cells) t c.loop-cell.invariant.short may.cells)) (omega (arith, within)) (search rules);
     }
 

@@ -1,15 +1,12 @@
-use Rattle.std.proofs.Common.{◌≡◌, eqb-true, ◌∙◌, length, sym, ap, subst, rules, append-nil, arith}
+use Rattle.std.proofs.Common.{◌≡◌, eqb-true, ◌∙◌, length, sym, subst, rules, append-nil, arith}
 use Rattle.sql_writes.specs.Runs.{IsRun}
 use Rattle.std.proofs.lemmas.List.{nil_from_length}
-use Rattle.sql_writes.proofs.Doing.{open_then_fail}
+use Rattle.sql_writes.proofs.Doing.{open_and, open_fail}
 use Rattle.sql_writes.proofs.RunWrites.{run_fits, HasWrittenUpTo-none, HasWrittenUpTo-some, HasWrittenUpTo-all, front_run, rest_run, some_new, adds-then}
 use Rattle.sql_writes.proofs.runs.add_run.Goals as goal
 
 pub loop-rest-init : goal.loop-rest-init
-loop-rest-init g c = record {
-  run = c.requires.run;
-  added = HasWrittenUpTo-none c.args.run.now (λ t. ap (λ rows. record t { stock = rows }) (sym (append-nil t.stock)));
-}
+loop-rest-init g c = search (rules, arith, HasWrittenUpTo-none, append-nil)
 
 -- the next cells of a run are one
 pub add_some-requires : goal.add_some-requires
@@ -37,7 +34,7 @@ returns-in_err-add_some g c =
     let later = c.split_at.result.1.now in
     let cut = c.split_at.ensures.by_index.0 in
     record {
-      did = open_then_fail it.did c.in_err-add_some.ensures.did
+      did = open_fail (open_and it.did c.in_err-add_some.ensures.did)
           (λ t new. (tt, some_new run it.done rest some later t it.is cut new)) (run_fits run rest some later it.done it.is cut) (search rules);
     }
 

@@ -1,6 +1,6 @@
 use Rattle.std.proofs.Common.{◌≡◌, true, eqb-true, ◌∙◌, length, sym, ap, refl, rules}
 use Rattle.std.proofs.lemmas.List.{nil_from_length}
-use Rattle.sql_writes.proofs.Doing.{open_then_fail}
+use Rattle.sql_writes.proofs.Doing.{open_and, open_fail}
 use Rattle.sql_writes.proofs.RunLemmas.{apart-each, short_each, put_each-append}
 use Rattle.sql_writes.proofs.RunWrites.{run_fits, short-append, HasWrittenUpTo-none, HasWrittenUpTo-some, HasWrittenUpTo-all}
 use Rattle.sql_writes.proofs.runs.put_runs.Goals as goal
@@ -26,7 +26,7 @@ returns-in_err-put_run g c =
     let put = c.loop-rest.invariant.put in
     let cut = c.split_at.ensures.by_index.0 in
     record {
-      did = open_then_fail put.did c.in_err-put_run.ensures.did
+      did = open_fail (open_and put.did c.in_err-put_run.ensures.did)
           (λ t may. (
             may.apart,
             record {

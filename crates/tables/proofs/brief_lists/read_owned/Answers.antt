@@ -1,4 +1,5 @@
 -- The briefs that are taken are those of the state that is kept. No journey has a number above those that a query may have.
+-- More than 60 lines: four ways out.
 use Rattle.std.proofs.Common.{◌≡◌, ◌∙◌, ◌==◌, [], true, false, length, sym, ap, arith, eqb-true, rules, take}
 use Rattle.desk_sql.specs.FoundRows.{is_owned_after}
 use Rattle.saga_core.specs.Views.{is_owned_above, owned_above}

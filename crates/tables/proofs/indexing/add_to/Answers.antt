@@ -1,4 +1,5 @@
 -- However the transaction ends, the connection keeps what it kept.
+-- More than 60 lines: three ways out and two clauses.
 use Rattle.std.proofs.Common.{◌≡◌, inl, true, refl, sym, ap, subst, ◌∙◌, arith, rules}
 use Rattle.std.specs.Prelude.{⊤}
 use Rattle.sqlite.specs.Effect.{Database}

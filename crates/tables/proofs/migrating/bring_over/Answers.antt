@@ -1,3 +1,4 @@
+-- More than 60 lines: three ways out.
 use Rattle.std.proofs.Common.{◌≡◌, inl, true, IsTrue, refl, subst, arith, rules}
 use Rattle.sqlite.specs.State.{HasCleanDisk}
 use Rattle.sqlite.specs.Held.{Held, state}

@@ -1,4 +1,5 @@
 -- What a crash leaves, and what the connection shows, whether the migration was completed or not.
+-- More than 60 lines: three ways out and two clauses.
 use Rattle.std.proofs.Common.{◌≡◌, inl, inr, Err, ap, rules}
 use Rattle.desk_sql.specs.Rows.{MetaRow}
 use Rattle.sql_model.proofs.Quieting.{quiet_up}

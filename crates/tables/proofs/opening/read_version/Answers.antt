@@ -1,4 +1,5 @@
 -- The version that is read is that of the tables, and a desk's tables have the number of their version.
+-- More than 60 lines: three ways out.
 use Rattle.std.proofs.Common.{◌≡◌, refl, sym, subst, ◌∙◌, Some, None, Option, ◌↔◌}
 use Rattle.sqlite.specs.Held.{state}
 use Rattle.commands.specs.declared.replies.Fault.TheVariants as fault

@@ -1,4 +1,5 @@
 -- The cells that are taken are those of the state that is kept.
+-- More than 60 lines: two ways out and one lemma of its own.
 use Rattle.std.proofs.Common.{◌≡◌, List, map, rules, subst, sym, take, IsTrue}
 use Rattle.std.specs.List.{AllByRecursion}
 use Rattle.sqlite.specs.Store.{Ghosts}

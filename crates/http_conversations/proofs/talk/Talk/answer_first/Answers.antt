@@ -1,4 +1,5 @@
 -- The message got its page, or lost it.
+-- More than 60 lines: two ways out and two clauses.
 use Rattle.std.proofs.Common.{arith, ◌∷◌, [], None, Some, Bool, Err, ap, false, refl, subst, sym}
 use Rattle.desk_http.specs.declared.answering.Answer.{Answer}
 use Rattle.http_conversations.specs.History.{History, exchange}

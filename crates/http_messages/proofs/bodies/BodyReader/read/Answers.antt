@@ -1,4 +1,5 @@
 -- Each step goes on where the one before ended.
+-- More than 60 lines: two loops, three ways out, three clauses and one lemma of its own.
 use Rattle.std.proofs.Common.{◌≡◌, ◌∙◌, ap, sym, drop, arith, length-drop, Err, ℕ, ◌+◌, ◌≤◌, List, [], ◌++◌, length, inl, inr, append-nil, drop-drop}
 use Rattle.std.proofs.lemmas.List.{take_rest}
 use Rattle.std.proofs.lemmas.Result.{err_from_is_err_and}

@@ -1,3 +1,4 @@
+-- More than 60 lines: three ways out and what three calls ask for.
 use Rattle.std.proofs.Common.{◌+◌, suc, refl, ap, sym, subst, ◌∙◌, append-nil}
 use Rattle.std.specs.Option.{option_copied}
 use Rattle.std.specs.Vec.{with_item}

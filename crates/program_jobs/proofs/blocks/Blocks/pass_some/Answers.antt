@@ -1,7 +1,7 @@
 -- What the writer took is no longer unsent.
 use Rattle.std.proofs.Common.{◌≤◌, length, subst, take}
 use Rattle.std.specs.Io.KnownBytes.{Appends}
-use Rattle.streams.proofs.ByteLemmas.{rest_from}
+use Rattle.saga_core.proofs.ByteLemmas.{rest_from}
 use Rattle.program_jobs.proofs.BlockLemmas.{passes}
 use Rattle.program_jobs.proofs.blocks.Blocks.pass_some.Goals as goal
 

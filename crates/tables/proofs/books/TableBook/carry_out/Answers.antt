@@ -1,3 +1,4 @@
+-- More than 60 lines: four ways out.
 use Rattle.std.proofs.Common.{◌≡◌, rules, Err}
 use Rattle.std.specs.Option.{option_copied}
 use Rattle.commands.specs.Orders.{request_of}

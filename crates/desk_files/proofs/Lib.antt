@@ -1,2 +1,0 @@
-mod FolderLemmas
-pub mod ImageLemmas

@@ -1,6 +1,0 @@
-use Rattle.desk_files.proofs.FolderLemmas.{last_slash_cuts}
-use Rattle.desk_files.proofs.files.folder_of.Goals as goal
-
-pub returns-in-Some : goal.returns-in-Some
-returns-in-Some c =
-    record { folder = last_slash_cuts _ _ _ _ c.in-Some.ensures.cases c.folder_before.ensures.folder }

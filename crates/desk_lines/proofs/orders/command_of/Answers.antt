@@ -1,8 +1,0 @@
--- Too few or too many words make no request.
-use Rattle.std.proofs.Common.{arith}
-use Rattle.desk_lines.proofs.OrderLemmas.{other_words}
-use Rattle.desk_lines.proofs.orders.command_of.Goals as goal
-
--- there are not two, three or four words
-pub returns-in_default : goal.returns-in_default
-returns-in_default c = grind (arith, other_words)

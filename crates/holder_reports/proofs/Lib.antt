@@ -1,2 +1,0 @@
-pub mod SumLemmas
-pub mod CellSumLemmas

@@ -1,6 +1,0 @@
--- The law is used as it stands.
-use Rattle.holder_reports.specs.Examples.{two_stays}
-use Rattle.holder_reports.proofs.laws.places_of_two_nights.Goals as goal
-
-pub returns : goal.returns
-returns c = record { held = c.places_of_cells.ensures.held two_stays.ledger }

@@ -1,2 +1,0 @@
-mod SlotLemmas
-mod TextLemmas

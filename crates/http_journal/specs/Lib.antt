@@ -1,4 +1,0 @@
-pub mod Ends
-pub mod Logging
-pub mod Requests
-pub mod Seen

@@ -1,0 +1,6 @@
+-- The law is used as it stands.
+use Rattle.reports.specs.HolderExamples.{two_stays}
+use Rattle.reports.proofs.laws.places_of_two_stays.Goals as goal
+
+pub returns : goal.returns
+returns c = record { held = c.places_of_holders.ensures.held two_stays.ledger }

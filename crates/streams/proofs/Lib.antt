@@ -1,2 +1,0 @@
-pub mod ByteLemmas
-pub mod KnownLemmas
