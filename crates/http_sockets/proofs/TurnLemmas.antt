@@ -1,5 +1,5 @@
 -- What follows from a turn, and who may come after it. For Sockets.
-use Rattle.std.proofs.Common.{◌≡◌, ◌≢◌, ◌∙◌, ◌<◌, zero, suc, ℕ, Option, Some, None, arith, refl}
+use Rattle.std.proofs.Common.{◌≡◌, ◌≢◌, ◌∙◌, ◌<◌, zero, suc, inl, inr, ℕ, Option, Some, None, arith, refl}
 use Rattle.http_live.specs.Doors.{EndsOnlyIf}
 use Rattle.http_live.specs.declared.serving.Turn.{Turn}
 use Rattle.http_live.specs.declared.serving.Turn.TheVariants.{Comes, Ready, Leaves, End}
@@ -8,7 +8,8 @@ use Rattle.http_sockets.specs.declared.places.WriteEnd.{WriteEnd}
 use Rattle.http_sockets.specs.declared.sockets.Sockets.{Sockets}
 use Rattle.http_sockets.specs.Counts.{IsFewer, IsNoMore, one_fewer}
 use Rattle.http_sockets.specs.Options.{still_to_come}
-use Rattle.http_sockets.specs.Turns.{IsComing, IsFirst, IsAdmitted, IsTurnedAway}
+use Rattle.http_sockets.specs.Slots.{AddWaiting}
+use Rattle.http_sockets.specs.Turns.{GaveTurn, IsComing, IsFirst, IsAdmitted, IsTurnedAway, TurnTaken, slots_in}
 
 -- a turn of somebody needs no reason that none comes
 pub some_turn : {R W : Type 0} (reason : Type 0) (turn : Turn R W) → EndsOnlyIf ⊥ turn → EndsOnlyIf reason turn
@@ -75,3 +76,12 @@ turned_away_same now = record {
   round = refl;
   tick = refl;
 }
+
+-- after such rounds a turn was given
+pub gave_turn : (old between new : Sockets) (turn : Turn ReadEnd WriteEnd) → AddWaiting (slots_in old) (slots_in between)
+    → TurnTaken between new (Some turn) → GaveTurn old turn new
+gave_turn old between new turn waiting taken = record { between = between; waiting = waiting; gives = inl taken }
+
+-- after such rounds there was none
+pub gave_none : (old new : Sockets) → AddWaiting (slots_in old) (slots_in new) → GaveTurn old End new
+gave_none old new waiting = record { between = new; waiting = waiting; gives = inr (refl, refl) }

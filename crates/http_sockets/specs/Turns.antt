@@ -16,7 +16,7 @@ use Rattle.http_sockets.specs.Counts.{IsNoMore}
 use Rattle.http_sockets.specs.Doors.{IsTurn}
 use Rattle.http_sockets.specs.Options.{still_to_come}
 use Rattle.http_sockets.specs.Places.{round_of, slots_of}
-use Rattle.http_sockets.specs.Slots.{Changes, IsChosen, cleared, heard_so, overdue_from, queued, served, taken}
+use Rattle.http_sockets.specs.Slots.{AddWaiting, Changes, IsChosen, cleared, heard_so, overdue_from, queued, served, taken}
 use Rattle.http_sockets.specs.Waiting.{may_wait, waiting_at}
 
 -- what is known of each slot
@@ -72,6 +72,12 @@ IsFirst End old new = ⊥
 abbrev pub TurnTaken : Sockets → Sockets → Option (Turn ReadEnd WriteEnd) → Type 0
 TurnTaken old new None = (slots_in new ≡ slots_in old) × (round_of old.places ≡ [])
 TurnTaken old new (Some turn) = IsTurn turn × ByTurn old.tick turn (slots_in old) (slots_in new) × IsFirst turn old new
+
+-- Rounds began, in which slots were added to those that wait, and then the sockets gave this turn of theirs, or none.
+pub record GaveTurn (old : Sockets) (turn : Turn ReadEnd WriteEnd) (new : Sockets) : Type 0 where
+  pub between : Sockets
+  pub waiting : AddWaiting (slots_in old) (slots_in between)
+  pub gives : TurnTaken between new (Some turn) ⊎ ((turn ≡ End) × (slots_in new ≡ slots_in between))
 
 -- no tick passed; or those that owe something for too long now are ended
 abbrev pub EndsLate : Sockets → Sockets → Type 0

@@ -329,7 +329,7 @@ impl<'a> Sockets<'a> {
 impl Turns for Sockets<'_> {
     ghost use Rattle.http_sockets.specs.Options.{still_to_come};
     ghost use Rattle.http_sockets.specs.Slots.{AddWaiting};
-    ghost use Rattle.http_sockets.specs.Turns.{HearsSo, slots_in};
+    ghost use Rattle.http_sockets.specs.Turns.{GaveTurn, HearsSo, slots_in};
 
     type Reader = ReadEnd;
 
@@ -343,9 +343,16 @@ impl Turns for Sockets<'_> {
 
     ghost is_over = { IsOver };
 
+    ghost took = { GaveTurn };
+
+    ghost heard = { λ old at standing new. HearsSo standing old.tick at (slots_in old) (slots_in new) };
+
+    ghost seen = { λ old new. slots_in new ≡ slots_in old };
+
     ghost counted = { λ sockets metrics. metrics ≡ sockets.journal.metrics };
 
     /// The next turn, of this round or of the first one in which somebody has a turn. There is one unless no turn comes any more.
+    #[tactic(auto, using(crate::proofs::SlotLemmas::waiting_same, crate::proofs::SlotLemmas::waiting_both, crate::proofs::TurnLemmas::gave_turn, crate::proofs::TurnLemmas::gave_none))]
     fn next_turn(&mut self) -> Turn<ReadEnd, WriteEnd> {
         for _ in 0..u64::MAX {
             if let Some(turn) = self.turn_of_round() {
@@ -402,9 +409,7 @@ impl Turns for Sockets<'_> {
         let _ = self.journal.sees_page(at, standing, seen, page, closes);
     }
 
-    fn hear(&mut self, at: usize, standing: Standing)
-        ensures heard { HearsSo standing self.old.tick at (slots_in self.old) (slots_in self.new) }
-    {
+    fn hear(&mut self, at: usize, standing: Standing) {
         self.places.hear(at, standing, self.tick);
         match standing {
             Standing::Over => {
