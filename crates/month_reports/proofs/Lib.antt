@@ -1,5 +1,3 @@
 pub mod CalendarLemmas
-pub mod DayLemmas
 pub mod MonthLemmas
 pub mod OrderLemmas
-pub mod RunLemmas

@@ -1,10 +1,4 @@
-pub mod ListMeanings
+pub mod ListAnswers
 pub mod HandedRows
-pub mod HandedReasons
-pub mod HandedCells
-pub mod CellAnswers
-pub mod JourneyAnswers
 pub mod HolderAnswers
-pub mod JoinedRows
-pub mod HoldingTypes
 pub mod HoldingAnswers

@@ -1,4 +1,3 @@
-pub mod OptionLemmas
 pub mod Doing
 pub mod Permitting
 pub mod CommitLemmas
